@@ -1,0 +1,14 @@
+-- The bytes of a byte string, by where they lie.
+use Rattle.std.specs.Prelude.{ℕ, List, take, ◌≤◌}
+use Rattle.std.specs.Arc.{arc_value}
+use Rattle.sled_pages.specs.declared.ivec.Bytes.{Bytes}
+use Rattle.sled_pages.specs.declared.ivec.Bytes.TheVariants.{Short, Long}
+
+abbrev pub bytes_of : Bytes → List ℕ
+bytes_of (Short len bytes) = take len bytes
+bytes_of (Long bytes) = (arc_value bytes).items
+
+-- what lies in place is no longer than its array
+abbrev pub IsShort : Bytes → Type 0
+IsShort (Short len bytes) = len ≤ 22
+IsShort (Long bytes) = Unit {0}

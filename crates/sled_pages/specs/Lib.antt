@@ -1,0 +1,10 @@
+pub mod Order
+pub mod Pairs
+pub mod Bytes
+pub mod In
+pub mod Node
+pub mod Update
+pub mod State
+pub mod Store
+pub mod Crash
+pub mod Facts

@@ -1,0 +1,17 @@
+//! A page, as a store keeps it and as it is read.
+use crate::{Node, Pid, Version};
+
+/// A page: its version and its node.
+#[derive(Debug, Drop)]
+pub struct Page {
+    pub version: Version,
+    pub node: Node,
+}
+
+/// A page as it was read: its number, its version then and its node then.
+#[derive(Debug, Drop)]
+pub struct View {
+    pub pid: Pid,
+    pub version: Version,
+    pub node: Node,
+}

@@ -1,0 +1,120 @@
+//! The contract of a store of pages.
+ghost use Rattle.std.specs.Prelude.{◌≡◌, ◌≤◌, IfOk, IfErr, OnOk, true, false};
+ghost use Rattle.sled_pages.specs.declared.error.Error.TheVariants.{NoMemory};
+ghost use Rattle.sled_pages.specs.Node.{applied};
+ghost use Rattle.sled_pages.specs.State.{GroupBegins, GroupEnds};
+ghost use Rattle.sled_pages.specs.Store.{Store, now, acted, flushed, Allocates, Refused, RefusedRead, view_of, Changes, Frees, SwapsRoot, IsRoots, AreGiven};
+
+use crate::error::Result;
+use crate::{IVec, Link, Node, Pid, Version, View};
+use std::alloc::Global;
+
+/// A store of pages by number and of roots by name.
+///
+/// The changing calls are `allocate`, `free`, `begin_group`, `seal_group`, and `link`, `replace` and `cas_root` where
+/// they find what they expect. A crash may undo the latest of them back to the last flush, but never breaks up a group.
+/// A call that is refused (an outer `Err`) changes nothing, but that the fault is counted.
+pub trait Pages: Send + Drop {
+    /// What the store means.
+    ghost store: { Self → Store };
+
+    /// The page now, or `None` where there is none. `Io` comes only where the page is not readable.
+    fn read(&self, alloc: Global, pid: Pid) -> Result<Option<View>>
+        ensures ok { IfOk result (λ view. view ≡ view_of pid ((now (store self.now)).pages pid)) }
+        ensures err { IfErr result (RefusedRead pid (store self.now)) };
+
+    /// Makes a new page.
+    fn allocate(&mut self, node: Node) -> Result<(Pid, Version)>
+        ensures ok { IfOk result (λ given. Allocates node given.0 given.1 (store self.old) (store self.new)) }
+        ensures err { IfErr result (λ e. Refused e (store self.old) (store self.new)) };
+
+    /// Applies a link to a page where it has this version. Else answers the version that it has, `None` for no page.
+    fn link(
+        &mut self,
+        pid: Pid,
+        version: Version,
+        link: Link,
+    ) -> Result<std::result::Result<Version, Option<Version>>>
+        ensures ok { IfOk result (Changes (applied link) pid version (store self.old) (store self.new)) }
+        ensures err { IfErr result (λ e. Refused e (store self.old) (store self.new)) };
+
+    /// Gives a page another node where it has this version. Else answers the version that it has, `None` for no page.
+    fn replace(
+        &mut self,
+        pid: Pid,
+        version: Version,
+        node: Node,
+    ) -> Result<std::result::Result<Version, Option<Version>>>
+        ensures ok { IfOk result (Changes (λ _. node) pid version (store self.old) (store self.new)) }
+        ensures err { IfErr result (λ e. Refused e (store self.old) (store self.new)) };
+
+    /// Takes a page out where it has this version. Else answers the version that it has, `None` for no page.
+    fn free(
+        &mut self,
+        pid: Pid,
+        version: Version,
+    ) -> Result<std::result::Result<(), Option<Version>>>
+        ensures ok { IfOk result (Frees pid version (store self.old) (store self.new)) }
+        ensures err { IfErr result (λ e. Refused e (store self.old) (store self.new)) };
+
+    /// The root of a name, or `None` where the name has none.
+    fn root(&self, name: &[u8]) -> Option<Pid>
+        ensures { result ≡ (now (store self.now)).roots name.now };
+
+    /// All roots, ascending by name. Refused with `NoMemory` alone.
+    fn roots(&self, alloc: Global) -> Result<Vec<(IVec, Pid)>>
+        ensures ok { IfOk result (λ roots. IsRoots (now (store self.now)) roots.items) }
+        ensures err { IfErr result (λ e. e ≡ NoMemory) };
+
+    /// Makes `new` the root of a name where `old` is; `None` takes the name out. Else answers the root that it has.
+    fn cas_root(
+        &mut self,
+        name: &[u8],
+        old: Option<Pid>,
+        new: Option<Pid>,
+    ) -> Result<std::result::Result<(), Option<Pid>>>
+        ensures ok { IfOk result (SwapsRoot name.now old new (store self.old) (store self.new)) }
+        ensures err { IfErr result (λ e. Refused e (store self.old) (store self.new)) };
+
+    /// Begins a group: a crash leaves all of it or nothing.
+    fn begin_group(&mut self) -> Result<()>
+        requires { (now (store self.old)).in_group ≡ false }
+        ensures ok { OnOk result (store self.new ≡ acted GroupBegins (store self.old)) }
+        ensures err { IfErr result (λ e. Refused e (store self.old) (store self.new)) };
+
+    /// Ends the group that is open.
+    fn seal_group(&mut self) -> Result<()>
+        requires { (now (store self.old)).in_group ≡ true }
+        ensures ok { OnOk result (store self.new ≡ acted GroupEnds (store self.old)) }
+        ensures err { IfErr result (λ e. Refused e (store self.old) (store self.new)) };
+
+    /// Whether a group is open.
+    fn in_group(&self) -> bool
+        ensures { result ≡ (now (store self.now)).in_group };
+
+    /// Makes all that was done durable. The number that it answers is the store's own.
+    fn flush(&mut self) -> Result<usize>
+        requires { (now (store self.old)).in_group ≡ false }
+        ensures ok { OnOk result (store self.new ≡ flushed (store self.old)) }
+        ensures err { IfErr result (λ e. Refused e (store self.old) (store self.new)) };
+
+    /// Raises the mark, which is durable at once.
+    fn set_aside(&mut self, upto: u64) -> Result<()>
+        requires { (store self.old).mark ≤ upto }
+        ensures ok { OnOk result (store self.new ≡ record (store self.old) { mark = upto }) }
+        ensures err { IfErr result (λ e. Refused e (store self.old) (store self.new)) };
+
+    /// The mark: ids up to it are set aside.
+    fn mark(&self) -> u64
+        ensures { result ≡ (store self.now).mark };
+
+    /// Whether the store was made from what an earlier one left.
+    fn was_recovered(&self) -> bool
+        ensures { result ≡ (store self.now).recovered };
+
+    /// The state at the last flush has no open group.
+    ghost sealed: { (s : Self) → (store s).base.in_group ≡ false };
+
+    /// Each page has a number and a version that were given.
+    ghost given: { (s : Self) → AreGiven (store s) };
+}
