@@ -1,0 +1,7 @@
+pub mod Maps
+pub mod Event
+pub mod Answer
+pub mod State
+pub mod Refusal
+pub mod Steps
+pub mod Runs

@@ -1,0 +1,15 @@
+-- The maps of a database.
+use Rattle.std.specs.Prelude.{List, Option}
+use Rattle.sled_pages.specs.Order.{Key}
+
+-- a map from byte strings to byte strings: its pairs, by ascending keys
+abbrev pub Map : Type 0
+Map = List (Key × Key)
+
+-- the map of each name, where there is a tree of that name
+abbrev pub Maps : Type 0
+Maps = Key → Option Map
+
+-- a merge operator: the new value of a key, the value that stands and the new bytes
+abbrev pub Merge : Type 0
+Merge = Key → Option Key → Key → Option Key

@@ -1,0 +1,100 @@
+-- Which refusals there may be, and which there must be.
+use Rattle.std.specs.Prelude.{◌≡◌, ℕ, ◌<◌, ◌≤◌, ◌⊎◌, true, false, Bool, not, nat_eq, length, List, [], ◌∷◌, Option, Some, None, if◌then◌else◌}
+use Rattle.std.specs.Str.{bytes_eq}
+use Rattle.sled_pages.specs.Order.{Key}
+use Rattle.sled_pages.specs.Store.{Store}
+use Rattle.sled_pages.specs.declared.error.Error.{Error}
+use Rattle.sled_pages.specs.declared.error.Error.TheVariants.{CollectionNotFound, Unsupported, ReportableBug, Io, Corruption, NoMemory, FullQueue, Closed}
+use Rattle.sled_model.specs.Answer.{answer_of}
+use Rattle.sled_model.specs.State.{State, NamedTree, Flying, Queue, matches}
+use Rattle.sled_model.specs.declared.call.Call.{Call}
+use Rattle.sled_model.specs.declared.call.Whole.{Whole}
+use Rattle.sled_model.specs.declared.call.Whole.TheVariants.{Flush}
+use Rattle.sled_model.specs.declared.event.Event.{Event}
+use Rattle.sled_model.specs.declared.tree.Tree.{Tree}
+use Rattle.sled_model.specs.declared.TheConstants.{MAX_LOOPS, QUEUE_LIMIT}
+
+-- what was asked of the database: to begin a call, to go on with the call in a slot, or a whole call
+pub data Asked : Type 0 where
+  ToBegin : (tree : Tree) (call : Call) → Asked
+  ToStep : (flying : Flying) → Asked
+  ToCall : (whole : Whole) → Asked
+
+-- the trees that it is asked of
+abbrev pub trees_asked : Asked → List Tree
+trees_asked (ToBegin tree call) = tree ∷ []
+trees_asked (ToStep flying) = flying.tree ∷ []
+trees_asked (ToCall Flush) = []
+
+-- why a call must be refused: the database is closed, the tree is another database's, or it was dropped
+pub data MustRefuse : Type 0 where
+  IsClosed : MustRefuse
+  IsForeign : MustRefuse
+  IsDropped : (name : Key) → MustRefuse
+
+abbrev pub first_of : Option MustRefuse → Option MustRefuse → Option MustRefuse
+first_of None second = second
+first_of (Some first) second = Some first
+
+-- some tree is another database's
+abbrev pub foreign_test : Key → List Tree → Option MustRefuse
+foreign_test name [] = None
+foreign_test name (t ∷ ts) = if bytes_eq t.database name then foreign_test name ts else Some IsForeign
+
+-- the name has a tree of this number
+abbrev pub is_number : ℕ → Option NamedTree → Bool
+is_number n None = false
+is_number n (Some t) = nat_eq t.number n
+
+-- the first of the trees whose number is not that of its name
+abbrev pub dropped_test : State → List Tree → Option MustRefuse
+dropped_test s [] = None
+dropped_test s (t ∷ ts) = if is_number t.number (s.trees t.name) then dropped_test s ts else Some (IsDropped t.name)
+
+-- The first cause of a refusal, if there is one: the tests go in this order, over all trees test by test
+abbrev pub must_refuse : State → Asked → Option MustRefuse
+must_refuse s asked = first_of (if s.is_open then None else Some IsClosed) (first_of (foreign_test s.name (trees_asked asked)) (dropped_test s (trees_asked asked)))
+
+-- the error that tells the cause. A tree's name may want memory
+abbrev pub tells : MustRefuse → Error → Type 0
+tells IsClosed e = e ≡ Closed
+tells IsForeign (Unsupported text) = Unit {0}
+tells IsForeign e = ⊥
+tells (IsDropped name) e = (e ≡ CollectionNotFound name) ⊎ (e ≡ NoMemory)
+
+-- the call in flight would bring this event by the map now, and the queue of some subscriber is full
+pub record MeetsFullQueue (s : State) (f : Flying) : Type 0 where
+  pub tree : NamedTree
+  pub there : s.trees f.tree.name ≡ Some tree
+  pub event : Event
+  pub brings : (answer_of f.call tree.map).event ≡ Some event
+  pub subscriber : ℕ
+  pub queue : Queue
+  pub waits : s.queues subscriber ≡ Some queue
+  pub matching : matches tree.number event queue ≡ true
+  pub full : QUEUE_LIMIT ≤ length queue.events
+
+-- the store counted a fault, or some page is not readable
+abbrev pub MeetsFault : Store → Store → Type 0
+MeetsFault a b = (a.faults < b.faults) ⊎ ((pid : ℕ) × (a.is_readable pid ≡ false))
+
+-- numbers run up to the greatest u64
+abbrev pub greatest_number : ℕ
+greatest_number = 18446744073709551615
+
+-- The causes of a refusal that is none of those tests. a is the store before, b the store after
+abbrev pub cause_of : State → Store → Store → Asked → Error → Type 0
+cause_of s a b asked NoMemory = Unit {0}
+cause_of s a b asked (Io fault) = MeetsFault a b
+cause_of s a b (ToBegin tree call) (Unsupported text) = s.slots_given ≡ greatest_number
+cause_of s a b (ToStep f) (ReportableBug text) = f.turns ≡ MAX_LOOPS
+cause_of s a b (ToStep f) FullQueue = MeetsFullQueue s f
+cause_of s a b asked e = ⊥
+
+-- the call may be refused so: by the first of the tests that fails, or where none fails for one of the causes
+abbrev pub may_refuse_as : Option MustRefuse → State → Store → Store → Asked → Error → Type 0
+may_refuse_as (Some must) s a b asked e = tells must e
+may_refuse_as None s a b asked e = cause_of s a b asked e
+
+pub record MayRefuse (s : State) (a b : Store) (asked : Asked) (e : Error) : Type 0 where
+  pub told : may_refuse_as (must_refuse s asked) s a b asked e

@@ -1,0 +1,80 @@
+-- The state of a database with calls in flight.
+use Rattle.std.specs.Prelude.{ℕ, ◌+◌, Bool, List, [], ◌∷◌, ◌++◌, nat_eq, ◌&&◌, Option, Some, None, option_map, if◌then◌else◌}
+use Rattle.std.specs.List.{starts_with}
+use Rattle.std.specs.declared.ops.Bound.{Bound}
+use Rattle.sled_pages.specs.Order.{Key}
+use Rattle.sled_pages.specs.Update.{put_at, put_name}
+use Rattle.sled_model.specs.Maps.{Map, Maps, Merge}
+use Rattle.sled_model.specs.Event.{key_of_event}
+use Rattle.sled_model.specs.Answer.{Answer}
+use Rattle.sled_model.specs.declared.call.Call.{Call}
+use Rattle.sled_model.specs.declared.event.Event.{Event}
+use Rattle.sled_model.specs.declared.tree.Tree.{Tree}
+
+-- a tree of the database: its number, its map, and its merge operator if it has one
+pub record NamedTree : Type 0 where
+  pub number : ℕ
+  pub map : Map
+  pub merge : Option Merge
+
+-- a subscriber's queue: the tree and the prefix that it watches, and the events that wait, the oldest first
+pub record Queue : Type 0 where
+  pub tree : ℕ
+  pub prefix : Key
+  pub events : List Event
+
+-- a range of keys that a scan has still to read
+pub record Range : Type 0 where
+  pub lo : Bound Key
+  pub hi : Bound Key
+  pub back : Bool
+
+-- a call in flight: its tree, the call, its turns, and of a scan the pairs that wait and the range still to read
+pub record Flying : Type 0 where
+  pub tree : Tree
+  pub call : Call
+  pub turns : ℕ
+  pub waiting : List (Key × Key)
+  pub rest : Option Range
+
+pub record State : Type 0 where
+  -- the database's name
+  pub name : Key
+  pub trees : Key → Option NamedTree
+  -- queues by subscriber, calls in flight by slot
+  pub queues : ℕ → Option Queue
+  pub slots : ℕ → Option Flying
+  -- no group was refused midway
+  pub is_open : Bool
+  -- the greatest id that was given, and the ids up to the mark are set aside
+  pub greatest_id : ℕ
+  pub mark : ℕ
+  -- how many trees, slots and subscribers were numbered so far
+  pub trees_given : ℕ
+  pub slots_given : ℕ
+  pub subscribers_given : ℕ
+
+-- the maps alone
+abbrev pub maps_of : State → Maps
+maps_of s name = option_map (λ t. t.map) (s.trees name)
+
+-- a call as it begins
+abbrev pub begun : Tree → Call → Flying
+begun tree call = record { tree = tree; call = call; turns = 0; waiting = []; rest = None }
+
+-- the event is one that the queue waits for
+abbrev pub matches : ℕ → Event → Queue → Bool
+matches tree e q = nat_eq q.tree tree && starts_with nat_eq (key_of_event e) q.prefix
+
+-- the event goes to the end of each queue that waits for it
+abbrev pub delivered : ℕ → Option Event → (ℕ → Option Queue) → ℕ → Option Queue
+delivered tree None queues n = queues n
+delivered tree (Some e) queues n = option_map (λ q. if matches tree e q then (record q { events = q.events ++ e ∷ [] }) else q) (queues n)
+
+-- the state after a call in the slot was decided on its tree
+abbrev pub decided : State → ℕ → Key → NamedTree → Answer → State
+decided s slot name t a = record s {
+  trees = put_name s.trees name (Some (record t { map = a.map }));
+  queues = delivered t.number a.event s.queues;
+  slots = put_at s.slots slot None;
+}

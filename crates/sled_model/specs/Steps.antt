@@ -1,0 +1,91 @@
+-- One step of the machine, by cases.
+use Rattle.std.specs.Prelude.{◌≡◌, ℕ, ◌+◌, ◌<◌, List, [], ◌∷◌, Option, Some, None}
+use Rattle.sled_pages.specs.Update.{put_at}
+use Rattle.sled_pages.specs.Store.{Store}
+use Rattle.sled_pages.specs.declared.error.Error.{Error}
+use Rattle.sled_model.specs.Maps.{Maps}
+use Rattle.sled_model.specs.Answer.{Answer, answer_of}
+use Rattle.sled_model.specs.State.{State, NamedTree, Flying, maps_of, begun, decided}
+use Rattle.sled_model.specs.Refusal.{Asked, ToBegin, ToStep, ToCall, must_refuse, MayRefuse}
+use Rattle.sled_model.specs.declared.call.Call.{Call}
+use Rattle.sled_model.specs.declared.call.Whole.{Whole}
+use Rattle.sled_model.specs.declared.call.Whole.TheVariants.{Flush}
+use Rattle.sled_model.specs.declared.tree.Tree.{Tree}
+use Rattle.sled_model.specs.declared.reply.Reply.{Reply}
+use Rattle.sled_model.specs.declared.reply.Reply.TheVariants.{Number}
+use Rattle.sled_model.specs.declared.outcome.Step.{Step}
+use Rattle.sled_model.specs.declared.outcome.Step.TheVariants as step
+use Rattle.sled_model.specs.declared.outcome.Outcome.{Outcome}
+use Rattle.sled_model.specs.declared.outcome.Outcome.TheVariants.{Begun, Moved, Decided, Refused, Abandoned, NoSuchSlot}
+use Rattle.sled_model.specs.declared.TheConstants.{MAX_LOOPS}
+
+-- the state of a database and the store that it stands on, at one moment
+pub record Instant : Type 0 where
+  pub state : State
+  pub store : Store
+
+-- the call takes the next slot, with no turns
+pub record Begins (old : State) (tree : Tree) (call : Call) (slot : ℕ) (new : State) : Type 0 where
+  pub free : must_refuse old (ToBegin tree call) ≡ None
+  pub next : slot ≡ old.slots_given + 1
+  pub is : new ≡ record old { slots = put_at old.slots slot (Some (begun tree call)); slots_given = slot }
+
+-- the call in the slot has one turn more
+pub record Moves (old : State) (slot : ℕ) (new : State) : Type 0 where
+  pub flying : Flying
+  pub here : old.slots slot ≡ Some flying
+  pub free : must_refuse old (ToStep flying) ≡ None
+  pub few : flying.turns < MAX_LOOPS
+  pub is : new ≡ record old { slots = put_at old.slots slot (Some (record flying { turns = flying.turns + 1 })) }
+
+-- the call in the slot replies, changes its tree's map and fills the queues by the answer on the map now, and ends
+pub record Decides (old : State) (slot : ℕ) (reply : Reply) (new : State) : Type 0 where
+  pub flying : Flying
+  pub here : old.slots slot ≡ Some flying
+  pub free : must_refuse old (ToStep flying) ≡ None
+  pub few : flying.turns < MAX_LOOPS
+  pub tree : NamedTree
+  pub there : old.trees flying.tree.name ≡ Some tree
+  pub replies : reply ≡ (answer_of flying.call tree.map).reply
+  pub is : new ≡ decided old slot flying.tree.name tree (answer_of flying.call tree.map)
+
+-- the call in the slot is refused, with its cause, and ends
+pub record RefusesStep (old : State) (a b : Store) (slot : ℕ) (e : Error) (new : State) : Type 0 where
+  pub flying : Flying
+  pub here : old.slots slot ≡ Some flying
+  pub may : MayRefuse old a b (ToStep flying) e
+  pub is : new ≡ record old { slots = put_at old.slots slot None }
+
+-- no call has the slot, and nothing changes
+pub record Misses (old : State) (slot : ℕ) (new : State) : Type 0 where
+  pub free : old.slots slot ≡ None
+  pub is : new ≡ old
+
+-- the call in the slot is given up
+pub record Abandons (old : State) (slot : ℕ) (new : State) : Type 0 where
+  pub flying : Flying
+  pub here : old.slots slot ≡ Some flying
+  pub is : new ≡ record old { slots = put_at old.slots slot None }
+
+-- a whole call is decided
+abbrev pub WholeDecides : State → Whole → Reply → State → List Maps → Type 0
+WholeDecides old Flush (Number n) new maps = (must_refuse old (ToCall Flush) ≡ None) × (new ≡ old) × (maps ≡ [])
+WholeDecides old Flush reply new maps = ⊥
+
+-- One step: what was done, how it came out, the state after it, and the maps that it added: those after each call that
+-- it decided, in order. What no case names stays as it was, and no other case exists
+abbrev pub steps_as : Instant → Step → Outcome → Instant → List Maps → Type 0
+steps_as old (step.Begin tree call) (Begun slot) new maps = Begins old.state tree call slot new.state × (maps ≡ [])
+steps_as old (step.Begin tree call) (Refused e) new maps = MayRefuse old.state old.store new.store (ToBegin tree call) e × (new.state ≡ old.state) × (maps ≡ [])
+steps_as old (step.Step slot) NoSuchSlot new maps = Misses old.state slot new.state × (maps ≡ [])
+steps_as old (step.Step slot) Moved new maps = Moves old.state slot new.state × (maps ≡ [])
+steps_as old (step.Step slot) (Decided reply) new maps = Decides old.state slot reply new.state × (maps ≡ maps_of new.state ∷ [])
+steps_as old (step.Step slot) (Refused e) new maps = RefusesStep old.state old.store new.store slot e new.state × (maps ≡ [])
+steps_as old (step.Abandon slot) NoSuchSlot new maps = Misses old.state slot new.state × (maps ≡ [])
+steps_as old (step.Abandon slot) Abandoned new maps = Abandons old.state slot new.state × (maps ≡ [])
+steps_as old (step.Whole whole) (Decided reply) new maps = WholeDecides old.state whole reply new.state maps
+steps_as old (step.Whole whole) (Refused e) new maps = MayRefuse old.state old.store new.store (ToCall whole) e × (new.state ≡ old.state) × (maps ≡ [])
+steps_as old s o new maps = ⊥
+
+pub record Steps (old : Instant) (s : Step) (o : Outcome) (new : Instant) (maps : List Maps) : Type 0 where
+  pub told : steps_as old s o new maps

@@ -1,0 +1,41 @@
+//! Changes of a tree, as subscribers learn of them.
+ghost use Rattle.std.specs.Prelude.{◌≡◌, IfOk, IfErr};
+ghost use Rattle.sled_pages.specs.declared.error.Error.TheVariants.{NoMemory};
+ghost use Rattle.sled_model.specs.Event.{key_of_event};
+
+use sled_pages::{IVec, Result};
+
+/// A change of one key.
+#[derive(Debug, Drop, PartialEq, Eq, PartialOrd, Ord)]
+pub enum Event {
+    /// The key has this value now.
+    Insert { key: IVec, value: IVec },
+    /// The key has no value now.
+    Remove { key: IVec },
+}
+
+impl Event {
+    /// The key that changed.
+    pub fn key(&self) -> &IVec
+        ensures { result.now ≡ key_of_event self.now }
+    {
+        match self {
+            Event::Insert { key, .. } => key,
+            Event::Remove { key } => key,
+        }
+    }
+
+    /// The same event. Refused with `NoMemory` alone.
+    pub fn clone(&self) -> Result<Event>
+        ensures ok { IfOk result (λ copy. copy ≡ self.now) }
+        ensures err { IfErr result (λ e. e ≡ NoMemory) }
+    {
+        match self {
+            Event::Insert { key, value } => Ok(Event::Insert {
+                key: key.clone()?,
+                value: value.clone()?,
+            }),
+            Event::Remove { key } => Ok(Event::Remove { key: key.clone()? }),
+        }
+    }
+}

@@ -1,0 +1,25 @@
+//! What a database is and what its calls do, without pages.
+//!
+//! `specs/` has the state of a database and one machine step by cases; contracts of the crates above cite them. The
+//! types here are the values that they speak of: trees, calls, replies, steps and their outcomes.
+#![tactic(auto)]
+
+mod call;
+mod event;
+mod operator;
+mod outcome;
+mod reply;
+mod tree;
+
+pub use call::{Call, Whole};
+pub use event::Event;
+pub use operator::MergeOperator;
+pub use outcome::{Outcome, Slot, Step};
+pub use reply::Reply;
+pub use tree::Tree;
+
+/// A call whose turns are this many is refused at its next step.
+pub const MAX_LOOPS: u64 = 1_000_000;
+
+/// So many events wait in a subscriber's queue at the most.
+pub const QUEUE_LIMIT: usize = 1024;
