@@ -1,0 +1,5 @@
+pub mod Forest
+pub mod Contents
+pub mod Action
+pub mod Moment
+pub mod Crashes
