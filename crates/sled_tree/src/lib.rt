@@ -1,13 +1,14 @@
-// A library with one function.
+//! A call in flight over the pages of a tree.
+//!
+//! A call goes stage by stage, and each step does at most one page action. Its contracts say what a step does at every
+//! forest that shows the pages well formed: the contents of the trees change only where the call is decided, as the map
+//! would, and what the other calls in flight know of the pages stays true.
 #![tactic(auto)]
 
-ghost use Rattle.std.specs.Prelude.{◌≡◌};
-ghost use Rattle.sled_tree.specs.Echo.{echo_of};
+mod act;
+mod dispatch;
+mod flight;
+mod walk;
 
-// The `ensures` clause is the contract: what `echo` returns is `echo_of` of its argument, a definition
-// in `specs/Echo.antt`, which a caller's clause can cite too.
-pub fn echo(x: usize) -> usize
-    ensures { result ≡ echo_of x }
-{
-    x
-}
+pub use dispatch::step;
+pub use flight::{Flight, Job, Next, Stage, Went};
