@@ -64,8 +64,13 @@ fn at_leaf(job: &Job, view: View) -> Next
     match &job.call {
         Call::Get(_) => Next::Decided(Reply::Value(value)),
         Call::Insert(_, new) => match value {
-            Some(old) if old == *new => Next::Decided(Reply::Value(Some(old))),
-            _ => Next::Go(Stage::Act(view)),
+            None => Next::Go(Stage::Act(view)),
+            Some(old) => {
+                if old == *new {
+                    return Next::Decided(Reply::Value(Some(old)));
+                }
+                Next::Go(Stage::Act(view))
+            }
         },
     }
 }
