@@ -4,7 +4,8 @@ use Rattle.std.specs.FinMap.Entries.{find, put}
 use Rattle.sled_pages.specs.Order.{Key, key_cmp}
 use Rattle.sled_pages.specs.Node.{pairs, value_at, applied}
 use Rattle.sled_pages.specs.Update.{put_at}
-use Rattle.sled_pages.specs.State.{PageBecomes}
+use Rattle.sled_pages.specs.State.{PageBecomes, State}
+use Rattle.sled_pages.specs.Facts.{now_acts}
 use Rattle.sled_pages.specs.Store.{Store, acted, Refused, Changes, ActsAt}
 use Rattle.sled_pages.specs.declared.error.Error.{Error}
 use Rattle.sled_pages.specs.declared.error.Error.TheVariants as error
@@ -129,6 +130,7 @@ module _ (j : Job) (old new : Store) (view : View) (k v : Key) (given : ℕ) (re
     pids = old.pids;
     versions = put_at old.versions given true;
     is = c.told.2.is;
+    calm = ap (λ (s : State). s.in_group) (now_acts _ _ old new c.told.2);
   }); told = set_told }
 
 -- .. as the call's change of its leaf

@@ -24,6 +24,8 @@ pub record ActsOnce (old new : Store) : Type 0 where
   pub pids : ℕ → Bool
   pub versions : ℕ → Bool
   pub is : new ≡ record (acted action old) { pids = pids; versions = versions }
+  -- no group begins or ends
+  pub calm : (now new).in_group ≡ (now old).in_group
 
 -- nothing, or one changing action
 abbrev pub ActsAtMostOnce : Store → Store → Type 0
