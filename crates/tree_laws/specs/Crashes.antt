@@ -5,7 +5,7 @@ use Rattle.sled_pages.specs.In.{In}
 use Rattle.sled_pages.specs.State.{State, Action, nodes_of}
 use Rattle.sled_pages.specs.Store.{Store, now}
 use Rattle.sled_pages.specs.Crash.{states_left}
-use Rattle.tree_laws.specs.Forest.{Tree, Forest, WellFormed}
+use Rattle.tree_laws.specs.Forest.{Tree, Forest, WellFormed, IsSized}
 use Rattle.tree_laws.specs.Contents.{trees_of}
 
 -- the pages and roots have the shape of a forest
@@ -16,6 +16,16 @@ pub record IsWell (s : State) : Type 0 where
 -- each state that a crash may leave has the shape of a forest
 pub record IsCrashSafe (s : Store) : Type 0 where
   pub well : (x : State) → In x (states_left s) → IsWell x
+
+-- the pages and roots have the shape of a forest, and its size
+pub record IsWhole (s : State) : Type 0 where
+  pub forest : Forest
+  pub formed : WellFormed (nodes_of s) s.roots forest
+  pub sized : IsSized (nodes_of s) forest
+
+-- each state that a crash may leave has the shape and the size
+pub record IsCrashWhole (s : Store) : Type 0 where
+  pub whole : (x : State) → In x (states_left s) → IsWhole x
 
 -- xs is `once`, but that elements of it may stand several times in a row
 abbrev pub Repeats : {X : Type 0} → List X → List X → Type 0

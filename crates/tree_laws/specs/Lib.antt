@@ -3,3 +3,5 @@ pub mod Contents
 pub mod Action
 pub mod Moment
 pub mod Crashes
+pub mod Laws
+pub mod CrashLaws
