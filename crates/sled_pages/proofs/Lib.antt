@@ -1,3 +1,5 @@
 pub mod Put
 pub mod Places
 pub mod Kept
+pub mod Roots
+pub mod Answered

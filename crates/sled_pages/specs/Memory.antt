@@ -1,12 +1,12 @@
 -- What a store in memory means.
-use Rattle.std.specs.Prelude.{◌≡◌, ℕ, ◌+◌, ◌^◌, ◌<◌, vec_len, vec_capacity, Bool, List, Option, None, true, false, not, [], nat_eq, nat_lt}
+use Rattle.std.specs.Prelude.{◌≡◌, ℕ, ◌+◌, ◌^◌, ◌<◌, vec_len, vec_capacity, Bool, List, Option, Some, None, true, false, not, [], nat_eq, nat_lt}
 use Rattle.std.specs.List.{list_any}
 use mathlib.Core.List.{reverse}
 use Rattle.sled_pages.specs.declared.error.Error.{Error}
 use Rattle.sled_pages.specs.declared.error.Error.TheVariants.{Io, NoMemory}
 use Rattle.sled_pages.specs.declared.memory.MemPages.{MemPages}
 use Rattle.sled_pages.specs.declared.memory.undo.Undo.{Undo}
-use Rattle.sled_pages.specs.Store.{Store}
+use Rattle.sled_pages.specs.Store.{Store, version_now}
 use Rattle.sled_pages.specs.Slots.{slots_of, places_of}
 use Rattle.sled_pages.specs.Table.{Table, roots_of, state_of, base_of, recent_of}
 
@@ -34,10 +34,22 @@ store_of m = meaning (table_of m) m.log.items m.actions m.faults m.unreadable.it
 abbrev pub empty_store : Store
 empty_store = record {
   base = record { pages = λ _. None; roots = λ _. None; in_group = false };
-  recent = []; actions = 0; faults = 0; is_readable = λ _. true; mark = 0; recovered = false; pids = λ _. false; versions = λ _. false;
+  recent = [];
+  actions = 0;
+  faults = 0;
+  is_readable = λ _. true;
+  mark = 0;
+  recovered = false;
+  pids = λ _. false;
+  versions = λ _. false;
 }
 
 -- there is room for one action more
 pub record HasRoom (m : MemPages) : Type 0 where
   pub log : vec_len m.log < vec_capacity m.log
   pub actions : m.actions + 1 < 2 ^ 64
+
+-- what a page has in place of a version
+pub record IsOther (pid version : ℕ) (s : Store) (present : Option ℕ) : Type 0 where
+  pub is : present ≡ version_now s pid
+  pub other : (present ≡ Some version) → ⊥

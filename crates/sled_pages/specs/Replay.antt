@@ -26,15 +26,15 @@ use Rattle.sled_pages.specs.Facts.{after_last, same_name}
 back_page : (pid : ℕ) (slot : Option Slot) (slots : ℕ → Option Slot) → put_at (pages_of (put_at slots pid slot)) pid (pages_of slots pid) ≡ pages_of slots
 back_page pid slot slots = fun_ext (λ q.
     elim (eqb q pid) as (λ b. eqb q pid ≡ b → cond b (pages_of slots pid) (option_map page_of (cond b slot (slots q))) ≡ pages_of slots q) [
-      true ↦ λ e. ap (pages_of slots) (sym (eqb-true q pid e))
-    | false ↦ λ e. refl
+      | true ↦ λ e. ap (pages_of slots) (sym (eqb-true q pid e))
+      | false ↦ λ e. refl
     ] refl)
 
 pub back_name : (name : Key) (root : Option ℕ) (roots : Key → Option ℕ) → put_name (put_name roots name root) name (roots name) ≡ roots
 back_name name root roots = fun_ext (λ q.
     elim (bytes_eq q name) as (λ b. bytes_eq q name ≡ b → cond b (roots name) (cond b root (roots q)) ≡ roots q) [
-      true ↦ λ e. ap roots (sym (same_name q name e))
-    | false ↦ λ e. refl
+      | true ↦ λ e. ap roots (sym (same_name q name e))
+      | false ↦ λ e. refl
     ] refl)
 
 -- doing again what was undone
@@ -66,16 +66,16 @@ lt_is a b h = grind (arith, nat_tests)
 pub slot_placed : (last : ℕ) (foreign : BTreeMap ℕ (Option Slot)) (own : List (Option Slot)) (p : ℕ) (slot : Slot) → slot_in last foreign own p ≡ Some slot → place_in last foreign own p ≡ true
 slot_placed last foreign own p slot =
     elim (nat_le p last) as (λ b. cond b (joined (get nat_cmp foreign p)) (joined (slice_get own (p - last - 1))) ≡ Some slot → cond b (is_some (get nat_cmp foreign p)) (nat_lt (p - last - 1) (length own)) ≡ true) [
-      true ↦ λ e. has_some (get nat_cmp foreign p) slot e
-    | false ↦ λ e. lt_is (p - last - 1) (length own) (slice_get_within own (p - last - 1) (Some slot) (within (slice_get own (p - last - 1)) slot e))
+      | true ↦ λ e. has_some (get nat_cmp foreign p) slot e
+      | false ↦ λ e. lt_is (p - last - 1) (length own) (slice_get_within own (p - last - 1) (Some slot) (within (slice_get own (p - last - 1)) slot e))
     ]
 
 -- a number that has a place fits 64 bits
 pub place_fits : (last : ℕ) (foreign : BTreeMap ℕ (Option Slot)) (own : List (Option Slot)) (p : ℕ) → last + length own < 2 ^ 64 → place_in last foreign own p ≡ true → p < 2 ^ 64
 place_fits last foreign own p h =
     elim (nat_le p last) as (λ b. nat_le p last ≡ b → cond b (is_some (get nat_cmp foreign p)) (nat_lt (p - last - 1) (length own)) ≡ true → p < 2 ^ 64) [
-      true ↦ λ e f. grind (arith, nat_tests)
-    | false ↦ λ e f. grind (arith, nat_tests)
+      | true ↦ λ e f. grind (arith, nat_tests)
+      | false ↦ λ e f. grind (arith, nat_tests)
     ] refl
 
 -- the pages now, by the slots

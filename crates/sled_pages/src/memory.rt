@@ -6,6 +6,11 @@ ghost use Rattle.sled_pages.specs.Order.{key_cmp};
 ghost use Rattle.sled_pages.specs.Slots.{slots_of, places_of};
 ghost use Rattle.sled_pages.specs.Table.{Table, roots_of, IsKept, AreBelow};
 ghost use Rattle.sled_pages.specs.Faults.{IsFault};
+ghost use Rattle.std.specs.Option.{option_map};
+ghost use Rattle.sled_pages.specs.Update.{put_name};
+ghost use Rattle.sled_pages.specs.Table.{page_of, slot_given};
+ghost use Rattle.sled_pages.specs.State.{PageBecomes, RootBecomes, GroupBegins, GroupEnds};
+ghost use Rattle.sled_pages.specs.Store.{Refused, ActsAt, acted, now, version_now};
 
 mod slots;
 mod undo;
@@ -41,7 +46,9 @@ pub struct MemPages {
 
 // The codes of this store's faults: a call that was named, a page that was named, numbers that are used up.
 const REFUSED: u32 = 1;
+
 const UNREADABLE: u32 = 2;
+
 const USED_UP: u32 = 3;
 
 // A fault of the device, while faults can be counted.
@@ -70,8 +77,25 @@ fn count_call(calls: &mut u64, faults: &mut u64, refused: &[u64]) -> Result<()>
     Ok(())
 }
 
+// Makes another the root of a name, or takes the name out.
+#[tactic(auto, unfolding(crate::specs::Order::key_cmp))]
+fn set_root(roots: &mut Vec<(IVec, Pid)>, name: IVec, root: Option<Pid>) -> Result<()>
+    ensures ok { OnOk result (roots_of roots.new.items ≡ put_name (roots_of roots.old.items) name root) }
+    ensures err { OnErr result (roots.new.items ≡ roots.old.items) }
+    ensures ascends { is_sorted key_cmp roots.old.items ≡ true → is_sorted key_cmp roots.new.items ≡ true }
+    ensures cause { IfErr result (λ e. e ≡ NoMemory) }
+{
+    match root {
+        Some(pid) => put_pair(roots, name, pid),
+        None => {
+            take_out(roots, &name);
+            Ok(())
+        }
+    }
+}
+
 impl MemPages {
-    ghost use Rattle.sled_pages.specs.Memory.{store_of, empty_store};
+    ghost use Rattle.sled_pages.specs.Memory.{store_of, empty_store, HasRoom, IsOther};
 
     /// An empty store. It takes no memory.
     pub fn new(alloc: Global) -> MemPages
@@ -92,5 +116,140 @@ impl MemPages {
             mark: 0,
             recovered: false,
         }
+    }
+
+    /// The calls of these numbers will be refused, and no others. The calls are those of `Pages` by `&mut self`, counted
+    /// from 1 in the order made. Refused with `NoMemory` alone, and then the calls that were named before stay named.
+    pub fn refuse_at(&mut self, calls: &[u64]) -> Result<()>
+        ensures same { store_of self.new ≡ store_of self.old }
+        ensures err { IfErr result (λ e. e ≡ NoMemory) }
+    {
+        self.refused = Vec::from_slice(self.alloc, calls)?;
+        Ok(())
+    }
+
+    // Counts a call that makes no action.
+    fn count(&mut self) -> Result<()>
+        ensures same { OnOk result (store_of self.new ≡ store_of self.old) }
+        ensures err { IfErr result (λ e. Refused e (store_of self.old) (store_of self.new)) }
+    {
+        count_call(&mut self.calls, &mut self.faults, self.refused.as_slice())
+    }
+
+    // Counts a call. Where it is not refused there is room for one action.
+    fn start(&mut self) -> Result<()>
+        ensures same { OnOk result (store_of self.new ≡ store_of self.old) }
+        ensures room { OnOk result (HasRoom self.new) }
+        ensures err { IfErr result (λ e. Refused e (store_of self.old) (store_of self.new)) }
+    {
+        if let Err(e) = count_call(&mut self.calls, &mut self.faults, self.refused.as_slice()) {
+            return Err(e);
+        }
+        if self.actions == u64::MAX {
+            return Err(fault(&mut self.faults, USED_UP));
+        }
+        if self.log.reserve(1).is_err() {
+            return Err(Error::NoMemory);
+        }
+        Ok(())
+    }
+
+    // The same of a call that gives a version.
+    fn start_version(&mut self) -> Result<()>
+        ensures same { OnOk result (store_of self.new ≡ store_of self.old) }
+        ensures room { OnOk result (HasRoom self.new) }
+        ensures versions { OnOk result (self.new.next_version + 1 < 2 ^ 64) }
+        ensures err { IfErr result (λ e. Refused e (store_of self.old) (store_of self.new)) }
+    {
+        if let Err(e) = self.start() {
+            return Err(e);
+        }
+        if self.next_version == u64::MAX {
+            return Err(fault(&mut self.faults, USED_UP));
+        }
+        Ok(())
+    }
+
+    // Whether a page has this version; else the version that it has.
+    fn tested(&self, pid: Pid, version: Version) -> std::result::Result<(), Option<Version>>
+        ensures ok { OnOk result (version_now (store_of self.now) pid ≡ Some version) }
+        ensures placed { OnOk result (places_of self.now.slots pid ≡ true) }
+        ensures err { IfErr result (IsOther pid version (store_of self.now)) }
+    {
+        match self.slots.get(pid) {
+            Some(slot) => {
+                if slot.version == version {
+                    Ok(())
+                } else {
+                    Err(Some(slot.version))
+                }
+            }
+            None => Err(None),
+        }
+    }
+
+    // The page of a number, copied.
+    fn copied(&self, alloc: Global, pid: Pid) -> Result<Option<Page>>
+        ensures ok { IfOk result (λ page. page ≡ (now (store_of self.now)).pages pid) }
+        ensures err { IfErr result (λ e. e ≡ NoMemory) }
+    {
+        match self.slots.get(pid) {
+            Some(slot) => Ok(Some(Page {
+                version: slot.version,
+                node: slot.node.clone(alloc)?,
+            })),
+            None => Ok(None),
+        }
+    }
+
+    // Puts a page in the place of another, or takes it out.
+    fn commit(&mut self, pid: Pid, slot: Option<Slot>)
+        requires room { HasRoom self.old }
+        requires placed { places_of self.old.slots pid ≡ true }
+        requires below { slot_given self.old.next_version slot ≡ true }
+        ensures { store_of self.new ≡ acted (PageBecomes pid (option_map page_of slot)) (store_of self.old) }
+    {
+        let old = self.slots.put(pid, slot);
+        push_reserved(&mut self.log, Undo::UndoSlot(pid, old));
+        self.actions += 1;
+    }
+
+    // Puts a new version of a page in its place.
+    fn commit_node(&mut self, pid: Pid, node: Node) -> Version
+        requires room { HasRoom self.old }
+        requires versions { self.old.next_version + 1 < 2 ^ 64 }
+        requires placed { places_of self.old.slots pid ≡ true }
+        ensures { ActsAt (PageBecomes pid (Some (record { version = result; node = node }))) result (store_of self.old) (store_of self.new) }
+    {
+        let version = Version(self.next_version);
+        self.next_version += 1;
+        self.commit(pid, Some(Slot { version, node }));
+        version
+    }
+
+    // Begins or ends a group.
+    fn commit_group(&mut self, begins: bool)
+        requires room { HasRoom self.old }
+        ensures { store_of self.new ≡ acted (if begins then GroupBegins else GroupEnds) (store_of self.old) }
+    {
+        push_reserved(&mut self.log, Undo::UndoGroup(self.in_group));
+        self.in_group = begins;
+        self.actions += 1;
+    }
+
+    // Makes another the root of a name, or takes the name out.
+    fn commit_root(&mut self, name: &[u8], old: Option<Pid>, new: Option<Pid>) -> Result<()>
+        requires room { HasRoom self.old }
+        requires root { (now (store_of self.old)).roots name.now ≡ old }
+        ensures ok { OnOk result (store_of self.new ≡ acted (RootBecomes name.now new) (store_of self.old)) }
+        ensures err { OnErr result (store_of self.new ≡ store_of self.old) }
+        ensures cause { IfErr result (λ e. e ≡ NoMemory) }
+    {
+        let key = IVec::from_slice(self.alloc, name)?;
+        let undo = IVec::from_slice(self.alloc, name)?;
+        set_root(&mut self.roots, key, new)?;
+        push_reserved(&mut self.log, Undo::UndoRoot(undo, old));
+        self.actions += 1;
+        Ok(())
     }
 }
