@@ -120,7 +120,7 @@ pub page_keeps : (slots slots' : ℕ → Option Slot) (roots : Key → Option �
 page_keeps slots slots' roots g log log' pid slot old places places' s o l h k kept =
     kept_more _ _ log log' (UndoSlot pid old) places places' l (page_back slots slots' roots g pid slot old s o) (λ p e. ap (λ f. f p) h ∙ e) (ap (λ f. f pid) h ∙ k) kept
 
-here_put : (nv : ℕ) (slots slots' : ℕ → Option Slot) (pid : ℕ) (slot : Option Slot) → slots' ≡ put_at slots pid slot → slot_given nv slot ≡ true → ((p : ℕ) → slot_given nv (slots p) ≡ true) → (q : ℕ) → slot_given nv (slots' q) ≡ true
+pub here_put : (nv : ℕ) (slots slots' : ℕ → Option Slot) (pid : ℕ) (slot : Option Slot) → slots' ≡ put_at slots pid slot → slot_given nv slot ≡ true → ((p : ℕ) → slot_given nv (slots p) ≡ true) → (q : ℕ) → slot_given nv (slots' q) ≡ true
 here_put nv slots slots' pid slot s e here q = rw s (
     elim (eqb q pid) as (λ b. slot_given nv (cond b slot (slots q)) ≡ true) [ true ↦ e | false ↦ here q ])
 

@@ -3,3 +3,4 @@ pub mod Places
 pub mod Kept
 pub mod Roots
 pub mod Answered
+pub mod Back

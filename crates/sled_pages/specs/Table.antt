@@ -21,6 +21,9 @@ pub record Table : Type 0 where
   pub roots : Key → Option ℕ
   pub in_group : Bool
 
+abbrev pub table : (ℕ → Option Slot) → (Key → Option ℕ) → Bool → Table
+table slots roots in_group = record { slots = slots; roots = roots; in_group = in_group }
+
 abbrev pub roots_of : List (Key × ℕ) → Key → Option ℕ
 roots_of roots name = find key_cmp name roots
 

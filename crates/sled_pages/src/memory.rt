@@ -12,13 +12,15 @@ ghost use Rattle.sled_pages.specs.Table.{page_of, slot_given};
 ghost use Rattle.sled_pages.specs.State.{PageBecomes, RootBecomes, GroupBegins, GroupEnds};
 ghost use Rattle.sled_pages.specs.Store.{Refused, ActsAt, acted, now, version_now};
 
+mod back;
 mod slots;
 mod undo;
 
 use crate::error::Result;
 use crate::node::copy_pointers;
-use crate::pairs::{put_pair, take_out, value_at};
+use crate::pairs::value_at;
 use crate::{Error, Fault, IVec, Link, Node, Page, Pages, Pid, Version, View};
+use back::{set_root, take_all_back};
 use slots::{Slot, Slots, push_reserved};
 use std::alloc::Global;
 use undo::Undo;
@@ -75,23 +77,6 @@ fn count_call(calls: &mut u64, faults: &mut u64, refused: &[u64]) -> Result<()>
         return Err(fault(faults, REFUSED));
     }
     Ok(())
-}
-
-// Makes another the root of a name, or takes the name out.
-#[tactic(auto, unfolding(crate::specs::Order::key_cmp))]
-fn set_root(roots: &mut Vec<(IVec, Pid)>, name: IVec, root: Option<Pid>) -> Result<()>
-    ensures ok { OnOk result (roots_of roots.new.items ≡ put_name (roots_of roots.old.items) name root) }
-    ensures err { OnErr result (roots.new.items ≡ roots.old.items) }
-    ensures ascends { is_sorted key_cmp roots.old.items ≡ true → is_sorted key_cmp roots.new.items ≡ true }
-    ensures cause { IfErr result (λ e. e ≡ NoMemory) }
-{
-    match root {
-        Some(pid) => put_pair(roots, name, pid),
-        None => {
-            take_out(roots, &name);
-            Ok(())
-        }
-    }
 }
 
 impl MemPages {

@@ -4,7 +4,7 @@ use Rattle.std.specs.Ordering.{nat_cmp, eq_by_cmp}
 use Rattle.std.specs.Cmp.Lexicographic.{slice_cmp}
 use Rattle.sled_pages.specs.Table.{roots_of}
 use Rattle.sled_pages.proofs.Roots.{root_put, root_out, put_told, out_ascends}
-use Rattle.sled_pages.proofs.memory.set_root.Goals as goal
+use Rattle.sled_pages.proofs.memory.back.set_root.Goals as goal
 
 pub returns-in-Some-clause-ok : goal.returns-in-Some-clause-ok
 returns-in-Some-clause-ok c = rw c.in-Some.is (on_ok_weaker c.put_pair.result (λ e. ap roots_of e ∙ root_put c.args.name c.in-Some.pid c.args.roots.now.items) c.put_pair.ensures.ok)
