@@ -1,5 +1,5 @@
 -- Actions taken back one by one.
-use Rattle.std.proofs.Common.{◌≡◌, ℕ, zero, suc, ◌+◌, ◌<◌, ◌≤◌, ◌⊎◌, inl, inr, Bool, true, false, ◌&&◌, List, [], ◌∷◌, ◌++◌, length, take, Option, Some, None, refl, sym, ap, subst, ◌∙◌, arith, length-append}
+use Rattle.std.proofs.Common.{◌≡◌, ℕ, zero, suc, ◌+◌, ◌<◌, ◌≤◌, ◌⊎◌, inl, inr, Bool, true, List, [], ◌∷◌, ◌++◌, length, take, Option, refl, sym, ap, ◌∙◌, arith, length-append}
 use mathlib.Core.List.{reverse}
 use Rattle.std.specs.List.{list_all}
 use Rattle.std.proofs.lemmas.Bool.{cases_lt}
@@ -11,8 +11,7 @@ use Rattle.sled_pages.specs.declared.memory.slots.Slot.{Slot}
 use Rattle.sled_pages.specs.declared.memory.undo.Undo.{Undo}
 use Rattle.sled_pages.specs.declared.memory.undo.Undo.TheVariants.{UndoSlot}
 use Rattle.sled_pages.specs.State.{State, Action, after_all}
-use Rattle.sled_pages.specs.Table.{Table, table, undone, undoes, base_of, recent_of, state_of, state_at, has_place, slot_given, undo_given, IsKept, AreBelow, TakesBack, TakenBack}
-use Rattle.sled_pages.specs.Store.{Store}
+use Rattle.sled_pages.specs.Table.{Table, table, undone, undoes, base_of, recent_of, state_of, state_at, has_place, slot_given, undo_given, IsKept, TakesBack, TakenBack}
 use Rattle.sled_pages.specs.Crash.{Crashes}
 use Rattle.sled_pages.specs.Memory.{meaning}
 use Rattle.sled_pages.specs.Replay.{replay}
@@ -43,7 +42,7 @@ last_recent log u s t e =
     let r : List Action = recent_of (reverse log) (undone u s) in
     ap (recent_of (reverse log)) e
     ∙ sym (ap (λ x. take (length log) (recent_of x s)) (reverse-append log (u ∷ []))
-      ∙ (ap (λ n. take n (r ++ undoes u s ∷ [])) (sym (length_recent_log log (undone u s))) ∙ take-append_seam r (undoes u s ∷ [])))
+    ∙ (ap (λ n. take n (r ++ undoes u s ∷ [])) (sym (length_recent_log log (undone u s))) ∙ take-append_seam r (undoes u s ∷ [])))
 
 take_le : {X : Type 0} (n m : ℕ) (xs : List X) → n ≤ m → take n (take m xs) ≡ take n xs
 take_le zero m xs h = refl
@@ -66,13 +65,13 @@ back_one keep begun s t log0 log log' u l e cause h =
       recent = last_recent log' u s t e ∙ (ap (λ x. take (length log') (recent_of (reverse x) s)) (sym l) ∙ (ap (take (length log')) h.recent ∙ take_le (length log') (length log) R (omega arith)));
       no_longer = let n = h.no_longer in omega arith;
       most = λ j a b d. elim (cases_lt (length log) j) [
-        inl longer ↦ h.most j longer b d
-      | inr not_longer ↦
-          let same : j ≡ length log = omega arith in
-          elim cause [
-            inl over ↦ absurd (omega arith)
-          | inr is_open ↦ ap (λ (n : ℕ). (state_at n log0 begun).in_group) same ∙ (ap (λ (x : State). x.in_group) (here keep begun s log0 log h) ∙ is_open)
-          ]
+        | inl longer ↦ h.most j longer b d
+        | inr not_longer ↦
+            let same : j ≡ length log = omega arith in
+            elim cause [
+              | inl over ↦ absurd (omega arith)
+              | inr is_open ↦ ap (λ (n : ℕ). (state_at n log0 begun).in_group) same ∙ (ap (λ (x : State). x.in_group) (here keep begun s log0 log h) ∙ is_open)
+            ]
       ];
     }
 

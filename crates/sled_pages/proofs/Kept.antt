@@ -1,5 +1,5 @@
 -- What the parts of a store in memory say of its meaning.
-use Rattle.std.proofs.Common.{◌≡◌, ℕ, zero, suc, ◌+◌, ◌-◌, ◌<◌, ◌≤◌, Bool, true, false, ◌&&◌, nat_lt, cond, List, [], ◌∷◌, ◌++◌, length, Option, Some, None, refl, sym, ap, subst, ◌∙◌, arith, if◌then◌else◌}
+use Rattle.std.proofs.Common.{◌≡◌, ℕ, ◌+◌, ◌<◌, Bool, true, false, ◌&&◌, nat_lt, cond, List, [], ◌∷◌, ◌++◌, Option, Some, None, refl, sym, ap, subst, ◌∙◌, arith, if◌then◌else◌}
 use Rattle.std.proofs.Math.Path.{fun_ext}
 use Rattle.std.proofs.lemmas.Bool.Decides.{nat_tests}
 use lib.Dec.{eqb}
@@ -18,7 +18,6 @@ use Rattle.std.specs.List.{list_all}
 use Rattle.sled_pages.specs.Order.{Key}
 use Rattle.sled_pages.specs.Update.{put_at, put_name}
 use Rattle.sled_pages.specs.declared.node.Node.{Node}
-use Rattle.sled_pages.specs.declared.page.Page.{Page}
 use Rattle.sled_pages.specs.declared.memory.slots.Slot.{Slot}
 use Rattle.sled_pages.specs.declared.memory.undo.Undo.{Undo}
 use Rattle.sled_pages.specs.declared.memory.undo.Undo.TheVariants.{UndoSlot, UndoRoot, UndoGroup}

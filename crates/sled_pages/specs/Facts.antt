@@ -141,8 +141,8 @@ left_at (suc k) [] s e = in_first [] s e
 left_at (suc k) (a ∷ actions) s e =
     let x : State = after_all (take k actions) (after a s) in
     elim s.in_group as (λ b. In x (cond b (left_from (after a s) actions) (s ∷ left_from (after a s) actions))) [
-      true ↦ left_at k actions (after a s) e
-    | false ↦ inr (left_at k actions (after a s) e)
+      | true ↦ left_at k actions (after a s) e
+      | false ↦ inr (left_at k actions (after a s) e)
     ]
 
 pub may_leave_crashed : (keep : ℕ) (old new : Store) → Crashes keep old new → MayLeave old new.base

@@ -13,3 +13,4 @@ pub mod Table
 pub mod Replay
 pub mod Memory
 pub mod Faults
+pub mod Laws

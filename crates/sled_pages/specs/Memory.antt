@@ -2,8 +2,6 @@
 use Rattle.std.specs.Prelude.{◌≡◌, ℕ, ◌+◌, ◌^◌, ◌<◌, vec_len, vec_capacity, Bool, List, Option, Some, None, true, false, not, [], nat_eq, nat_lt}
 use Rattle.std.specs.List.{list_any}
 use mathlib.Core.List.{reverse}
-use Rattle.sled_pages.specs.declared.error.Error.{Error}
-use Rattle.sled_pages.specs.declared.error.Error.TheVariants.{Io, NoMemory}
 use Rattle.sled_pages.specs.declared.memory.MemPages.{MemPages}
 use Rattle.sled_pages.specs.declared.memory.undo.Undo.{Undo}
 use Rattle.sled_pages.specs.Store.{Store, version_now}

@@ -10,7 +10,8 @@ ghost use Rattle.std.specs.Option.{option_map};
 ghost use Rattle.sled_pages.specs.Update.{put_name};
 ghost use Rattle.sled_pages.specs.Table.{page_of, slot_given};
 ghost use Rattle.sled_pages.specs.State.{PageBecomes, RootBecomes, GroupBegins, GroupEnds};
-ghost use Rattle.sled_pages.specs.Store.{Refused, ActsAt, acted, now, version_now};
+ghost use Rattle.sled_pages.specs.Store.{Refused, ActsAt, acted, flushed, now, version_now};
+ghost use Rattle.sled_pages.specs.Crash.{Crashes, MayLeave};
 
 mod back;
 mod slots;
@@ -101,6 +102,44 @@ impl MemPages {
             mark: 0,
             recovered: false,
         }
+    }
+
+    /// What a crash leaves that keeps this many of the actions since the last flush, less a group that is not sealed within
+    /// them. Calls are counted anew from 1, none is refused, and every page can be read. Refused with `NoMemory` alone: then
+    /// the store is lost.
+    pub fn crash(self, keep: usize) -> Result<MemPages>
+        ensures ok { IfOk result (λ left. Crashes keep (store_of self) (store_of left)) }
+        ensures left { IfOk result (λ left. MayLeave (store_of self) (store_of left).base) }
+        ensures err { IfErr result (λ e. e ≡ NoMemory) }
+    {
+        let MemPages {
+            alloc,
+            mut slots,
+            mut roots,
+            mut in_group,
+            mut log,
+            actions,
+            next_version,
+            mark,
+            ..
+        } = self;
+        take_all_back(&mut slots, &mut roots, &mut in_group, &mut log, keep)?;
+        log.clear();
+        Ok(MemPages {
+            alloc,
+            slots,
+            roots,
+            in_group,
+            log,
+            actions,
+            next_version,
+            calls: 0,
+            refused: Vec::new(alloc),
+            faults: 0,
+            unreadable: Vec::new(alloc),
+            mark,
+            recovered: true,
+        })
     }
 
     /// The calls of these numbers will be refused, and no others. The calls are those of `Pages` by `&mut self`, counted
@@ -237,4 +276,180 @@ impl MemPages {
         self.actions += 1;
         Ok(())
     }
+}
+
+impl Pages for MemPages {
+    ghost use Rattle.sled_pages.specs.Memory.{store_of};
+
+    ghost store = { store_of };
+
+    fn read(&self, alloc: Global, pid: Pid) -> Result<Option<View>> {
+        if self.unreadable.contains(&pid.0) {
+            return Err(Error::Io(Fault(UNREADABLE)));
+        }
+        match self.copied(alloc, pid)? {
+            Some(page) => Ok(Some(View {
+                pid,
+                version: page.version,
+                node: page.node,
+            })),
+            None => Ok(None),
+        }
+    }
+
+    fn allocate(&mut self, node: Node) -> Result<(Pid, Version)> {
+        if let Err(e) = self.start_version() {
+            return Err(e);
+        }
+        if !self.slots.has_number() {
+            return Err(fault(&mut self.faults, USED_UP));
+        }
+        if let Err(e) = self.slots.reserve() {
+            return Err(e);
+        }
+        let version = Version(self.next_version);
+        self.next_version += 1;
+        let pid = self.slots.add(Slot { version, node });
+        push_reserved(&mut self.log, Undo::UndoSlot(pid, None));
+        self.actions += 1;
+        Ok((pid, version))
+    }
+
+    fn link(
+        &mut self,
+        pid: Pid,
+        version: Version,
+        link: Link,
+    ) -> Result<std::result::Result<Version, Option<Version>>> {
+        if let Err(e) = self.start_version() {
+            return Err(e);
+        }
+        if let Err(present) = self.tested(pid, version) {
+            return Ok(Err(present));
+        }
+        let mut node = match self.copied(self.alloc, pid) {
+            Ok(Some(page)) => page.node,
+            Ok(None) => return Ok(Err(None)),
+            Err(e) => return Err(e),
+        };
+        if let Err(e) = node.apply(link) {
+            return Err(e);
+        }
+        Ok(Ok(self.commit_node(pid, node)))
+    }
+
+    fn replace(
+        &mut self,
+        pid: Pid,
+        version: Version,
+        node: Node,
+    ) -> Result<std::result::Result<Version, Option<Version>>> {
+        if let Err(e) = self.start_version() {
+            return Err(e);
+        }
+        if let Err(present) = self.tested(pid, version) {
+            return Ok(Err(present));
+        }
+        Ok(Ok(self.commit_node(pid, node)))
+    }
+
+    fn free(
+        &mut self,
+        pid: Pid,
+        version: Version,
+    ) -> Result<std::result::Result<(), Option<Version>>> {
+        if let Err(e) = self.start() {
+            return Err(e);
+        }
+        if let Err(present) = self.tested(pid, version) {
+            return Ok(Err(present));
+        }
+        self.commit(pid, None);
+        Ok(Ok(()))
+    }
+
+    #[tactic(auto, unfolding(crate::specs::Order::key_cmp))]
+    fn root(&self, name: &[u8]) -> Option<Pid> {
+        value_at(self.roots.as_slice(), name).copied()
+    }
+
+    fn roots(&self, alloc: Global) -> Result<Vec<(IVec, Pid)>> {
+        copy_pointers(alloc, self.roots.as_slice())
+    }
+
+    fn cas_root(
+        &mut self,
+        name: &[u8],
+        old: Option<Pid>,
+        new: Option<Pid>,
+    ) -> Result<std::result::Result<(), Option<Pid>>> {
+        if let Err(e) = self.start() {
+            return Err(e);
+        }
+        let present = self.root(name);
+        if present != old {
+            return Ok(Err(present));
+        }
+        if let Err(e) = self.commit_root(name, present, new) {
+            return Err(e);
+        }
+        Ok(Ok(()))
+    }
+
+    fn begin_group(&mut self) -> Result<()> {
+        if let Err(e) = self.start() {
+            return Err(e);
+        }
+        self.commit_group(true);
+        Ok(())
+    }
+
+    fn seal_group(&mut self) -> Result<()> {
+        if let Err(e) = self.start() {
+            return Err(e);
+        }
+        self.commit_group(false);
+        Ok(())
+    }
+
+    fn in_group(&self) -> bool {
+        self.in_group
+    }
+
+    /// Makes all that was done durable. The number is that of the changing actions since the last flush.
+    fn flush(&mut self) -> Result<usize>
+        requires { (now (store_of self.old)).in_group ≡ false }
+        ensures ok { OnOk result (store_of self.new ≡ flushed (store_of self.old)) }
+        ensures count { IfOk result (λ n. n ≡ length (store_of self.old).recent) }
+        ensures err { IfErr result (λ e. Refused e (store_of self.old) (store_of self.new)) }
+    {
+        if let Err(e) = self.count() {
+            return Err(e);
+        }
+        let count = self.log.len();
+        self.log.clear();
+        Ok(count)
+    }
+
+    fn set_aside(&mut self, upto: u64) -> Result<()> {
+        if let Err(e) = self.count() {
+            return Err(e);
+        }
+        self.mark = upto;
+        Ok(())
+    }
+
+    fn mark(&self) -> u64 {
+        self.mark
+    }
+
+    fn was_recovered(&self) -> bool {
+        self.recovered
+    }
+
+    ghost sealed = { λ m. m.kept.sealed };
+
+    ghost use Rattle.sled_pages.specs.Laws.{law_given};
+
+    ghost given = { λ m. law_given m };
 }

@@ -1,4 +1,4 @@
-use Rattle.std.proofs.Common.{rules, length, ◌-◌, ◌<◌, ◌≡◌}
+use Rattle.std.proofs.Common.{rules, length, ◌-◌, ◌<◌}
 use Rattle.sled_pages.proofs.Places.{own_exchanged}
 use Rattle.sled_pages.proofs.memory.slots.Slots.put.Goals as goal
 
