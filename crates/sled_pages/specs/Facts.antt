@@ -1,5 +1,5 @@
 -- What follows of the state now, and of what a crash may leave, from an action. Clients of a store cite these.
-use Rattle.std.proofs.Common.{◌≡◌, ◌≢◌, ℕ, true, false, cond, List, [], ◌∷◌, ◌++◌, Option, Some, None, Ok, inl, inr, refl, sym, ap, subst, ◌∙◌, append_assoc, append-nil, if◌then◌else◌}
+use Rattle.std.proofs.Common.{◌≡◌, ◌≢◌, ℕ, zero, suc, take, true, false, cond, List, [], ◌∷◌, ◌++◌, Option, Some, None, Ok, inl, inr, refl, sym, ap, subst, ◌∙◌, append_assoc, append-nil, if◌then◌else◌}
 use Rattle.std.proofs.lemmas.Bool.{eq-eqb, ne_eqb}
 use Rattle.std.proofs.lemmas.Slice.Eq.{bytes_eq-Decides}
 use Rattle.std.specs.Str.{bytes_eq}
@@ -10,7 +10,7 @@ use Rattle.sled_pages.specs.declared.node.Node.{Node}
 use Rattle.sled_pages.specs.declared.page.Page.{Page}
 use Rattle.sled_pages.specs.State.{State, Action, PageBecomes, RootBecomes, after, after_all}
 use Rattle.sled_pages.specs.Store.{Store, now, acted, flushed, ActsAt, Allocates, Changes, Frees, SwapsRoot}
-use Rattle.sled_pages.specs.Crash.{left_from, states_left, MayLeave}
+use Rattle.sled_pages.specs.Crash.{left_from, states_left, MayLeave, Crashes}
 
 -- the state after actions and one more
 pub after_last : (actions : List Action) (a : Action) (s : State) → after_all (actions ++ a ∷ []) s ≡ after a (after_all actions s)
@@ -133,3 +133,17 @@ in_first (a ∷ actions) s e = subst (λ b. In s (cond b (left_from (after a s) 
 
 pub may_leave_base : (s : Store) → s.base.in_group ≡ false → MayLeave s s.base
 may_leave_base s e = record { is = in_first s.recent s.base e }
+
+-- what a crash leaves is a state that it may leave
+left_at : (k : ℕ) (actions : List Action) (s : State) → (after_all (take k actions) s).in_group ≡ false → In (after_all (take k actions) s) (left_from s actions)
+left_at zero actions s e = in_first actions s e
+left_at (suc k) [] s e = in_first [] s e
+left_at (suc k) (a ∷ actions) s e =
+    let x : State = after_all (take k actions) (after a s) in
+    elim s.in_group as (λ b. In x (cond b (left_from (after a s) actions) (s ∷ left_from (after a s) actions))) [
+      | true ↦ left_at k actions (after a s) e
+      | false ↦ inr (left_at k actions (after a s) e)
+    ]
+
+pub may_leave_crashed : (keep : ℕ) (old new : Store) → Crashes keep old new → MayLeave old new.base
+may_leave_crashed keep old new h = record { is = subst (λ (x : State). In x (states_left old)) (sym (ap (λ (t : Store). t.base) h.is)) (left_at h.kept old.recent old.base h.sealed) }
