@@ -3,3 +3,4 @@ pub mod Sound
 pub mod Opens
 pub mod Export
 pub mod Calls
+pub mod Flights

@@ -8,9 +8,10 @@ ghost use Rattle.sled_pages.specs.Store.{now};
 ghost use Rattle.sled_model.specs.Refusal.{must_refuse_of};
 ghost use Rattle.sled.specs.Calls.{IsHandle, RefusesHandle, MustBeRefused};
 
-use crate::{DEFAULT_TREE, HANDLE_OF_ANOTHER_DATABASE};
-use sled_model::{MergeOperator, Tree};
+use crate::{DEFAULT_TREE, HANDLE_OF_ANOTHER_DATABASE, WALK_PASSED_TURNS};
+use sled_model::{MAX_LOOPS, MergeOperator, Tree};
 use sled_pages::{Error, IVec, Pages, Result};
+use sled_tree::{Flight, Went, advance};
 use std::alloc::Global;
 use std::marker::Model;
 
@@ -55,7 +56,8 @@ impl<P: Pages, M> Model for Db<P, M> {
 
 impl<P: Pages, M: MergeOperator> Db<P, M> {
     ghost use Rattle.sled.specs.Sound.{IsDb};
-    ghost use Rattle.sled.specs.Values.{db_state};
+    ghost use Rattle.sled.specs.Values.{db_state, moment};
+    ghost use Rattle.sled.specs.Flights.{IsKnown, Flies};
 
     /// What holds of every database: its pages are well formed now and in every state that a crash may leave, and its trees
     /// are those that the pages have roots for. It does nothing.
@@ -116,5 +118,19 @@ impl<P: Pages, M: MergeOperator> Db<P, M> {
             Some(number) if number == tree.number => Ok(()),
             _ => Err(Error::CollectionNotFound(tree.name.clone()?)),
         }
+    }
+
+    /// One step of a call in flight, which may do one page action. The tests come first, and the count of turns last.
+    pub fn fly(&mut self, flight: &mut Flight) -> Went
+        requires { IsKnown (moment (P.store self.old.pages) self.old.trees self.old.trees_given) flight.old }
+        ensures { Flies P.store M.meant self.old flight.old result self.new flight.new }
+    {
+        if let Err(e) = self.check(&flight.job.tree) {
+            return Went::Refused(e);
+        }
+        if flight.turns == MAX_LOOPS {
+            return Went::Refused(Error::ReportableBug(WALK_PASSED_TURNS));
+        }
+        advance(&mut self.pages, self.alloc, flight)
     }
 }

@@ -87,7 +87,7 @@ module _ (j : Job) (old new : Store) (view : View) (k v : Key) (given : ℕ) (re
 
   set_told : (numbers : Tree → Option ℕ) (gave : ℕ → Bool) (w : Forest)
       → IsMoment (moment_of old numbers gave) w → numbers j.tree.name ≡ Some j.tree.number → IsAct (moment_of old numbers gave) w j view
-      → (x : Forest) × Acts [] [] (moment_of old numbers gave) w (moment_of new numbers gave) x × Decides j reply (moment_of old numbers gave) w (moment_of new numbers gave) x
+      → (x : Forest) × Acts [] [] (moment_of old numbers gave) w (moment_of new numbers gave) x × Decides j reply old new (moment_of old numbers gave) w (moment_of new numbers gave) x
   set_told numbers gave w is named a =
       let m : Moment = moment_of old numbers gave in
       let t : Tree = j.tree.name in
@@ -106,7 +106,7 @@ module _ (j : Job) (old new : Store) (view : View) (k v : Key) (given : ℕ) (re
               ∙ none) in (
         w,
         subst (λ (z : Moment). Acts [] [] m w z w) (sym after) (record { is = written.steps.is; goes = written.steps.goes; fresh = λ q i. absurd i }),
-        subst (λ (z : Moment). Decides j reply m w z w) (sym after) (record {
+        subst (λ (z : Moment). Decides j reply old new m w z w) (sym after) (record {
           replies = replies (leaf view.node.content a.acting.es a.acting.content)
               ∙ insert_reply k v (pairs view.node.content) (find key_cmp k (pairs view.node.content))
               ∙ ap Value (sym found)

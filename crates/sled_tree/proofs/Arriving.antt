@@ -17,7 +17,7 @@ use Rattle.sled_model.specs.declared.reply.Reply.{Reply}
 use Rattle.sled_model.specs.declared.reply.Reply.TheVariants.{Value}
 use Rattle.sled_model.specs.Answer.{Answer, answer_of, key_of, inserted_over}
 use Rattle.tree_laws.specs.Forest.{Tree, Forest, place, contents}
-use Rattle.tree_laws.specs.Moment.{Moment, nodes_at, IsMoment, IsOpen, IsActing}
+use Rattle.tree_laws.specs.Moment.{Moment, moment_of, nodes_at, IsMoment, IsOpen, IsActing}
 use Rattle.tree_laws.specs.Laws.{IsCurrent}
 use Rattle.tree_laws.proofs.Known.{root_in, leaf_in, acting_here, answers}
 use Rattle.sled_tree.specs.declared.flight.Job.{Job}
@@ -65,7 +65,7 @@ module _ (j : Job) (v : View) (l : IsLeafOf j v) (m : Moment) (w : Forest) (is :
 pub get_arrives : (j : Job) (v : View) (k : Key) (value : Option Key) → IsLeafOf j v → j.call ≡ Get k → value ≡ value_at v.node.content (key_of j.call) → Arrives j v (Decided (Value value))
 get_arrives j v k value l call e = record {
   touches = λ s. inl refl;
-  told = λ m w is named here. (
+  told = λ s numbers given w is named here. let m : Moment = moment_of s numbers given in (
     refl,
     record {
       replies = ap Value (e ∙ sym (found j v l m w is named here)) ∙ reply m w;
@@ -86,7 +86,8 @@ get_arrives j v k value l call e = record {
 pub equal_arrives : (j : Job) (v : View) (k new old : Key) → IsLeafOf j v → j.call ≡ Insert k new → Some old ≡ value_at v.node.content (key_of j.call) → bytes_eq old new ≡ true → Arrives j v (Decided (Value (Some old)))
 equal_arrives j v k new old l call e same = record {
   touches = λ s. inl refl;
-  told = λ m w is named here.
+  told = λ s numbers given w is named here.
+      let m : Moment = moment_of s numbers given in
       let a : answer_of j.call (contents (nodes_at m) w j.tree.name) ≡ record { map = contents (nodes_at m) w j.tree.name; reply = Value (Some old); event = None } =
           ap (λ c. answer_of c (contents (nodes_at m) w j.tree.name)) call
           ∙ insert_equal k new (contents (nodes_at m) w j.tree.name) (find key_cmp k (contents (nodes_at m) w j.tree.name)) old
@@ -106,7 +107,7 @@ pub change_arrives : (j : Job) (v : View) (k new : Key) (value : Option Key) →
     → (value ≡ None) ⊎ ((old : Key) × (value ≡ Some old) × (bytes_eq old new ≡ false)) → Arrives j v (Go (Act v))
 change_arrives j v k new value l call e apart = record {
   touches = λ s. inl refl;
-  told = λ m w is named here. (
+  told = λ s numbers given w is named here. let m : Moment = moment_of s numbers given in (
     refl,
     (
       record { acting = acting j v l m w is named here; changes = changes },

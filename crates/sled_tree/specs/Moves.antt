@@ -16,6 +16,9 @@ use Rattle.sled_tree.specs.declared.flight.Job.{Job}
 use Rattle.sled_tree.specs.declared.flight.Stage.{Stage}
 use Rattle.sled_tree.specs.declared.flight.Next.{Next}
 use Rattle.sled_tree.specs.declared.flight.Next.TheVariants.{Go, Decided, Refused}
+use Rattle.sled_tree.specs.declared.flight.Flight.{Flight}
+use Rattle.sled_tree.specs.declared.flight.Went.{Went}
+use Rattle.sled_tree.specs.declared.flight.Went.TheVariants as went
 use Rattle.sled_tree.specs.Stages.{IsStage, owned}
 
 -- one changing action, and what it gave; nothing else of the store changes
@@ -54,21 +57,22 @@ pub record Same (old : Moment) (w : Forest) (new : Moment) (v : Forest) : Type 0
   pub same : (t : Tree) → contents (nodes_at new) v t ≡ contents (nodes_at old) w t
 
 -- The call replies and changes its tree as its answer on the contents now says. Without an event nothing is touched
-pub record Decides (j : Job) (reply : Reply) (old : Moment) (w : Forest) (new : Moment) (v : Forest) : Type 0 where
+pub record Decides (j : Job) (reply : Reply) (a b : Store) (old : Moment) (w : Forest) (new : Moment) (v : Forest) : Type 0 where
   pub replies : reply ≡ (answer_of j.call (contents (nodes_at old) w j.tree.name)).reply
   pub here : contents (nodes_at new) v j.tree.name ≡ (answer_of j.call (contents (nodes_at old) w j.tree.name)).map
   pub others : (t : Tree) → t ≢ j.tree.name → contents (nodes_at new) v t ≡ contents (nodes_at old) w t
-  pub quiet : (answer_of j.call (contents (nodes_at old) w j.tree.name)).event ≡ None → new ≡ old
+  pub quiet : (answer_of j.call (contents (nodes_at old) w j.tree.name)).event ≡ None → b ≡ a
 
 abbrev pub owned_next : Next → List ℕ
 owned_next (Go stage) = owned stage
 owned_next (Decided reply) = []
 owned_next (Refused e) = []
 
-abbrev pub Comes : Job → Moment → Forest → Next → Moment → Forest → Type 0
-Comes j old w (Go stage) new v = IsStage new v j stage × Same old w new v
-Comes j old w (Decided reply) new v = Decides j reply old w new v
-Comes j old w (Refused e) new v = Same old w new v
+-- what comes of an action from the store a to the store b
+abbrev pub Comes : Job → Store → Store → Moment → Forest → Next → Moment → Forest → Type 0
+Comes j a b old w (Go stage) new v = IsStage new v j stage × Same old w new v
+Comes j a b old w (Decided reply) new v = Decides j reply a b old w new v
+Comes j a b old w (Refused e) new v = Same old w new v
 
 -- One page action of a call whose tree is current, from a stage to what comes next.
 -- At every forest that shows the pages well formed, where the stage's facts hold, there is a forest after
@@ -76,14 +80,25 @@ pub record Moves (j : Job) (old : Store) (stage : Stage) (next : Next) (new : St
   pub touches : touches_as next old new
   pub told : (numbers : Tree → Option ℕ) (given : ℕ → Bool) (w : Forest)
       → IsMoment (moment_of old numbers given) w → numbers j.tree.name ≡ Some j.tree.number → IsStage (moment_of old numbers given) w j stage
-      → (v : Forest) × Acts (owned stage) (owned_next next) (moment_of old numbers given) w (moment_of new numbers given) v × Comes j (moment_of old numbers given) w next (moment_of new numbers given) v
+      → (v : Forest) × Acts (owned stage) (owned_next next) (moment_of old numbers given) w (moment_of new numbers given) v × Comes j old new (moment_of old numbers given) w next (moment_of new numbers given) v
+
+abbrev pub advances_as : Store → Flight → Went → Store → Flight → Type 0
+advances_as old f went.Moved new g = (g.job ≡ f.job) × (g.turns ≡ f.turns + 1) × Moves f.job old f.stage (Go g.stage) new
+advances_as old f (went.Decided reply) new g = Moves f.job old f.stage (Decided reply) new
+advances_as old f (went.Refused e) new g = Moves f.job old f.stage (Refused e) new
+
+-- one step of a call in flight: its stage's page action. Where the call goes on it has one turn more
+pub record Advances (old : Store) (f : Flight) (went : Went) (new : Store) (g : Flight) : Type 0 where
+  pub told : advances_as old f went new g
 
 -- the root of the call's tree was just read
 pub record IsHere (m : Moment) (w : Forest) (j : Job) (v : View) : Type 0 where
   pub live : m.state.pages v.pid ≡ Some (record { version = v.version; node = v.node })
   pub root : m.state.roots j.tree.name ≡ Some v.pid
 
--- What comes after a page was read, at every moment at which it was read
+-- What comes after a page was read, of every store where it was read
 pub record Arrives (j : Job) (view : View) (next : Next) : Type 0 where
   pub touches : (s : Store) → touches_as next s s
-  pub told : (m : Moment) (w : Forest) → IsMoment m w → m.numbers j.tree.name ≡ Some j.tree.number → IsHere m w j view → (owned_next next ≡ []) × Comes j m w next m w
+  pub told : (s : Store) (numbers : Tree → Option ℕ) (given : ℕ → Bool) (w : Forest)
+      → IsMoment (moment_of s numbers given) w → numbers j.tree.name ≡ Some j.tree.number → IsHere (moment_of s numbers given) w j view
+      → (owned_next next ≡ []) × Comes j s s (moment_of s numbers given) w next (moment_of s numbers given) w

@@ -10,5 +10,5 @@ mod dispatch;
 mod flight;
 mod walk;
 
-pub use dispatch::step;
+pub use dispatch::advance;
 pub use flight::{Flight, Job, Next, Stage, Went};

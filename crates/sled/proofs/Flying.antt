@@ -1,0 +1,438 @@
+-- One step of a call in flight.
+use Rattle.std.proofs.Common.{◌≡◌, ◌≢◌, ℕ, ◌+◌, ◌<◌, ◌≤◌, Bool, true, false, not, cond, List, [], ◌∷◌, ◌++◌, Option, Some, None, option_map, sym, refl, ap, ◌∙◌, subst, inl, inr, ◌⊎◌, arith, append-nil}
+use Rattle.std.proofs.Math.Path.{fun_ext}
+use Rattle.std.specs.FinMap.Entries.{find}
+use Rattle.std.specs.Ordering.{nat_cmp}
+use Rattle.std.specs.Str.{bytes_eq}
+use Rattle.sled_pages.specs.Order.{Key}
+use Rattle.sled_pages.specs.In.{In}
+use Rattle.sled_pages.specs.Update.{put_at, put_name}
+use Rattle.sled_pages.specs.State.{nodes_of}
+use Rattle.sled_pages.specs.Store.{Store, now, acted}
+use Rattle.sled_pages.specs.declared.error.Error.{Error}
+use Rattle.sled_pages.specs.declared.error.Error.TheVariants as error
+use Rattle.sled_model.specs.Maps.{Map, Maps, Merge}
+use Rattle.sled_model.specs.Answer.{Answer, answer_of}
+use Rattle.sled_model.specs.State.{State, NamedTree, Flying, Queue, maps_of, delivered, decided}
+use Rattle.sled_model.specs.Refusal.{MustRefuse, must_refuse_of, MayRefuse, ToStep, cause_of, may_refuse_as, tells}
+use Rattle.sled_model.specs.Steps.{Steps, Moves as StepMoves, Decides as StepDecides, RefusesStep}
+use Rattle.sled_model.specs.declared.event.Event.{Event}
+use Rattle.sled_model.specs.declared.reply.Reply.{Reply}
+use Rattle.sled_model.specs.declared.tree.Tree.{Tree}
+use Rattle.sled_model.specs.declared.outcome.Step.TheVariants as step
+use Rattle.sled_model.specs.declared.TheConstants.{MAX_LOOPS}
+use Rattle.tree_laws.specs.Forest.{Forest, contents}
+use Rattle.tree_laws.specs.Contents.{trees_of}
+use Rattle.tree_laws.specs.Crashes.{IsWell, IsCrashSafe, Extends, Adds}
+use Rattle.tree_laws.specs.Moment.{Moment, moment_of, nodes_at, IsMoment, Goes}
+use Rattle.tree_laws.proofs.Crashing.{adds_extends, adds_unseen, extends_nothing, extends_same, extends_again}
+use Rattle.tree_laws.proofs.Known.{acting_kept}
+use Rattle.tree_laws.proofs.Reading.{one_law}
+use Rattle.sled_tree.specs.declared.flight.Job.{Job}
+use Rattle.sled_tree.specs.declared.flight.Flight.{Flight}
+use Rattle.sled_tree.specs.declared.flight.Stage.{Stage}
+use Rattle.sled_tree.specs.declared.flight.Stage.TheVariants.{Root, Act}
+use Rattle.sled_tree.specs.declared.flight.Next.{Next}
+use Rattle.sled_tree.specs.declared.flight.Next.TheVariants as next
+use Rattle.sled_tree.specs.declared.flight.Went.{Went}
+use Rattle.sled_tree.specs.declared.flight.Went.TheVariants.{Moved, Decided, Refused}
+use Rattle.sled_tree.specs.Stages.{IsStage, IsAct, owned}
+use Rattle.sled_tree.specs.Moves.{Moves, ActsOnce, ActsAtMostOnce, Acts, Same, Decides, refuses_as, owned_next, Comes, Advances}
+use Rattle.sled.specs.Values.{DbValue, numbers_of, given_to, named, state_of, db_state, instant_of, moment}
+use Rattle.sled.specs.Sound.{IsDb}
+use Rattle.sled.specs.Calls.{MustBeRefused, must_be_refused_as}
+use Rattle.sled.specs.Flights.{flying_of, IsKnown, AreApart, Flies, IsQuiet, outcome_of, slot_after, maps_added}
+use Rattle.sled.proofs.Trees.{trees_at, trees_same, trees_put, maps_are, current, numbered}
+
+none_some : {P X : Type 0} {x : X} → None ≡ Some x → P
+none_some e = cc
+
+-- no call owns a page yet
+owns_nothing : (s : Stage) (q : ℕ) → In q (owned s) → ⊥
+owns_nothing Root q i = i
+owns_nothing (Act v) q i = i
+
+-- what an action of one call leaves of what another knows
+stage_kept : {mine : List ℕ} {lost : Option Key} {old new : Moment} {w v : Forest} → Goes mine lost old w new v → (j : Job) (s : Stage) → IsStage old w j s → IsStage new v j s
+stage_kept g j Root k = tt
+stage_kept g j (Act view) k = record { acting = acting_kept g j.tree.name j.tree.number _ view k.acting; changes = k.changes }
+
+known_kept : {mine : List ℕ} {lost : Option Key} {old new : Moment} {w v : Forest} → IsMoment old w → IsMoment new v → Goes mine lost old w new v → (h : Flight) → IsKnown old h → IsKnown new h
+known_kept {old = old} {new = new} {w = w} {v = v} is on g h k = record {
+  told = λ u at. subst (λ (z : Forest). IsStage new z h.job h.stage) (one_law (nodes_at new) new.state.roots v u on.formed at.formed) (stage_kept g h.job h.stage (k.told w is));
+  few = k.few;
+}
+
+-- what a step leaves of the store, whatever its action
+pub record Touches (a b : Store) : Type 0 where
+  pub mark : b.mark ≡ a.mark
+  pub calm : (now b).in_group ≡ (now a).in_group
+  pub once : b.actions ≤ a.actions + 1
+
+touches_acting : (a b : Store) → ActsAtMostOnce a b → Touches a b
+touches_acting a b (inl e) = record { mark = ap (λ (s : Store). s.mark) e; calm = ap (λ (s : Store). (now s).in_group) e; once = same (ap (λ (s : Store). s.actions) e) }
+  where
+    same : b.actions ≡ a.actions → b.actions ≤ a.actions + 1
+    same e = omega arith
+touches_acting a b (inr o) = record { mark = ap (λ (s : Store). s.mark) o.is; calm = o.calm; once = one (ap (λ (s : Store). s.actions) o.is) }
+  where
+    one : b.actions ≡ a.actions + 1 → b.actions ≤ a.actions + 1
+    one e = omega arith
+
+-- a refusal leaves all but the count of faults
+pub record Rests (a b : Store) : Type 0 where
+  pub base : b.base ≡ a.base
+  pub recent : b.recent ≡ a.recent
+  pub actions : b.actions ≡ a.actions
+  pub mark : b.mark ≡ a.mark
+
+rests_refused : (e : Error) (a b : Store) → refuses_as e a b → Rests a b
+rests_refused error.NoMemory a b t = record { base = ap (λ (s : Store). s.base) t; recent = ap (λ (s : Store). s.recent) t; actions = ap (λ (s : Store). s.actions) t; mark = ap (λ (s : Store). s.mark) t }
+rests_refused (error.Io fault) a b (inl t) = record { base = ap (λ (s : Store). s.base) t; recent = ap (λ (s : Store). s.recent) t; actions = ap (λ (s : Store). s.actions) t; mark = ap (λ (s : Store). s.mark) t }
+rests_refused (error.Io fault) a b (inr (t, p)) = record { base = ap (λ (s : Store). s.base) t; recent = ap (λ (s : Store). s.recent) t; actions = ap (λ (s : Store). s.actions) t; mark = ap (λ (s : Store). s.mark) t }
+rests_refused (error.CollectionNotFound name) a b t = absurd t
+rests_refused (error.Unsupported text) a b t = absurd t
+rests_refused (error.ReportableBug text) a b t = absurd t
+rests_refused (error.Corruption fault) a b t = absurd t
+rests_refused error.FullQueue a b t = absurd t
+rests_refused error.Closed a b t = absurd t
+
+now_rests : {a b : Store} → Rests a b → now b ≡ now a
+now_rests {a} {b} r = λ i. Rattle.sled_pages.specs.State.after_all (r.recent i) (r.base i)
+
+-- what an action adds to what a crash may leave
+once_adds : {a b : Store} (o : ActsOnce a b) → Adds o.action a b
+once_adds o = record { base = ap (λ (s : Store). s.base) o.is; recent = ap (λ (s : Store). s.recent) o.is; actions = ap (λ (s : Store). s.actions) o.is }
+
+extends_unseen : (a b : Store) → ActsAtMostOnce a b → (now a).in_group ≡ false → (now b).in_group ≡ false → IsWell (now b) → trees_of (now b) ≡ trees_of (now a) → Extends [] a b
+extends_unseen a b (inl e) out calm well same = subst (λ (s : Store). Extends [] a s) (sym e) (extends_same a)
+extends_unseen a b (inr o) out calm well same = adds_unseen (once_adds o) out calm well same
+
+extends_seen : (a b : Store) → ActsAtMostOnce a b → (now b).in_group ≡ false → IsWell (now b) → Extends (trees_of (now b) ∷ []) a b
+extends_seen a b (inl e) calm well = extends_again (subst (λ (s : Store). Extends [] a s) (sym e) (extends_same a)) calm
+extends_seen a b (inr o) calm well = adds_extends (once_adds o) calm well
+
+-- a cause of a refusal of the store is one of the model
+cause_is : (s : State) (f : Flying) (e : Error) (a b : Store) → refuses_as e a b → cause_of s a b (ToStep f) e
+cause_is s f error.NoMemory a b t = tt
+cause_is s f (error.Io fault) a b (inl t) = inl (more (ap (λ (z : Store). z.faults) t))
+  where
+    more : b.faults ≡ a.faults + 1 → a.faults < b.faults
+    more e = omega arith
+cause_is s f (error.Io fault) a b (inr (t, p)) = inr p
+cause_is s f (error.CollectionNotFound name) a b t = absurd t
+cause_is s f (error.Unsupported text) a b t = absurd t
+cause_is s f (error.ReportableBug text) a b t = absurd t
+cause_is s f (error.Corruption fault) a b t = absurd t
+cause_is s f error.FullQueue a b t = absurd t
+cause_is s f error.Closed a b t = absurd t
+
+-- no queue is there, so none is filled
+no_queue : (n : ℕ) (event : Option Event) (k : ℕ) → None ≡ delivered n event (λ i. None) k
+no_queue n None k = refl
+no_queue n (Some e) k = refl
+
+module _ {P M : Type 0} (store : P → Store) (meant : M → Merge) (old : DbValue P M) (db : IsDb (store old.pages) old.trees old.trees_given) where
+  abbrev at : Moment
+  at = moment (store old.pages) old.trees old.trees_given
+
+  -- the state over other pages
+  state_over : (p : P) (slots after : ℕ → Option Flying) (given : ℕ) → ((name : Key) → trees_of (now (store p)) name ≡ trees_of (now (store old.pages)) name) → (now (store p)).in_group ≡ (now (store old.pages)).in_group → (store p).mark ≡ (store old.pages).mark
+      → state_of store meant (record old { pages = p }) after given ≡ record (state_of store meant old slots given) { slots = after }
+  state_over p slots after given trees calm mark = λ i. record {
+    name = old.name;
+    trees = λ t. named (numbers_of old.trees t) (trees t i) (λ n. option_map meant (find nat_cmp n old.operators));
+    queues = λ n. None;
+    slots = after;
+    is_open = not (calm i);
+    greatest_id = old.greatest_id;
+    mark = mark i;
+    trees_given = old.trees_given;
+    slots_given = given;
+    subscribers_given = 0;
+  }
+
+  same_store : (slots after : ℕ → Option Flying) (given : ℕ) → state_of store meant old after given ≡ record (state_of store meant old slots given) { slots = after }
+  same_store slots after given = refl
+
+  -- a refusal that touches no page
+  untouched : (f g : Flight) (e : Error) → ((slots : ℕ → Option Flying) (given : ℕ) → MayRefuse (state_of store meant old slots given) (store old.pages) (store old.pages) (ToStep (flying_of f)) e) → Flies store meant old f (Refused e) old g
+  untouched f g e may = record {
+    steps = λ slots given slot here. record { told = (record { flying = flying_of f; here = here; may = may slots given; is = refl }, refl) };
+    extends = extends_same (store old.pages);
+    once = omega arith;
+    quiet = λ q. refl;
+    goes_on = λ e. absurd (apart e);
+    others = λ h off k. (k, λ e. absurd (apart e));
+    same = refl;
+  }
+    where
+      apart : Refused e ≡ Moved → ⊥
+      apart e = cc
+
+  -- the tests refuse the call
+  pub flies_untested : (f g : Flight) (e : Error) → MustBeRefused (must_refuse_of (db_state store meant old) (f.job.tree ∷ [])) e → Flies store meant old f (Refused e) old g
+  flies_untested f g e tested = untouched f g e (λ slots given. record { told = go slots given (must_refuse_of (db_state store meant old) (f.job.tree ∷ [])) tested.told })
+    where
+      go : (slots : ℕ → Option Flying) (given : ℕ) (o : Option MustRefuse) → must_be_refused_as o e → may_refuse_as o (state_of store meant old slots given) (store old.pages) (store old.pages) (ToStep (flying_of f)) e
+      go slots given None t = absurd t
+      go slots given (Some m) t = t
+
+  -- the tests let the call pass
+  module _ (f : Flight) (must : must_refuse_of (db_state store meant old) (f.job.tree ∷ []) ≡ None) where
+    may_refuse : (slots : ℕ → Option Flying) (given : ℕ) (a b : Store) (e : Error) → cause_of (state_of store meant old slots given) a b (ToStep (flying_of f)) e → MayRefuse (state_of store meant old slots given) a b (ToStep (flying_of f)) e
+    may_refuse slots given a b e cause = record { told = subst (λ o. may_refuse_as o (state_of store meant old slots given) a b (ToStep (flying_of f)) e) (sym must) cause }
+
+    -- its turns are the limit
+    pub flies_limit : (g : Flight) (e : Error) → ((slots : ℕ → Option Flying) (given : ℕ) → cause_of (state_of store meant old slots given) (store old.pages) (store old.pages) (ToStep (flying_of f)) e) → Flies store meant old f (Refused e) old g
+    flies_limit g e cause = untouched f g e (λ slots given. may_refuse slots given (store old.pages) (store old.pages) e (cause slots given))
+
+    named_now : numbers_of old.trees f.job.tree.name ≡ Some f.job.tree.number
+    named_now = numbered f.job.tree.number (numbers_of old.trees f.job.tree.name) (trees_of (now (store old.pages)) f.job.tree.name) _ (current (db_state store meant old) f.job.tree must)
+
+    -- the call's tree
+    abbrev tree_now : NamedTree
+    tree_now = record { number = f.job.tree.number; map = contents (nodes_at at) db.forest f.job.tree.name; merge = option_map meant (find nat_cmp f.job.tree.number old.operators) }
+
+    there : (db_state store meant old).trees f.job.tree.name ≡ Some tree_now
+    there =
+        ap (λ n. named n (trees_of (now (store old.pages)) f.job.tree.name) (λ n. option_map meant (find nat_cmp n old.operators))) named_now
+        ∙ ap (λ m. named (Some f.job.tree.number) m (λ n. option_map meant (find nat_cmp n old.operators)))
+            (trees_at (store old.pages) (numbers_of old.trees) (given_to old.trees_given) db.forest db.is f.job.tree.name ∙ ap (option_map (λ _. contents (nodes_at at) db.forest f.job.tree.name)) named_now)
+
+    module _ (q : P) (known : IsKnown at f) where
+      abbrev after : Moment
+      after = moment (store q) old.trees old.trees_given
+
+      abbrev new : DbValue P M
+      new = record old { pages = q }
+
+      -- the database is as it should be
+      is_db : (v : Forest) → IsMoment after v → (now (store q)).in_group ≡ (now (store old.pages)).in_group → (IsCrashSafe (store old.pages) → IsCrashSafe (store q)) → IsDb (store q) old.trees old.trees_given
+      is_db v is calm safe = record { forest = v; is = is; safe = safe db.safe; calm = calm ∙ db.calm; default = db.default }
+
+      others_kept : (mine own : List ℕ) (v : Forest) → Acts mine own at db.forest after v → (h : Flight) → IsKnown at h → IsKnown after h
+      others_kept mine own v a h k = known_kept db.is a.is a.goes h k
+
+      well : (v : Forest) → IsMoment after v → IsWell (now (store q))
+      well v is = record { forest = v; formed = is.formed }
+
+      -- the call goes on
+      module _ (few : f.turns < MAX_LOOPS) (g : Flight) (job : g.job ≡ f.job) (turns : g.turns ≡ f.turns + 1) (moves : Moves f.job (store old.pages) f.stage (next.Go g.stage) (store q)) where
+        moved : (v : Forest) × Acts (owned f.stage) (owned g.stage) at db.forest after v × (IsStage after v f.job g.stage × Same at db.forest after v)
+        moved = moves.told (numbers_of old.trees) (given_to old.trees_given) db.forest db.is named_now (known.told db.forest db.is)
+
+        moved_touches : Touches (store old.pages) (store q)
+        moved_touches = touches_acting (store old.pages) (store q) moves.touches
+
+        moved_trees : trees_of (now (store q)) ≡ trees_of (now (store old.pages))
+        moved_trees = trees_same (store old.pages) (store q) (numbers_of old.trees) (given_to old.trees_given) db.forest moved.0 db.is moved.1.is moved.2.1.same
+
+        moved_extends : Extends [] (store old.pages) (store q)
+        moved_extends = extends_unseen (store old.pages) (store q) moves.touches db.calm (moved_touches.calm ∙ db.calm) (well moved.0 moved.1.is) moved_trees
+
+        pub moved_db : IsDb (store q) old.trees old.trees_given
+        moved_db = is_db moved.0 moved.1.is moved_touches.calm moved_extends.safe
+
+        flying_more : flying_of g ≡ record (flying_of f) { turns = f.turns + 1 }
+        flying_more = λ i. record { tree = (job i).tree; call = (job i).call; turns = turns i; waiting = []; rest = None }
+
+        moved_known : IsKnown after g
+        moved_known = record {
+          told = λ u is. subst (λ (j : Job). IsStage after u j g.stage) (sym job) (subst (λ (z : Forest). IsStage after z f.job g.stage) (one_law (nodes_at after) after.state.roots moved.0 u moved.1.is.formed is.formed) moved.2.0);
+          few = more f.turns g.turns few turns;
+        }
+          where
+            more : (a b : ℕ) → a < MAX_LOOPS → b ≡ a + 1 → b ≤ MAX_LOOPS
+            more a b h e = omega arith
+
+        pub flies_moved : Flies store meant old f Moved new g
+        flies_moved = record {
+          steps = λ slots given slot here. record { told = (
+            record {
+              flying = flying_of f;
+              here = here;
+              free = must;
+              few = few;
+              is = state_over q slots (put_at slots slot (Some (flying_of g))) given (λ t i. moved_trees i t) moved_touches.calm moved_touches.mark
+                  ∙ ap (λ (z : Flying). record (state_of store meant old slots given) { slots = put_at slots slot (Some z) }) flying_more;
+            },
+            refl,
+          ) };
+          extends = moved_extends;
+          once = moved_touches.once;
+          quiet = λ k. absurd (apart k.reply k.decided);
+          goes_on = λ e. (job, moved_known);
+          others = λ h off k. (others_kept (owned f.stage) (owned g.stage) moved.0 moved.1 h k, λ e. record { off = λ p i j. owns_nothing g.stage p i });
+          same = refl;
+        }
+          where
+            apart : (r : Reply) → Moved ≡ Decided r → ⊥
+            apart r e = cc
+
+      -- the call is refused by the store
+      module _ (few : f.turns < MAX_LOOPS) (g : Flight) (e : Error) (moves : Moves f.job (store old.pages) f.stage (next.Refused e) (store q)) where
+        refused : (v : Forest) × Acts (owned f.stage) [] at db.forest after v × Same at db.forest after v
+        refused = moves.told (numbers_of old.trees) (given_to old.trees_given) db.forest db.is named_now (known.told db.forest db.is)
+
+        rests : Rests (store old.pages) (store q)
+        rests = rests_refused e (store old.pages) (store q) moves.touches
+
+        refused_extends : Extends [] (store old.pages) (store q)
+        refused_extends = extends_nothing (store old.pages) (store q) rests.base rests.recent rests.actions
+
+        refused_calm : (now (store q)).in_group ≡ (now (store old.pages)).in_group
+        refused_calm = ap (λ (s : Rattle.sled_pages.specs.State.State). s.in_group) (now_rests rests)
+
+        pub refused_db : IsDb (store q) old.trees old.trees_given
+        refused_db = is_db refused.0 refused.1.is refused_calm refused_extends.safe
+
+        pub flies_refused : Flies store meant old f (Refused e) new g
+        flies_refused = record {
+          steps = λ slots given slot here. record { told = (
+            record {
+              flying = flying_of f;
+              here = here;
+              may = may_refuse slots given (store old.pages) (store q) e (cause_is (state_of store meant old slots given) (flying_of f) e (store old.pages) (store q) moves.touches);
+              is = state_over q slots (put_at slots slot None) given (λ t. ap (λ (s : Rattle.sled_pages.specs.State.State). trees_of s t) (now_rests rests)) refused_calm rests.mark;
+            },
+            refl,
+          ) };
+          extends = refused_extends;
+          once = same rests.actions;
+          quiet = λ k. absurd (apart k.reply k.decided);
+          goes_on = λ e. absurd (off e);
+          others = λ h a k. (others_kept (owned f.stage) [] refused.0 refused.1 h k, λ e. absurd (off e));
+          same = refl;
+        }
+          where
+            apart : (r : Reply) → Refused e ≡ Decided r → ⊥
+            apart r e = cc
+
+            off : Refused e ≡ Moved → ⊥
+            off e = cc
+
+            same : (store q).actions ≡ (store old.pages).actions → (store q).actions ≤ (store old.pages).actions + 1
+            same e = omega arith
+
+      -- the call is decided
+      module _ (few : f.turns < MAX_LOOPS) (g : Flight) (reply : Reply) (moves : Moves f.job (store old.pages) f.stage (next.Decided reply) (store q)) where
+        done : (v : Forest) × Acts (owned f.stage) [] at db.forest after v × Decides f.job reply (store old.pages) (store q) at db.forest after v
+        done = moves.told (numbers_of old.trees) (given_to old.trees_given) db.forest db.is named_now (known.told db.forest db.is)
+
+        done_touches : Touches (store old.pages) (store q)
+        done_touches = touches_acting (store old.pages) (store q) moves.touches
+
+        abbrev answer : Answer
+        answer = answer_of f.job.call tree_now.map
+
+        done_trees : trees_of (now (store q)) ≡ put_name (trees_of (now (store old.pages))) f.job.tree.name (Some answer.map)
+        done_trees =
+            trees_put (store old.pages) (store q) (numbers_of old.trees) (given_to old.trees_given) db.forest done.0 db.is done.1.is f.job.tree.name f.job.tree.number named_now done.2.others
+            ∙ ap (λ m. put_name (trees_of (now (store old.pages))) f.job.tree.name (Some m)) done.2.here
+
+        done_extends : Extends (trees_of (now (store q)) ∷ []) (store old.pages) (store q)
+        done_extends = extends_seen (store old.pages) (store q) moves.touches (done_touches.calm ∙ db.calm) (well done.0 done.1.is)
+
+        pub decided_db : IsDb (store q) old.trees old.trees_given
+        decided_db = is_db done.0 done.1.is done_touches.calm done_extends.safe
+
+        -- the trees of the state, where that of the call is another
+        named_trees : (t : Key) → named (numbers_of old.trees t) (trees_of (now (store q)) t) (λ n. option_map meant (find nat_cmp n old.operators))
+            ≡ put_name (db_state store meant old).trees f.job.tree.name (Some (record tree_now { map = answer.map })) t
+        named_trees t =
+            ap (λ (z : Key → Option Map). named (numbers_of old.trees t) (z t) (λ n. option_map meant (find nat_cmp n old.operators))) done_trees
+            ∙ go (bytes_eq t f.job.tree.name) refl
+          where
+            go : (b : Bool) → bytes_eq t f.job.tree.name ≡ b
+                → named (numbers_of old.trees t) (cond (bytes_eq t f.job.tree.name) (Some answer.map) (trees_of (now (store old.pages)) t)) (λ n. option_map meant (find nat_cmp n old.operators))
+                ≡ cond (bytes_eq t f.job.tree.name) (Some (record tree_now { map = answer.map })) (named (numbers_of old.trees t) (trees_of (now (store old.pages)) t) (λ n. option_map meant (find nat_cmp n old.operators)))
+            go true e =
+                ap (λ b. named (numbers_of old.trees t) (cond b (Some answer.map) (trees_of (now (store old.pages)) t)) (λ n. option_map meant (find nat_cmp n old.operators))) e
+                ∙ ap (λ n. named n (Some answer.map) (λ n. option_map meant (find nat_cmp n old.operators))) (ap (numbers_of old.trees) (Rattle.sled_pages.specs.Facts.same_name t f.job.tree.name e) ∙ named_now)
+                ∙ ap (λ b. cond b (Some (record tree_now { map = answer.map })) (named (numbers_of old.trees t) (trees_of (now (store old.pages)) t) (λ n. option_map meant (find nat_cmp n old.operators)))) (sym e)
+            go false e =
+                ap (λ b. named (numbers_of old.trees t) (cond b (Some answer.map) (trees_of (now (store old.pages)) t)) (λ n. option_map meant (find nat_cmp n old.operators))) e
+                ∙ ap (λ b. cond b (Some (record tree_now { map = answer.map })) (named (numbers_of old.trees t) (trees_of (now (store old.pages)) t) (λ n. option_map meant (find nat_cmp n old.operators)))) (sym e)
+
+        done_state : (slots : ℕ → Option Flying) (given slot : ℕ) → state_of store meant new (put_at slots slot None) given ≡ decided (state_of store meant old slots given) slot f.job.tree.name tree_now answer
+        done_state slots given slot = λ i. record {
+          name = old.name;
+          trees = λ t. named_trees t i;
+          queues = λ n. no_queue f.job.tree.number answer.event n i;
+          slots = put_at slots slot None;
+          is_open = not (done_touches.calm i);
+          greatest_id = old.greatest_id;
+          mark = done_touches.mark i;
+          trees_given = old.trees_given;
+          slots_given = given;
+          subscribers_given = 0;
+        }
+
+        same_maps : maps_of (db_state store meant new) ≡ trees_of (now (store q))
+        same_maps = maps_are store meant new done.0 done.1.is
+
+        pub flies_decided : Flies store meant old f (Decided reply) new g
+        flies_decided = record {
+          steps = λ slots given slot here. record { told = (
+            record {
+              flying = flying_of f;
+              here = here;
+              free = must;
+              few = few;
+              tree = tree_now;
+              there = there;
+              replies = done.2.replies;
+              is = done_state slots given slot;
+            },
+            refl,
+          ) };
+          extends = subst (λ m. Extends (m ∷ []) (store old.pages) (store q)) (sym same_maps) done_extends;
+          once = done_touches.once;
+          quiet = λ k. done.2.quiet (ap (λ (t : NamedTree). (answer_of f.job.call t.map).event) (some_is (sym there ∙ k.there)) ∙ k.silent);
+          goes_on = λ e. absurd (off e);
+          others = λ h a k. (others_kept (owned f.stage) [] done.0 done.1 h k, λ e. absurd (off e));
+          same = refl;
+        }
+          where
+            some_is : {X : Type 0} {x y : X} → Some x ≡ Some y → x ≡ y
+            some_is e = cc
+
+            off : Decided reply ≡ Moved → ⊥
+            off e = cc
+
+      -- one step of the call, whatever comes of it
+      pub flies_on : (few : f.turns < MAX_LOOPS) (went : Went) (g : Flight) → Advances (store old.pages) f went (store q) g → Flies store meant old f went new g
+      flies_on few Moved g a = flies_moved few g a.told.0 a.told.1 a.told.2
+      flies_on few (Decided reply) g a = flies_decided few g reply a.told
+      flies_on few (Refused e) g a = flies_refused few g e a.told
+
+      pub db_on : (few : f.turns < MAX_LOOPS) (went : Went) (g : Flight) → Advances (store old.pages) f went (store q) g → IsDb (store q) old.trees old.trees_given
+      db_on few Moved g a = moved_db few g a.told.0 a.told.1 a.told.2
+      db_on few (Decided reply) g a = decided_db few g reply a.told
+      db_on few (Refused e) g a = refused_db few g e a.told
+
+-- the same, where a method knows the database by its fields
+module _ {P M : Type 0} (store : P → Store) (meant : M → Merge) (inside old : DbValue P M) (e : inside ≡ old) (db : IsDb (store inside.pages) inside.trees inside.trees_given) (f : Flight) where
+  pub flies_as : (q : P) (few : f.turns < MAX_LOOPS) (went : Went) (g : Flight) → must_refuse_of (db_state store meant old) (f.job.tree ∷ []) ≡ None → IsKnown (moment (store old.pages) old.trees old.trees_given) f
+      → Advances (store inside.pages) f went (store q) g → Flies store meant old f went (record inside { pages = q }) g
+  flies_as q few went g must known a =
+      subst (λ (z : DbValue P M). must_refuse_of (db_state store meant z) (f.job.tree ∷ []) ≡ None → IsKnown (moment (store z.pages) z.trees z.trees_given) f → Flies store meant z f went (record inside { pages = q }) g)
+        e (λ must known. flies_on store meant inside db f must q known few went g a) must known
+
+  pub db_as : (q : P) (few : f.turns < MAX_LOOPS) (went : Went) (g : Flight) → must_refuse_of (db_state store meant old) (f.job.tree ∷ []) ≡ None → IsKnown (moment (store old.pages) old.trees old.trees_given) f
+      → Advances (store inside.pages) f went (store q) g → IsDb (store q) inside.trees inside.trees_given
+  db_as q few went g must known a =
+      subst (λ (z : DbValue P M). must_refuse_of (db_state store meant z) (f.job.tree ∷ []) ≡ None → IsKnown (moment (store z.pages) z.trees z.trees_given) f → IsDb (store q) inside.trees inside.trees_given)
+        e (λ must known. db_on store meant inside db f must q known few went g a) must known
+
+  pub untested_as : (g : Flight) (r : Error) → MustBeRefused (must_refuse_of (db_state store meant old) (f.job.tree ∷ [])) r → Flies store meant old f (Refused r) old g
+  untested_as g r tested = flies_untested store meant old (subst (λ (z : DbValue P M). IsDb (store z.pages) z.trees z.trees_given) e db) f g r tested
+
+  pub limit_as : (g : Flight) (r : Error) → must_refuse_of (db_state store meant old) (f.job.tree ∷ []) ≡ None
+      → ((slots : ℕ → Option Flying) (given : ℕ) → cause_of (state_of store meant old slots given) (store old.pages) (store old.pages) (ToStep (flying_of f)) r) → Flies store meant old f (Refused r) old g
+  limit_as g r must cause = flies_limit store meant old (subst (λ (z : DbValue P M). IsDb (store z.pages) z.trees z.trees_given) e db) f must g r cause
+
+-- below the limit
+pub below_limit : (f : Flight) → f.turns ≤ MAX_LOOPS → f.turns ≢ MAX_LOOPS → f.turns < MAX_LOOPS
+below_limit f h off = omega arith

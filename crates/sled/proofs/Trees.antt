@@ -1,0 +1,98 @@
+-- The trees of a database's state are the contents of its pages.
+use Rattle.std.proofs.Common.{◌≡◌, ◌≢◌, ℕ, Bool, true, false, cond, List, [], ◌∷◌, Option, Some, None, option_map, sym, refl, ap, ◌∙◌, subst}
+use Rattle.std.proofs.Math.Path.{fun_ext}
+use Rattle.std.proofs.lemmas.Bool.{eqb-true}
+use lib.Dec.{eqb}
+use Rattle.std.specs.Str.{bytes_eq}
+use Rattle.sled_pages.specs.Order.{Key}
+use Rattle.sled_pages.specs.Update.{put_name}
+use Rattle.sled_pages.specs.Facts.{same_name, put_name_here, put_name_elsewhere}
+use Rattle.sled_pages.specs.State.{nodes_of}
+use Rattle.sled_pages.specs.Store.{Store, now}
+use Rattle.sled_model.specs.Maps.{Map, Maps, Merge}
+use Rattle.sled_model.specs.State.{State, NamedTree, maps_of}
+use Rattle.sled_model.specs.Refusal.{MustRefuse, IsClosed, IsDropped, first_of, foreign_test, dropped_test, is_number, must_refuse_of}
+use Rattle.sled_model.specs.declared.tree.Tree.{Tree}
+use Rattle.tree_laws.specs.Forest.{Forest, contents}
+use Rattle.tree_laws.specs.Contents.{trees_of}
+use Rattle.tree_laws.specs.Moment.{Moment, moment_of, nodes_at, IsMoment}
+use Rattle.tree_laws.proofs.Fuel.{contents_law}
+use Rattle.sled.specs.Values.{DbValue, numbers_of, given_to, named, state_of, db_state, moment}
+
+none_some : {P X : Type 0} {x : X} → None ≡ Some x → P
+none_some e = cc
+
+some_is : {X : Type 0} {x y : X} → Some x ≡ Some y → x ≡ y
+some_is e = cc
+
+-- the contents of each name that has a number
+pub trees_at : (s : Store) (numbers : Key → Option ℕ) (given : ℕ → Bool) (w : Forest) → IsMoment (moment_of s numbers given) w → (t : Key) → trees_of (now s) t ≡ option_map (λ _. contents (nodes_of (now s)) w t) (numbers t)
+trees_at s numbers given w is t = contents_law (now s) w is.formed is.below t ∙ go ((now s).roots t) (numbers t) refl refl
+  where
+    go : (r n : Option ℕ) → (now s).roots t ≡ r → numbers t ≡ n → option_map (λ _. contents (nodes_of (now s)) w t) r ≡ option_map (λ _. contents (nodes_of (now s)) w t) n
+    go None None a b = refl
+    go (Some r) (Some n) a b = refl
+    go None (Some n) a b = let k = is.rooted t n b in none_some (sym a ∙ k.1)
+    go (Some r) None a b = let k = is.numbered t r a in none_some (sym b ∙ k.1)
+
+-- where no contents change the trees are the same
+pub trees_same : (a b : Store) (numbers : Key → Option ℕ) (given : ℕ → Bool) (w v : Forest) → IsMoment (moment_of a numbers given) w → IsMoment (moment_of b numbers given) v
+    → ((t : Key) → contents (nodes_of (now b)) v t ≡ contents (nodes_of (now a)) w t) → trees_of (now b) ≡ trees_of (now a)
+trees_same a b numbers given w v is on same = fun_ext (λ t. trees_at b numbers given v on t ∙ ap (λ c. option_map (λ _. c) (numbers t)) (same t) ∙ sym (trees_at a numbers given w is t))
+
+-- where those of one tree change its map is another
+pub trees_put : (a b : Store) (numbers : Key → Option ℕ) (given : ℕ → Bool) (w v : Forest) → IsMoment (moment_of a numbers given) w → IsMoment (moment_of b numbers given) v
+    → (u : Key) (n : ℕ) → numbers u ≡ Some n → ((t : Key) → t ≢ u → contents (nodes_of (now b)) v t ≡ contents (nodes_of (now a)) w t) → trees_of (now b) ≡ put_name (trees_of (now a)) u (Some (contents (nodes_of (now b)) v u))
+trees_put a b numbers given w v is on u n e others = fun_ext (λ t. go t (bytes_eq t u) refl)
+  where
+    go : (t : Key) (b' : Bool) → bytes_eq t u ≡ b' → trees_of (now b) t ≡ cond (bytes_eq t u) (Some (contents (nodes_of (now b)) v u)) (trees_of (now a) t)
+    go t true q =
+        let s : t ≡ u = same_name t u q in
+        trees_at b numbers given v on t
+        ∙ ap (λ z. option_map (λ _. contents (nodes_of (now b)) v z) (numbers z)) s
+        ∙ ap (option_map (λ _. contents (nodes_of (now b)) v u)) e
+        ∙ ap (λ z. cond z (Some (contents (nodes_of (now b)) v u)) (trees_of (now a) t)) (sym q)
+    go t false q =
+        trees_at b numbers given v on t
+        ∙ ap (λ c. option_map (λ _. c) (numbers t)) (others t (λ s. apart (sym q ∙ ap (λ z. bytes_eq z u) s ∙ Rattle.sled_pages.specs.Facts.name_itself u)))
+        ∙ sym (trees_at a numbers given w is t)
+        ∙ ap (λ z. cond z (Some (contents (nodes_of (now b)) v u)) (trees_of (now a) t)) (sym q)
+      where
+        apart : false ≡ true → ⊥
+        apart e = cc
+
+-- the maps of the state are the contents
+module _ {P M : Type 0} (store : P → Store) (meant : M → Merge) where
+  pub maps_are : (d : DbValue P M) (w : Forest) → IsMoment (moment (store d.pages) d.trees d.trees_given) w → maps_of (db_state store meant d) ≡ trees_of (now (store d.pages))
+  maps_are d w is = fun_ext (λ t. go _ _ (numbers_of d.trees t) (trees_of (now (store d.pages)) t) (trees_at (store d.pages) (numbers_of d.trees) (given_to d.trees_given) w is t))
+    where
+      go : (merge : ℕ → Option Merge) (c : Map) (n : Option ℕ) (m : Option Map) → m ≡ option_map (λ _. c) n → option_map (λ (z : NamedTree). z.map) (named n m merge) ≡ m
+      go merge c None m e = sym e
+      go merge c (Some n) None e = none_some e
+      go merge c (Some n) (Some m) e = refl
+
+-- a tree that passes the tests is current
+first_none : {a b : Option MustRefuse} → first_of a b ≡ None → (a ≡ None) × (b ≡ None)
+first_none {a} {b} e = go a e
+  where
+    go : (x : Option MustRefuse) → first_of x b ≡ None → (x ≡ None) × (b ≡ None)
+    go None f = (refl, f)
+    go (Some x) f = none_some (sym f)
+
+pub current : (s : State) (t : Tree) → must_refuse_of s (t ∷ []) ≡ None → is_number t.number (s.trees t.name) ≡ true
+current s t e = go (is_number t.number (s.trees t.name)) (first_none (first_none e).1).1
+  where
+    go : (b : Bool) → cond b None (Some (IsDropped t.name)) ≡ None → b ≡ true
+    go true f = refl
+    go false f = none_some (sym f)
+
+pub numbered : (n : ℕ) (number : Option ℕ) (m : Option Map) (merge : ℕ → Option Merge) → is_number n (named number m merge) ≡ true → number ≡ Some n
+numbered n None m merge e = absurd (apart e)
+  where
+    apart : false ≡ true → ⊥
+    apart e = cc
+numbered n (Some k) None merge e = absurd (apart e)
+  where
+    apart : false ≡ true → ⊥
+    apart e = cc
+numbered n (Some k) (Some m) merge e = ap Some (eqb-true k n e)

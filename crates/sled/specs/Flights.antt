@@ -1,0 +1,78 @@
+-- One step of a call in flight on a database.
+use Rattle.std.specs.Prelude.{◌≡◌, ◌≢◌, ℕ, ◌+◌, ◌≤◌, List, [], ◌∷◌, Option, Some, None}
+use Rattle.sled_pages.specs.In.{In}
+use Rattle.sled_pages.specs.Store.{Store}
+use Rattle.sled_pages.specs.Update.{put_at}
+use Rattle.sled_model.specs.Maps.{Maps, Merge}
+use Rattle.sled_model.specs.Answer.{answer_of}
+use Rattle.sled_model.specs.State.{State, NamedTree, Flying, maps_of}
+use Rattle.sled_model.specs.Steps.{Steps}
+use Rattle.sled_model.specs.declared.reply.Reply.{Reply}
+use Rattle.sled_model.specs.declared.outcome.Outcome.{Outcome}
+use Rattle.sled_model.specs.declared.outcome.Outcome.TheVariants as outcome
+use Rattle.sled_model.specs.declared.outcome.Step.TheVariants as step
+use Rattle.sled_model.specs.declared.TheConstants.{MAX_LOOPS}
+use Rattle.tree_laws.specs.Forest.{Forest}
+use Rattle.tree_laws.specs.Crashes.{Extends}
+use Rattle.tree_laws.specs.Moment.{Moment, IsMoment}
+use Rattle.sled_tree.specs.Stages.{IsStage, owned}
+use Rattle.sled_tree.specs.declared.flight.Flight.{Flight}
+use Rattle.sled_tree.specs.declared.flight.Went.{Went}
+use Rattle.sled_tree.specs.declared.flight.Went.TheVariants.{Moved, Decided, Refused}
+use Rattle.sled.specs.Values.{DbValue, db_state, instant_of, moment}
+
+-- a call in flight, as the model has it
+abbrev pub flying_of : Flight → Flying
+flying_of f = record { tree = f.job.tree; call = f.job.call; turns = f.turns; waiting = []; rest = None }
+
+-- What a call in flight knows of the pages is true at this moment, and it has no more turns than it may have
+pub record IsKnown (m : Moment) (f : Flight) : Type 0 where
+  pub told : (w : Forest) → IsMoment m w → IsStage m w f.job f.stage
+  pub few : f.turns ≤ MAX_LOOPS
+
+-- no page is the two calls' own
+pub record AreApart (f g : Flight) : Type 0 where
+  pub off : (q : ℕ) → In q (owned f.stage) → In q (owned g.stage) → ⊥
+
+abbrev pub outcome_of : Went → Outcome
+outcome_of Moved = outcome.Moved
+outcome_of (Decided reply) = outcome.Decided reply
+outcome_of (Refused e) = outcome.Refused e
+
+-- what the call's slot holds after the step
+abbrev pub slot_after : Went → Flight → Option Flying
+slot_after Moved g = Some (flying_of g)
+slot_after (Decided reply) g = None
+slot_after (Refused e) g = None
+
+-- the maps that the step added
+abbrev pub maps_added : Went → Maps → List Maps
+maps_added Moved maps = []
+maps_added (Decided reply) maps = maps ∷ []
+maps_added (Refused e) maps = []
+
+-- the step was decided without an event
+pub record IsQuiet {P M : Type 0} (store : P → Store) (meant : M → Merge) (old : DbValue P M) (f : Flight) (went : Went) : Type 0 where
+  pub reply : Reply
+  pub decided : went ≡ Decided reply
+  pub tree : NamedTree
+  pub there : (db_state store meant old).trees f.job.tree.name ≡ Some tree
+  pub silent : (answer_of f.job.call tree.map).event ≡ None
+
+-- One step of a call in flight
+pub record Flies {P M : Type 0} (store : P → Store) (meant : M → Merge) (old : DbValue P M) (f : Flight) (went : Went) (new : DbValue P M) (g : Flight) : Type 0 where
+  -- in whatever slot the call is, the machine makes this step
+  pub steps : (slots : ℕ → Option Flying) (slots_given slot : ℕ) → slots slot ≡ Some (flying_of f)
+      → Steps (instant_of store meant old slots slots_given) (step.Step slot) (outcome_of went) (instant_of store meant new (put_at slots slot (slot_after went g)) slots_given) (maps_added went (maps_of (db_state store meant new)))
+  -- what a crash may leave grows by the map after the call, if it was decided
+  pub extends : Extends (maps_added went (maps_of (db_state store meant new))) (store old.pages) (store new.pages)
+  -- at most one changing action is done, and none where the call was decided without an event
+  pub once : (store new.pages).actions ≤ (store old.pages).actions + 1
+  pub quiet : IsQuiet store meant old f went → store new.pages ≡ store old.pages
+  -- the call goes on, and knows what it needs
+  pub goes_on : went ≡ Moved → (g.job ≡ f.job) × IsKnown (moment (store new.pages) new.trees new.trees_given) g
+  -- what another call knows stays true, and no page becomes the two calls' own
+  pub others : (h : Flight) → AreApart f h → IsKnown (moment (store old.pages) old.trees old.trees_given) h
+      → IsKnown (moment (store new.pages) new.trees new.trees_given) h × (went ≡ Moved → AreApart g h)
+  -- nothing else of the database changes
+  pub same : new ≡ record old { pages = new.pages }
