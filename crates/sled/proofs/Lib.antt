@@ -1,3 +1,4 @@
 pub mod Walks
 pub mod Trees
 pub mod Flying
+pub mod Flushing

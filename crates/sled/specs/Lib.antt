@@ -4,3 +4,4 @@ pub mod Opens
 pub mod Export
 pub mod Calls
 pub mod Flights
+pub mod Flush

@@ -58,6 +58,7 @@ impl<P: Pages, M: MergeOperator> Db<P, M> {
     ghost use Rattle.sled.specs.Sound.{IsDb};
     ghost use Rattle.sled.specs.Values.{db_state, moment};
     ghost use Rattle.sled.specs.Flights.{IsKnown, Flies};
+    ghost use Rattle.sled.specs.Flush.{FlushesDb, RefusesFlush};
 
     /// What holds of every database: its pages are well formed now and in every state that a crash may leave, and its trees
     /// are those that the pages have roots for. It does nothing.
@@ -132,5 +133,20 @@ impl<P: Pages, M: MergeOperator> Db<P, M> {
             return Went::Refused(Error::ReportableBug(WALK_PASSED_TURNS));
         }
         advance(&mut self.pages, self.alloc, flight)
+    }
+
+    /// Makes all that was decided durable. The number that it answers is the store's.
+    pub fn flush(&mut self) -> Result<usize>
+        ensures ok { OnOk result (FlushesDb P.store M.meant self.old self.new) }
+        ensures err { IfErr result (RefusesFlush P.store M.meant self.old self.new) }
+    {
+        if self.pages.in_group() {
+            return Err(Error::Closed);
+        }
+        let count = match self.pages.flush() {
+            Ok(count) => count,
+            Err(e) => return Err(e),
+        };
+        Ok(count)
     }
 }

@@ -1,0 +1,124 @@
+-- A flush changes what a crash may leave, and nothing else.
+use Rattle.std.proofs.Common.{◌≡◌, ℕ, ◌+◌, ◌<◌, Bool, true, false, not, cond, [], ◌∷◌, Option, Some, None, sym, refl, ap, ◌∙◌, subst, inl, inr, arith, option_map}
+use Rattle.std.specs.FinMap.Entries.{find}
+use Rattle.std.specs.Ordering.{nat_cmp}
+use Rattle.sled_pages.specs.Store.{Store, now, flushed, Refused, refused_as}
+use Rattle.sled_pages.specs.State.{State as PageState}
+use Rattle.sled_pages.specs.declared.error.Error.{Error}
+use Rattle.sled_pages.specs.declared.error.Error.TheVariants as error
+use Rattle.sled_model.specs.Maps.{Merge}
+use Rattle.sled_model.specs.State.{Flying}
+use Rattle.sled_model.specs.Refusal.{MustRefuse, IsClosed, MayRefuse, must_refuse, may_refuse_as, cause_of, ToCall, first_of}
+use Rattle.sled_model.specs.declared.call.Whole.TheVariants.{Flush}
+use Rattle.tree_laws.specs.Forest.{Forest}
+use Rattle.tree_laws.specs.Contents.{trees_of}
+use Rattle.tree_laws.specs.Crashes.{Extends, Flushes, IsWell}
+use Rattle.tree_laws.specs.Moment.{Moment, moment_of, IsMoment}
+use Rattle.tree_laws.proofs.Crashing.{extends_nothing, extends_same, flushes_same, flushes_safe}
+use Rattle.sled.specs.Values.{DbValue, named, numbers_of, state_of, db_state, moment}
+use Rattle.sled.specs.Sound.{IsDb}
+use Rattle.sled.specs.Flush.{Stays, FlushesDb, RefusesFlush}
+
+-- two stores that show the same now
+pub record SameNow (a b : Store) : Type 0 where
+  pub now_is : now b ≡ now a
+  pub mark : b.mark ≡ a.mark
+  pub pids : b.pids ≡ a.pids
+  pub versions : b.versions ≡ a.versions
+
+module _ {P M : Type 0} (store : P → Store) (meant : M → Merge) (old : DbValue P M) where
+  pub stays : (q : P) → SameNow (store old.pages) (store q) → Stays store meant old (record old { pages = q })
+  stays q s = record {
+    state = λ slots given i. record {
+      name = old.name;
+      trees = λ t. named (numbers_of old.trees t) (trees_of (s.now_is i) t) (λ n. option_map meant (find nat_cmp n old.operators));
+      queues = λ n. None;
+      slots = slots;
+      is_open = not (s.now_is i).in_group;
+      greatest_id = old.greatest_id;
+      mark = s.mark i;
+      trees_given = old.trees_given;
+      slots_given = given;
+      subscribers_given = 0;
+    };
+    moment = λ i. record { state = s.now_is i; pids = s.pids i; versions = s.versions i; numbers = numbers_of old.trees; given = Rattle.sled.specs.Values.given_to old.trees_given };
+    same = refl;
+  }
+
+  open_now : (now (store old.pages)).in_group ≡ false → must_refuse (db_state store meant old) (ToCall Flush) ≡ None
+  open_now e = ap (λ b. first_of (cond (not b) None (Some IsClosed)) None) e
+
+  pub flush_done : (q : P) → (now (store old.pages)).in_group ≡ false → store q ≡ flushed (store old.pages) → FlushesDb store meant old (record old { pages = q })
+  flush_done q calm e = record {
+    free = open_now calm;
+    flushes = subst (λ (s : Store). Flushes (store old.pages) s) (sym e) (flushes_same (store old.pages));
+    stays = stays q (record { now_is = ap now e; mark = ap (λ (s : Store). s.mark) e; pids = ap (λ (s : Store). s.pids) e; versions = ap (λ (s : Store). s.versions) e });
+  }
+
+  pub flush_db : IsDb (store old.pages) old.trees old.trees_given → (q : P) → store q ≡ flushed (store old.pages) → IsDb (store q) old.trees old.trees_given
+  flush_db db q e = subst (λ (s : Store). IsDb s old.trees old.trees_given) (sym e) (record {
+    forest = db.forest;
+    is = db.is;
+    safe = flushes_safe (flushes_same (store old.pages)) db.calm (record { forest = db.forest; formed = db.is.formed });
+    calm = db.calm;
+    default = db.default;
+  })
+
+  -- refused by the store
+  same_refused : (q : P) (e : Error) → refused_as e (store old.pages) (store q) → SameNow (store old.pages) (store q) × Extends [] (store old.pages) (store q)
+  same_refused q error.NoMemory t = (
+    record { now_is = ap now t; mark = ap (λ (s : Store). s.mark) t; pids = ap (λ (s : Store). s.pids) t; versions = ap (λ (s : Store). s.versions) t },
+    extends_nothing (store old.pages) (store q) (ap (λ (s : Store). s.base) t) (ap (λ (s : Store). s.recent) t) (ap (λ (s : Store). s.actions) t),
+  )
+  same_refused q (error.Io fault) t = (
+    record { now_is = ap now t; mark = ap (λ (s : Store). s.mark) t; pids = ap (λ (s : Store). s.pids) t; versions = ap (λ (s : Store). s.versions) t },
+    extends_nothing (store old.pages) (store q) (ap (λ (s : Store). s.base) t) (ap (λ (s : Store). s.recent) t) (ap (λ (s : Store). s.actions) t),
+  )
+  same_refused q (error.CollectionNotFound name) t = absurd t
+  same_refused q (error.Unsupported text) t = absurd t
+  same_refused q (error.ReportableBug text) t = absurd t
+  same_refused q (error.Corruption fault) t = absurd t
+  same_refused q error.FullQueue t = absurd t
+  same_refused q error.Closed t = absurd t
+
+  cause : (slots : ℕ → Option Flying) (given : ℕ) (q : P) (e : Error) → refused_as e (store old.pages) (store q) → cause_of (state_of store meant old slots given) (store old.pages) (store q) (ToCall Flush) e
+  cause slots given q error.NoMemory t = tt
+  cause slots given q (error.Io fault) t = inl (more (ap (λ (s : Store). s.faults) t))
+    where
+      more : (store q).faults ≡ (store old.pages).faults + 1 → (store old.pages).faults < (store q).faults
+      more e = omega arith
+  cause slots given q (error.CollectionNotFound name) t = absurd t
+  cause slots given q (error.Unsupported text) t = absurd t
+  cause slots given q (error.ReportableBug text) t = absurd t
+  cause slots given q (error.Corruption fault) t = absurd t
+  cause slots given q error.FullQueue t = absurd t
+  cause slots given q error.Closed t = absurd t
+
+  pub flush_refused : (q : P) (e : Error) → (now (store old.pages)).in_group ≡ false → Refused e (store old.pages) (store q) → RefusesFlush store meant old (record old { pages = q }) e
+  flush_refused q e calm r = let s = same_refused q e r.told in record {
+    may = λ slots given. record { told = subst (λ o. may_refuse_as o (state_of store meant old slots given) (store old.pages) (store q) (ToCall Flush) e) (sym (open_now calm)) (cause slots given q e r.told) };
+    extends = s.1;
+    stays = stays q s.0;
+  }
+
+  pub refused_db : IsDb (store old.pages) old.trees old.trees_given → (q : P) (e : Error) → Refused e (store old.pages) (store q) → IsDb (store q) old.trees old.trees_given
+  refused_db db q e r = let s = same_refused q e r.told in record {
+    forest = db.forest;
+    is = subst (λ (m : Moment). IsMoment m db.forest) (sym ((stays q s.0).moment)) db.is;
+    safe = s.1.safe db.safe;
+    calm = ap (λ (x : PageState). x.in_group) s.0.now_is ∙ db.calm;
+    default = db.default;
+  }
+
+  -- closed
+  pub flush_closed : (now (store old.pages)).in_group ≡ true → RefusesFlush store meant old old error.Closed
+  flush_closed e = record {
+    may = λ slots given. record { told = subst (λ o. may_refuse_as o (state_of store meant old slots given) (store old.pages) (store old.pages) (ToCall Flush) error.Closed) (sym (ap (λ b. first_of (cond (not b) None (Some IsClosed)) None) e)) refl };
+    extends = extends_same (store old.pages);
+    stays = stays old.pages (record { now_is = refl; mark = refl; pids = refl; versions = refl });
+  }
+
+-- the same, where the method knows the database by its fields
+module _ {P M : Type 0} (store : P → Store) (meant : M → Merge) (inside old : DbValue P M) (e : inside ≡ old) where
+  pub flush_refused_as : (q : P) (r : Error) → (now (store inside.pages)).in_group ≡ false → Refused r (store inside.pages) (store q) → RefusesFlush store meant old (record inside { pages = q }) r
+  flush_refused_as q r calm t = subst (λ (z : DbValue P M). RefusesFlush store meant z (record inside { pages = q }) r) e (flush_refused store meant inside q r calm t)
