@@ -68,6 +68,11 @@ impl<P: Pages, M: MergeOperator> Db<P, M> {
         let _ = &self.pages;
     }
 
+    /// The allocator that the database was made with.
+    pub fn allocator(&self) -> Global {
+        self.alloc
+    }
+
     /// The pages, as they are. They can be opened again.
     pub fn into_pages(self) -> P
         ensures pages { result ≡ self.pages }

@@ -1,4 +1,7 @@
 //! A call in flight as a value.
+ghost use Rattle.std.specs.Prelude.{◌≡◌};
+ghost use Rattle.sled_tree.specs.declared.flight.Stage.TheVariants.{Root};
+
 use sled_model::{Call, Reply, Tree};
 use sled_pages::{Error, View};
 
@@ -24,6 +27,19 @@ pub struct Flight {
     pub job: Job,
     pub stage: Stage,
     pub turns: u64,
+}
+
+impl Flight {
+    /// A call as it begins.
+    pub fn new(tree: Tree, call: Call) -> Flight
+        ensures { result ≡ record { job = record { tree = tree; call = call }; stage = Root; turns = 0 } }
+    {
+        Flight {
+            job: Job { tree, call },
+            stage: Stage::Root,
+            turns: 0,
+        }
+    }
 }
 
 /// What comes after a page action.

@@ -1,0 +1,341 @@
+-- What the calls of a machine do, by its fields.
+use Rattle.std.proofs.Common.{◌≡◌, ◌≢◌, ℕ, suc, ◌+◌, ◌<◌, ◌≤◌, Bool, true, false, cond, nat_eq, List, [], ◌∷◌, ◌++◌, Option, Some, None, option_map, take, drop, length, slice_get, slice_set, sym, refl, ap, ◌∙◌, subst, inl, inr, ◌⊎◌, arith, add-one}
+use Rattle.std.proofs.Math.Path.{fun_ext}
+use Rattle.std.proofs.lemmas.Bool.{eq-eqb, ne_eqb, eqb-true}
+use Rattle.std.proofs.lemmas.Option.{slice_get_within}
+use Rattle.sled_pages.specs.Update.{put_at}
+use Rattle.sled_pages.specs.Store.{Store}
+use Rattle.sled_pages.specs.declared.error.Error.{Error}
+use Rattle.sled_model.specs.Maps.{Maps, Merge}
+use Rattle.sled_model.specs.State.{State, Flying, begun, maps_of}
+use Rattle.sled_model.specs.Refusal.{MustRefuse, MayRefuse, must_refuse_of, may_refuse_as, cause_of, ToBegin, ToCall}
+use Rattle.sled_model.specs.Steps.{Instant, Steps, Begins, Misses, Abandons}
+use Rattle.sled_model.specs.declared.call.Call.{Call}
+use Rattle.sled_model.specs.declared.call.Whole.{Whole}
+use Rattle.sled_model.specs.declared.call.Whole.TheVariants.{Flush}
+use Rattle.sled_model.specs.declared.tree.Tree.{Tree}
+use Rattle.sled_model.specs.declared.reply.Reply.TheVariants.{Number}
+use Rattle.sled_model.specs.declared.outcome.Outcome.{Outcome}
+use Rattle.sled_model.specs.declared.outcome.Outcome.TheVariants as outcome
+use Rattle.sled_model.specs.declared.outcome.Step.{Step}
+use Rattle.sled_model.specs.declared.outcome.Step.TheVariants as step
+use Rattle.tree_laws.specs.Crashes.{Extends, Flushes}
+use Rattle.tree_laws.specs.Moment.{Moment}
+use Rattle.tree_laws.proofs.Crashing.{extends_same}
+use Rattle.sled_tree.specs.declared.flight.Flight.{Flight}
+use Rattle.sled_tree.specs.declared.flight.Stage.TheVariants.{Root}
+use Rattle.sled_tree.specs.declared.flight.Went.{Went}
+use Rattle.sled_tree.specs.declared.flight.Went.TheVariants.{Moved, Decided, Refused}
+use Rattle.sled.specs.Values.{DbValue, state_of, db_state, instant_of as instant_of_db, moment}
+use Rattle.sled.specs.Calls.{MustBeRefused, must_be_refused_as}
+use Rattle.sled.specs.Flights.{flying_of, IsKnown, AreApart, Flies, outcome_of, slot_after, maps_added}
+use Rattle.sled.specs.Flush.{Stays, FlushesDb, RefusesFlush}
+use Rattle.sled_machine.specs.Slots.{kept_at, RiseAbove, Rise, StandsAt}
+use Rattle.sled_machine.specs.Values.{MachineValue, slots_of, instant_of}
+use Rattle.sled_machine.specs.Crash.{StepsTo, Reaches, keeps_as}
+use Rattle.sled_machine.specs.Sound.{IsMachine}
+use Rattle.sled_machine.specs.Fly.{StepsAt, flights_after}
+use Rattle.sled_machine.proofs.Places.{stands, set_kept, take_kept, set_rise, take_rise, push_kept, push_rise}
+
+none_some : {P A : Type 0} {a : A} → None ≡ Some a → P
+none_some e = cc
+
+some_is : {A : Type 0} {a b : A} → Some a ≡ Some b → a ≡ b
+some_is e = cc
+
+false_true : {P : Type 0} → false ≡ true → P
+false_true e = cc
+
+same_or_not : (a b : ℕ) → (a ≡ b) ⊎ (a ≢ b)
+same_or_not a b = elim (nat_eq a b) as (λ t. nat_eq a b ≡ t → (a ≡ b) ⊎ (a ≢ b)) [ true ↦ λ e. inl (eqb-true a b e) | false ↦ λ e. inr (λ h. false_true (sym e ∙ eq-eqb a b h)) ] refl
+
+put_here : {X : Type 0} (f : ℕ → X) (p : ℕ) (a : X) → put_at f p a p ≡ a
+put_here f p a = ap (λ b. cond b a (f p)) (eq-eqb p p refl)
+
+put_there : {X : Type 0} (f : ℕ → X) (p q : ℕ) (a : X) → q ≢ p → put_at f p a q ≡ f q
+put_there f p q a h = ap (λ b. cond b a (f q)) (ne_eqb q p h)
+
+-- a function after a change at one place
+put_map : {X Y : Type 0} (f : X → Y) (k : ℕ → Option X) (n : ℕ) (x : Option X) (q : ℕ) → option_map f (put_at k n x q) ≡ put_at (λ i. option_map f (k i)) n (option_map f x) q
+put_map f k n x q = elim (nat_eq q n) as (λ b. option_map f (cond b x (k q)) ≡ cond b (option_map f x) (option_map f (k q))) [ true ↦ refl | false ↦ refl ]
+
+slots_put : (fs gs : List (ℕ × Flight)) (slot : ℕ) (x : Option Flight) → ((q : ℕ) → kept_at gs q ≡ put_at (kept_at fs) slot x q) → slots_of gs ≡ put_at (slots_of fs) slot (option_map flying_of x)
+slots_put fs gs slot x e = fun_ext (λ q. ap (option_map flying_of) (e q) ∙ put_map flying_of (kept_at fs) slot x q)
+
+-- whoever is in the list with one number less was in it before
+fewer : (fs gs : List (ℕ × Flight)) (slot : ℕ) → ((q : ℕ) → kept_at gs q ≡ put_at (kept_at fs) slot None q) → (j : ℕ) (f : Flight) → kept_at gs j ≡ Some f → (kept_at fs j ≡ Some f) × (j ≢ slot)
+fewer fs gs slot e j f there = elim (same_or_not j slot) [
+    | inl s ↦ none_some (sym (put_here (kept_at fs) slot None) ∙ ap (put_at (kept_at fs) slot None) (sym s) ∙ sym (e j) ∙ there)
+    | inr o ↦ (sym (put_there (kept_at fs) slot j None o) ∙ sym (e j) ∙ there, o)
+  ]
+
+-- a call was put into the slot
+other_or_new : (fs gs : List (ℕ × Flight)) (slot : ℕ) (x : Flight) → ((q : ℕ) → kept_at gs q ≡ put_at (kept_at fs) slot (Some x) q) → (j : ℕ) (f : Flight) → kept_at gs j ≡ Some f → ((j ≡ slot) × (f ≡ x)) ⊎ ((j ≢ slot) × (kept_at fs j ≡ Some f))
+other_or_new fs gs slot x e j f there = elim (same_or_not j slot) [
+    | inl s ↦ inl (s, some_is (sym there ∙ e j ∙ ap (put_at (kept_at fs) slot (Some x)) s ∙ put_here (kept_at fs) slot (Some x)))
+    | inr o ↦ inr (o, sym (put_there (kept_at fs) slot j (Some x) o) ∙ sym (e j) ∙ there)
+  ]
+
+more : (i : ℕ) {X : Type 0} (fs : List X) → take i fs ++ drop (i + 1) fs ≡ take i fs ++ drop (suc i) fs
+more i fs = ap (λ k. take i fs ++ drop k fs) (add-one i)
+
+module _ {P M : Type 0} (store : P → Store) (meant : M → Merge) (v : MachineValue P M) (im : IsMachine (moment (store v.db.pages) v.db.trees v.db.trees_given) v.flights v.slots_given) where
+  -- no call has the slot
+  pub missing_step : (slot : ℕ) → kept_at v.flights slot ≡ None → Reaches store meant v (step.Step slot) outcome.NoSuchSlot v
+  missing_step slot e = record { maps = []; is = record { step = record { told = (record { free = ap (option_map flying_of) e; is = refl }, refl) }; keeps = extends_same (store v.db.pages) } }
+
+  pub missing_abandon : (slot : ℕ) → kept_at v.flights slot ≡ None → Reaches store meant v (step.Abandon slot) outcome.NoSuchSlot v
+  missing_abandon slot e = record { maps = []; is = record { step = record { told = (record { free = ap (option_map flying_of) e; is = refl }, refl) }; keeps = extends_same (store v.db.pages) } }
+
+  pub in_range : (slot i : ℕ) → StandsAt v.flights slot i → i < length v.flights
+  in_range slot i s = slice_get_within v.flights i (slot, s.kept) s.is
+
+  -- the call at a place is in its slot
+  pub at_place : (slot i : ℕ) (f : Flight) → slice_get v.flights i ≡ Some (slot, f) → kept_at v.flights slot ≡ Some f
+  at_place slot i f e = stands 0 v.flights i slot f im.rise.is e
+
+  pub known_at : (slot i : ℕ) (f : Flight) → slice_get v.flights i ≡ Some (slot, f) → IsKnown (moment (store v.db.pages) v.db.trees v.db.trees_given) f
+  known_at slot i f e = im.known slot f (at_place slot i f e)
+
+  -- a call is given up
+  module _ (slot i : ℕ) (s : StandsAt v.flights slot i) (gs : List (ℕ × Flight)) (e : gs ≡ take i v.flights ++ drop (i + 1) v.flights) where
+    gone : (q : ℕ) → kept_at gs q ≡ put_at (kept_at v.flights) slot None q
+    gone q = ap (λ z. kept_at z q) (e ∙ more i v.flights) ∙ take_kept 0 v.flights i slot s.kept q im.rise.is s.is
+
+    pub abandoned : Reaches store meant v (step.Abandon slot) outcome.Abandoned (record v { flights = gs })
+    abandoned = record {
+      maps = [];
+      is = record {
+        step = record { told = (
+          record {
+            flying = flying_of s.kept;
+            here = ap (option_map flying_of) (at_place slot i s.kept s.is);
+            is = ap (λ z. state_of store meant v.db z v.slots_given) (slots_put v.flights gs slot None gone);
+          },
+          refl,
+        ) };
+        keeps = extends_same (store v.db.pages);
+      };
+    }
+
+    pub abandoned_machine : IsMachine (moment (store v.db.pages) v.db.trees v.db.trees_given) gs v.slots_given
+    abandoned_machine = record {
+      rise = record { is = subst (RiseAbove 0) (sym (e ∙ more i v.flights)) (take_rise 0 v.flights i slot s.kept im.rise.is s.is) };
+      given = λ j f k. im.given j f (fewer v.flights gs slot gone j f k).0;
+      known = λ j f k. im.known j f (fewer v.flights gs slot gone j f k).0;
+      apart = λ j k f g a b off. im.apart j k f g (fewer v.flights gs slot gone j f a).0 (fewer v.flights gs slot gone k g b).0 off;
+    }
+
+  -- a call took its step
+  module _ (slot i : ℕ) (db : DbValue P M) (gs : List (ℕ × Flight)) where
+    abbrev at : Moment
+    at = moment (store v.db.pages) v.db.trees v.db.trees_given
+
+    abbrev after : Moment
+    after = moment (store db.pages) db.trees db.trees_given
+
+    reach : (f next : Flight) (went : Went) → slice_get v.flights i ≡ Some (slot, f) → Flies store meant v.db f went db next → slots_of gs ≡ put_at (slots_of v.flights) slot (slot_after went next) → Reaches store meant v (step.Step slot) (outcome_of went) (record v { db = db; flights = gs })
+    reach f next went there flies slots = record {
+      maps = maps_added went (maps_of (db_state store meant db));
+      is = record {
+        step = subst (λ z. Steps (instant_of store meant v) (step.Step slot) (outcome_of went) (instant_of_db store meant db z v.slots_given) (maps_added went (maps_of (db_state store meant db)))) (sym slots)
+            (flies.steps (slots_of v.flights) v.slots_given slot (ap (option_map flying_of) (at_place slot i f there)));
+        keeps = keeps_flying went flies;
+      };
+    }
+      where
+        keeps_flying : (went : Went) → Flies store meant v.db f went db next → keeps_as (step.Step slot) (outcome_of went) (maps_added went (maps_of (db_state store meant db))) (store v.db.pages) (store db.pages)
+        keeps_flying Moved k = k.extends
+        keeps_flying (Decided reply) k = k.extends
+        keeps_flying (Refused r) k = k.extends
+
+    ended : (f : Flight) → slice_get v.flights i ≡ Some (slot, f) → gs ≡ take i v.flights ++ drop (i + 1) v.flights → (q : ℕ) → kept_at gs q ≡ put_at (kept_at v.flights) slot None q
+    ended f there e q = ap (λ z. kept_at z q) (e ∙ more i v.flights) ∙ take_kept 0 v.flights i slot f q im.rise.is there
+
+    went_on : (f next : Flight) → slice_get v.flights i ≡ Some (slot, f) → gs ≡ slice_set v.flights i (slot, next) → (q : ℕ) → kept_at gs q ≡ put_at (kept_at v.flights) slot (Some next) q
+    went_on f next there e q = ap (λ z. kept_at z q) e ∙ set_kept 0 v.flights i slot f next q im.rise.is there
+
+    -- what the others know is kept
+    kept : (f next : Flight) (went : Went) → slice_get v.flights i ≡ Some (slot, f) → Flies store meant v.db f went db next → (j : ℕ) (h : Flight) → j ≢ slot → kept_at v.flights j ≡ Some h → IsKnown after h × (went ≡ Moved → AreApart next h)
+    kept f next went there flies j h off e = flies.others h (im.apart slot j f h (at_place slot i f there) e (λ s. off (sym s))) (im.known j h e)
+
+    ended_machine : (f next : Flight) (went : Went) → slice_get v.flights i ≡ Some (slot, f) → Flies store meant v.db f went db next → gs ≡ take i v.flights ++ drop (i + 1) v.flights → IsMachine after gs v.slots_given
+    ended_machine f next went there flies e =
+        let less = fewer v.flights gs slot (ended f there e) in record {
+          rise = record { is = subst (RiseAbove 0) (sym (e ∙ more i v.flights)) (take_rise 0 v.flights i slot f im.rise.is there) };
+          given = λ j h k. im.given j h (less j h k).0;
+          known = λ j h k. let l = less j h k in (kept f next went there flies j h l.1 l.0).0;
+          apart = λ j k h g a b off. im.apart j k h g (less j h a).0 (less k g b).0 off;
+        }
+
+    moved_machine : (f next : Flight) → slice_get v.flights i ≡ Some (slot, f) → Flies store meant v.db f Moved db next → gs ≡ slice_set v.flights i (slot, next) → IsMachine after gs v.slots_given
+    moved_machine f next there flies e =
+        let cases = other_or_new v.flights gs slot next (went_on f next there e) in record {
+          rise = record { is = subst (RiseAbove 0) (sym e) (set_rise 0 v.flights i slot f next im.rise.is there) };
+          given = λ j h k. elim (cases j h k) [
+            | inl s ↦ subst (λ z. z ≤ v.slots_given) (sym s.0) (im.given slot f (at_place slot i f there))
+            | inr o ↦ im.given j h o.1
+          ];
+          known = λ j h k. elim (cases j h k) [
+            | inl s ↦ subst (λ z. IsKnown after z) (sym s.1) (flies.goes_on refl).1
+            | inr o ↦ (kept f next Moved there flies j h o.0 o.1).0
+          ];
+          apart = λ j k h g a b off. elim (cases j h a) [
+            | inl s ↦ elim (cases k g b) [
+              | inl t ↦ absurd (off (s.0 ∙ sym t.0))
+              | inr t ↦ subst (λ z. AreApart z g) (sym s.1) ((kept f next Moved there flies k g t.0 t.1).1 refl)
+            ]
+            | inr s ↦ elim (cases k g b) [
+              | inl t ↦ subst (λ z. AreApart h z) (sym t.1) (let z = (kept f next Moved there flies j h s.0 s.1).1 refl in record { off = λ q x y. z.off q y x })
+              | inr t ↦ im.apart j k h g s.1 t.1 off
+            ]
+          ];
+        }
+
+    stepped_as : (f next : Flight) (went : Went) → slice_get v.flights i ≡ Some (slot, f) → Flies store meant v.db f went db next → gs ≡ flights_after went v.flights slot i next → Reaches store meant v (step.Step slot) (outcome_of went) (record v { db = db; flights = gs }) × IsMachine after gs v.slots_given
+    stepped_as f next Moved there flies e = (reach f next Moved there flies (slots_put v.flights gs slot (Some next) (went_on f next there e)), moved_machine f next there flies e)
+    stepped_as f next (Decided reply) there flies e = (reach f next (Decided reply) there flies (slots_put v.flights gs slot None (ended f there e)), ended_machine f next (Decided reply) there flies e)
+    stepped_as f next (Refused r) there flies e = (reach f next (Refused r) there flies (slots_put v.flights gs slot None (ended f there e)), ended_machine f next (Refused r) there flies e)
+
+    pub stepped : (o : Outcome) → StepsAt store meant v.db v.flights slot i o db gs → Reaches store meant v (step.Step slot) o (record v { db = db; flights = gs })
+    stepped o s = subst (λ z. Reaches store meant v (step.Step slot) z (record v { db = db; flights = gs })) (sym s.outcome) (stepped_as s.flight s.next s.went s.there s.flies s.is).0
+
+    pub stepped_machine : (o : Outcome) → StepsAt store meant v.db v.flights slot i o db gs → IsMachine after gs v.slots_given
+    stepped_machine o s = (stepped_as s.flight s.next s.went s.there s.flies s.is).1
+
+  -- a call begins, or is refused
+  pub begin_refused : (tree : Tree) (call : Call) (e : Error) → MayRefuse (state_of store meant v.db (slots_of v.flights) v.slots_given) (store v.db.pages) (store v.db.pages) (ToBegin tree call) e → Reaches store meant v (step.Begin tree call) (outcome.Refused e) v
+  begin_refused tree call e may = record { maps = []; is = record { step = record { told = (may, refl, refl) }; keeps = extends_same (store v.db.pages) } }
+
+  pub begin_untested : (tree : Tree) (call : Call) (e : Error) → MustBeRefused (must_refuse_of (db_state store meant v.db) (tree ∷ [])) e → Reaches store meant v (step.Begin tree call) (outcome.Refused e) v
+  begin_untested tree call e tested = begin_refused tree call e (record { told = go (must_refuse_of (db_state store meant v.db) (tree ∷ [])) tested.told })
+    where
+      go : (o : Option MustRefuse) → must_be_refused_as o e → may_refuse_as o (state_of store meant v.db (slots_of v.flights) v.slots_given) (store v.db.pages) (store v.db.pages) (ToBegin tree call) e
+      go None t = absurd t
+      go (Some m) t = t
+
+  module _ (tree : Tree) (call : Call) (must : must_refuse_of (db_state store meant v.db) (tree ∷ []) ≡ None) where
+    pub begin_caused : (e : Error) → cause_of (state_of store meant v.db (slots_of v.flights) v.slots_given) (store v.db.pages) (store v.db.pages) (ToBegin tree call) e → Reaches store meant v (step.Begin tree call) (outcome.Refused e) v
+    begin_caused e cause = begin_refused tree call e (record { told = subst (λ o. may_refuse_as o (state_of store meant v.db (slots_of v.flights) v.slots_given) (store v.db.pages) (store v.db.pages) (ToBegin tree call) e) (sym must) cause })
+
+    module _ (f : Flight) (is : f ≡ record { job = record { tree = tree; call = call }; stage = Root; turns = 0 }) (slot : ℕ) (next : slot ≡ v.slots_given + 1) (gs : List (ℕ × Flight)) (e : gs ≡ v.flights ++ (slot, f) ∷ []) where
+      free : kept_at v.flights slot ≡ None
+      free = go (kept_at v.flights slot) refl
+        where
+          go : (o : Option Flight) → kept_at v.flights slot ≡ o → o ≡ None
+          go None k = refl
+          go (Some g) k = let h = im.given slot g k in absurd (omega arith)
+
+      added : (q : ℕ) → kept_at gs q ≡ put_at (kept_at v.flights) slot (Some f) q
+      added q = ap (λ z. kept_at z q) e ∙ push_kept v.flights slot f q free
+
+      pub begun_call : Reaches store meant v (step.Begin tree call) (outcome.Begun slot) (record v { flights = gs; slots_given = slot })
+      begun_call = record {
+        maps = [];
+        is = record {
+          step = record { told = (
+            record {
+              free = must;
+              next = next;
+              is = ap (λ z. state_of store meant v.db z slot) (slots_put v.flights gs slot (Some f) added ∙ ap (λ z. put_at (slots_of v.flights) slot (Some (flying_of z))) is);
+            },
+            refl,
+          ) };
+          keeps = extends_same (store v.db.pages);
+        };
+      }
+
+      all_below : (i m : ℕ) (y : Flight) → slice_get v.flights i ≡ Some (m, y) → m < slot
+      all_below i m y k = let h = im.given m y (at_place m i y k) in omega arith
+
+      pub begun_machine : IsMachine (moment (store v.db.pages) v.db.trees v.db.trees_given) gs slot
+      begun_machine =
+          let cases = other_or_new v.flights gs slot f added in record {
+            rise = record { is = subst (RiseAbove 0) (sym e) (push_rise 0 v.flights slot f im.rise.is (omega arith) all_below) };
+            given = λ j h k. elim (cases j h k) [
+              | inl s ↦ let z = s.0 in omega arith
+              | inr o ↦ let z = im.given j h o.1 in omega arith
+            ];
+            known = λ j h k. elim (cases j h k) [
+              | inl s ↦ subst (λ z. IsKnown (moment (store v.db.pages) v.db.trees v.db.trees_given) z) (sym (s.1 ∙ is)) (record { told = λ w m. tt; few = omega arith })
+              | inr o ↦ im.known j h o.1
+            ];
+            apart = λ j k h g a b off. elim (cases j h a) [
+              | inl s ↦ subst (λ z. AreApart z g) (sym (s.1 ∙ is)) (record { off = λ q x y. x })
+              | inr s ↦ elim (cases k g b) [
+                | inl t ↦ subst (λ z. AreApart h z) (sym (t.1 ∙ is)) (record { off = λ q x y. y })
+                | inr t ↦ im.apart j k h g s.1 t.1 off
+              ]
+            ];
+          }
+
+  -- a flush
+  pub flushed_all : (db : DbValue P M) (n : ℕ) → FlushesDb store meant v.db db → Reaches store meant v (step.Whole Flush) (outcome.Decided (Number n)) (record v { db = db })
+  flushed_all db n f = record {
+    maps = [];
+    is = record { step = record { told = (f.free, f.stays.state (slots_of v.flights) v.slots_given, refl) }; keeps = f.flushes };
+  }
+
+  pub flush_refused : (db : DbValue P M) (e : Error) → RefusesFlush store meant v.db db e → Reaches store meant v (step.Whole Flush) (outcome.Refused e) (record v { db = db })
+  flush_refused db e f = record {
+    maps = [];
+    is = record { step = record { told = (f.may (slots_of v.flights) v.slots_given, f.stays.state (slots_of v.flights) v.slots_given, refl) }; keeps = f.extends };
+  }
+
+  pub stays_machine : (db : DbValue P M) → Stays store meant v.db db → IsMachine (moment (store db.pages) db.trees db.trees_given) v.flights v.slots_given
+  stays_machine db s = subst (λ (m : Moment). IsMachine m v.flights v.slots_given) (sym s.moment) im
+
+-- The same, where a method knows the machine and the slot by their fields
+module _ {P M : Type 0} (store : P → Store) (meant : M → Merge) (inside old : MachineValue P M) (e : inside ≡ old) (im : IsMachine (moment (store inside.db.pages) inside.db.trees inside.db.trees_given) inside.flights inside.slots_given) (n slot : ℕ) (same : n ≡ slot) where
+  pub missing_step_as : kept_at inside.flights n ≡ None → Reaches store meant old (step.Step slot) outcome.NoSuchSlot old
+  missing_step_as k = subst (λ s. Reaches store meant old (step.Step s) outcome.NoSuchSlot old) same (subst (λ z. Reaches store meant z (step.Step n) outcome.NoSuchSlot z) e (missing_step store meant inside im n k))
+
+  pub missing_abandon_as : kept_at inside.flights n ≡ None → Reaches store meant old (step.Abandon slot) outcome.NoSuchSlot old
+  missing_abandon_as k = subst (λ s. Reaches store meant old (step.Abandon s) outcome.NoSuchSlot old) same (subst (λ z. Reaches store meant z (step.Abandon n) outcome.NoSuchSlot z) e (missing_abandon store meant inside im n k))
+
+  pub abandoned_as : (i : ℕ) → StandsAt inside.flights n i → (gs : List (ℕ × Flight)) → gs ≡ take i inside.flights ++ drop (i + 1) inside.flights → Reaches store meant old (step.Abandon slot) outcome.Abandoned (record inside { flights = gs })
+  abandoned_as i s gs g = subst (λ k. Reaches store meant old (step.Abandon k) outcome.Abandoned (record inside { flights = gs })) same (subst (λ z. Reaches store meant z (step.Abandon n) outcome.Abandoned (record inside { flights = gs })) e (abandoned store meant inside im n i s gs g))
+
+  pub stepped_slot : (i : ℕ) (db : DbValue P M) (gs : List (ℕ × Flight)) (o : Outcome) → StepsAt store meant inside.db inside.flights n i o db gs → Reaches store meant old (step.Step slot) o (record inside { db = db; flights = gs })
+  stepped_slot i db gs o s = subst (λ k. Reaches store meant old (step.Step k) o (record inside { db = db; flights = gs })) same (subst (λ z. Reaches store meant z (step.Step n) o (record inside { db = db; flights = gs })) e (stepped store meant inside im n i db gs o s))
+
+  pub turns_as : (i : ℕ) (f : Flight) → slice_get inside.flights i ≡ Some (n, f) → Some f.turns ≡ option_map (λ (z : Flying). z.turns) (slots_of old.flights slot)
+  turns_as i f k = subst (λ s. Some f.turns ≡ option_map (λ (z : Flying). z.turns) (slots_of old.flights s)) same (subst (λ z. Some f.turns ≡ option_map (λ (z : Flying). z.turns) (slots_of z.flights n)) e (sym (ap (λ o. option_map (λ (z : Flying). z.turns) (option_map flying_of o)) (at_place store meant inside im n i f k))))
+
+module _ {P M : Type 0} (store : P → Store) (meant : M → Merge) (inside old : MachineValue P M) (e : inside ≡ old) (im : IsMachine (moment (store inside.db.pages) inside.db.trees inside.db.trees_given) inside.flights inside.slots_given) where
+  pub untested_as : (tree : Tree) (call : Call) (r : Error) → MustBeRefused (must_refuse_of (db_state store meant inside.db) (tree ∷ [])) r → Reaches store meant old (step.Begin tree call) (outcome.Refused r) old
+  untested_as tree call r t = subst (λ z. Reaches store meant z (step.Begin tree call) (outcome.Refused r) z) e (begin_untested store meant inside im tree call r t)
+
+  pub caused_as : (tree : Tree) (call : Call) (r : Error) → must_refuse_of (db_state store meant inside.db) (tree ∷ []) ≡ None → cause_of (state_of store meant inside.db (slots_of inside.flights) inside.slots_given) (store inside.db.pages) (store inside.db.pages) (ToBegin tree call) r → Reaches store meant old (step.Begin tree call) (outcome.Refused r) old
+  caused_as tree call r must cause = subst (λ z. Reaches store meant z (step.Begin tree call) (outcome.Refused r) z) e (begin_caused store meant inside im tree call must r cause)
+
+  -- .. where the list has room, and so may be another one
+  pub begun_as : (tree copy : Tree) (call : Call) → copy ≡ tree → must_refuse_of (db_state store meant inside.db) (tree ∷ []) ≡ None → (f : Flight) → f ≡ record { job = record { tree = copy; call = call }; stage = Root; turns = 0 }
+      → (slot : ℕ) → slot ≡ inside.slots_given + 1 → (gs : List (ℕ × Flight)) → gs ≡ inside.flights ++ (slot, f) ∷ [] → Reaches store meant old (step.Begin tree call) (outcome.Begun slot) (record inside { flights = gs; slots_given = slot })
+  begun_as tree copy call c must f is slot next gs g = subst (λ z. Reaches store meant z (step.Begin tree call) (outcome.Begun slot) (record inside { flights = gs; slots_given = slot })) e
+      (begun_call store meant inside im tree call must f (is ∙ ap (λ t. record { job = record { tree = t; call = call }; stage = Root; turns = 0 }) c) slot next gs g)
+
+  pub begun_machine_as : (tree copy : Tree) (call : Call) → copy ≡ tree → must_refuse_of (db_state store meant inside.db) (tree ∷ []) ≡ None → (f : Flight) → f ≡ record { job = record { tree = copy; call = call }; stage = Root; turns = 0 }
+      → (slot : ℕ) → slot ≡ inside.slots_given + 1 → (gs : List (ℕ × Flight)) → gs ≡ inside.flights ++ (slot, f) ∷ [] → IsMachine (moment (store inside.db.pages) inside.db.trees inside.db.trees_given) gs slot
+  begun_machine_as tree copy call c must f is slot next gs g = begun_machine store meant inside im tree call must f (is ∙ ap (λ t. record { job = record { tree = t; call = call }; stage = Root; turns = 0 }) c) slot next gs g
+
+  pub flushed_as : (db : DbValue P M) (n : ℕ) → FlushesDb store meant inside.db db → Reaches store meant old (step.Whole Flush) (outcome.Decided (Number n)) (record inside { db = db })
+  flushed_as db n f = subst (λ z. Reaches store meant z (step.Whole Flush) (outcome.Decided (Number n)) (record inside { db = db })) e (flushed_all store meant inside im db n f)
+
+  pub flush_refused_as : (db : DbValue P M) (r : Error) → RefusesFlush store meant inside.db db r → Reaches store meant old (step.Whole Flush) (outcome.Refused r) (record inside { db = db })
+  flush_refused_as db r f = subst (λ z. Reaches store meant z (step.Whole Flush) (outcome.Refused r) (record inside { db = db })) e (flush_refused store meant inside im db r f)
+
+  -- no memory, where the list of calls may have got room
+  pub memory_as : (tree : Tree) (call : Call) (r : Error) → must_refuse_of (db_state store meant inside.db) (tree ∷ []) ≡ None → r ≡ Rattle.sled_pages.specs.declared.error.Error.TheVariants.NoMemory → Reaches store meant old (step.Begin tree call) (outcome.Refused r) old
+  memory_as tree call r must m = subst (λ x. Reaches store meant old (step.Begin tree call) (outcome.Refused x) old) (sym m) (caused_as tree call Rattle.sled_pages.specs.declared.error.Error.TheVariants.NoMemory must tt)
+
+  pub room_as : (tree : Tree) (call : Call) (r : Error) → must_refuse_of (db_state store meant inside.db) (tree ∷ []) ≡ None → r ≡ Rattle.sled_pages.specs.declared.error.Error.TheVariants.NoMemory → (gs : List (ℕ × Flight)) → gs ≡ inside.flights
+      → Reaches store meant old (step.Begin tree call) (outcome.Refused r) (record inside { flights = gs })
+  room_as tree call r must m gs g = subst (λ z. Reaches store meant old (step.Begin tree call) (outcome.Refused r) z) (sym e ∙ ap (λ z. record inside { flights = z }) (sym g)) (memory_as tree call r must m)
+
+  -- a flush is the only whole call yet
+  pub flushed_any : (w : Whole) (db : DbValue P M) (n : ℕ) → FlushesDb store meant inside.db db → Reaches store meant old (step.Whole w) (outcome.Decided (Number n)) (record inside { db = db })
+  flushed_any Flush db n f = flushed_as db n f
+
+  pub refused_any : (w : Whole) (db : DbValue P M) (r : Error) → RefusesFlush store meant inside.db db r → Reaches store meant old (step.Whole w) (outcome.Refused r) (record inside { db = db })
+  refused_any Flush db r f = flush_refused_as db r f

@@ -1,0 +1,5 @@
+pub mod Slots
+pub mod Values
+pub mod Crash
+pub mod Sound
+pub mod Fly
