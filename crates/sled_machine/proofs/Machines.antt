@@ -49,7 +49,7 @@ false_true e = cc
 same_or_not : (a b : ℕ) → (a ≡ b) ⊎ (a ≢ b)
 same_or_not a b = elim (nat_eq a b) as (λ t. nat_eq a b ≡ t → (a ≡ b) ⊎ (a ≢ b)) [ true ↦ λ e. inl (eqb-true a b e) | false ↦ λ e. inr (λ h. false_true (sym e ∙ eq-eqb a b h)) ] refl
 
-put_here : {X : Type 0} (f : ℕ → X) (p : ℕ) (a : X) → put_at f p a p ≡ a
+pub put_here : {X : Type 0} (f : ℕ → X) (p : ℕ) (a : X) → put_at f p a p ≡ a
 put_here f p a = ap (λ b. cond b a (f p)) (eq-eqb p p refl)
 
 put_there : {X : Type 0} (f : ℕ → X) (p q : ℕ) (a : X) → q ≢ p → put_at f p a q ≡ f q

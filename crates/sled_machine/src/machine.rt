@@ -1,6 +1,7 @@
 //! The machine.
 ghost use Rattle.std.specs.Prelude.{◌≡◌, IfOk, IfErr, OnErr, []};
 ghost use Rattle.std.specs.Option.{option_map};
+ghost use Rattle.sled_pages.specs.declared.error.Error.TheVariants.{NoMemory};
 ghost use Rattle.sled_model.specs.declared.outcome.Outcome.TheVariants as outcome;
 ghost use Rattle.sled_model.specs.declared.outcome.Step.TheVariants as step;
 
@@ -39,7 +40,7 @@ impl<P: Pages, M> Model for Machine<P, M> {
 impl<P: Pages, M: MergeOperator> Machine<P, M> {
     ghost use Rattle.sled.specs.Sound.{IsDb};
     ghost use Rattle.sled_machine.specs.Values.{slots_of};
-    ghost use Rattle.sled_machine.specs.Crash.{Reaches};
+    ghost use Rattle.sled_machine.specs.Crash.{Reaches, Finishes, Performs};
 
     /// A machine over a database, with no call in flight.
     pub fn new(db: Db<P, M>) -> Machine<P, M>
@@ -151,5 +152,62 @@ impl<P: Pages, M: MergeOperator> Machine<P, M> {
                 Outcome::Decided(Reply::Number(count as u64))
             }
         }
+    }
+
+    /// Does steps of the call in the slot until it ends. There are no more than its turns allow.
+    pub fn finish(&mut self, slot: Slot) -> Outcome
+        ensures { Finishes P.store M.meant self.old slot result self.new }
+    {
+        loop {
+            match self.step(slot) {
+                Outcome::Moved => {}
+                outcome => return outcome,
+            }
+        }
+    }
+
+    // Begins a copy of a call. The tests come before the copy is made.
+    fn begin_copy(&mut self, tree: &Tree, call: &Call) -> Outcome
+        ensures { Reaches P.store M.meant self.old (step.Begin tree.now call.now) result self.new }
+    {
+        if let Err(e) = self.db.check(tree) {
+            return Outcome::Refused(e);
+        }
+        let call = match call.clone() {
+            Ok(call) => call,
+            Err(e) => return Outcome::Refused(e),
+        };
+        match self.begin(tree, call) {
+            Ok(slot) => Outcome::Begun(slot),
+            Err(e) => Outcome::Refused(e),
+        }
+    }
+
+    // Does one step of any kind.
+    fn perform(&mut self, step: &Step) -> Outcome
+        ensures { Reaches P.store M.meant self.old step.now result self.new }
+    {
+        match step {
+            Step::Begin(tree, call) => self.begin_copy(tree, call),
+            Step::Step(slot) => self.step(*slot),
+            Step::Abandon(slot) => self.abandon(*slot),
+            Step::Whole(whole) => self.whole_of(whole),
+        }
+    }
+
+    /// Does a list of steps, one after the other. Refused with `NoMemory` alone, and then nothing was done.
+    pub fn run(&mut self, steps: &[Step]) -> Result<Vec<Outcome>>
+        ensures ok { IfOk result (λ outcomes. Performs P.store M.meant self.old steps.now outcomes.items self.new) }
+        ensures err { OnErr result (self.new ≡ self.old) }
+        ensures cause { IfErr result (λ e. e ≡ NoMemory) }
+    {
+        let Ok(mut outcomes) = Vec::with_capacity(self.db.allocator(), steps.len()) else {
+            return Err(Error::NoMemory);
+        };
+        for step in steps {
+            let outcome = self.perform(step);
+            outcomes.push(outcome).unwrap();
+        }
+        Ok(outcomes)
     }
 }
