@@ -15,3 +15,9 @@ pub mod Empty
 pub mod Fuel
 pub mod Crashing
 pub mod Known
+pub mod Split
+pub mod Receive
+pub mod Post
+pub mod Reflag
+pub mod Flags
+pub mod Inside

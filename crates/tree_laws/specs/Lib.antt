@@ -5,3 +5,6 @@ pub mod Moment
 pub mod Crashes
 pub mod Laws
 pub mod CrashLaws
+pub mod PageLaws
+pub mod Stages
+pub mod Merging

@@ -4,7 +4,9 @@
 mod actions;
 mod crashes;
 mod kept;
+mod levels;
 mod meaning;
+mod splits;
 mod steps;
 
 pub use actions::{law_del, law_drop, law_empty, law_hoist, law_plant, law_set};
@@ -13,7 +15,9 @@ pub use crashes::{
     law_whole,
 };
 pub use kept::{law_acting, law_now, law_stood, law_view};
+pub use levels::{law_inside, law_reached};
 pub use meaning::{law_contents, law_find, law_one, law_sorted};
+pub use splits::{law_cap, law_confirm, law_intention, law_post, law_receive, law_split};
 pub use steps::{
     law_allocated, law_answer, law_dropped, law_erase, law_freed, law_hoisted, law_planted,
     law_replaced, law_write,
