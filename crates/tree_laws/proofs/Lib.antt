@@ -21,3 +21,4 @@ pub mod Post
 pub mod Reflag
 pub mod Flags
 pub mod Inside
+pub mod Staying
