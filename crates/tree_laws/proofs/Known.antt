@@ -148,7 +148,7 @@ sound_at f x p n i live = record { holds = holds_at f x p n i live }
 pub leaf_in : {nodes : Nodes} {roots : Tree → Option ℕ} {w : Forest} → WellFormed nodes roots w → (t : Tree) (h p : ℕ) (n : Node) (es : List (Key × Key)) → In p (w.chain (place t h)) → nodes p ≡ Some n → n.content ≡ Leaf es → h ≡ 0
 leaf_in f t h p n es i live leaf = leaf_low h n.lo n.hi es (subst (λ c. Holds h n.lo n.hi c) leaf (holds_at f (place t h) p n i live))
 
-put_few : {X : Type 0} (k : Key) (v : X) (es : List (Key × X)) → length (put key_cmp k v es) ≤ length es + 1
+pub put_few : {X : Type 0} (k : Key) (v : X) (es : List (Key × X)) → length (put key_cmp k v es) ≤ length es + 1
 put_few k v [] = omega arith
 put_few k v (e ∷ es) =
     let h = put_few k v es in

@@ -22,3 +22,5 @@ pub mod Reflag
 pub mod Flags
 pub mod Inside
 pub mod Staying
+pub mod Walks
+pub mod Splitting

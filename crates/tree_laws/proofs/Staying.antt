@@ -8,7 +8,7 @@ use Rattle.sled_pages.specs.declared.node.Node.{Node}
 use Rattle.sled_pages.specs.declared.page.Page.{Page}
 use Rattle.tree_laws.specs.Forest.{Tree, Forest, Place, place, head, WellFormed, later}
 use Rattle.tree_laws.specs.Moment.{Moment, IsMoment, nodes_at, IsStray, Goes, Grows, Viewed, Stood, Look, IsFresh, Seen}
-use Rattle.tree_laws.specs.Stages.{IsParent, IsWalking, IsPlace, IsSplitting, IsOwn, IsReplacing, IsUnder, IsPosting, IsHoisting, IsSwapping, IsFreeing}
+use Rattle.tree_laws.specs.Stages.{IsParent, IsWalking, Posts, AtParent, AtRoot, Nowhere, IsPlace, IsSplitting, IsOwn, IsReplacing, IsUnder, IsPosting, IsHoisting, IsSwapping, IsFreeing}
 use Rattle.tree_laws.specs.Merging.{IsIntending, IsSmallChild, IsFrozen, IsChild, IsWanted, IsMerger, IsMerging, IsCapping, IsSeeking, IsReceiving, IsOut, IsConfirming, IsMergingOf, IsCappingOf, IsSeekingOf, IsReceivingOf, IsConfirmingOf}
 use Rattle.tree_laws.proofs.Replace.{some_is, false_true, head_in}
 use Rattle.tree_laws.proofs.Cover.{one_cover, one_later, later_in, pointer_within, holds_at}
@@ -91,18 +91,19 @@ module _ {mine : List ℕ} {lost : Option Tree} {old new : Moment} {w v : Forest
     reached = k.reached;
   }
 
-  place_kept : (t : Tree) (number h : ℕ) (page : Look) (o : Option Look) → IsPlace old w t number h page o → IsPlace new v t number h page o
-  place_kept t number h page None k = k
-  place_kept t number h page (Some parent) k = (parent_kept t number h parent k.0, k.1)
+  pub place_kept : (t : Tree) (number h : ℕ) (page : Look) (posts : Posts) → IsPlace old w t number h page posts → IsPlace new v t number h page posts
+  place_kept t number h page (AtParent parent) k = (parent_kept t number h parent k.0, k.1)
+  place_kept t number h page AtRoot k = k
+  place_kept t number h page Nowhere k = k
 
-  pub splitting_kept : (t : Tree) (number : ℕ) (page : Look) (parent : Option Look) → IsSplitting old w t number page parent → IsSplitting new v t number page parent
-  splitting_kept t number page parent k = record { height = k.height; seen = seen_kept g (place t k.height) number page k.seen; posts = place_kept t number k.height page parent k.posts }
+  pub splitting_kept : (t : Tree) (number : ℕ) (page : Look) (posts : Posts) → IsSplitting old w t number page posts → IsSplitting new v t number page posts
+  splitting_kept t number page posts k = record { height = k.height; seen = seen_kept g (place t k.height) number page k.seen; posted = place_kept t number k.height page posts k.posted }
 
-  pub replacing_kept : (t : Tree) (number : ℕ) (page : Look) (parent : Option Look) (left : Node) (at : Key) (q : ℕ) → ¬ (In q mine) → IsReplacing old w t number page parent left at q → IsReplacing new v t number page parent left at q
-  replacing_kept t number page parent left at q off k = record {
+  pub replacing_kept : (t : Tree) (number : ℕ) (page : Look) (posts : Posts) (left : Node) (at : Key) (q : ℕ) → ¬ (In q mine) → IsReplacing old w t number page posts left at q → IsReplacing new v t number page posts left at q
+  replacing_kept t number page posts left at q off k = record {
     height = k.height;
     seen = seen_kept g (place t k.height) number page k.seen;
-    posts = place_kept t number k.height page parent k.posts;
+    posted = place_kept t number k.height page posts k.posted;
     right = k.right;
     own = own_kept q k.right off k.own;
     split = k.split;
