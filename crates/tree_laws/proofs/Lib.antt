@@ -24,3 +24,4 @@ pub mod Inside
 pub mod Staying
 pub mod Walks
 pub mod Splitting
+pub mod Merges

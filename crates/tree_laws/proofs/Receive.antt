@@ -1,12 +1,14 @@
 -- The merge of a capped page into its left sibling.
-use Rattle.std.proofs.Common.{◌≡◌, ℕ, suc, ◌≤◌, true, false, List, [], ◌∷◌, ◌++◌, Option, Some, None, sym, refl, ap, ◌∙◌, subst, inl, inr, ◌⊎◌, append_assoc}
+use Rattle.std.proofs.Common.{◌+◌, length, length-append, arith, ◌≡◌, ℕ, suc, ◌≤◌, true, false, List, [], ◌∷◌, ◌++◌, Option, Some, None, sym, refl, ap, ◌∙◌, subst, inl, inr, ◌⊎◌, append_assoc}
 use Rattle.sled_pages.specs.In.{In}
 use Rattle.sled_pages.specs.Node.{pairs, pointers, count}
 use Rattle.sled_pages.specs.Order.{Key, Below}
 use Rattle.sled_pages.specs.State.{Nodes}
 use Rattle.sled_pages.specs.declared.node.Node.{Node}
-use Rattle.tree_laws.specs.Action.{put_node, IsReceived}
-use Rattle.tree_laws.specs.Forest.{Forest, Place, place, Run, IsPointer, WellFormed, node_pairs, head, Tree}
+use Rattle.sled_pages.specs.declared.node.Data.{Data}
+use Rattle.sled_pages.specs.declared.node.Data.TheVariants.{Leaf, Index}
+use Rattle.tree_laws.specs.Action.{Halves, put_node, IsReceived}
+use Rattle.tree_laws.specs.Forest.{IsSized, Forest, Place, place, Run, IsPointer, WellFormed, node_pairs, head, Tree}
 use Rattle.tree_laws.specs.PageLaws.{IsOpenAt, Unseen, ReceiveLaw}
 use Rattle.tree_laws.proofs.Order.{below-trans, below_irrefl}
 use Rattle.tree_laws.proofs.Runs.{In_split, In-right, In_cases, run_parts, run_to, rises_on}
@@ -31,6 +33,15 @@ module _ {nodes : Nodes} {roots : Tree → Option ℕ} {w : Forest} (f : WellFor
           no : None ≡ Some c → ⊥
           no h = cc
       go xs (z ∷ zs) e m r g = (xs, zs, e ∙ ap (λ k. xs ++ (p ∷ (k ∷ zs))) (some_is z c (sym r.1.here ∙ g)))
+
+-- how many entries two halves have together
+pub halves_count : (c a b : Data) → Halves c a b → count c ≡ count a + count b
+halves_count (Leaf es) (Leaf a) (Leaf b) h = ap length h ∙ length-append a b
+halves_count (Index es) (Index a) (Index b) h = ap length h ∙ length-append a b
+halves_count (Leaf es) (Index a) b h = absurd h
+halves_count (Leaf es) (Leaf a) (Index b) h = absurd h
+halves_count (Index es) (Leaf a) b h = absurd h
+halves_count (Index es) (Index a) (Leaf b) h = absurd h
 
 module _ (nodes : Nodes) (roots : Tree → Option ℕ) (w : Forest) (f : WellFormed nodes roots w) (x : Place) (p c : ℕ) (n d both : Node) (o : IsOpenAt nodes w x p n) (next : n.next ≡ Some c) (there : nodes c ≡ Some d) (capped : d.merging ≡ true) (s : IsReceived x.height n d both) where
   i : In p (w.chain x)
@@ -139,7 +150,17 @@ module _ (nodes : Nodes) (roots : Tree → Option ℕ) (w : Forest) (f : WellFor
       let u = h.1.parent (subst (λ (z : Node). z.merging ≡ true) (some_is d h.0 (sym there ∙ h.1.live)) capped) in
       not_both_children f x.tree x.height around.0 around.1 p c n d around.2 live there awake capped q u.0 a u.1 j u.2 qa u.3 e u.4
 
-  pub received : (u : Unseen [] nodes (put_node nodes p both) roots w (count both.content ≤ 33)) × ((y : Place) → ¬ (In c (u.after.chain y)))
+  -- c was a merging child, so it has at most 17 entries
+  joined_few : count n.content ≤ 16 → IsSized nodes w → count both.content ≤ 33
+  joined_few few z =
+      let h = f.page x c c_home in
+      let u = h.1.parent (subst (λ (z : Node). z.merging ≡ true) (some_is d h.0 (sym there ∙ h.1.live)) capped) in
+      sum (count n.content) (count d.content) (count both.content) few (z.child (place x.tree (suc x.height)) u.0 c u.1 d u.2 u.3 u.4 there) (halves_count both.content n.content d.content s.halves)
+    where
+      sum : (a b c : ℕ) → a ≤ 16 → b ≤ 17 → c ≡ a + b → c ≤ 33
+      sum a b c p q r = omega arith
+
+  pub received : (u : Unseen [] nodes (put_node nodes p both) roots w (count n.content ≤ 16)) × ((y : Place) → ¬ (In c (u.after.chain y)))
   unfolding after
   received = (
     record {
@@ -147,7 +168,7 @@ module _ (nodes : Nodes) (roots : Tree → Option ℕ) (w : Forest) (f : WellFor
       kept = replaced_kept parts f;
       same = pairs_kept parts f same_pairs;
       keeps = replaced_keeps parts f [] (λ z h. h);
-      sized = λ few. replaced_sized parts f (record { few = few; added_few = λ q a h. absurd h; child = λ q a j qa e. absurd (no_child q a j qa e) });
+      sized = λ few z. replaced_sized parts f (record { few = joined_few few z; added_few = λ q a h. absurd h; child = λ q a j qa e. absurd (no_child q a j qa e) }) z;
       grows = λ few. replaced_grows parts f (inr (inr (c, next, inl refl)));
     },
     λ y j. elim (same_place y x) [

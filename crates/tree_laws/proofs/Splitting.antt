@@ -1,24 +1,21 @@
 -- The steps of a split, of a hoist, and of a free.
-use Rattle.std.proofs.Common.{◌≡◌, ◌≢◌, ℕ, suc, ◌+◌, ◌<◌, ◌≤◌, ◌^◌, Bool, true, false, List, [], ◌∷◌, ◌++◌, length, Option, Some, None, option_map, sym, refl, ap, ◌∙◌, subst, inl, inr, ◌⊎◌, le_of_eq, append-nil, arith}
+use Rattle.std.proofs.Common.{◌≡◌, ℕ, suc, ◌+◌, ◌<◌, ◌≤◌, ◌^◌, false, List, [], ◌∷◌, length, Some, None, option_map, sym, refl, ap, ◌∙◌, subst, inl, inr, ◌⊎◌, le_of_eq, append-nil, arith}
 use Rattle.std.specs.FinMap.Entries.{put}
 use Rattle.sled_pages.specs.In.{In}
-use Rattle.sled_pages.specs.Node.{Covers, Within, pointers, count}
+use Rattle.sled_pages.specs.Node.{Covers, count}
 use Rattle.sled_pages.specs.Order.{Key, key_cmp, Below}
-use Rattle.sled_pages.specs.Update.{put_at}
-use Rattle.sled_pages.specs.State.{Nodes}
 use Rattle.sled_pages.specs.declared.node.Node.{Node}
-use Rattle.sled_pages.specs.declared.node.Data.{Data}
 use Rattle.sled_pages.specs.declared.node.Data.TheVariants.{Index}
 use Rattle.sled_pages.specs.declared.page.Page.{Page}
-use Rattle.tree_laws.specs.Forest.{Tree, Forest, Place, place, WellFormed, IsSized, contents}
-use Rattle.tree_laws.specs.Action.{put_node, IsSplit}
-use Rattle.tree_laws.specs.Moment.{Moment, IsMoment, nodes_at, IsStray, Goes, Grows, Stood, Look, IsOpen, IsFresh, IsFew, Seen}
-use Rattle.tree_laws.specs.Laws.{IsCurrent, IsAlone, Rooted, Steps, replaced, allocated, freed, hoisted}
+use Rattle.tree_laws.specs.Forest.{Tree, Forest, Place, place, IsSized, contents}
+use Rattle.tree_laws.specs.Action.{put_node}
+use Rattle.tree_laws.specs.Moment.{Moment, IsMoment, nodes_at, Goes, Grows, Stood, Look, IsFresh, IsFew, Seen}
+use Rattle.tree_laws.specs.Laws.{IsCurrent, IsAlone, replaced, allocated, freed, hoisted}
 use Rattle.tree_laws.specs.PageLaws.{IsOpenAt, Unseen}
-use Rattle.tree_laws.specs.Stages.{IsParent, Posts, AtParent, AtRoot, Nowhere, IsPlace, IsSplitting, IsOwn, IsReplacing, IsUnder, IsPosting, IsHoisting, IsOver, IsSwapping, IsFreeing, Quiet, IsHalved}
+use Rattle.tree_laws.specs.Stages.{Posts, AtParent, AtRoot, IsSplitting, IsOwn, IsReplacing, IsPosting, IsHoisting, IsOver, IsSwapping, IsFreeing, Quiet, IsHalved}
 use Rattle.tree_laws.proofs.Order.{upto_below-trans}
 use Rattle.tree_laws.proofs.Update.{put_here, put_there}
-use Rattle.tree_laws.proofs.Replace.{same_tree, some_is, false_true}
+use Rattle.tree_laws.proofs.Replace.{same_tree, some_is}
 use Rattle.tree_laws.proofs.Inside.{inside_law}
 use Rattle.tree_laws.proofs.Split.{split_law}
 use Rattle.tree_laws.proofs.Post.{post_law}

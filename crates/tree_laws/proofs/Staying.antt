@@ -1,13 +1,13 @@
 -- What a call in flight knows of its stage survives the actions of others.
-use Rattle.std.proofs.Common.{◌≡◌, ◌≢◌, ℕ, suc, ◌≤◌, Bool, true, false, List, [], ◌∷◌, ◌++◌, Option, Some, None, MatchOption, option_map, sym, refl, ap, ◌∙◌, subst, inl, inr, ◌⊎◌, le_trans}
+use Rattle.std.proofs.Common.{◌≡◌, ◌≢◌, ℕ, suc, Bool, true, false, List, [], ◌∷◌, ◌++◌, Option, Some, None, MatchOption, option_map, sym, refl, ap, ◌∙◌, subst, inl, inr, ◌⊎◌, le_trans}
 use Rattle.sled_pages.specs.In.{In}
-use Rattle.sled_pages.specs.Node.{Within, Covers, count}
+use Rattle.sled_pages.specs.Node.{Within}
 use Rattle.sled_pages.specs.Order.{Key}
 use Rattle.sled_pages.specs.State.{Nodes}
 use Rattle.sled_pages.specs.declared.node.Node.{Node}
 use Rattle.sled_pages.specs.declared.page.Page.{Page}
-use Rattle.tree_laws.specs.Forest.{Tree, Forest, Place, place, head, WellFormed, later}
-use Rattle.tree_laws.specs.Moment.{Moment, IsMoment, nodes_at, IsStray, Goes, Grows, Viewed, Stood, Look, IsFresh, Seen}
+use Rattle.tree_laws.specs.Forest.{Tree, Forest, Place, place, head, WellFormed}
+use Rattle.tree_laws.specs.Moment.{Moment, IsMoment, nodes_at, Goes, Grows, Viewed, Stood, Look, IsFresh}
 use Rattle.tree_laws.specs.Stages.{IsParent, IsWalking, Posts, AtParent, AtRoot, Nowhere, IsPlace, IsSplitting, IsOwn, IsReplacing, IsUnder, IsPosting, IsHoisting, IsSwapping, IsFreeing}
 use Rattle.tree_laws.specs.Merging.{IsIntending, IsSmallChild, IsFrozen, IsChild, IsWanted, IsMerger, IsMerging, IsCapping, IsSeeking, IsReceiving, IsOut, IsConfirming, IsMergingOf, IsCappingOf, IsSeekingOf, IsReceivingOf, IsConfirmingOf}
 use Rattle.tree_laws.proofs.Replace.{some_is, false_true, head_in}

@@ -1,8 +1,8 @@
 -- What follows where the walk has read a page.
-use Rattle.std.proofs.Common.{◌≡◌, ◌≢◌, ℕ, suc, ◌≤◌, Bool, true, false, List, [], ◌∷◌, ◌++◌, Option, Some, None, option_map, sym, refl, ap, ◌∙◌, subst, inl, inr, ◌⊎◌, le_trans, arith}
+use Rattle.std.proofs.Common.{◌≡◌, ◌≢◌, ℕ, suc, ◌≤◌, Bool, true, false, List, [], ◌∷◌, ◌++◌, Option, Some, None, option_map, sym, refl, ap, ◌∙◌, subst, inl, inr, ◌⊎◌}
 use Rattle.std.specs.FinMap.Entries.{find}
 use Rattle.sled_pages.specs.In.{In}
-use Rattle.sled_pages.specs.Node.{Covers, Within, pairs, pointers, count, value_at}
+use Rattle.sled_pages.specs.Node.{Covers, pairs, pointers, count, value_at}
 use Rattle.sled_pages.specs.Order.{Key, key_cmp, Below, UpTo}
 use Rattle.sled_pages.specs.State.{Nodes}
 use Rattle.sled_pages.specs.declared.node.Node.{Node}
@@ -10,13 +10,13 @@ use Rattle.sled_pages.specs.declared.node.Data.{Data}
 use Rattle.sled_pages.specs.declared.node.Data.TheVariants.{Leaf, Index}
 use Rattle.sled_pages.specs.declared.page.Page.{Page}
 use Rattle.tree_laws.specs.Forest.{Tree, Forest, Place, place, Run, Holds, WellFormed, contents, head, later}
-use Rattle.tree_laws.specs.Moment.{Moment, IsMoment, nodes_at, Viewed, Stood, Look, IsOpen, IsFresh, Seen, IsActing}
-use Rattle.tree_laws.specs.Stages.{IsParent, IsWalking, IsBelowParent, IsBelow, IsHere, Posts, AtParent, AtRoot, Nowhere, IsPlace, IsSplitting, IsUnder, IsPosting, IsHoisting}
+use Rattle.tree_laws.specs.Moment.{Moment, IsMoment, nodes_at, Stood, Look, IsOpen, Seen, IsActing}
+use Rattle.tree_laws.specs.Stages.{IsWalking, IsHere, Posts, AtParent, AtRoot, IsPlace, IsSplitting, IsPosting, IsHoisting}
 use Rattle.tree_laws.specs.Merging.{IsIntending, IsSmallChild, IsMerging, IsMergingOf}
 use Rattle.tree_laws.proofs.Order.{upto-below, upto_below-trans}
 use Rattle.tree_laws.proofs.Runs.{In_split, run_parts}
 use Rattle.tree_laws.proofs.Replace.{some_is}
-use Rattle.tree_laws.proofs.Cover.{chain_run, pointer_within, holds_at, later_in}
+use Rattle.tree_laws.proofs.Cover.{chain_run, pointer_within, holds_at}
 use Rattle.tree_laws.proofs.Inside.{behind}
 use Rattle.tree_laws.proofs.Reading.{find_law}
 use Rattle.tree_laws.proofs.Stable.{now_law}

@@ -54,12 +54,13 @@ CapLaw = (nodes : Nodes) (roots : Tree → Option ℕ) (w : Forest) → WellForm
     → (q : ℕ) (d : Node) → In q (w.chain (place x.tree (suc x.height))) → nodes q ≡ Some d → d.merging_child ≡ Some p
     → Unseen [] nodes (put_node nodes p (applied ChildMergeCap n)) roots w (Unit {0})
 
--- An open page receives the capped page c behind it. The page c leaves the chain for good, and keeps its pointer
+-- An open page receives the capped page c behind it. The page c leaves the chain for good, and keeps its pointer. The size is
+-- kept where the page has at most 16 entries
 abbrev pub ReceiveLaw : Type 0
 ReceiveLaw = (nodes : Nodes) (roots : Tree → Option ℕ) (w : Forest) → WellFormed nodes roots w → (x : Place) (p c : ℕ) (n d both : Node)
     → IsOpenAt nodes w x p n → n.next ≡ Some c
     → nodes c ≡ Some d → d.merging ≡ true → IsReceived x.height n d both
-    → (u : Unseen [] nodes (put_node nodes p both) roots w (count both.content ≤ 33)) × ((y : Place) → ¬ (In c (u.after.chain y)))
+    → (u : Unseen [] nodes (put_node nodes p both) roots w (count n.content ≤ 16)) × ((y : Place) → ¬ (In c (u.after.chain y)))
 
 -- The pointer to the merging child c, which no chain has, goes out of an index. The page c then has no home
 abbrev pub ConfirmLaw : Type 0

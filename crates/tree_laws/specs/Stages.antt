@@ -1,8 +1,8 @@
 -- What a call in flight knows of the store, by its stage, while it walks, splits, posts and hoists.
-use Rattle.std.specs.Prelude.{◌≡◌, ◌≢◌, ℕ, suc, ◌≤◌, ◌<◌, Bool, true, false, List, ◌⊎◌, [], ◌∷◌, ◌++◌, Option, Some, None}
+use Rattle.std.specs.Prelude.{◌≡◌, ℕ, suc, Bool, true, false, List, ◌⊎◌, [], ◌∷◌, ◌++◌, Option, Some, None}
 use Rattle.sled_pages.specs.Order.{Key, Below}
 use Rattle.sled_pages.specs.In.{In}
-use Rattle.sled_pages.specs.Node.{pointers, count, Covers}
+use Rattle.sled_pages.specs.Node.{pointers, Covers}
 use Rattle.sled_pages.specs.declared.node.Node.{Node}
 use Rattle.sled_pages.specs.declared.node.Data.TheVariants.{Index}
 use Rattle.tree_laws.specs.Forest.{Tree, Forest, Place, place, IsNodeAt, IsSized, contents, later}
