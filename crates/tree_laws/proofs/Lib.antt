@@ -25,3 +25,5 @@ pub mod Staying
 pub mod Walks
 pub mod Splitting
 pub mod Merges
+pub mod Looking
+pub mod Leaving

@@ -8,7 +8,7 @@ use Rattle.sled_pages.specs.declared.page.Page.{Page}
 use Rattle.tree_laws.specs.Action.{put_node}
 use Rattle.tree_laws.specs.Forest.{Tree, Forest, Place, WellFormed, IsSized, contents}
 use Rattle.tree_laws.specs.Moment.{Moment, IsMoment, nodes_at, IsStray, Keeps, Grows}
-use Rattle.tree_laws.specs.Laws.{ReplaceLaw, AllocateLaw, FreeLaw, PlantedLaw, HoistedLaw, DroppedLaw, Rooted, Steps, replaced, planted, hoisted, dropped}
+use Rattle.tree_laws.specs.Laws.{ReplaceLaw, AllocateLaw, FreeLaw, PlantedLaw, HoistedLaw, DroppedLaw, Rooted, Steps, replaced, freed, planted, hoisted, dropped}
 use Rattle.tree_laws.proofs.Update.{put_here, put_there, name_here, name_there}
 use Rattle.tree_laws.proofs.Outside.{outside_kept, outside_contents, outside_keeps, outside_sized, outside_grows}
 use Rattle.tree_laws.proofs.Replace.{same_number, same_tree, some_is}
@@ -339,3 +339,6 @@ dropped_law m w t is u =
 
 pub nodes_replaced : (m : Moment) (p : ℕ) (g : Page) → nodes_at (replaced m p g) ≡ put_node (nodes_at m) p g.node
 nodes_replaced m p g = nodes_put m.state.pages p (Some g)
+
+pub nodes_freed : (m : Moment) (p : ℕ) → nodes_at (freed m p) ≡ put_at (nodes_at m) p None
+nodes_freed m p = nodes_put m.state.pages p None

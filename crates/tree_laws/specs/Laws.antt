@@ -11,8 +11,10 @@ use Rattle.sled_pages.specs.declared.node.Data.{Data}
 use Rattle.sled_pages.specs.declared.node.Data.TheVariants.{Leaf, Index}
 use Rattle.sled_pages.specs.declared.link.Link.TheVariants.{Set, Del}
 use Rattle.sled_pages.specs.declared.page.Page.{Page}
-use Rattle.tree_laws.specs.Forest.{Tree, Forest, Place, place, WellFormed, IsSized, contents}
+use Rattle.tree_laws.specs.Forest.{Tree, Forest, Place, place, head, WellFormed, IsSized, contents}
 use Rattle.tree_laws.specs.Contents.{trees_of}
+use Rattle.tree_laws.specs.Paths.{tree_pages, pages_below}
+use Rattle.tree_laws.specs.Drops.{IsLeft}
 use Rattle.tree_laws.specs.Action.{put_node}
 use Rattle.tree_laws.specs.Moment.{Moment, IsMoment, nodes_at, IsStray, Keeps, Goes, Grows, Viewed, Stood, Look, IsActing}
 
@@ -215,3 +217,18 @@ AnswerLaw = (m : Moment) (w : Forest) → IsMoment m w → (t : Tree) (number : 
 -- a leaf that a call means to change stays so through each action of others
 abbrev pub ActingLaw : Type 0
 ActingLaw = (mine : List ℕ) (lost : Option Tree) (old new : Moment) (w v : Forest) → Goes mine lost old w new v → (t : Tree) (number : ℕ) (key : Key) (look : Look) → IsActing old w t number key look → IsActing new v t number key look
+
+-- the number of a tree's pages as a function is the forest's: those of the levels from the root's down
+abbrev pub PagesLaw : Type 0
+PagesLaw = (s : State) (w : Forest) → WellFormed (nodes_of s) s.roots w → ((p : ℕ) (g : Page) → s.pages p ≡ Some g → p < 2 ^ 64)
+    → (t : Tree) (root : ℕ) → s.roots t ≡ Some root → (h : ℕ) × In root (w.chain (place t h)) × (tree_pages s t ≡ pages_below w t (suc h))
+
+-- right after the drop of a tree all of each chain is left
+abbrev pub LeftLaw : Type 0
+LeftLaw = (m : Moment) (w : Forest) (t : Tree) → IsMoment m w → (u : Rooted [] (Some t) (nodes_at m) m.state.roots w t None) → ((p h : ℕ) → w.home p ≡ Some (place t h) → IsStray u.after p)
+    → (h : ℕ) → IsLeft (dropped m t) u.after w t h (head (w.chain (place t h))) (w.chain (place t h))
+
+-- the first page that is left of a level is freed, and the rest of the level is left, from its next page on
+abbrev pub FreesLeftLaw : Type 0
+FreesLeftLaw = (m : Moment) (w was : Forest) (t : Tree) (h p : ℕ) (left : List ℕ) (n : Node) → IsMoment m w → nodes_at m p ≡ Some n → IsLeft m w was t h (Some p) left
+    → (rest : List ℕ) × (left ≡ p ∷ rest) × Steps (p ∷ []) None m w (freed m p) w × IsLeft (freed m p) w was t h n.next rest

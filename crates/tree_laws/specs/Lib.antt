@@ -8,3 +8,5 @@ pub mod CrashLaws
 pub mod PageLaws
 pub mod Stages
 pub mod Merging
+pub mod Paths
+pub mod Drops

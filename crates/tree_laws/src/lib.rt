@@ -16,9 +16,9 @@ pub use crashes::{
 };
 pub use kept::{law_acting, law_now, law_stood, law_view};
 pub use levels::{law_inside, law_reached};
-pub use meaning::{law_contents, law_find, law_one, law_sorted};
+pub use meaning::{law_contents, law_find, law_one, law_pages, law_sorted};
 pub use splits::{law_cap, law_confirm, law_intention, law_post, law_receive, law_split};
 pub use steps::{
-    law_allocated, law_answer, law_dropped, law_erase, law_freed, law_hoisted, law_planted,
-    law_replaced, law_write,
+    law_allocated, law_answer, law_dropped, law_erase, law_freed, law_frees_left, law_hoisted,
+    law_left, law_planted, law_replaced, law_write,
 };

@@ -1,5 +1,5 @@
 //! What the pages say of the trees.
-ghost use Rattle.tree_laws.specs.Laws.{ContentsLaw, FindLaw, OneLaw, SortedLaw};
+ghost use Rattle.tree_laws.specs.Laws.{ContentsLaw, FindLaw, OneLaw, PagesLaw, SortedLaw};
 
 /// What the leaf that covers a key has at it is what the tree has at it.
 pub fn law_find()
@@ -14,6 +14,11 @@ pub fn law_sorted()
 /// The pages and the roots determine the forest.
 pub fn law_one()
     ensures { OneLaw }
+{}
+
+/// The number of a tree's pages as a function of pages and roots is the forest's.
+pub fn law_pages()
+    ensures { PagesLaw }
 {}
 
 /// The contents as a function of pages and roots are the forest's.

@@ -1,5 +1,5 @@
 //! Page actions as steps of a store, which keep what every other call knows.
-ghost use Rattle.tree_laws.specs.Laws.{AllocateLaw, AnswerLaw, DroppedLaw, EraseLaw, FreeLaw, HoistedLaw, PlantedLaw, ReplaceLaw, WriteLaw};
+ghost use Rattle.tree_laws.specs.Laws.{AllocateLaw, AnswerLaw, DroppedLaw, EraseLaw, FreeLaw, FreesLeftLaw, HoistedLaw, LeftLaw, PlantedLaw, ReplaceLaw, WriteLaw};
 
 /// A change of a page at its version is a step.
 pub fn law_replaced()
@@ -39,6 +39,16 @@ pub fn law_write()
 /// So it takes the key out.
 pub fn law_erase()
     ensures { EraseLaw }
+{}
+
+/// Right after the drop of a tree all of each chain is left.
+pub fn law_left()
+    ensures { LeftLaw }
+{}
+
+/// To free the first page that is left of a level is a step, and the rest of the level is left.
+pub fn law_frees_left()
+    ensures { FreesLeftLaw }
 {}
 
 /// What it knows of the key is what the tree has at it then.
