@@ -37,11 +37,19 @@ module _ {m : Moment} {w : Forest} {x : Place} {number : ℕ} {look : Look} {nod
   pub open_now : IsOpenAt (nodes_at m) w x look.pid look.node
   open_now = record { chained = fresh_in k current_fresh c.named; live = fresh_node k current_fresh; is_open = k.is_open }
 
+  -- the page is not merging
+  pub awake_now : node.merging ≡ false
+  awake_now = subst (λ (z : Node). z.merging ≡ false) (sym (k.view.speaks (record { version = look.version; node = node }) c.page refl)) k.is_open.awake
+
+-- the node of a page that is the call's own
+pub own_node : {m : Moment} {w : Forest} {pid version : ℕ} {n : Node} → IsOwn m w pid version n → nodes_at m pid ≡ Some n
+own_node k = ap (option_map (λ (z : Page). z.node)) k.live
+
 -- a law on the nodes, as a step that no tree's contents show
-pub unseen_step : {m : Moment} {w : Forest} {mine : List ℕ} {few : Type 0} (p : ℕ) (g new : Page) → IsMoment m w → m.state.pages p ≡ Some g → m.versions new.version ≡ false → ((x : Place) × (w.home p ≡ Some x)) ⊎ In p mine
+pub unseen_step : {m : Moment} {w : Forest} {mine : List ℕ} {few : Type 0} (p : ℕ) (g new : Page) → IsMoment m w → m.state.pages p ≡ Some g → g.node.merging ≡ false → m.versions new.version ≡ false → ((x : Place) × (w.home p ≡ Some x)) ⊎ In p mine
     → (u : Unseen mine (nodes_at m) (put_node (nodes_at m) p new.node) m.state.roots w few) → Quiet mine [] m w (replaced m p new) u.after few
-unseen_step {m} {w} {mine} p g new is live unused owner u =
-    let s = replace_law mine m w u.after p g new is live unused owner u.kept u.keeps in
+unseen_step {m} {w} {mine} p g new is live awake unused owner u =
+    let s = replace_law mine m w u.after p g new is live awake unused owner u.kept u.keeps in
     let nodes : nodes_at (replaced m p new) ≡ put_node (nodes_at m) p new.node = nodes_replaced m p new in
     record {
       is = s.is;
@@ -54,7 +62,7 @@ unseen_step {m} {w} {mine} p g new is live unused owner u =
 
 -- a new page is the call's own
 pub allocates : {m : Moment} {w : Forest} {q version : ℕ} {n : Node} → IsMoment m w → m.pids q ≡ false → m.versions version ≡ false → q < 2 ^ 64
-    → Quiet [] (q ∷ []) m w (allocated m q (record { version = version; node = n })) w (Unit {0}) × IsOwn (allocated m q (record { version = version; node = n })) w q n
+    → Quiet [] (q ∷ []) m w (allocated m q (record { version = version; node = n })) w (Unit {0}) × IsOwn (allocated m q (record { version = version; node = n })) w q version n
 allocates {m} {w} {q} {version} {n} is fresh unused small =
     let g : Page = record { version = version; node = n } in
     let a = allocate_law m w q g is fresh unused small in (
@@ -66,13 +74,13 @@ allocates {m} {w} {q} {version} {n} is fresh unused small =
         sized = λ e. a.3;
         grows = λ e. a.4;
       },
-      record { live = ap (option_map (λ (z : Page). z.node)) (put_here m.state.pages q (Some g)); stray = a.1 },
+      record { live = put_here m.state.pages q (Some g); stray = a.1 },
     )
 
 -- the right half of a split is a new page
 pub split_allocates : {m : Moment} {w : Forest} (t : Tree) (number : ℕ) (page : Look) (posts : Posts) (left right : Node) (q version : ℕ) → IsMoment m w → m.pids q ≡ false → m.versions version ≡ false → q < 2 ^ 64
     → IsSplitting m w t number page posts → IsHalved page.node left right q
-    → let new : Moment = allocated m q (record { version = version; node = right }) in Quiet [] (q ∷ []) m w new w (Unit {0}) × IsReplacing new w t number page posts left right.lo q
+    → let new : Moment = allocated m q (record { version = version; node = right }) in Quiet [] (q ∷ []) m w new w (Unit {0}) × IsReplacing new w t number page posts left right.lo q version
 split_allocates t number page posts left right q version is fresh unused small k h =
     let a = allocates is fresh unused small in (
       a.0,
@@ -94,7 +102,7 @@ pub record IsSplitNow (m : Moment) (w : Forest) (new : Moment) (x : Place) (p q 
   pub in_after : In q (after.chain x)
   pub live : nodes_at new q ≡ Some right
 
-module _ {m : Moment} {w : Forest} (t : Tree) (number : ℕ) (page : Look) (posts : Posts) (left : Node) (at : Key) (q version : ℕ) (node : Node) (is : IsMoment m w) (k : IsReplacing m w t number page posts left at q) (c : IsCurrent m t number page node) (unused : m.versions version ≡ false) where
+module _ {m : Moment} {w : Forest} (t : Tree) (number : ℕ) (page : Look) (posts : Posts) (left : Node) (at : Key) (q own version : ℕ) (node : Node) (is : IsMoment m w) (k : IsReplacing m w t number page posts left at q own) (c : IsCurrent m t number page node) (unused : m.versions version ≡ false) where
   abbrev new : Moment
   new = replaced m page.pid (record { version = version; node = left })
 
@@ -103,19 +111,19 @@ module _ {m : Moment} {w : Forest} (t : Tree) (number : ℕ) (page : Look) (post
 
   pub split_now : IsSplitNow m w new (place t k.height) page.pid q left k.right
   split_now =
-      let u = split_law (nodes_at m) m.state.roots w is.formed (place t k.height) page.pid q page.node left k.right here k.own.live k.own.stray k.split in
+      let u = split_law (nodes_at m) m.state.roots w is.formed (place t k.height) page.pid q page.node left k.right here (own_node k.own) k.own.stray k.split in
       let home = is.formed.homed (place t k.height) page.pid here.chained in
       record {
         after = u.0.after;
-        quiet = unseen_step page.pid _ (record { version = version; node = left }) is c.page unused (inl (place t k.height, home)) u.0;
+        quiet = unseen_step page.pid _ (record { version = version; node = left }) is c.page (awake_now k.seen c) unused (inl (place t k.height, home)) u.0;
         in_after = u.1;
-        live = ap (λ z. z q) (nodes_replaced m page.pid (record { version = version; node = left })) ∙ put_there (nodes_at m) page.pid (Some left) q (λ e. k.own.stray (place t k.height) (ap w.home e ∙ home)) ∙ k.own.live;
+        live = ap (λ z. z q) (nodes_replaced m page.pid (record { version = version; node = left })) ∙ put_there (nodes_at m) page.pid (Some left) q (λ e. k.own.stray (place t k.height) (ap w.home e ∙ home)) ∙ own_node k.own;
       }
 
 -- .. and the right half is to be posted at the parent, or under a new root
-pub replace_posts : {m : Moment} {w : Forest} (t : Tree) (number : ℕ) (page parent : Look) (left : Node) (at : Key) (q version : ℕ) (node : Node) (is : IsMoment m w) (k : IsReplacing m w t number page (AtParent parent) left at q) (c : IsCurrent m t number page node) (unused : m.versions version ≡ false)
+pub replace_posts : {m : Moment} {w : Forest} (t : Tree) (number : ℕ) (page parent : Look) (left : Node) (at : Key) (q own version : ℕ) (node : Node) (is : IsMoment m w) (k : IsReplacing m w t number page (AtParent parent) left at q own) (c : IsCurrent m t number page node) (unused : m.versions version ≡ false)
     → (d : IsSplitNow m w (replaced m page.pid (record { version = version; node = left })) (place t k.height) page.pid q left k.right) → IsPosting (replaced m page.pid (record { version = version; node = left })) d.after t number parent at q
-replace_posts {m} {w} t number page parent left at q version node is k c unused d =
+replace_posts {m} {w} t number page parent left at q own version node is k c unused d =
     let b = k.posted in
     let goes = d.quiet.goes in
     let here = open_now k.seen c in
@@ -137,9 +145,9 @@ replace_posts {m} {w} t number page parent left at q version node is k c unused 
           };
     }
 
-pub replace_hoists : {m : Moment} {w : Forest} (t : Tree) (number : ℕ) (page : Look) (left : Node) (at : Key) (q version : ℕ) (k : IsReplacing m w t number page AtRoot left at q)
+pub replace_hoists : {m : Moment} {w : Forest} (t : Tree) (number : ℕ) (page : Look) (left : Node) (at : Key) (q own version : ℕ) (k : IsReplacing m w t number page AtRoot left at q own)
     → (d : IsSplitNow m w (replaced m page.pid (record { version = version; node = left })) (place t k.height) page.pid q left k.right) → IsHoisting (replaced m page.pid (record { version = version; node = left })) d.after t number page.pid at q
-replace_hoists {m} t number page left at q version k d =
+replace_hoists {m} t number page left at q own version k d =
     let new = replaced m page.pid (record { version = version; node = left }) in
     record {
       height = k.height;
@@ -156,7 +164,7 @@ posts {m} {w} t number parent at pid version node is k c unused =
     let d = k.under c.named (current_fresh k.above.seen c) in
     let u = post_law (nodes_at m) m.state.roots w is.formed t k.height parent.pid pid parent.node d.node k.above.es here k.above.content (is.formed.homed (place t k.height) pid d.chained) d.live d.awake
     (subst (λ l. Below parent.node.lo l) (sym d.lo) k.beyond) (subst (λ l. Covers parent.node l) (sym d.lo) d.covers) in
-    let s = unseen_step parent.pid _ (record { version = version; node = record (parent.node) { content = Index (put key_cmp d.node.lo pid k.above.es) } }) is c.page unused (inl (place t (suc k.height), is.formed.homed (place t (suc k.height)) parent.pid here.chained)) u in
+    let s = unseen_step parent.pid _ (record { version = version; node = record (parent.node) { content = Index (put key_cmp d.node.lo pid k.above.es) } }) is c.page (awake_now k.above.seen c) unused (inl (place t (suc k.height), is.formed.homed (place t (suc k.height)) parent.pid here.chained)) u in
     let q : Quiet [] [] m w (replaced m parent.pid (record { version = version; node = record (parent.node) { content = Index (put key_cmp at pid k.above.es) } })) u.after (length (put key_cmp d.node.lo pid k.above.es) ≤ 17) =
     subst (λ l. Quiet [] [] m w (replaced m parent.pid (record { version = version; node = record (parent.node) { content = Index (put key_cmp l pid k.above.es) } })) u.after (length (put key_cmp d.node.lo pid k.above.es) ≤ 17)) d.lo s in
     let small : IsFew parent → length (put key_cmp d.node.lo pid k.above.es) ≤ 17 = λ f. room (length k.above.es) (length (put key_cmp d.node.lo pid k.above.es)) (subst (λ z. count z ≤ 16) k.above.content f.few) (put_few d.node.lo pid k.above.es) in
@@ -168,21 +176,21 @@ posts {m} {w} t number parent at pid version node is k c unused =
 -- the new root is a new page
 pub raises : {m : Moment} {w : Forest} (t : Tree) (number left right q version : ℕ) (at : Key) (n : Node) → IsMoment m w → m.pids q ≡ false → m.versions version ≡ false → q < 2 ^ 64
     → IsHoisting m w t number left at right → IsOver n left at right
-    → let new : Moment = allocated m q (record { version = version; node = n }) in Quiet [] (q ∷ []) m w new w (Unit {0}) × IsSwapping new w t number left q
+    → let new : Moment = allocated m q (record { version = version; node = n }) in Quiet [] (q ∷ []) m w new w (Unit {0}) × IsSwapping new w t number left q version
 raises t number left right q version at n is fresh unused small k over =
     let a = allocates is fresh unused small in
     (a.0, record { at = at; right = right; hoisting = hoisting_kept is a.0.goes t number left at right k; root = n; over = over; own = a.1 })
 
 -- .. and becomes the root
-pub swaps : {m : Moment} {w : Forest} (t : Tree) (number left q : ℕ) → IsMoment m w → m.numbers t ≡ Some number → m.state.roots t ≡ Some left → IsSwapping m w t number left q
+pub swaps : {m : Moment} {w : Forest} (t : Tree) (number left q version : ℕ) → IsMoment m w → m.numbers t ≡ Some number → m.state.roots t ≡ Some left → IsSwapping m w t number left q version
     → (v : Forest) × Quiet (q ∷ []) [] m w (hoisted m t q) v (Unit {0})
-swaps {m} {w} t number left q is named root k =
+swaps {m} {w} t number left q version is named root k =
     let h : ℕ = k.hoisting.height in
     let o = root_in is.formed t left root in
     let left_in = (now_law m w (place t h) number [] left k.hoisting.stood named o.1 o.3 o.5).0 in
     let d = k.hoisting.beside named root in
     let alone : IsAlone (nodes_at m) q k.root (Index (([], left) ∷ (d.0.lo, k.right) ∷ [])) = record {
-      live = k.own.live;
+      live = own_node k.own;
       lo = k.over.lo;
       hi = k.over.hi;
       next = k.over.next;
@@ -191,7 +199,7 @@ swaps {m} {w} t number left q is named root k =
       content = k.over.content ∙ ap (λ l. Index (([], left) ∷ (l, k.right) ∷ [])) (sym d.3);
     } in
     let u = hoist_law (nodes_at m) m.state.roots w is.formed t h left k.right q k.root d.0 root k.own.stray left_in d.1 d.2 (subst (λ l. Below [] l) (sym d.3) k.hoisting.beyond) alone in
-    let s = hoisted_law m w t left q k.root is root k.own.stray k.over.merging k.own.live u.0 in (
+    let s = hoisted_law m w t left q k.root is root k.own.stray k.over.merging (own_node k.own) u.0 in (
       u.0.after,
       record {
         is = s.is;
@@ -204,7 +212,7 @@ swaps {m} {w} t number left q is named root k =
     )
 
 -- a page that is the call's own is freed
-pub frees : {m : Moment} {w : Forest} (pid : ℕ) → IsMoment m w → IsFreeing m w pid → Quiet (pid ∷ []) [] m w (freed m pid) w (Unit {0})
-frees {m} {w} pid is k =
+pub frees : {m : Moment} {w : Forest} (pid version : ℕ) → IsMoment m w → IsFreeing m w pid version → Quiet (pid ∷ []) [] m w (freed m pid) w (Unit {0})
+frees {m} {w} pid version is k =
     let a = free_law m w pid is k.own.stray in
     record { is = a.0.is; goes = a.0.goes; fresh = λ q i. absurd i; same = a.1; sized = λ e. a.2; grows = λ e. a.3 }

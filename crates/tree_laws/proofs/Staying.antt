@@ -48,8 +48,8 @@ module _ {mine : List ℕ} {lost : Option Tree} {old new : Moment} {w v : Forest
   fresh_was : (look : Look) → Viewed old look.pid look.version look.node → IsFresh old look → nodes_at old look.pid ≡ Some look.node
   fresh_was look view f = ap (option_map (λ (z : Page). z.node)) f.live ∙ ap Some (view.speaks f.page f.live f.same)
 
-  own_kept : (pid : ℕ) (n : Node) → ¬ (In pid mine) → IsOwn old w pid n → IsOwn new v pid n
-  own_kept pid n off k = let a = g.keeps.stray pid k.stray off in record { live = a.0 ∙ k.live; stray = a.1 }
+  pub own_kept : (pid version : ℕ) (n : Node) → ¬ (In pid mine) → IsOwn old w pid version n → IsOwn new v pid version n
+  own_kept pid version n off k = record { live = g.own pid k.stray off ∙ k.live; stray = (g.keeps.stray pid k.stray off).1 }
 
   pub parent_kept : (t : Tree) (number h : ℕ) (look : Look) → IsParent old w t number h look → IsParent new v t number h look
   parent_kept t number h look k = record { seen = seen_kept g (place t (suc h)) number look k.seen; es = k.es; content = k.content }
@@ -99,13 +99,13 @@ module _ {mine : List ℕ} {lost : Option Tree} {old new : Moment} {w v : Forest
   pub splitting_kept : (t : Tree) (number : ℕ) (page : Look) (posts : Posts) → IsSplitting old w t number page posts → IsSplitting new v t number page posts
   splitting_kept t number page posts k = record { height = k.height; seen = seen_kept g (place t k.height) number page k.seen; posted = place_kept t number k.height page posts k.posted }
 
-  pub replacing_kept : (t : Tree) (number : ℕ) (page : Look) (posts : Posts) (left : Node) (at : Key) (q : ℕ) → ¬ (In q mine) → IsReplacing old w t number page posts left at q → IsReplacing new v t number page posts left at q
-  replacing_kept t number page posts left at q off k = record {
+  pub replacing_kept : (t : Tree) (number : ℕ) (page : Look) (posts : Posts) (left : Node) (at : Key) (q version : ℕ) → ¬ (In q mine) → IsReplacing old w t number page posts left at q version → IsReplacing new v t number page posts left at q version
+  replacing_kept t number page posts left at q version off k = record {
     height = k.height;
     seen = seen_kept g (place t k.height) number page k.seen;
     posted = place_kept t number k.height page posts k.posted;
     right = k.right;
-    own = own_kept q k.right off k.own;
+    own = own_kept q version k.right off k.own;
     split = k.split;
     begins = k.begins;
   }
@@ -157,11 +157,11 @@ module _ {mine : List ℕ} {lost : Option Tree} {old new : Moment} {w v : Forest
           go true e = top_awake is.formed t k.height right a.0 over (is.formed.homed (place t k.height) right a.1) a.2 e
           go false e = let r = g.keeps.wakes (place t k.height) right a.0 m a.1 a.2 e live y in subst (λ l. In r.0 l) over r.2
 
-  pub swapping_kept : (t : Tree) (number left q : ℕ) → ¬ (In q mine) → IsSwapping old w t number left q → IsSwapping new v t number left q
-  swapping_kept t number left q off k = record { at = k.at; right = k.right; hoisting = hoisting_kept t number left k.at k.right k.hoisting; root = k.root; over = k.over; own = own_kept q k.root off k.own }
+  pub swapping_kept : (t : Tree) (number left q version : ℕ) → ¬ (In q mine) → IsSwapping old w t number left q version → IsSwapping new v t number left q version
+  swapping_kept t number left q version off k = record { at = k.at; right = k.right; hoisting = hoisting_kept t number left k.at k.right k.hoisting; root = k.root; over = k.over; own = own_kept q version k.root off k.own }
 
-  pub freeing_kept : (pid : ℕ) → ¬ (In pid mine) → IsFreeing old w pid → IsFreeing new v pid
-  freeing_kept pid off k = record { node = k.node; own = own_kept pid k.node off k.own }
+  pub freeing_kept : (pid version : ℕ) → ¬ (In pid mine) → IsFreeing old w pid version → IsFreeing new v pid version
+  freeing_kept pid version off k = record { node = k.node; own = own_kept pid version k.node off k.own }
 
   pub intending_kept : (t : Tree) (number : ℕ) (parent : Look) (c : ℕ) → IsIntending old w t number parent c → IsIntending new v t number parent c
   intending_kept t number parent c k = record {
@@ -212,24 +212,24 @@ module _ {mine : List ℕ} {lost : Option Tree} {old new : Moment} {w v : Forest
   gone_kept : (c : ℕ) → old.pids c ≡ true → nodes_at old c ≡ None → nodes_at new c ≡ None
   gone_kept c page e = ap (option_map (λ (z : Page). z.node)) (g.gone c page (no_page (old.state.pages c) e))
 
-  pub frozen_kept : (c : ℕ) (d : Node) → IsFrozen old c d → IsFrozen new c d
-  frozen_kept c d k = record {
+  pub frozen_kept : (c version : ℕ) (d : Node) → IsFrozen old c version d → IsFrozen new c version d
+  frozen_kept c version d k = record {
     page = g.pids c k.page;
     capped = k.capped;
     now = elim k.now [
-      | inl e ↦ inl (gone_kept c k.page e)
-      | inr live ↦ elim (g.keeps.capped c d live k.capped) [ inl e ↦ inr e | inr e ↦ inl e ]
+      | inl e ↦ inl (g.gone c k.page e)
+      | inr live ↦ elim (g.frozen c _ live k.capped) [ inl e ↦ inr e | inr e ↦ inl e ]
     ];
   }
 
-  pub out_kept : (x : Place) (c : ℕ) → IsOut old w x c → IsOut new v x c
-  out_kept x c k = record {
-    page = g.pids c k.page;
-    now = elim k.now [
-      | inl e ↦ inl (gone_kept c k.page e)
-      | inr a ↦ elim (g.keeps.capped c a.0 a.1 a.2) [
-        | inl live ↦ inr (a.0, live, a.2, g.keeps.left x c a.0 a.1 a.2 a.3)
-        | inr none ↦ inl none
+  pub out_kept : (x : Place) (c version : ℕ) (d : Node) → IsOut old w x c version d → IsOut new v x c version d
+  out_kept x c version d k = record {
+    frozen = frozen_kept c version d k.frozen;
+    out = elim k.frozen.now [
+      | inl e ↦ inl (ap (option_map (λ (z : Page). z.node)) (g.gone c k.frozen.page e))
+      | inr live ↦ elim k.out [
+        | inl e ↦ none_some (sym e ∙ ap (option_map (λ (z : Page). z.node)) live)
+        | inr out ↦ inr (g.keeps.left x c d (ap (option_map (λ (z : Page). z.node)) live) k.frozen.capped out)
       ]
     ];
   }
@@ -301,14 +301,14 @@ module _ {mine : List ℕ} {lost : Option Tree} {old new : Moment} {w v : Forest
         ];
   }
 
-  pub seeking_kept : (t : Tree) (number h c : ℕ) (d : Node) (cursor : ℕ) → IsSeeking old w t number h c d cursor → IsSeeking new v t number h c d cursor
-  seeking_kept t number h c d cursor k = record { frozen = frozen_kept c d k.frozen; lo = k.lo; stood = stood_kept (place t h) number k.lo cursor k.stood; before = k.before }
+  pub seeking_kept : (t : Tree) (number h c version : ℕ) (d : Node) (cursor : ℕ) → IsSeeking old w t number h c version d cursor → IsSeeking new v t number h c version d cursor
+  seeking_kept t number h c version d cursor k = record { frozen = frozen_kept c version d k.frozen; lo = k.lo; stood = stood_kept (place t h) number k.lo cursor k.stood; before = k.before }
 
-  pub receiving_kept : (t : Tree) (number h c : ℕ) (d : Node) (left : Look) → IsReceiving old w t number h c d left → IsReceiving new v t number h c d left
-  receiving_kept t number h c d left k = record { seen = seen_kept g (place t h) number left k.seen; next = k.next; before = k.before; frozen = frozen_kept c d k.frozen }
+  pub receiving_kept : (t : Tree) (number h c version : ℕ) (d : Node) (left : Look) → IsReceiving old w t number h c version d left → IsReceiving new v t number h c version d left
+  receiving_kept t number h c version d left k = record { seen = seen_kept g (place t h) number left k.seen; next = k.next; before = k.before; frozen = frozen_kept c version d k.frozen }
 
-  pub confirming_kept : (t : Tree) (number h c : ℕ) (parent : Look) → IsConfirming old w t number h c parent → IsConfirming new v t number h c parent
-  confirming_kept t number h c parent k = record { merger = merger_kept t number h c parent k.merger; received = out_kept (place t h) c k.received }
+  pub confirming_kept : (t : Tree) (number h c version : ℕ) (d : Node) (parent : Look) → IsConfirming old w t number h c version d parent → IsConfirming new v t number h c version d parent
+  confirming_kept t number h c version d parent k = record { merger = merger_kept t number h c parent k.merger; received = out_kept (place t h) c version d k.received }
 
   pub merging_of_kept : (t : Tree) (number : ℕ) (parent : Look) (c before : ℕ) → IsMergingOf old w t number parent c before → IsMergingOf new v t number parent c before
   merging_of_kept t number parent c before k = record { height = k.height; merging = merging_kept t number k.height parent c before k.merging }
@@ -316,11 +316,11 @@ module _ {mine : List ℕ} {lost : Option Tree} {old new : Moment} {w v : Forest
   pub capping_of_kept : (t : Tree) (number : ℕ) (parent : Look) (c before : ℕ) (page : Look) → IsCappingOf old w t number parent c before page → IsCappingOf new v t number parent c before page
   capping_of_kept t number parent c before page k = record { height = k.height; merging = merging_kept t number k.height parent c before k.merging; here = k.here; capping = capping_kept t number k.height page k.capping }
 
-  pub seeking_of_kept : (t : Tree) (number : ℕ) (parent : Look) (c before : ℕ) (d : Node) (cursor : ℕ) → IsSeekingOf old w t number parent c before d cursor → IsSeekingOf new v t number parent c before d cursor
-  seeking_of_kept t number parent c before d cursor k = record { height = k.height; merging = merging_kept t number k.height parent c before k.merging; seeking = seeking_kept t number k.height c d cursor k.seeking }
+  pub seeking_of_kept : (t : Tree) (number : ℕ) (parent : Look) (c before version : ℕ) (d : Node) (cursor : ℕ) → IsSeekingOf old w t number parent c before version d cursor → IsSeekingOf new v t number parent c before version d cursor
+  seeking_of_kept t number parent c before version d cursor k = record { height = k.height; merging = merging_kept t number k.height parent c before k.merging; seeking = seeking_kept t number k.height c version d cursor k.seeking }
 
-  pub receiving_of_kept : (t : Tree) (number : ℕ) (parent : Look) (c before : ℕ) (d : Node) (left : Look) → IsReceivingOf old w t number parent c before d left → IsReceivingOf new v t number parent c before d left
-  receiving_of_kept t number parent c before d left k = record { height = k.height; merging = merging_kept t number k.height parent c before k.merging; receiving = receiving_kept t number k.height c d left k.receiving }
+  pub receiving_of_kept : (t : Tree) (number : ℕ) (parent : Look) (c before version : ℕ) (d : Node) (left : Look) → IsReceivingOf old w t number parent c before version d left → IsReceivingOf new v t number parent c before version d left
+  receiving_of_kept t number parent c before version d left k = record { height = k.height; merging = merging_kept t number k.height parent c before k.merging; receiving = receiving_kept t number k.height c version d left k.receiving }
 
-  pub confirming_of_kept : (t : Tree) (number : ℕ) (parent : Look) (c : ℕ) → IsConfirmingOf old w t number parent c → IsConfirmingOf new v t number parent c
-  confirming_of_kept t number parent c k = record { height = k.height; confirming = confirming_kept t number k.height c parent k.confirming }
+  pub confirming_of_kept : (t : Tree) (number : ℕ) (parent : Look) (c version : ℕ) (d : Node) → IsConfirmingOf old w t number parent c version d → IsConfirmingOf new v t number parent c version d
+  confirming_of_kept t number parent c version d k = record { height = k.height; confirming = confirming_kept t number k.height c version d parent k.confirming }

@@ -127,10 +127,10 @@ pub record Steps (mine : List ℕ) (lost : Option Tree) (old : Moment) (w : Fore
   pub is : IsMoment new v
   pub goes : Goes mine lost old w new v
 
--- what a law says of the nodes holds of the pages with versions, where the version was never given and the page has a home
--- or is the call's own
+-- what a law says of the nodes holds of the pages with versions, where the version was never given, and the page is not
+-- merging and has a home or is the call's own
 abbrev pub ReplaceLaw : Type 0
-ReplaceLaw = (mine : List ℕ) (m : Moment) (w v : Forest) (p : ℕ) (g new : Page) → IsMoment m w → m.state.pages p ≡ Some g → m.versions new.version ≡ false
+ReplaceLaw = (mine : List ℕ) (m : Moment) (w v : Forest) (p : ℕ) (g new : Page) → IsMoment m w → m.state.pages p ≡ Some g → g.node.merging ≡ false → m.versions new.version ≡ false
     → ((x : Place) × (w.home p ≡ Some x)) ⊎ In p mine
     → WellFormed (put_node (nodes_at m) p new.node) m.state.roots v → Keeps mine None (nodes_at m) (put_node (nodes_at m) p new.node) w v
     → Steps mine None m w (replaced m p new) v

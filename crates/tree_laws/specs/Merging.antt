@@ -21,11 +21,11 @@ pub record IsIntending (m : Moment) (w : Forest) (t : Tree) (number : ℕ) (pare
 pub record IsSmallChild (m : Moment) (t : Tree) (number : ℕ) (parent : Look) (c : ℕ) : Type 0 where
   pub small : m.numbers t ≡ Some number → IsFresh m parent → (d : Node) → nodes_at m c ≡ Some d → count d.content ≤ 17
 
--- the page c was capped as d: it is gone, or d still
-pub record IsFrozen (m : Moment) (c : ℕ) (d : Node) : Type 0 where
+-- the page c was capped as d at this version: it is gone, or this still
+pub record IsFrozen (m : Moment) (c version : ℕ) (d : Node) : Type 0 where
   pub page : m.pids c ≡ true
   pub capped : d.merging ≡ true
-  pub now : (nodes_at m c ≡ None) ⊎ (nodes_at m c ≡ Some d)
+  pub now : (m.state.pages c ≡ None) ⊎ (m.state.pages c ≡ Some (record { version = version; node = d }))
 
 -- a chain page of the level above has c for its merging child
 pub record IsChild (m : Moment) (w : Forest) (t : Tree) (h c : ℕ) : Type 0 where
@@ -69,28 +69,28 @@ pub record IsCapping (m : Moment) (w : Forest) (t : Tree) (number h : ℕ) (page
   pub wanted : m.numbers t ≡ Some number → IsFresh m page → IsChild m w t h page.pid
 
 -- the search for the page that c follows: the cursor stood left of c
-pub record IsSeeking (m : Moment) (w : Forest) (t : Tree) (number h c : ℕ) (d : Node) (cursor : ℕ) : Type 0 where
-  pub frozen : IsFrozen m c d
+pub record IsSeeking (m : Moment) (w : Forest) (t : Tree) (number h c version : ℕ) (d : Node) (cursor : ℕ) : Type 0 where
+  pub frozen : IsFrozen m c version d
   pub lo : Key
   pub stood : Stood m w (place t h) number lo cursor
   pub before : Below lo d.lo
 
 -- the page that c follows is to receive it
-pub record IsReceiving (m : Moment) (w : Forest) (t : Tree) (number h c : ℕ) (d : Node) (left : Look) : Type 0 where
+pub record IsReceiving (m : Moment) (w : Forest) (t : Tree) (number h c version : ℕ) (d : Node) (left : Look) : Type 0 where
   pub seen : Seen m w (place t h) number left
   pub next : left.node.next ≡ Some c
   pub before : Below left.node.lo d.lo
-  pub frozen : IsFrozen m c d
+  pub frozen : IsFrozen m c version d
 
 -- the capped page c was received: it is gone, or merging and out of the chain of its place for good
-pub record IsOut (m : Moment) (w : Forest) (x : Place) (c : ℕ) : Type 0 where
-  pub page : m.pids c ≡ true
-  pub now : (nodes_at m c ≡ None) ⊎ ((d : Node) × (nodes_at m c ≡ Some d) × (d.merging ≡ true) × ¬ (In c (w.chain x)))
+pub record IsOut (m : Moment) (w : Forest) (x : Place) (c version : ℕ) (d : Node) : Type 0 where
+  pub frozen : IsFrozen m c version d
+  pub out : (nodes_at m c ≡ None) ⊎ ¬ (In c (w.chain x))
 
 -- the pointer to c, which was received, is to go
-pub record IsConfirming (m : Moment) (w : Forest) (t : Tree) (number h c : ℕ) (parent : Look) : Type 0 where
+pub record IsConfirming (m : Moment) (w : Forest) (t : Tree) (number h c version : ℕ) (d : Node) (parent : Look) : Type 0 where
   pub merger : IsMerger m w t number h c parent
-  pub received : IsOut m w (place t h) c
+  pub received : IsOut m w (place t h) c version d
 
 -- the stages of a merge, at some height
 pub record IsMergingOf (m : Moment) (w : Forest) (t : Tree) (number : ℕ) (parent : Look) (c before : ℕ) : Type 0 where
@@ -103,16 +103,16 @@ pub record IsCappingOf (m : Moment) (w : Forest) (t : Tree) (number : ℕ) (pare
   pub here : page.pid ≡ c
   pub capping : IsCapping m w t number height page
 
-pub record IsSeekingOf (m : Moment) (w : Forest) (t : Tree) (number : ℕ) (parent : Look) (c before : ℕ) (d : Node) (cursor : ℕ) : Type 0 where
+pub record IsSeekingOf (m : Moment) (w : Forest) (t : Tree) (number : ℕ) (parent : Look) (c before version : ℕ) (d : Node) (cursor : ℕ) : Type 0 where
   pub height : ℕ
   pub merging : IsMerging m w t number height parent c before
-  pub seeking : IsSeeking m w t number height c d cursor
+  pub seeking : IsSeeking m w t number height c version d cursor
 
-pub record IsReceivingOf (m : Moment) (w : Forest) (t : Tree) (number : ℕ) (parent : Look) (c before : ℕ) (d : Node) (left : Look) : Type 0 where
+pub record IsReceivingOf (m : Moment) (w : Forest) (t : Tree) (number : ℕ) (parent : Look) (c before version : ℕ) (d : Node) (left : Look) : Type 0 where
   pub height : ℕ
   pub merging : IsMerging m w t number height parent c before
-  pub receiving : IsReceiving m w t number height c d left
+  pub receiving : IsReceiving m w t number height c version d left
 
-pub record IsConfirmingOf (m : Moment) (w : Forest) (t : Tree) (number : ℕ) (parent : Look) (c : ℕ) : Type 0 where
+pub record IsConfirmingOf (m : Moment) (w : Forest) (t : Tree) (number : ℕ) (parent : Look) (c version : ℕ) (d : Node) : Type 0 where
   pub height : ℕ
-  pub confirming : IsConfirming m w t number height c parent
+  pub confirming : IsConfirming m w t number height c version d parent

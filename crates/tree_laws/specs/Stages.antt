@@ -66,18 +66,18 @@ pub record IsSplitting (m : Moment) (w : Forest) (t : Tree) (number : ℕ) (page
   pub seen : Seen m w (place t height) number page
   pub posted : IsPlace m w t number height page posts
 
--- a live page that is no part of any tree
-pub record IsOwn (m : Moment) (w : Forest) (pid : ℕ) (n : Node) : Type 0 where
-  pub live : nodes_at m pid ≡ Some n
+-- a page that is no part of any tree, live at this version
+pub record IsOwn (m : Moment) (w : Forest) (pid version : ℕ) (n : Node) : Type 0 where
+  pub live : m.state.pages pid ≡ Some (record { version = version; node = n })
   pub stray : IsStray w pid
 
 -- the right half is a new page, and the page is to become the left half
-pub record IsReplacing (m : Moment) (w : Forest) (t : Tree) (number : ℕ) (page : Look) (posts : Posts) (left : Node) (at : Key) (new : ℕ) : Type 0 where
+pub record IsReplacing (m : Moment) (w : Forest) (t : Tree) (number : ℕ) (page : Look) (posts : Posts) (left : Node) (at : Key) (new version : ℕ) : Type 0 where
   pub height : ℕ
   pub seen : Seen m w (place t height) number page
   pub posted : IsPlace m w t number height page posts
   pub right : Node
-  pub own : IsOwn m w new right
+  pub own : IsOwn m w new version right
   pub split : IsSplit height page.node left right new
   pub begins : right.lo ≡ at
 
@@ -114,18 +114,18 @@ pub record IsOver (n : Node) (left : ℕ) (at : Key) (right : ℕ) : Type 0 wher
   pub content : n.content ≡ Index (([], left) ∷ (at, right) ∷ [])
 
 -- the new root is a new page, and is to become the root
-pub record IsSwapping (m : Moment) (w : Forest) (t : Tree) (number : ℕ) (left new : ℕ) : Type 0 where
+pub record IsSwapping (m : Moment) (w : Forest) (t : Tree) (number : ℕ) (left new version : ℕ) : Type 0 where
   pub at : Key
   pub right : ℕ
   pub hoisting : IsHoisting m w t number left at right
   pub root : Node
   pub over : IsOver root left at right
-  pub own : IsOwn m w new root
+  pub own : IsOwn m w new version root
 
 -- a page that is no part of any tree is to be freed
-pub record IsFreeing (m : Moment) (w : Forest) (pid : ℕ) : Type 0 where
+pub record IsFreeing (m : Moment) (w : Forest) (pid version : ℕ) : Type 0 where
   pub node : Node
-  pub own : IsOwn m w pid node
+  pub own : IsOwn m w pid version node
 
 -- A step of a call that no tree's contents show. The call owned the pages `mine` before it and owns `own` after it. Where the
 -- pages are small enough, the size is kept too
