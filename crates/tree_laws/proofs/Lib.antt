@@ -27,3 +27,4 @@ pub mod Splitting
 pub mod Merges
 pub mod Looking
 pub mod Leaving
+pub mod Staged

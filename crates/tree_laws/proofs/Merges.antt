@@ -22,7 +22,6 @@ use Rattle.tree_laws.proofs.Inside.{behind, reached_law}
 use Rattle.tree_laws.proofs.Flags.{intention_law, cap_law, confirm_law, index_at}
 use Rattle.tree_laws.proofs.Receive.{followed, receive_law}
 use Rattle.tree_laws.proofs.Stable.{now_law}
-use Rattle.tree_laws.proofs.States.{nodes_replaced}
 use Rattle.tree_laws.proofs.Known.{goes_more, seen_here, view_here, stands_here, sound_at, index_high}
 use Rattle.tree_laws.proofs.Staying.{merging_kept, merger_kept}
 use Rattle.tree_laws.proofs.Splitting.{current_fresh, open_now, awake_now, unseen_step}

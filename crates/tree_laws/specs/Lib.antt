@@ -10,3 +10,4 @@ pub mod Stages
 pub mod Merging
 pub mod Paths
 pub mod Drops
+pub mod StageLaws
