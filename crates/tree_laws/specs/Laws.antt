@@ -37,8 +37,7 @@ pub record Changed (nodes new : Nodes) (roots : Tree → Option ℕ) (w : Forest
 -- a `Set` at a leaf that covers the key puts the pair into the tree's contents
 abbrev pub SetLaw : Type 0
 SetLaw = (nodes : Nodes) (roots : Tree → Option ℕ) (w : Forest) → WellFormed nodes roots w → (t : Tree) (p : ℕ) (n : Node) (k v : Key)
-    → IsAt nodes w (place t 0) p n → Covers n k
-    → Changed nodes (put_node nodes p (applied (Set k v) n)) roots w t (put key_cmp k v) (count (applied (Set k v) n).content ≤ 17)
+    → IsAt nodes w (place t 0) p n → Covers n k → Changed nodes (put_node nodes p (applied (Set k v) n)) roots w t (put key_cmp k v) (count (applied (Set k v) n).content ≤ 17)
 
 -- a `Del` at a leaf that covers the key takes it out of the tree's contents
 abbrev pub DelLaw : Type 0
