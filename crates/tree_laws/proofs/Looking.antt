@@ -11,13 +11,15 @@ use Rattle.sled_pages.specs.declared.page.Page.{Page}
 use Rattle.tree_laws.specs.Forest.{Tree, Forest, Place, place, head, first_child, Holds, Run, WellFormed, later}
 use Rattle.tree_laws.specs.Contents.{page_numbers, next_of, first_of}
 use Rattle.tree_laws.specs.Paths.{IsLastPointer, IsPassed, CleanFrom, length_along, pages_under, pages_below, IsAhead}
-use Rattle.tree_laws.specs.Laws.{PagesLaw}
+use Rattle.tree_laws.specs.Laws.{PagesLaw, CleanLaw}
 use Rattle.tree_laws.proofs.Order.{below_upto-trans, below_irrefl}
 use Rattle.tree_laws.proofs.Runs.{In_split, In-right, run_parts}
 use Rattle.tree_laws.proofs.Replace.{some_is, head_in}
 use Rattle.tree_laws.proofs.Cover.{chain_run}
 use Rattle.tree_laws.proofs.Inside.{behind}
 use Rattle.tree_laws.proofs.Reading.{child_of}
+use Rattle.tree_laws.proofs.Cover.{holds_at}
+use Rattle.tree_laws.proofs.Known.{root_in, leaf_in, index_high}
 use Rattle.tree_laws.proofs.Fuel.{page_numbers_is, chain_few, levels_few}
 
 none_some : {P A : Type 0} {a : A} → None ≡ Some a → P
@@ -247,3 +249,21 @@ last_in {es} {key} {l} {c} {b} k = (subst (λ z. In (l, c) z) (sym k.is) (In-rig
     go : (xs : List (Key × ℕ)) → xs ≢ [] → In (l, c) (later (xs ++ (l, c) ∷ k.behind))
     go [] off = absurd (off refl)
     go (x ∷ xs) off = In-right xs ((l, c) ∷ k.behind) (l, c) (inl refl)
+
+-- a clean path from a page of a level has a page of each level from there on
+clean_length : {nodes : Nodes} {roots : Tree → Option ℕ} {w : Forest} (f : WellFormed nodes roots w) (t : Tree) (key : Key) (path : List ℕ) (h p : ℕ) (first : Bool) → In p (w.chain (place t h)) → CleanFrom nodes key p first path → length path ≡ suc h
+clean_length f t key [] h p first i k = absurd k
+clean_length {nodes} {roots} {w} f t key (q ∷ rest) h p first i k = elim k.3 [
+  | inl a ↦ ap (λ z. length (q ∷ z)) a.2 ∙ ap suc (sym (leaf_in f t h p k.1 a.0 i k.2.live a.1))
+  | inr a ↦
+      let up = index_high h k.1.lo k.1.hi a.0 (subst (λ d. Holds h k.1.lo k.1.hi d) a.1 (holds_at f (place t h) p k.1 i k.2.live)) in
+      let i' : In p (w.chain (place t (suc up.0))) = subst (λ z. In p (w.chain (place t z))) up.1 i in
+      let j : In (a.2, a.3) (pointers k.1.content) = subst (λ d. In (a.2, a.3) (pointers d)) (sym a.1) (last_in a.5).0 in
+      let c = pointer_in f t up.0 p k.1 a.2 a.3 i' k.2.live j (λ e. none_some (sym k.2.is_open.free ∙ e)) in
+      ap suc (clean_length f t key rest up.0 a.3 a.4 c.1 a.6) ∙ sym (ap suc up.1)
+]
+
+pub clean_law : CleanLaw
+clean_law s w f t key path k =
+    let r = root_in f t k.root k.is_root in
+    (r.0, k.root, k.is_root, r.2, clean_length f t key path r.0 k.root true r.2 k.clean)

@@ -1,7 +1,8 @@
 -- The laws of the actions, as types: of the nodes first, then of the store at a moment.
-use Rattle.std.specs.Prelude.{◌≡◌, ◌≢◌, ◌⊎◌, ℕ, suc, ◌<◌, ◌≤◌, ◌^◌, true, false, T, List, [], ◌∷◌, Option, Some, None, option_map}
+use Rattle.std.specs.Prelude.{◌≡◌, ◌≢◌, ◌⊎◌, ℕ, suc, ◌<◌, ◌≤◌, ◌^◌, true, false, T, List, [], ◌∷◌, ◌++◌, length, Option, Some, None, option_map}
 use Rattle.std.specs.FinMap.Entries.{put, find, is_sorted}
-use Rattle.sled_pages.specs.Order.{Key, key_cmp, Below}
+use Rattle.std.specs.List.{AllByRecursion}
+use Rattle.sled_pages.specs.Order.{Key, key_cmp, Below, UpTo}
 use Rattle.sled_pages.specs.In.{In}
 use Rattle.sled_pages.specs.Update.{put_at, put_name}
 use Rattle.sled_pages.specs.Node.{pairs, count, Covers, without, applied, value_at}
@@ -13,7 +14,7 @@ use Rattle.sled_pages.specs.declared.link.Link.TheVariants.{Set, Del}
 use Rattle.sled_pages.specs.declared.page.Page.{Page}
 use Rattle.tree_laws.specs.Forest.{Tree, Forest, Place, place, head, WellFormed, IsSized, contents}
 use Rattle.tree_laws.specs.Contents.{trees_of}
-use Rattle.tree_laws.specs.Paths.{tree_pages, pages_below}
+use Rattle.tree_laws.specs.Paths.{tree_pages, pages_below, IsClean}
 use Rattle.tree_laws.specs.Drops.{IsLeft}
 use Rattle.tree_laws.specs.Action.{put_node}
 use Rattle.tree_laws.specs.Moment.{Moment, IsMoment, nodes_at, IsStray, Keeps, Goes, Grows, Viewed, Stood, Look, IsActing}
@@ -231,3 +232,16 @@ LeftLaw = (m : Moment) (w : Forest) (t : Tree) → IsMoment m w → (u : Rooted 
 abbrev pub FreesLeftLaw : Type 0
 FreesLeftLaw = (m : Moment) (w was : Forest) (t : Tree) (h p : ℕ) (left : List ℕ) (n : Node) → IsMoment m w → nodes_at m p ≡ Some n → IsLeft m w was t h (Some p) left
     → (rest : List ℕ) × (left ≡ p ∷ rest) × Steps (p ∷ []) None m w (freed m p) w × IsLeft (freed m p) w was t h n.next rest
+
+-- a leaf's pairs are the part of the tree's contents that lies within its bounds
+abbrev pub RangeLaw : Type 0
+RangeLaw = (nodes : Nodes) (roots : Tree → Option ℕ) (w : Forest) → WellFormed nodes roots w → (t : Tree) (p : ℕ) (n : Node) → In p (w.chain (place t 0)) → nodes p ≡ Some n
+    → (before : List (Key × Key)) × (behind : List (Key × Key)) × (contents nodes w t ≡ before ++ (pairs n.content ++ behind))
+    × AllByRecursion (λ e. Below e.0 n.lo) before
+    × AllByRecursion (λ e. Covers n e.0) (pairs n.content)
+    × AllByRecursion (λ e. (n.hi ≢ []) × UpTo n.hi e.0) behind
+
+-- a clean path has a page of each level
+abbrev pub CleanLaw : Type 0
+CleanLaw = (s : State) (w : Forest) → WellFormed (nodes_of s) s.roots w → (t : Tree) (key : Key) (path : List ℕ) → IsClean s t key path
+    → (h root : ℕ) × (s.roots t ≡ Some root) × In root (w.chain (place t h)) × (length path ≡ suc h)

@@ -17,7 +17,7 @@ pub use crashes::{
 };
 pub use kept::{law_acting, law_now, law_stood, law_view};
 pub use levels::{law_inside, law_reached};
-pub use meaning::{law_contents, law_find, law_one, law_pages, law_sorted};
+pub use meaning::{law_clean, law_contents, law_find, law_one, law_pages, law_range, law_sorted};
 pub use splits::{law_cap, law_confirm, law_intention, law_post, law_receive, law_split};
 pub use stages::{
     law_apart, law_caps, law_child_caps, law_child_seeks, law_confirms, law_cursor_here, law_frees,
