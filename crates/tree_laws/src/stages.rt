@@ -26,7 +26,7 @@ pub fn law_here()
     ensures { HereLaw }
 {}
 
-/// Where it read a page with a merging child, that merge begins.
+/// Where a walk read a page with a merging child, that merge begins.
 pub fn law_merge_here()
     ensures { MergeHereLaw }
 {}
@@ -36,7 +36,7 @@ pub fn law_half()
     ensures { HalfLaw }
 {}
 
-/// The page then becomes its left half, which changes no tree.
+/// The page that is split becomes its left half, which changes no tree, and its right half is to be posted or hoisted over.
 pub fn law_left_half()
     ensures { LeftHalfLaw }
 {}
@@ -51,7 +51,7 @@ pub fn law_raise()
     ensures { RaiseLaw }
 {}
 
-/// It then becomes the root, which changes no tree.
+/// The new root becomes the root, which changes no tree.
 pub fn law_swap()
     ensures { SwapLaw }
 {}
@@ -61,42 +61,42 @@ pub fn law_frees()
     ensures { FreesLaw }
 {}
 
-/// A merge begins with its intention, which changes no tree.
+/// The parent takes its merging child, which changes no tree, and the merge begins.
 pub fn law_intend()
     ensures { IntendLaw }
 {}
 
-/// Where the child is merging already, the page before it is looked for.
+/// Where the merging child was read and is merging already, the page before it is looked for.
 pub fn law_child_seeks()
     ensures { ChildSeeksLaw }
 {}
 
-/// Where the child is open, it is to be capped.
+/// Where the merging child was read and is open, it is to be capped.
 pub fn law_child_caps()
     ensures { ChildCapsLaw }
 {}
 
-/// The child is capped, which changes no tree.
+/// The merging child is capped, which changes no tree, and the page before it is looked for.
 pub fn law_caps()
     ensures { CapsLaw }
 {}
 
-/// What the search for the page before the child knows after it read a page.
+/// What the search for the page before the child knows after it read an open page.
 pub fn law_seek()
     ensures { SeekLaw }
 {}
 
-/// The page before receives the child, which changes no tree.
+/// The page before the child receives it, which changes no tree.
 pub fn law_receives()
     ensures { ReceivesLaw }
 {}
 
-/// Where that came too late, the page is looked for again.
+/// Where the page before the child changed before it could receive, it is looked for again.
 pub fn law_seek_again()
     ensures { SeekAgainLaw }
 {}
 
-/// The pointer to the child goes, which changes no tree, and the child is the call's own.
+/// The pointer to the received child goes, which changes no tree, and the child is the call's own.
 pub fn law_confirms()
     ensures { ConfirmsLaw }
 {}

@@ -21,7 +21,7 @@ pub fn law_planted()
     ensures { PlantedLaw }
 {}
 
-/// Another root is a step.
+/// Another root for a tree is a step.
 pub fn law_hoisted()
     ensures { HoistedLaw }
 {}
@@ -36,7 +36,7 @@ pub fn law_write()
     ensures { WriteLaw }
 {}
 
-/// So it takes the key out.
+/// A call that knows a leaf covers its key, and finds it at the version it knows, takes the key out of the tree.
 pub fn law_erase()
     ensures { EraseLaw }
 {}
@@ -46,12 +46,12 @@ pub fn law_left()
     ensures { LeftLaw }
 {}
 
-/// To free the first page that is left of a level is a step, and the rest of the level is left.
+/// To free the first page that is left of a level of a dropped tree is a step, and the rest of the level is left.
 pub fn law_frees_left()
     ensures { FreesLeftLaw }
 {}
 
-/// What it knows of the key is what the tree has at it then.
+/// What such a leaf has at the key is what the tree has at it.
 pub fn law_answer()
     ensures { AnswerLaw }
 {}
