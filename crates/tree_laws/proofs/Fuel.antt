@@ -12,6 +12,7 @@ use Rattle.sled_pages.specs.declared.node.Data.TheVariants.{Leaf, Index}
 use Rattle.sled_pages.specs.declared.node.Node.{Node}
 use Rattle.sled_pages.specs.declared.page.Page.{Page}
 use Rattle.tree_laws.specs.Forest.{Tree, Forest, Place, place, head, first_child, Holds, Run, WellFormed, contents, node_pairs}
+use Rattle.tree_laws.specs.Drops.{Different}
 use Rattle.tree_laws.specs.Contents.{page_numbers, next_of, first_of, along, first_leaf, pairs_under}
 use Rattle.tree_laws.specs.Laws.{ContentsLaw}
 use Rattle.tree_laws.proofs.Order.{below_irrefl}
@@ -22,11 +23,6 @@ use Rattle.tree_laws.proofs.Reading.{child_of}
 pub page_numbers_is : page_numbers ≡ 2 ^ 64
 unfolding page_numbers
 page_numbers_is = refl
-
--- the pages of a list are all different
-abbrev pub Different : List ℕ → Type 0
-Different [] = Unit {0}
-Different (p ∷ ps) = ((q : ℕ) → In q ps → q ≢ p) × Different ps
 
 distinct : (ps : List ℕ) → Different ps → IsDistinct eqb ps
 unfolding IsDistinct

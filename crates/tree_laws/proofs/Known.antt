@@ -39,6 +39,7 @@ goes_same mine m w is = record {
   loses = λ t e. none_some e;
   rooted = λ t r e. inl e;
   own = λ p stray off. refl;
+  frozen = λ p g e t. inl e;
   keeps = record {
     stood = λ x p n o i live. (n, live, refl, inl i);
     capped = λ p n live t. inl live;
@@ -58,7 +59,7 @@ grouped b m w is =
     let g = goes_same [] m w is in
     record {
       is = record { pids = is.pids; versions = is.versions; below = is.below; numbered = is.numbered; rooted = is.rooted; given = is.given; apart = is.apart; formed = is.formed };
-      goes = record { pids = g.pids; versions = g.versions; given = g.given; gone = g.gone; fresh = g.fresh; lasts = g.lasts; dropped = g.dropped; loses = g.loses; rooted = g.rooted; own = g.own; keeps = g.keeps };
+      goes = record { pids = g.pids; versions = g.versions; given = g.given; gone = g.gone; fresh = g.fresh; lasts = g.lasts; dropped = g.dropped; loses = g.loses; rooted = g.rooted; own = g.own; frozen = g.frozen; keeps = g.keeps };
     }
 
 -- more pages may be the call's own
@@ -74,6 +75,7 @@ goes_more mine more lost sub g = record {
   loses = g.loses;
   rooted = g.rooted;
   own = λ p stray off. g.own p stray (λ i. off (sub p i));
+  frozen = g.frozen;
   keeps = record {
     stood = g.keeps.stood;
     capped = g.keeps.capped;
@@ -148,7 +150,7 @@ sound_at f x p n i live = record { holds = holds_at f x p n i live }
 pub leaf_in : {nodes : Nodes} {roots : Tree → Option ℕ} {w : Forest} → WellFormed nodes roots w → (t : Tree) (h p : ℕ) (n : Node) (es : List (Key × Key)) → In p (w.chain (place t h)) → nodes p ≡ Some n → n.content ≡ Leaf es → h ≡ 0
 leaf_in f t h p n es i live leaf = leaf_low h n.lo n.hi es (subst (λ c. Holds h n.lo n.hi c) leaf (holds_at f (place t h) p n i live))
 
-put_few : {X : Type 0} (k : Key) (v : X) (es : List (Key × X)) → length (put key_cmp k v es) ≤ length es + 1
+pub put_few : {X : Type 0} (k : Key) (v : X) (es : List (Key × X)) → length (put key_cmp k v es) ≤ length es + 1
 put_few k v [] = omega arith
 put_few k v (e ∷ es) =
     let h = put_few k v es in
@@ -257,7 +259,7 @@ module _ {m : Moment} {w : Forest} (is : IsMoment m w) (t : Tree) (number : ℕ)
 
     written : Written m w new t change few
     written = record {
-      steps = replace_law [] m w w look.pid _ (record { version = version; node = n }) is c.page unused (inl (place t 0, is.formed.homed (place t 0) look.pid leaf_now.chained)) d.kept d.keeps;
+      steps = replace_law [] m w w look.pid _ (record { version = version; node = n }) is c.page leaf_now.awake unused (inl (place t 0, is.formed.homed (place t 0) look.pid leaf_now.chained)) d.kept d.keeps;
       here = ap (λ z. contents z w t) nodes_new ∙ d.here;
       others = λ u off. ap (λ z. contents z w u) nodes_new ∙ d.others u off;
       sized = λ e z. subst (λ y. IsSized y w) (sym nodes_new) (d.sized e z);

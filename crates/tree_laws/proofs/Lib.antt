@@ -15,3 +15,16 @@ pub mod Empty
 pub mod Fuel
 pub mod Crashing
 pub mod Known
+pub mod Split
+pub mod Receive
+pub mod Post
+pub mod Reflag
+pub mod Flags
+pub mod Inside
+pub mod Staying
+pub mod Walks
+pub mod Splitting
+pub mod Merges
+pub mod Looking
+pub mod Leaving
+pub mod Staged

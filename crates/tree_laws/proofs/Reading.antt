@@ -1,5 +1,5 @@
 -- What the pages say of a tree's pairs: at a key, in order, and that they say one thing.
-use Rattle.std.proofs.Common.{◌≡◌, ℕ, zero, suc, ◌≤◌, Bool, true, false, cond, T, ◌&&◌, List, [], ◌∷◌, ◌++◌, Option, Some, None, MatchOption, is_eq, is_lt, sym, refl, ap, ◌∙◌, subst, inl, inr, ◌⊎◌, append-nil, arith, ◌+◌, ◌-◌}
+use Rattle.std.proofs.Common.{◌≢◌, ◌≡◌, ℕ, zero, suc, ◌≤◌, Bool, true, false, cond, T, ◌&&◌, List, [], ◌∷◌, ◌++◌, Option, Some, None, MatchOption, is_eq, is_lt, sym, refl, ap, ◌∙◌, subst, inl, inr, ◌⊎◌, append-nil, arith, ◌+◌, ◌-◌}
 use Rattle.std.specs.List.{AllByRecursion}
 use Rattle.std.specs.Ordering.{eq_by_cmp}
 use Rattle.std.specs.FinMap.Entries.{find, is_sorted, below_all}
@@ -11,10 +11,10 @@ use Rattle.sled_pages.specs.declared.node.Data.{Data}
 use Rattle.sled_pages.specs.declared.node.Data.TheVariants.{Leaf, Index}
 use Rattle.sled_pages.specs.declared.node.Node.{Node}
 use Rattle.tree_laws.specs.Forest.{first_child, Holds, Forest, Place, place, Run, WellFormed, node_pairs, head, Tree}
-use Rattle.tree_laws.specs.Laws.{FindLaw, SortedLaw, OneLaw}
+use Rattle.tree_laws.specs.Laws.{RangeLaw, FindLaw, SortedLaw, OneLaw}
 use Rattle.tree_laws.proofs.Order.{below_upto-trans}
-use Rattle.tree_laws.proofs.Pairs.{above, each_weaker, pairs_before, pairs_above, pairs_from, Leaves}
-use Rattle.tree_laws.proofs.Runs.{In_split, In-left, In-right, run_parts}
+use Rattle.tree_laws.proofs.Pairs.{not_below_empty, leaf_within, above, each_weaker, pairs_before, pairs_above, pairs_from, Leaves}
+use Rattle.tree_laws.proofs.Runs.{rises_on, In_split, In-left, In-right, run_parts}
 use Rattle.tree_laws.proofs.Replace.{some_is, pairs_of, pairs-three, head_in}
 use Rattle.tree_laws.proofs.Cover.{chain_run, holds_at, child_below, later_in}
 
@@ -47,6 +47,31 @@ find_law nodes roots w f t p n k i live within =
     ap (λ c. find key_cmp k (pairs_of nodes c)) s.2 ∙ ap (find key_cmp k) (pairs-three nodes s.0 (p ∷ []) s.1)
     ∙ find-below k (pairs_of nodes s.0) _ low ∙ find-above k (pairs_of nodes (p ∷ [])) (pairs_of nodes s.1) high
     ∙ ap (find key_cmp k) (ap (λ z. node_pairs z ++ []) live ∙ append-nil (pairs n.content))
+
+-- what lies behind a page is at or above its end
+behind_end : (nodes : Nodes) (n : Node) (ys : List ℕ) (hi : Key) → Leaves nodes ys → (n.next ≡ None) ⊎ Below n.lo n.hi → Run nodes ys n.next n.hi None hi → AllByRecursion (λ e. (n.hi ≢ []) × UpTo n.hi e.0) (pairs_of nodes ys)
+behind_end nodes n [] hi s o r = tt
+behind_end nodes n (q ∷ qs) hi s o r =
+    let up = rises_on nodes (q ∷ qs) n None hi q (inl refl) o r in
+    each_weaker (λ e. UpTo n.hi e.0) (λ e. (n.hi ≢ []) × UpTo n.hi e.0) (λ e u. (λ none. not_below_empty n.lo (subst (λ k. Below n.lo k) none up), u)) _ (pairs_from nodes (q ∷ qs) _ None _ hi s r)
+
+pub range_law : RangeLaw
+range_law nodes roots w f t p n i live =
+    let s = In_split (w.chain (place t 0)) p i in
+    let whole : Run nodes (s.0 ++ (p ∷ s.1)) (head (w.chain (place t 0))) [] None [] = subst (λ z. Run nodes z (head (w.chain (place t 0))) [] None []) s.2 (chain_run f (place t 0) p i) in
+    let r = run_parts nodes s.0 (p ∷ s.1) _ _ _ _ whole in
+    let is : r.3.0 ≡ n = some_is r.3.0 n (sym r.3.1.live ∙ live) in
+    let in_xs : (q : ℕ) → In q s.0 → In q (w.chain (place t 0)) = λ q j. subst (λ c. In q c) (sym s.2) (In-left s.0 (p ∷ s.1) q j) in
+    let in_ys : (q : ℕ) → In q s.1 → In q (w.chain (place t 0)) = λ q j. subst (λ c. In q c) (sym s.2) (In-right s.0 (p ∷ s.1) q (inr j)) in
+    let early : Run nodes s.0 (head (w.chain (place t 0))) [] (Some p) r.1 = subst (λ g. Run nodes s.0 (head (w.chain (place t 0))) [] g r.1) r.3.1.here r.2 in
+    let key : r.1 ≡ n.lo = r.3.1.lo_is ∙ ap (λ (z : Node). z.lo) is in (
+      pairs_of nodes s.0,
+      pairs_of nodes s.1,
+      ap (pairs_of nodes) s.2 ∙ pairs-three nodes s.0 (p ∷ []) s.1 ∙ ap (λ z. pairs_of nodes s.0 ++ (z ++ pairs_of nodes s.1)) (ap (λ z. node_pairs z ++ []) live ∙ append-nil (pairs n.content)),
+      subst (λ k. AllByRecursion (λ e. Below e.0 k) (pairs_of nodes s.0)) key (pairs_before nodes s.0 _ p _ _ (leaves f t s.0 in_xs) early),
+      leaf_within n.lo n.hi n.content (holds_at f (place t 0) p n i live),
+      subst (λ (z : Node). AllByRecursion (λ e. (z.hi ≢ []) × UpTo z.hi e.0) (pairs_of nodes s.1)) is (behind_end nodes r.3.0 s.1 [] (leaves f t s.1 in_ys) r.3.1.rises r.3.2),
+    )
 
 both : (a b : Bool) → T a → T b → T (a && b)
 both true b p q = q

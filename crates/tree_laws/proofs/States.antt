@@ -8,7 +8,7 @@ use Rattle.sled_pages.specs.declared.page.Page.{Page}
 use Rattle.tree_laws.specs.Action.{put_node}
 use Rattle.tree_laws.specs.Forest.{Tree, Forest, Place, WellFormed, IsSized, contents}
 use Rattle.tree_laws.specs.Moment.{Moment, IsMoment, nodes_at, IsStray, Keeps, Grows}
-use Rattle.tree_laws.specs.Laws.{ReplaceLaw, AllocateLaw, FreeLaw, PlantedLaw, HoistedLaw, DroppedLaw, Rooted, Steps, replaced, planted, hoisted, dropped}
+use Rattle.tree_laws.specs.Laws.{ReplaceLaw, AllocateLaw, FreeLaw, PlantedLaw, HoistedLaw, DroppedLaw, Rooted, Steps, replaced, freed, planted, hoisted, dropped}
 use Rattle.tree_laws.proofs.Update.{put_here, put_there, name_here, name_there}
 use Rattle.tree_laws.proofs.Outside.{outside_kept, outside_contents, outside_keeps, outside_sized, outside_grows}
 use Rattle.tree_laws.proofs.Replace.{same_number, same_tree, some_is}
@@ -31,7 +31,7 @@ none_some : {P A : Type 0} {a : A} → None ≡ Some a → P
 none_some e = cc
 
 pub replace_law : ReplaceLaw
-replace_law mine m w v p g new is live fresh owner formed keeps =
+replace_law mine m w v p g new is live awake fresh owner formed keeps =
     let s = m.state in
     let same : put_node (nodes_at m) p new.node ≡ nodes_at (replaced m p new) = sym (nodes_put s.pages p (Some new)) in
     record {
@@ -73,6 +73,10 @@ replace_law mine m w v p g new is live fresh owner formed keeps =
         own = λ q stray off. elim (same_number q p) [
           | inl a ↦ elim owner [ inl b ↦ absurd (stray b.0 (ap w.home a ∙ b.1)) | inr b ↦ absurd (off (subst (λ z. In z mine) (sym a) b)) ]
           | inr a ↦ put_there s.pages p (Some new) q a
+        ];
+        frozen = λ q h e t. elim (same_number q p) [
+          | inl a ↦ not_both g.node.merging (ap (λ (z : Page). z.node.merging) (some_is g h (sym live ∙ ap s.pages (sym a) ∙ e)) ∙ t) awake
+          | inr a ↦ inl (put_there s.pages p (Some new) q a ∙ e)
         ];
         keeps = subst (λ (z : Nodes). Keeps mine None (nodes_at m) z w v) same keeps;
       };
@@ -159,6 +163,7 @@ allocate_law m w p g is new fresh small =
           loses = λ t e. none_some e;
           rooted = λ t r e. inl e;
           own = λ q u k. elim (same_number q p) [ inl a ↦ absurd (k (inl a)) | inr a ↦ put_there s.pages p (Some g) q a ];
+          frozen = λ q h e t. elim (same_number q p) [ inl a ↦ none_some (sym none ∙ ap s.pages (sym a) ∙ e) | inr a ↦ inl (put_there s.pages p (Some g) q a ∙ e) ];
           keeps = put_keeps m w p (Some g) is stray (p ∷ []) (λ q a k. absurd (k (inl a))) (λ n live. none_some (sym none_node ∙ live));
         };
       },
@@ -205,6 +210,7 @@ free_law m w p is stray =
           loses = λ t e. none_some e;
           rooted = λ t r e. inl e;
           own = λ q u k. elim (same_number q p) [ inl a ↦ absurd (k (inl a)) | inr a ↦ put_there s.pages p None q a ];
+          frozen = λ q h e t. elim (same_number q p) [ inl a ↦ inr (ap (put_at s.pages p None) a ∙ put_here s.pages p None) | inr a ↦ inl (put_there s.pages p None q a ∙ e) ];
           keeps = put_keeps m w p None is stray (p ∷ []) (λ q a k. absurd (k (inl a))) (λ n live. refl);
         };
       },
@@ -255,6 +261,7 @@ module _ (mine : List ℕ) (lost : Option Tree) (m new : Moment) (w : Forest) (t
             | inr a ↦ inl (sym (name_there m.state.roots t root z a) ∙ sym (ap (λ f. f z) roots) ∙ e)
           ];
           own = λ q stray off. pages q;
+          frozen = λ q h e t. inl (pages q ∙ e);
           keeps = subst (λ f. Keeps mine lost (nodes_at m) f w u.after) (sym nodes) u.keeps;
         };
       }
@@ -339,3 +346,6 @@ dropped_law m w t is u =
 
 pub nodes_replaced : (m : Moment) (p : ℕ) (g : Page) → nodes_at (replaced m p g) ≡ put_node (nodes_at m) p g.node
 nodes_replaced m p g = nodes_put m.state.pages p (Some g)
+
+pub nodes_freed : (m : Moment) (p : ℕ) → nodes_at (freed m p) ≡ put_at (nodes_at m) p None
+nodes_freed m p = nodes_put m.state.pages p None

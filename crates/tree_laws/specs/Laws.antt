@@ -1,7 +1,8 @@
 -- The laws of the actions, as types: of the nodes first, then of the store at a moment.
-use Rattle.std.specs.Prelude.{◌≡◌, ◌≢◌, ◌⊎◌, ℕ, suc, ◌<◌, ◌≤◌, ◌^◌, true, false, T, List, [], ◌∷◌, Option, Some, None, option_map}
+use Rattle.std.specs.Prelude.{◌≡◌, ◌≢◌, ◌⊎◌, ℕ, suc, ◌<◌, ◌≤◌, ◌^◌, true, false, T, List, [], ◌∷◌, ◌++◌, length, Option, Some, None, option_map}
 use Rattle.std.specs.FinMap.Entries.{put, find, is_sorted}
-use Rattle.sled_pages.specs.Order.{Key, key_cmp, Below}
+use Rattle.std.specs.List.{AllByRecursion}
+use Rattle.sled_pages.specs.Order.{Key, key_cmp, Below, UpTo}
 use Rattle.sled_pages.specs.In.{In}
 use Rattle.sled_pages.specs.Update.{put_at, put_name}
 use Rattle.sled_pages.specs.Node.{pairs, count, Covers, without, applied, value_at}
@@ -11,8 +12,10 @@ use Rattle.sled_pages.specs.declared.node.Data.{Data}
 use Rattle.sled_pages.specs.declared.node.Data.TheVariants.{Leaf, Index}
 use Rattle.sled_pages.specs.declared.link.Link.TheVariants.{Set, Del}
 use Rattle.sled_pages.specs.declared.page.Page.{Page}
-use Rattle.tree_laws.specs.Forest.{Tree, Forest, Place, place, WellFormed, IsSized, contents}
+use Rattle.tree_laws.specs.Forest.{Tree, Forest, Place, place, head, WellFormed, IsSized, contents}
 use Rattle.tree_laws.specs.Contents.{trees_of}
+use Rattle.tree_laws.specs.Paths.{tree_pages, pages_below, IsClean}
+use Rattle.tree_laws.specs.Drops.{IsLeft}
 use Rattle.tree_laws.specs.Action.{put_node}
 use Rattle.tree_laws.specs.Moment.{Moment, IsMoment, nodes_at, IsStray, Keeps, Goes, Grows, Viewed, Stood, Look, IsActing}
 
@@ -35,8 +38,7 @@ pub record Changed (nodes new : Nodes) (roots : Tree → Option ℕ) (w : Forest
 -- a `Set` at a leaf that covers the key puts the pair into the tree's contents
 abbrev pub SetLaw : Type 0
 SetLaw = (nodes : Nodes) (roots : Tree → Option ℕ) (w : Forest) → WellFormed nodes roots w → (t : Tree) (p : ℕ) (n : Node) (k v : Key)
-    → IsAt nodes w (place t 0) p n → Covers n k
-    → Changed nodes (put_node nodes p (applied (Set k v) n)) roots w t (put key_cmp k v) (count (applied (Set k v) n).content ≤ 17)
+    → IsAt nodes w (place t 0) p n → Covers n k → Changed nodes (put_node nodes p (applied (Set k v) n)) roots w t (put key_cmp k v) (count (applied (Set k v) n).content ≤ 17)
 
 -- a `Del` at a leaf that covers the key takes it out of the tree's contents
 abbrev pub DelLaw : Type 0
@@ -125,10 +127,10 @@ pub record Steps (mine : List ℕ) (lost : Option Tree) (old : Moment) (w : Fore
   pub is : IsMoment new v
   pub goes : Goes mine lost old w new v
 
--- what a law says of the nodes holds of the pages with versions, where the version was never given and the page has a home
--- or is the call's own
+-- what a law says of the nodes holds of the pages with versions, where the version was never given, and the page is not
+-- merging and has a home or is the call's own
 abbrev pub ReplaceLaw : Type 0
-ReplaceLaw = (mine : List ℕ) (m : Moment) (w v : Forest) (p : ℕ) (g new : Page) → IsMoment m w → m.state.pages p ≡ Some g → m.versions new.version ≡ false
+ReplaceLaw = (mine : List ℕ) (m : Moment) (w v : Forest) (p : ℕ) (g new : Page) → IsMoment m w → m.state.pages p ≡ Some g → g.node.merging ≡ false → m.versions new.version ≡ false
     → ((x : Place) × (w.home p ≡ Some x)) ⊎ In p mine
     → WellFormed (put_node (nodes_at m) p new.node) m.state.roots v → Keeps mine None (nodes_at m) (put_node (nodes_at m) p new.node) w v
     → Steps mine None m w (replaced m p new) v
@@ -215,3 +217,31 @@ AnswerLaw = (m : Moment) (w : Forest) → IsMoment m w → (t : Tree) (number : 
 -- a leaf that a call means to change stays so through each action of others
 abbrev pub ActingLaw : Type 0
 ActingLaw = (mine : List ℕ) (lost : Option Tree) (old new : Moment) (w v : Forest) → Goes mine lost old w new v → (t : Tree) (number : ℕ) (key : Key) (look : Look) → IsActing old w t number key look → IsActing new v t number key look
+
+-- the number of a tree's pages as a function is the forest's: those of the levels from the root's down
+abbrev pub PagesLaw : Type 0
+PagesLaw = (s : State) (w : Forest) → WellFormed (nodes_of s) s.roots w → ((p : ℕ) (g : Page) → s.pages p ≡ Some g → p < 2 ^ 64)
+    → (t : Tree) (root : ℕ) → s.roots t ≡ Some root → (h : ℕ) × In root (w.chain (place t h)) × (tree_pages s t ≡ pages_below w t (suc h))
+
+-- right after the drop of a tree all of each chain is left
+abbrev pub LeftLaw : Type 0
+LeftLaw = (m : Moment) (w : Forest) (t : Tree) → IsMoment m w → (u : Rooted [] (Some t) (nodes_at m) m.state.roots w t None) → ((p h : ℕ) → w.home p ≡ Some (place t h) → IsStray u.after p)
+    → (h : ℕ) → IsLeft (dropped m t) u.after w t h (head (w.chain (place t h))) (w.chain (place t h))
+
+-- the first page that is left of a level is freed, and the rest of the level is left, from its next page on
+abbrev pub FreesLeftLaw : Type 0
+FreesLeftLaw = (m : Moment) (w was : Forest) (t : Tree) (h p : ℕ) (left : List ℕ) (n : Node) → IsMoment m w → nodes_at m p ≡ Some n → IsLeft m w was t h (Some p) left
+    → (rest : List ℕ) × (left ≡ p ∷ rest) × Steps (p ∷ []) None m w (freed m p) w × IsLeft (freed m p) w was t h n.next rest
+
+-- a leaf's pairs are the part of the tree's contents that lies within its bounds
+abbrev pub RangeLaw : Type 0
+RangeLaw = (nodes : Nodes) (roots : Tree → Option ℕ) (w : Forest) → WellFormed nodes roots w → (t : Tree) (p : ℕ) (n : Node) → In p (w.chain (place t 0)) → nodes p ≡ Some n
+    → (before : List (Key × Key)) × (behind : List (Key × Key)) × (contents nodes w t ≡ before ++ (pairs n.content ++ behind))
+    × AllByRecursion (λ e. Below e.0 n.lo) before
+    × AllByRecursion (λ e. Covers n e.0) (pairs n.content)
+    × AllByRecursion (λ e. (n.hi ≢ []) × UpTo n.hi e.0) behind
+
+-- a clean path has a page of each level
+abbrev pub CleanLaw : Type 0
+CleanLaw = (s : State) (w : Forest) → WellFormed (nodes_of s) s.roots w → (t : Tree) (key : Key) (path : List ℕ) → IsClean s t key path
+    → (h root : ℕ) × (s.roots t ≡ Some root) × In root (w.chain (place t h)) × (length path ≡ suc h)

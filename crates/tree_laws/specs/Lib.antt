@@ -5,3 +5,9 @@ pub mod Moment
 pub mod Crashes
 pub mod Laws
 pub mod CrashLaws
+pub mod PageLaws
+pub mod Stages
+pub mod Merging
+pub mod Paths
+pub mod Drops
+pub mod StageLaws

@@ -83,6 +83,8 @@ pub record Goes (mine : List ℕ) (lost : Option Tree) (old : Moment) (w : Fores
   pub rooted : (t : Tree) (r : ℕ) → new.state.roots t ≡ Some r → (old.state.roots t ≡ Some r) ⊎ (IsStray w r × ((n : Node) × (nodes_at old r ≡ Some n) × (n.merging ≡ false)))
   -- the pages that are another call's own are kept whole, versions included
   pub own : (p : ℕ) → IsStray w p → ¬ (In p mine) → new.state.pages p ≡ old.state.pages p
+  -- and so is a merging page, until it is freed
+  pub frozen : (p : ℕ) (g : Page) → old.state.pages p ≡ Some g → g.node.merging ≡ true → (new.state.pages p ≡ Some g) ⊎ (new.state.pages p ≡ None)
   pub keeps : Keeps mine lost (nodes_at old) (nodes_at new) w v
 
 -- a page grows past 17 entries only as it receives the page behind it

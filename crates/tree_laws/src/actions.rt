@@ -11,12 +11,12 @@ pub fn law_set()
     ensures { SetLaw }
 {}
 
-/// A `Del` takes the key out, and changes no other tree.
+/// A `Del` at such a leaf takes the key out, and changes no other tree.
 pub fn law_del()
     ensures { DelLaw }
 {}
 
-/// A new tree is empty, and the others stay.
+/// A new tree over an empty leaf is empty, and the others stay.
 pub fn law_plant()
     ensures { PlantLaw }
 {}
@@ -26,7 +26,7 @@ pub fn law_hoist()
     ensures { HoistLaw }
 {}
 
-/// A tree goes, its pages have no home then, and the others stay.
+/// A dropped tree goes, its pages have no home then, and the others stay.
 pub fn law_drop()
     ensures { DropLaw }
 {}

@@ -16,7 +16,7 @@ pub fn law_decides()
     ensures { DecidesLaw }
 {}
 
-/// It adds none where they are as they were.
+/// An action outside every group that leaves the trees as they were adds none.
 pub fn law_unseen()
     ensures { UnseenLaw }
 {}

@@ -6,7 +6,7 @@ pub fn law_view()
     ensures { ViewLaw }
 {}
 
-/// What is known of a page that stood in a chain stays known.
+/// What is known of a page that stood in a chain stays known: its tree lost its number, or it is gone, or merging, or stands there.
 pub fn law_stood()
     ensures { StoodLaw }
 {}
@@ -16,7 +16,7 @@ pub fn law_now()
     ensures { NowLaw }
 {}
 
-/// A leaf that a call means to change stays one.
+/// A leaf that a call means to change stays so.
 pub fn law_acting()
     ensures { ActingLaw }
 {}

@@ -1,10 +1,170 @@
 //! The theory of the tree: what is well formed, what a tree's contents are, and what page actions keep of both.
+//!
+//! Nothing here runs. Each public function is empty, and its contract is a law about the definitions of `specs/`. A crate
+//! above cites the lemma of `proofs/` that the law names, or calls the function, after which the law is at hand.
+//!
+//! # The form
+//!
+//! A tree is its name. A place is a tree and a height above its leaves: leaves stand at height 0 and a hoist adds a level
+//! on top, so the place of a page never changes. A forest is the witness of well-formedness: the chain of pages at each
+//! place, and the home of each page that stands in a chain, or that was received and still has its pointer. The pages and
+//! the roots determine it (`law_one`), so that two crates that each say "there is a forest" speak of the same one.
+//!
+//! Shape and size are two records, `WellFormed` and `IsSized`. A law that keeps the shape says beside it what has to be
+//! small for the size to be kept.
+//!
+//! # Well-formedness in words, and where the definition says it
+//!
+//! - *Each level is a chain by `next` from the empty `lo` to an empty `hi`, each `hi` being the next page's `lo`*:
+//!   `WellFormed.run`, over `Run` and `IsLink`. *Its last page has no `next`, and every other has one*: `Run` ends at no
+//!   page. *No page twice* is not asked, since it follows (`run_different`).
+//! - *Bounds rise*: a page with a `next` has its `lo` below its `hi` (`IsLink.rises`). Without this line an empty leaf may end
+//!   below where it begins, and a key may then stand in a tree twice.
+//! - *All leaves or all indexes, the last level leaves*: the height of a place fixes the kind (`Holds`).
+//! - *The top level begins at the root, each other where the first pointer of the level above leads*: `top` and `down`. A name
+//!   without a root has no level.
+//! - *Entries ascend within the bounds; an index has a pointer, and its first key is its `lo`*: `Holds`.
+//! - *A pointer names a live page of the level below whose `lo` is the pointer's key*: `IsPointer`. *It stands in the chain, or
+//!   is merging and was received*: `IsHomed.stands`; that a page was received says just that it is not in the chain.
+//! - *Received pages are pages of their tree*: they have a home, as the pages of chains have, so none is in two trees or on two
+//!   levels, and one pointer at most leads to it. What is asked of a page by itself is asked of them too. Nothing is asked of
+//!   where their own pointers and `next` lead.
+//! - *A merging child is a pointer of its page, not the first*: `child`. *A merging page is the merging child of whoever points
+//!   to it* (`IsPointer.merged`), *and has such a parent in the chain above* (`IsHomed.parent`): so no root is merging, and no
+//!   page beside a root. *No page both is merging and has a merging child*: `IsHomed.calm`.
+//! - *No page stands in two trees*: a home is one place.
+//! - *A page of a chain needs no pointer*: nothing asks for one. *Of pages that no tree names nothing is asked*: they have no home.
+//! - *At most 33 entries, and 17 of a merging child*: `IsSized`.
+//!
+//! # Contents
+//!
+//! The contents of a tree are the pairs along its leaves (`contents`). `trees_of` says the same without a forest, as a total
+//! function of pages and roots: down by first pointers to a leaf, then along `next`, and none for a name without a root. It has
+//! fuel for as many steps as there are page numbers, which is never used up (`law_contents`). What the leaf that covers a key
+//! has at it is what the tree has at it (`law_find`), and a leaf's pairs are the part of the contents within its bounds
+//! (`law_range`).
+//!
+//! # Clean paths and reads
+//!
+//! A clean path of a key (`IsClean`) is a list of pages from the root on, one of each level, by the last pointers at or below
+//! the key. Each page covers the key, has at most 16 entries, is neither merging nor has a merging child, and has more than 3
+//! entries unless it is the root or was reached by a first pointer: so a walk repairs nothing on it, and goes one down the list
+//! with each step. A reading walk looks at each page of a tree at most once (`IsAhead`), and how many pages that are is a
+//! function of pages and roots (`tree_pages`).
+//!
+//! # Crashes
+//!
+//! A store is crash safe where each state that a crash may leave has the shape of a forest (`IsCrashSafe`; with the size too,
+//! `IsCrashWhole`). It extends another by a list of trees' contents (`Extends`) where its base is the same, actions were only
+//! added and are counted, and the contents after the states that a crash may leave go on by that list, equal neighbours taken
+//! once (`Matches`).
+//!
+//! # Calls in flight
+//!
+//! A moment is a store now, with each tree's number. Whatever an action does, `Goes` is what it gives to every other call:
+//! numbers and versions never come again, a page of a chain stands there or is merging, a merging page and another call's own
+//! page stay as they are, and a page that left its chain never comes back. What a call knows at a stage survives that
+//! (`law_stages`), whether or not its view is stale. A tree that was dropped takes its number with it, and of a call whose
+//! number is not the name's now nothing is claimed.
+//!
+//! # The laws
+//!
+//! `actions`: what page actions do to the shape, the size and the contents of trees.
+//!
+//! - `law_empty`: A store with no page and no tree is well formed.
+//! - `law_set`: A `Set` at a leaf of a chain that covers the key puts the pair into the tree, and changes no other tree.
+//! - `law_del`: A `Del` at such a leaf takes the key out, and changes no other tree.
+//! - `law_plant`: A new tree over an empty leaf is empty, and the others stay.
+//! - `law_hoist`: A new root over the old one changes no tree.
+//! - `law_drop`: A dropped tree goes, its pages have no home then, and the others stay.
+//!
+//! `crashes`: what an action adds to the states that a crash may leave.
+//!
+//! - `law_extends`: Growths follow one another.
+//! - `law_rests`: Without an action nothing grows.
+//! - `law_decides`: An action outside every group adds the trees that it leaves.
+//! - `law_unseen`: An action outside every group that leaves the trees as they were adds none.
+//! - `law_inside_group`: An action inside a group adds nothing that a crash may leave.
+//! - `law_again`: A call that is decided without a change adds the trees as they are.
+//! - `law_flushes`: After a flush a crash leaves the flushed state alone.
+//! - `law_whole`: The size is kept in each state that a crash may leave, as the shape is.
+//!
+//! `kept`: what a call in flight knows survives each action of others.
+//!
+//! - `law_view`: A kept view speaks of its page while the version is the same.
+//! - `law_stood`: What is known of a page that stood in a chain stays known: its tree lost its number, or it is gone, or merging, or stands there.
+//! - `law_now`: A page that stood in a chain, is live and not merging, and whose tree has its number, stands there now.
+//! - `law_acting`: A leaf that a call means to change stays so.
+//!
+//! `levels`: how the pages of a level lie under those of the level above.
+//!
+//! - `law_inside`: A page lies within the bounds of the index above that covers where it begins.
+//! - `law_reached`: A merge that was done is seen at the page before.
+//!
+//! `meaning`: what the pages say of the trees.
+//!
+//! - `law_find`: What the leaf that covers a key has at it is what the tree has at it.
+//! - `law_range`: A leaf's pairs are the part of the tree's contents that lies within its bounds.
+//! - `law_clean`: A clean path has a page of each level.
+//! - `law_sorted`: The contents of a tree ascend.
+//! - `law_one`: The pages and the roots determine the forest.
+//! - `law_pages`: The number of a tree's pages as a function of pages and roots is the forest's.
+//! - `law_contents`: The contents as a function of pages and roots are the forest's.
+//!
+//! `splits`: what the actions of splits and merges do to the shape, the size and the contents of trees.
+//!
+//! - `law_split`: A split of an open page changes no tree, and the new page then stands in the chain.
+//! - `law_post`: A pointer that goes into an open index changes no tree.
+//! - `law_intention`: The intention of a merge changes no tree.
+//! - `law_cap`: The cap of a merging child changes no tree.
+//! - `law_receive`: The merge of a capped page into the page before it changes no tree, and the capped page then is in no chain.
+//! - `law_confirm`: The confirmation of a merge changes no tree, and the child then has no home.
+//!
+//! `stages`: what a call in flight knows at its stages, and what its steps do.
+//!
+//! - `law_stages`: What a call knows at its stage it knows still after an action of another call.
+//! - `law_apart`: No page becomes two calls' own.
+//! - `law_root_here`: What is known of the root as it is read.
+//! - `law_cursor_here`: What is known of the cursor of a walk as it is read.
+//! - `law_here`: What a walk knows after it read an open page, by what it goes on to.
+//! - `law_merge_here`: Where a walk read a page with a merging child, that merge begins.
+//! - `law_half`: A split begins with its right half as a new page, and changes no tree.
+//! - `law_left_half`: The page that is split becomes its left half, which changes no tree, and its right half is to be posted or hoisted over.
+//! - `law_pointer`: The pointer to the right half goes into the parent, which changes no tree.
+//! - `law_raise`: A hoist begins with the new root as a new page.
+//! - `law_swap`: The new root becomes the root, which changes no tree.
+//! - `law_frees`: A page that is a call's own is freed, which changes no tree.
+//! - `law_intend`: The parent takes its merging child, which changes no tree, and the merge begins.
+//! - `law_child_seeks`: Where the merging child was read and is merging already, the page before it is looked for.
+//! - `law_child_caps`: Where the merging child was read and is open, it is to be capped.
+//! - `law_caps`: The merging child is capped, which changes no tree, and the page before it is looked for.
+//! - `law_seek`: What the search for the page before the child knows after it read an open page.
+//! - `law_receives`: The page before the child receives it, which changes no tree.
+//! - `law_seek_again`: Where the page before the child changed before it could receive, it is looked for again.
+//! - `law_confirms`: The pointer to the received child goes, which changes no tree, and the child is the call's own.
+//!
+//! `steps`: page actions as steps of a store, which keep what every other call knows.
+//!
+//! - `law_replaced`: A change of a page at its version is a step.
+//! - `law_allocated`: A new page is a step that changes no tree.
+//! - `law_freed`: To free a page without a home is a step that changes no tree.
+//! - `law_planted`: A first root, with a number never given, is a step.
+//! - `law_hoisted`: Another root for a tree is a step.
+//! - `law_dropped`: To drop a tree, with its number, is a step.
+//! - `law_write`: A call that knows a leaf covers its key, and finds it at the version it knows, puts the pair into the tree.
+//! - `law_erase`: A call that knows a leaf covers its key, and finds it at the version it knows, takes the key out of the tree.
+//! - `law_left`: Right after the drop of a tree all of each chain is left.
+//! - `law_frees_left`: To free the first page that is left of a level of a dropped tree is a step, and the rest of the level is left.
+//! - `law_answer`: What such a leaf has at the key is what the tree has at it.
 #![tactic(auto)]
 
 mod actions;
 mod crashes;
 mod kept;
+mod levels;
 mod meaning;
+mod splits;
+mod stages;
 mod steps;
 
 pub use actions::{law_del, law_drop, law_empty, law_hoist, law_plant, law_set};
@@ -13,8 +173,15 @@ pub use crashes::{
     law_whole,
 };
 pub use kept::{law_acting, law_now, law_stood, law_view};
-pub use meaning::{law_contents, law_find, law_one, law_sorted};
+pub use levels::{law_inside, law_reached};
+pub use meaning::{law_clean, law_contents, law_find, law_one, law_pages, law_range, law_sorted};
+pub use splits::{law_cap, law_confirm, law_intention, law_post, law_receive, law_split};
+pub use stages::{
+    law_apart, law_caps, law_child_caps, law_child_seeks, law_confirms, law_cursor_here, law_frees,
+    law_half, law_here, law_intend, law_left_half, law_merge_here, law_pointer, law_raise,
+    law_receives, law_root_here, law_seek, law_seek_again, law_stages, law_swap,
+};
 pub use steps::{
-    law_allocated, law_answer, law_dropped, law_erase, law_freed, law_hoisted, law_planted,
-    law_replaced, law_write,
+    law_allocated, law_answer, law_dropped, law_erase, law_freed, law_frees_left, law_hoisted,
+    law_left, law_planted, law_replaced, law_write,
 };

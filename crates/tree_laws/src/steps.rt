@@ -1,5 +1,5 @@
 //! Page actions as steps of a store, which keep what every other call knows.
-ghost use Rattle.tree_laws.specs.Laws.{AllocateLaw, AnswerLaw, DroppedLaw, EraseLaw, FreeLaw, HoistedLaw, PlantedLaw, ReplaceLaw, WriteLaw};
+ghost use Rattle.tree_laws.specs.Laws.{AllocateLaw, AnswerLaw, DroppedLaw, EraseLaw, FreeLaw, FreesLeftLaw, HoistedLaw, LeftLaw, PlantedLaw, ReplaceLaw, WriteLaw};
 
 /// A change of a page at its version is a step.
 pub fn law_replaced()
@@ -21,7 +21,7 @@ pub fn law_planted()
     ensures { PlantedLaw }
 {}
 
-/// Another root is a step.
+/// Another root for a tree is a step.
 pub fn law_hoisted()
     ensures { HoistedLaw }
 {}
@@ -36,12 +36,22 @@ pub fn law_write()
     ensures { WriteLaw }
 {}
 
-/// So it takes the key out.
+/// A call that knows a leaf covers its key, and finds it at the version it knows, takes the key out of the tree.
 pub fn law_erase()
     ensures { EraseLaw }
 {}
 
-/// What it knows of the key is what the tree has at it then.
+/// Right after the drop of a tree all of each chain is left.
+pub fn law_left()
+    ensures { LeftLaw }
+{}
+
+/// To free the first page that is left of a level of a dropped tree is a step, and the rest of the level is left.
+pub fn law_frees_left()
+    ensures { FreesLeftLaw }
+{}
+
+/// What such a leaf has at the key is what the tree has at it.
 pub fn law_answer()
     ensures { AnswerLaw }
 {}

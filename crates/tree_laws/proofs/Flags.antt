@@ -1,0 +1,278 @@
+-- The flags of a merge: intention, cap, confirm.
+use Rattle.std.proofs.Common.{◌≡◌, ◌≢◌, ℕ, suc, ◌≤◌, Bool, true, false, cond, not, nat_eq, T, ◌&&◌, List, [], ◌∷◌, length, Option, Some, None, sym, refl, ap, ◌∙◌, subst, inl, inr, arith, le_refl}
+use Rattle.std.proofs.lemmas.Bool.Decides.{nat_tests}
+use Rattle.std.specs.List.{AllByRecursion}
+use Rattle.std.specs.FinMap.{is_sorted}
+use Rattle.std.specs.FinMap.Entries.{below_all}
+use Rattle.sled_pages.specs.In.{In}
+use Rattle.sled_pages.specs.Node.{Within, pairs, pointers, count, unpointed, applied, intended, confirmed}
+use Rattle.sled_pages.specs.Order.{Key, key_cmp, Below}
+use Rattle.sled_pages.specs.State.{Nodes}
+use Rattle.sled_pages.specs.Update.{put_at}
+use Rattle.sled_pages.specs.declared.node.Data.TheVariants.{Leaf, Index}
+use Rattle.sled_pages.specs.declared.node.Data.{Data}
+use Rattle.sled_pages.specs.declared.link.Link.TheVariants.{ParentMergeIntention, ParentMergeConfirm}
+use Rattle.sled_pages.specs.declared.node.Node.{Node}
+use Rattle.tree_laws.specs.Action.{put_node}
+use Rattle.tree_laws.specs.Forest.{first_key, first_child, later, Holds, IsNodeAt, Forest, Place, place, IsPointer, WellFormed, Tree}
+use Rattle.tree_laws.specs.Moment.{IsStray}
+use Rattle.tree_laws.specs.PageLaws.{Unseen, CapLaw, IntentionLaw, ConfirmLaw}
+use Rattle.tree_laws.proofs.Order.{below_irrefl}
+use Rattle.tree_laws.proofs.Update.{put_here, put_there}
+use Rattle.tree_laws.proofs.Replace.{same_number, some_is, false_true}
+use Rattle.tree_laws.proofs.Split.{pointer_like}
+use Rattle.tree_laws.proofs.Cover.{holds_at, later_in, later_above}
+use Rattle.tree_laws.proofs.Reflag.{Reflags, after, reflagged_kept, reflagged_keeps, reflagged_contents, reflagged_sized, reflagged_grows}
+
+none_some : {P : Type 0} {A : Type 0} {a : A} → None ≡ Some a → P
+none_some e = cc
+
+sound_at : {nodes : Nodes} {roots : Tree → Option ℕ} {w : Forest} (f : WellFormed nodes roots w) (x : Place) (p : ℕ) (n : Node) → In p (w.chain x) → nodes p ≡ Some n → IsNodeAt x.height n
+sound_at f x p n i live = let h = f.page x p (f.homed x p i) in subst (λ (z : Node). IsNodeAt x.height z) (some_is h.0 n (sym h.1.live ∙ live)) h.1.sound
+
+pub cap_law : CapLaw
+cap_law nodes roots w f x p n o q d j up is =
+    let i = o.chained in
+    let live = o.live in
+    let awake = o.is_open.awake in
+    let free = o.is_open.free in
+    let r : Reflags nodes (put_node nodes p (record n { merging = true })) w w.home x p n (record n { merging = true }) = record {
+      chained = i;
+      was = live;
+      now = put_here nodes p _;
+      others = put_there nodes p _;
+      lo = refl;
+      hi = refl;
+      next = refl;
+      sound = let s = sound_at f x p n i live in record { holds = s.holds };
+      smaller = le_refl _;
+      awake = awake;
+      calm = λ t. free;
+      parent = λ t. (q, d, j, up, is);
+      comes = λ z y e. e;
+      stays = λ z y e. inl e;
+      keeps_child = λ c y h e. e;
+      first = refl;
+      child = λ c e. none_some (sym free ∙ e);
+      pointer = λ t h at k c m. let o = f.pointer t h p n (subst (λ z. In p (w.chain z)) at i) live k c m in (pointer_like nodes w n _ t h k c refl o, o.homed);
+    } in
+    record { after = after r f; kept = reflagged_kept r f; same = reflagged_contents r f refl; keeps = reflagged_keeps r f []; sized = λ e. reflagged_sized r f (λ c d e. none_some (sym free ∙ e)); grows = λ e. reflagged_grows r f }
+
+intended_some : (t : Tree) (h : ℕ) (lo hi : Key) (c : Data) (d : ℕ) (before : Option ℕ) → Holds (suc h) lo hi c → intended c d before ≡ Some d
+intended_some t h lo hi (Leaf es) d before s = absurd s
+intended_some t h lo hi (Index es) d before s = refl
+
+pub intention_law : IntentionLaw
+intention_law nodes roots w f t h p c n k o j =
+    let i = o.chained in
+    let live = o.live in
+    let awake = o.is_open.awake in
+    let free = o.is_open.free in
+    let m : Node = applied (ParentMergeIntention c) n in
+    let child_is : m.merging_child ≡ Some c = intended_some t h n.lo n.hi n.content c n.merging_child (holds_at f (place t (suc h)) p n i live) in
+    let r : Reflags nodes (put_node nodes p m) w w.home (place t (suc h)) p n m = record {
+      chained = i;
+      was = live;
+      now = put_here nodes p _;
+      others = put_there nodes p _;
+      lo = refl;
+      hi = refl;
+      next = refl;
+      sound = let s = sound_at f (place t (suc h)) p n i live in record { holds = s.holds };
+      smaller = le_refl _;
+      awake = awake;
+      calm = λ u. false_true n.merging awake u;
+      parent = λ u. false_true n.merging awake u;
+      comes = λ z y e. e;
+      stays = λ z y e. inl e;
+      keeps_child = λ d y g e. none_some (sym free ∙ e);
+      first = refl;
+      child = λ d e. (k, subst (λ z. In (k, z) (later (pointers n.content))) (some_is c d (sym child_is ∙ e)) j);
+      pointer = λ u g at l d b.
+          let o = f.pointer u g p n (subst (λ z. In p (w.chain z)) at i) live l d b in (
+            record {
+              node = o.node;
+              live = o.live;
+              homed = o.homed;
+              key = o.key;
+              merged = λ v. none_some (sym free ∙ o.merged v);
+            },
+            o.homed,
+          );
+    } in
+    record { after = after r f; kept = reflagged_kept r f; same = reflagged_contents r f refl; keeps = reflagged_keeps r f []; sized = λ small. reflagged_sized r f (λ d b e at. small b (ap nodes (some_is c d (sym child_is ∙ e)) ∙ at)); grows = λ small. reflagged_grows r f }
+
+-- what a filter of pointers keeps
+sub_in : (c : ℕ) (es : List (Key × ℕ)) (k : Key) (d : ℕ) → In (k, d) (unpointed c es) → In (k, d) es × (d ≢ c)
+sub_in c [] k d i = absurd i
+sub_in c (e ∷ es) k d i =
+    (elim (nat_eq e.1 c) as (λ b. nat_eq e.1 c ≡ b → In (k, d) (cond (not b) (e ∷ unpointed c es) (unpointed c es)) → In (k, d) (e ∷ es) × (d ≢ c)) [
+      | true ↦ λ g j. let o = sub_in c es k d j in (inr o.0, o.1)
+      | false ↦ λ g j. elim j [
+        | inl a ↦ (inl a, λ s. other (ap (λ z. nat_eq z c) (sym (ap (λ (z : Key × ℕ). z.1) a) ∙ s) ∙ refl) g)
+        | inr a ↦ let o = sub_in c es k d a in (inr o.0, o.1)
+      ]
+    ]) refl i
+  where
+    other : nat_eq e.1 c ≡ nat_eq c c → nat_eq e.1 c ≡ false → ⊥
+    other a b = grind (arith, nat_tests)
+
+keeps_in : (c : ℕ) (es : List (Key × ℕ)) (k : Key) (d : ℕ) → In (k, d) es → d ≢ c → In (k, d) (unpointed c es)
+keeps_in c [] k d i off = absurd i
+keeps_in c (e ∷ es) k d i off =
+    (elim (nat_eq e.1 c) as (λ b. nat_eq e.1 c ≡ b → In (k, d) (cond (not b) (e ∷ unpointed c es) (unpointed c es))) [
+      | true ↦ λ g. elim i [ inl a ↦ absurd (same (ap (λ (z : Key × ℕ). z.1) a) g) | inr a ↦ keeps_in c es k d a off ]
+      | false ↦ λ g. elim i [ inl a ↦ inl a | inr a ↦ inr (keeps_in c es k d a off) ]
+    ]) refl
+  where
+    same : d ≡ e.1 → nat_eq e.1 c ≡ true → ⊥
+    same a b = grind (arith, nat_tests)
+
+length_unpointed : (c : ℕ) (es : List (Key × ℕ)) → length (unpointed c es) ≤ length es
+length_unpointed c [] = le_refl _
+length_unpointed c (e ∷ es) =
+    let h = length_unpointed c es in
+    elim (not (nat_eq e.1 c)) as (λ b. length (cond b (e ∷ unpointed c es) (unpointed c es)) ≤ length (e ∷ es)) [ true ↦ omega arith | false ↦ omega arith ]
+
+each_unpointed : (P : Key → Type 0) (c : ℕ) (es : List (Key × ℕ)) → AllByRecursion (λ e. P e.0) es → AllByRecursion (λ e. P e.0) (unpointed c es)
+each_unpointed P c [] a = tt
+each_unpointed P c (e ∷ es) a = elim (not (nat_eq e.1 c)) as (λ b. AllByRecursion (λ e. P e.0) (cond b (e ∷ unpointed c es) (unpointed c es))) [ true ↦ (a.0, each_unpointed P c es a.1) | false ↦ each_unpointed P c es a.1 ]
+
+both : (a b : Bool) → T a → T b → T (a && b)
+both true b p q = q
+both false b p q = p
+
+fst : (a b : Bool) → T (a && b) → T a
+fst true b p = tt
+fst false b p = p
+
+snd : (a b : Bool) → T (a && b) → T b
+snd true b p = p
+snd false b p = absurd p
+
+below_unpointed : (k : Key) (c : ℕ) (es : List (Key × ℕ)) → T (below_all key_cmp k es) → T (below_all key_cmp k (unpointed c es))
+below_unpointed k c [] h = tt
+below_unpointed k c (e ∷ es) h =
+    let rest = below_unpointed k c es (snd _ _ h) in
+    elim (not (nat_eq e.1 c)) as (λ b. T (below_all key_cmp k (cond b (e ∷ unpointed c es) (unpointed c es)))) [ true ↦ both _ _ (fst _ _ h) rest | false ↦ rest ]
+
+sorted_unpointed : (c : ℕ) (es : List (Key × ℕ)) → T (is_sorted key_cmp es) → T (is_sorted key_cmp (unpointed c es))
+sorted_unpointed c [] h = tt
+sorted_unpointed c (e ∷ es) h =
+    let rest = sorted_unpointed c es (snd _ _ h) in
+    elim (not (nat_eq e.1 c)) as (λ b. T (is_sorted key_cmp (cond b (e ∷ unpointed c es) (unpointed c es)))) [ true ↦ both _ _ (below_unpointed e.0 c es (fst _ _ h)) rest | false ↦ rest ]
+
+-- the first pointer stays, if it leads elsewhere
+first_stays : (c : ℕ) (lo : Key) (es : List (Key × ℕ)) → first_key es ≡ Some lo → ((d : ℕ) → first_child es ≡ Some d → d ≢ c) → (first_key (unpointed c es) ≡ Some lo) × (first_child (unpointed c es) ≡ first_child es)
+first_stays c lo [] e off = none_some e
+first_stays c lo (a ∷ es) e off =
+    (elim (nat_eq a.1 c) as (λ b. nat_eq a.1 c ≡ b → (first_key (cond (not b) (a ∷ unpointed c es) (unpointed c es)) ≡ Some lo) × (first_child (cond (not b) (a ∷ unpointed c es) (unpointed c es)) ≡ Some a.1)) [
+      | true ↦ λ g. absurd (off a.1 refl (yes g))
+      | false ↦ λ g. (e, refl)
+    ]) refl
+  where
+    yes : nat_eq a.1 c ≡ true → a.1 ≡ c
+    yes g = grind (arith, nat_tests)
+
+holds_unpointed : (h : ℕ) (lo hi : Key) (c : ℕ) (es : List (Key × ℕ)) → Holds (suc h) lo hi (Index es) → ((d : ℕ) → first_child es ≡ Some d → d ≢ c) → Holds (suc h) lo hi (Index (unpointed c es))
+holds_unpointed h lo hi c es s off = (sorted_unpointed c es s.0, each_unpointed (Within lo hi) c es s.1, (first_stays c lo es s.2 off).0)
+
+module _ (nodes : Nodes) (roots : Tree → Option ℕ) (w : Forest) (f : WellFormed nodes roots w) (t : Tree) (h p c : ℕ) (n : Node) (es : List (Key × ℕ)) (i : In p (w.chain (place t (suc h)))) (live : nodes p ≡ Some n) (awake : n.merging ≡ false) (has : n.merging_child ≡ Some c) (index : n.content ≡ Index es) (out : ¬ (In c (w.chain (place t h)))) where
+  holds : Holds (suc h) n.lo n.hi (Index es)
+  holds = subst (λ z. Holds (suc h) n.lo n.hi z) index (holds_at f (place t (suc h)) p n i live)
+
+  own : (k : Key) (d : ℕ) → In (k, d) es → IsPointer nodes w n t h k d
+  own k d j = f.pointer t h p n i live k d (subst (λ z. In (k, d) (pointers z)) (sym index) j)
+
+  -- the later pointer to c
+  at_c : (k : Key) × In (k, c) (later es)
+  at_c = let g = f.child _ p n i live c has in (g.0, subst (λ z. In (g.0, c) (later (pointers z))) index g.1)
+
+  c_pointer : IsPointer nodes w n t h at_c.0 c
+  c_pointer = own at_c.0 c (later_in (Index es) at_c.0 c at_c.1)
+
+  first_off : (d : ℕ) → first_child es ≡ Some d → d ≢ c
+  first_off d e is =
+      let j : In (n.lo, d) es = first_in es n.lo d holds.2 e in
+      let a = own n.lo d j in
+      let same : n.lo ≡ at_c.0 = sym a.key ∙ ap (λ (z : Node). z.lo) (some_is a.node c_pointer.node (sym a.live ∙ ap nodes is ∙ c_pointer.live)) ∙ c_pointer.key in
+      below_irrefl n.lo (subst (λ z. Below n.lo z) (sym same) (later_above h n.lo n.hi (Index es) holds at_c.0 c at_c.1))
+    where
+      first_in : (es : List (Key × ℕ)) (k : Key) (d : ℕ) → first_key es ≡ Some k → first_child es ≡ Some d → In (k, d) es
+      first_in [] k d a b = none_some a
+      first_in (e ∷ es) k d a b = inl (pair (some_is e.0 k a) (some_is e.1 d b))
+        where
+          pair : e.0 ≡ k → e.1 ≡ d → (k, d) ≡ e
+          pair u v = λ i. (sym u i, sym v i)
+
+  abbrev dropped : Node
+  dropped = record n { merging_child = None; content = Index (unpointed c es) }
+
+  home : ℕ → Option Place
+  home = put_at w.home c None
+
+  home_c : home c ≡ None
+  unfolding home
+  home_c = put_here w.home c None
+
+  home_other : (d : ℕ) → d ≢ c → home d ≡ w.home d
+  unfolding home
+  home_other d off = put_there w.home c None d off
+
+  parts : Reflags nodes (put_node nodes p dropped) w home (place t (suc h)) p n dropped
+  parts = record {
+    chained = i;
+    was = live;
+    now = put_here nodes p _;
+    others = put_there nodes p _;
+    lo = refl;
+    hi = refl;
+    next = refl;
+    sound = record { holds = holds_unpointed h n.lo n.hi c es holds first_off };
+    smaller = subst (λ z. length (unpointed c es) ≤ count z) (sym index) (length_unpointed c es);
+    awake = awake;
+    calm = λ u. refl;
+    parent = λ u. false_true n.merging awake u;
+    comes = λ q y e. elim (same_number q c) [ inl a ↦ none_some (sym (ap home a ∙ home_c) ∙ e) | inr a ↦ sym (home_other q a) ∙ e ];
+    stays = λ q y e. elim (same_number q c) [
+      | inl a ↦ inr (has ∙ ap Some (sym a), λ j. out (subst (λ z. In z (w.chain (place t h))) a (subst (λ z. In q (w.chain z)) (some_is y (place t h) (sym e ∙ ap w.home a ∙ c_pointer.homed)) j)))
+      | inr a ↦ inl (home_other q a ∙ e)
+    ];
+    keeps_child = λ d y e g. none_some (sym (ap home (some_is d c (sym g ∙ has)) ∙ home_c) ∙ e);
+    first = (first_stays c n.lo es holds.2 first_off).1 ∙ ap (λ z. first_child (pointers z)) (sym index);
+    child = λ d e. none_some e;
+    pointer = λ u g at k d j.
+        let o = sub_in c es k d j in
+        let same : place t h ≡ place u g = lower t h u g at in
+        let a : IsPointer nodes w n u g k d = subst (λ (z : Place). IsPointer nodes w n z.tree z.height k d) same (own k d o.0) in (
+          record {
+            node = a.node;
+            live = a.live;
+            homed = a.homed;
+            key = a.key;
+            merged = λ v. absurd (o.1 (some_is d c (sym (a.merged v) ∙ has)));
+          },
+          home_other d o.1 ∙ a.homed,
+        );
+  }
+    where
+      lower : (t : Tree) (h : ℕ) (u : Tree) (g : ℕ) → place t (suc h) ≡ place u (suc g) → place t h ≡ place u g
+      lower t h u g e = let a : t ≡ u = ap (λ (z : Place). z.tree) e in let b : suc h ≡ suc g = ap (λ (z : Place). z.height) e in let d : h ≡ g = omega arith in λ i. place (a i) (d i)
+
+  pub unlinked : (u : Unseen [] nodes (put_node nodes p dropped) roots w (Unit {0})) × IsStray u.after c
+  unlinked = (record { after = after parts f; kept = reflagged_kept parts f; same = reflagged_contents parts f (sym (ap pairs index)); keeps = reflagged_keeps parts f []; sized = λ e. reflagged_sized parts f (λ d b e. none_some e); grows = λ e. reflagged_grows parts f }, λ y e. none_some (sym home_c ∙ e))
+
+-- an index's content
+index_is : (h : ℕ) (lo hi : Key) (c : Data) → Holds (suc h) lo hi c → (es : List (Key × ℕ)) × (c ≡ Index es)
+index_is h lo hi (Leaf es) s = absurd s
+index_is h lo hi (Index es) s = (es, refl)
+
+pub index_at : {nodes : Nodes} {roots : Tree → Option ℕ} {w : Forest} (f : WellFormed nodes roots w) (t : Tree) (h p : ℕ) (n : Node) → In p (w.chain (place t (suc h))) → nodes p ≡ Some n → (es : List (Key × ℕ)) × (n.content ≡ Index es)
+index_at f t h p n i live = index_is h n.lo n.hi n.content (holds_at f (place t (suc h)) p n i live)
+
+pub confirm_law : ConfirmLaw
+confirm_law nodes roots w f t h p c n i live awake has out =
+    let b = index_at f t h p n i live in
+    let same : record n { merging_child = None; content = Index (unpointed c b.0) } ≡ applied ParentMergeConfirm n =
+    ap (λ (z : Data × Option ℕ). record n { content = z.0; merging_child = z.1 }) (sym (ap (λ z. confirmed z n.merging_child) b.1 ∙ ap (confirmed (Index b.0)) has)) in
+    subst (λ (m : Node). (u : Unseen [] nodes (put_node nodes p m) roots w (Unit {0})) × IsStray u.after c) same (unlinked nodes roots w f t h p c n b.0 i live awake has b.1 out)

@@ -1,0 +1,269 @@
+-- The reading walk, which repairs nothing, and how many pages it may look at.
+use Rattle.std.proofs.Common.{◌≡◌, ◌≢◌, ℕ, zero, suc, ◌+◌, ◌<◌, ◌≤◌, ◌^◌, Bool, true, false, List, [], ◌∷◌, ◌++◌, length, length-append, Option, Some, None, MatchOption, option_map, sym, refl, ap, ◌∙◌, subst, inl, inr, append_assoc, arith}
+use Rattle.sled_pages.specs.In.{In}
+use Rattle.sled_pages.specs.Node.{pointers}
+use Rattle.sled_pages.specs.Order.{Key, Below, UpTo}
+use Rattle.sled_pages.specs.State.{Nodes, nodes_of}
+use Rattle.sled_pages.specs.declared.node.Node.{Node}
+use Rattle.sled_pages.specs.declared.node.Data.{Data}
+use Rattle.sled_pages.specs.declared.node.Data.TheVariants.{Leaf, Index}
+use Rattle.sled_pages.specs.declared.page.Page.{Page}
+use Rattle.tree_laws.specs.Forest.{Tree, Forest, Place, place, head, first_child, Holds, Run, WellFormed, later}
+use Rattle.tree_laws.specs.Contents.{page_numbers, next_of, first_of}
+use Rattle.tree_laws.specs.Paths.{IsLastPointer, IsPassed, CleanFrom, length_along, pages_under, pages_below, IsAhead}
+use Rattle.tree_laws.specs.Laws.{PagesLaw, CleanLaw}
+use Rattle.tree_laws.proofs.Order.{below_upto-trans, below_irrefl}
+use Rattle.tree_laws.proofs.Runs.{In_split, In-right, run_parts}
+use Rattle.tree_laws.proofs.Replace.{some_is, head_in}
+use Rattle.tree_laws.proofs.Cover.{chain_run}
+use Rattle.tree_laws.proofs.Inside.{behind}
+use Rattle.tree_laws.proofs.Reading.{child_of}
+use Rattle.tree_laws.proofs.Cover.{holds_at}
+use Rattle.tree_laws.proofs.Known.{root_in, leaf_in, index_high}
+use Rattle.tree_laws.proofs.Fuel.{page_numbers_is, chain_few, levels_few}
+
+none_some : {P A : Type 0} {a : A} → None ≡ Some a → P
+none_some e = cc
+
+module _ {nodes : Nodes} {roots : Tree → Option ℕ} {w : Forest} (f : WellFormed nodes roots w) where
+  -- where a pointer that is not to the merging child leads stands in the chain below
+  pub pointer_in : (t : Tree) (h p : ℕ) (n : Node) (k : Key) (c : ℕ) → In p (w.chain (place t (suc h))) → nodes p ≡ Some n → In (k, c) (pointers n.content) → n.merging_child ≢ Some c
+      → (d : Node) × In c (w.chain (place t h)) × (nodes c ≡ Some d) × (d.lo ≡ k)
+  pointer_in t h p n k c i live j off =
+      let a = f.pointer t h p n i live k c j in
+      let b = f.page (place t h) c a.homed in
+      (a.node, elim b.1.stands [ inl e ↦ e | inr m ↦ absurd (off (a.merged (subst (λ (z : Node). z.merging ≡ true) (some_is b.0 a.node (sym b.1.live ∙ a.live)) m))) ], a.live, a.key)
+
+  -- the first pointer is never to the merging child
+  pub first_not_child : (t : Tree) (h p : ℕ) (n : Node) → head (w.chain (place t (suc h))) ≡ Some p → nodes p ≡ Some n → (c : ℕ) → first_child (pointers n.content) ≡ Some c → head (w.chain (place t h)) ≡ Some c
+  first_not_child t h p n e live c is = f.down t h p n e live ∙ is
+
+  -- where the next page leads stands in the chain too, and begins where this one ends
+  pub next_in : (x : Place) (p q : ℕ) (n : Node) → In p (w.chain x) → nodes p ≡ Some n → n.next ≡ Some q → (d : Node) × In q (w.chain x) × (nodes q ≡ Some d) × (d.lo ≡ n.hi)
+  next_in x p q n i live next =
+      let s = In_split (w.chain x) p i in
+      let whole : Run nodes (s.0 ++ (p ∷ s.1)) (head (w.chain x)) [] None [] = subst (λ z. Run nodes z (head (w.chain x)) [] None []) s.2 (chain_run f x p i) in
+      let r = run_parts nodes s.0 (p ∷ s.1) _ _ _ _ whole in
+      go s.0 s.1 s.2 r.3.0 (some_is r.3.0 n (sym r.3.1.live ∙ live)) r.3.2
+    where
+      go : (xs zs : List ℕ) → w.chain x ≡ xs ++ (p ∷ zs) → (m : Node) → m ≡ n → Run nodes zs m.next m.hi None [] → (d : Node) × In q (w.chain x) × (nodes q ≡ Some d) × (d.lo ≡ n.hi)
+      go xs [] e m is r = none_some (sym r.0 ∙ ap (λ (z : Node). z.next) is ∙ next)
+      go xs (z ∷ zs) e m is r =
+          let same : z ≡ q = some_is z q (sym r.1.here ∙ ap (λ (z : Node). z.next) is ∙ next) in
+          (r.0, subst (λ l. In q l) (sym e) (In-right xs (p ∷ (z ∷ zs)) q (inr (inl (sym same)))), ap nodes (sym same) ∙ r.1.live, sym r.1.lo_is ∙ ap (λ (z : Node). z.hi) is)
+
+  -- a page with an upper bound has a next page
+  pub next_some : (x : Place) (p : ℕ) (n : Node) → In p (w.chain x) → nodes p ≡ Some n → n.hi ≢ [] → (q : ℕ) × (n.next ≡ Some q)
+  next_some x p n i live more = elim (behind f x p n i live) [ inl e ↦ absurd (more e) | inr a ↦ (a.0, a.5) ]
+
+  -- the pages ahead of a page of a chain
+  pub ahead_at : (t : Tree) (h p : ℕ) → In p (w.chain (place t h)) → (n : ℕ) × IsAhead w t h p n
+  ahead_at t h p i =
+      let s = In_split (w.chain (place t h)) p i in
+      (length (p ∷ s.1) + pages_below w t h, record { before = s.0; behind = s.1; is = s.2; count = refl })
+
+  -- they are no more than the pages of the level and below it
+  pub ahead_few : (t : Tree) (h p n : ℕ) → IsAhead w t h p n → n ≤ pages_below w t (suc h)
+  ahead_few t h p n a =
+      let l : length (w.chain (place t h)) ≡ length a.before + length (p ∷ a.behind) = ap length a.is ∙ length-append a.before (p ∷ a.behind) in
+      go n (length (w.chain (place t h))) (length a.before) (length (p ∷ a.behind)) (pages_below w t h) l a.count
+    where
+      go : (n l b r low : ℕ) → l ≡ b + r → n ≡ r + low → n ≤ l + low
+      go n l b r low e g = omega arith
+
+  -- a step to the next page leaves one page less ahead
+  pub ahead_next : (t : Tree) (h p q n : ℕ) (d : Node) → IsAhead w t h p n → nodes p ≡ Some d → d.next ≡ Some q → (k : ℕ) × (k < n) × IsAhead w t h q k
+  ahead_next t h p q n d a live next =
+      let i : In p (w.chain (place t h)) = subst (λ l. In p l) (sym a.is) (In-right a.before (p ∷ a.behind) p (inl refl)) in
+      let whole : Run nodes (a.before ++ (p ∷ a.behind)) (head (w.chain (place t h))) [] None [] = subst (λ z. Run nodes z (head (w.chain (place t h))) [] None []) a.is (chain_run f (place t h) p i) in
+      let r = run_parts nodes a.before (p ∷ a.behind) _ _ _ _ whole in
+      go a.behind a.is a.count r.3.0 (some_is r.3.0 d (sym r.3.1.live ∙ live)) r.3.2
+    where
+      go : (ys : List ℕ) → w.chain (place t h) ≡ a.before ++ (p ∷ ys) → n ≡ length (p ∷ ys) + pages_below w t h → (m : Node) → m ≡ d → Run nodes ys m.next m.hi None [] → (k : ℕ) × (k < n) × IsAhead w t h q k
+      go [] e c m is r = none_some (sym r.0 ∙ ap (λ (z : Node). z.next) is ∙ next)
+      go (y ∷ ys) e c m is r =
+          let same : y ≡ q = some_is y q (sym r.1.here ∙ ap (λ (z : Node). z.next) is ∙ next) in (
+            length (y ∷ ys) + pages_below w t h,
+            less (length (y ∷ ys)) (pages_below w t h) c,
+            record { before = a.before ++ (p ∷ []); behind = ys; is = e ∙ ap (λ z. a.before ++ (p ∷ (z ∷ ys))) same ∙ sym (append_assoc a.before (p ∷ []) (q ∷ ys)); count = refl },
+          )
+        where
+          less : (l low : ℕ) → n ≡ suc l + low → l + low < n
+          less l low g = omega arith
+
+  -- and so does a step down
+  pub ahead_down : (t : Tree) (h p c n : ℕ) → IsAhead w t (suc h) p n → In c (w.chain (place t h)) → (k : ℕ) × (k < n) × IsAhead w t h c k
+  ahead_down t h p c n a i =
+      let b = ahead_at t h c i in
+      (b.0, less b.0 n (length a.behind) (pages_below w t (suc h)) (ahead_few t h c b.0 b.1) a.count, b.1)
+    where
+      less : (k n l low : ℕ) → k ≤ low → n ≡ suc l + low → k < n
+      less k n l low e g = omega arith
+
+-- the count as a function is the forest's
+length_run : (n : ℕ) (nodes : Nodes) (ps : List ℕ) (from : Option ℕ) (lo hi : Key) → length ps ≤ n → Run nodes ps from lo None hi → length_along n nodes from ≡ length ps
+length_run n nodes [] from lo hi l r = ap (length_along n nodes) r.0 ∙ none n
+  where
+    none : (n : ℕ) → length_along n nodes None ≡ 0
+    none zero = refl
+    none (suc n) = refl
+length_run zero nodes (p ∷ ps) from lo hi l r = absurd (no l)
+  where
+    no : length (p ∷ ps) ≤ 0 → ⊥
+    no l = omega arith
+length_run (suc n) nodes (p ∷ ps) from lo hi l r =
+    ap (length_along (suc n) nodes) r.1.here ∙ ap (λ o. length_along n nodes (next_of o) + 1) r.1.live ∙ ap (λ z. z + 1) (length_run n nodes ps r.0.next r.0.hi hi (omega arith) r.2) ∙ one (length ps)
+  where
+    one : (k : ℕ) → k + 1 ≡ suc k
+    one k = omega arith
+
+leaf_none : (lo hi : Key) (c : Data) → Holds 0 lo hi c → first_child (pointers c) ≡ None
+leaf_none lo hi (Leaf es) h = refl
+leaf_none lo hi (Index es) h = absurd h
+
+module _ {nodes : Nodes} {roots : Tree → Option ℕ} {w : Forest} (f : WellFormed nodes roots w) (below : (p : ℕ) (d : Node) → nodes p ≡ Some d → p < page_numbers) where
+  level_length : (t : Tree) (h p : ℕ) → head (w.chain (place t h)) ≡ Some p → length_along page_numbers nodes (Some p) ≡ length (w.chain (place t h))
+  level_length t h p e = ap (length_along page_numbers nodes) (sym e) ∙ length_run page_numbers nodes (w.chain (place t h)) _ [] [] (chain_few f page_numbers below (place t h)) (chain_run f (place t h) p (head_in _ p e))
+
+  under_count : (t : Tree) (h n p : ℕ) → suc h ≤ n → head (w.chain (place t h)) ≡ Some p → pages_under n nodes (Some p) ≡ pages_below w t (suc h)
+  under_count t h zero p l e = absurd (no l)
+    where
+      no : suc h ≤ 0 → ⊥
+      no l = omega arith
+  under_count t zero (suc n) p l e =
+      let i = head_in _ p e in
+      let d = f.page (place t 0) p (f.homed (place t 0) p i) in
+      ap (λ z. z + pages_under n nodes (first_of (nodes p))) (level_length t 0 p e) ∙ ap (λ z. length (w.chain (place t 0)) + z) (ap (pages_under n nodes) (ap first_of d.1.live ∙ leaf_none d.0.lo d.0.hi d.0.content d.1.sound.holds) ∙ none n)
+    where
+      none : (n : ℕ) → pages_under n nodes None ≡ 0
+      none zero = refl
+      none (suc n) = refl
+  under_count t (suc h) (suc n) p l e =
+      let i = head_in _ p e in
+      let d = f.page (place t (suc h)) p (f.homed (place t (suc h)) p i) in
+      let c = child_of f t h p d.0 e d.1.live in
+      ap (λ z. z + pages_under n nodes (first_of (nodes p))) (level_length t (suc h) p e) ∙ ap (λ z. length (w.chain (place t (suc h))) + z) (ap (pages_under n nodes) (ap first_of d.1.live ∙ c.1) ∙ under_count t h n c.0 (omega arith) c.2)
+
+-- how many pages a tree has
+pub pages_law : PagesLaw
+pages_law s w f below t root is =
+    let m = subst (λ o. MatchOption o ((h : ℕ) → w.chain (place t h) ≡ []) (λ r. (h : ℕ) × (head (w.chain (place t h)) ≡ Some r) × (w.chain (place t (suc h)) ≡ []))) is (f.top t) in
+    (m.0, head_in _ root m.1, ap (pages_under page_numbers (nodes_of s)) is ∙ under_count f nodes_below t m.0 page_numbers root (levels_few f page_numbers nodes_below t m.0 root m.1) m.1)
+  where
+    nodes_below : (p : ℕ) (d : Node) → nodes_of s p ≡ Some d → p < page_numbers
+    nodes_below p d e = subst (λ n. p < n) (sym page_numbers_is) (look (s.pages p) refl e)
+      where
+        look : (o : Option Page) → s.pages p ≡ o → option_map (λ (g : Page). g.node) o ≡ Some d → p < 2 ^ 64
+        look None a b = none_some b
+        look (Some g) a b = below p g a
+
+-- clean paths
+
+-- the last pointer at or below a key is one
+last_one : (es xs ys us vs : List (Key × ℕ)) (key a b : Key) (c d : ℕ) → es ≡ xs ++ (a, c) ∷ ys → es ≡ us ++ (b, d) ∷ vs → UpTo a key → UpTo b key
+    → ((k : Key) (e : ℕ) → In (k, e) ys → Below key k) → ((k : Key) (e : ℕ) → In (k, e) vs → Below key k) → (xs ≡ us) × (a ≡ b) × (c ≡ d)
+last_one es [] ys [] vs key a b c d e g p q h k = let s : (a, c) ∷ ys ≡ (b, d) ∷ vs = sym e ∙ g in (refl, ap (λ (z : Key × ℕ). z.0) (first s), ap (λ (z : Key × ℕ). z.1) (first s))
+  where
+    first : {x y : Key × ℕ} {xs ys : List (Key × ℕ)} → x ∷ xs ≡ y ∷ ys → x ≡ y
+    first e = cc
+last_one es [] ys (u ∷ us) vs key a b c d e g p q h k =
+    let s : ys ≡ us ++ (b, d) ∷ vs = rest (sym e ∙ g) in
+    absurd (below_irrefl key (below_upto-trans key b key (h b d (subst (λ l. In (b, d) l) (sym s) (In-right us ((b, d) ∷ vs) (b, d) (inl refl)))) q))
+  where
+    rest : {x y : Key × ℕ} {xs ys : List (Key × ℕ)} → x ∷ xs ≡ y ∷ ys → xs ≡ ys
+    rest e = cc
+last_one es (x ∷ xs) ys [] vs key a b c d e g p q h k =
+    let s : xs ++ (a, c) ∷ ys ≡ vs = rest (sym e ∙ g) in
+    absurd (below_irrefl key (below_upto-trans key a key (k a c (subst (λ l. In (a, c) l) s (In-right xs ((a, c) ∷ ys) (a, c) (inl refl)))) p))
+  where
+    rest : {x y : Key × ℕ} {xs ys : List (Key × ℕ)} → x ∷ xs ≡ y ∷ ys → xs ≡ ys
+    rest e = cc
+last_one es (x ∷ xs) ys (u ∷ us) vs key a b c d e g p q h k =
+    let s : x ∷ (xs ++ (a, c) ∷ ys) ≡ u ∷ (us ++ (b, d) ∷ vs) = sym e ∙ g in
+    let r = last_one (xs ++ (a, c) ∷ ys) xs ys us vs key a b c d refl (rest s) p q h k in
+    (same (first s) r.0, r.1, r.2)
+  where
+    first : {x y : Key × ℕ} {xs ys : List (Key × ℕ)} → x ∷ xs ≡ y ∷ ys → x ≡ y
+    first e = cc
+
+    rest : {x y : Key × ℕ} {xs ys : List (Key × ℕ)} → x ∷ xs ≡ y ∷ ys → xs ≡ ys
+    rest e = cc
+
+    same : x ≡ u → xs ≡ us → x ∷ xs ≡ u ∷ us
+    same e g = cc
+
+-- a pointer of an index that is the last at or below the key is the one that a clean path takes
+pub last_is : {es : List (Key × ℕ)} {key l m : Key} {c d : ℕ} {a b : Bool} → IsLastPointer es key l c a → IsLastPointer es key m d b → (l ≡ m) × (c ≡ d) × (a ≡ b)
+last_is {a} {b} p q =
+    let r = last_one _ p.before p.behind q.before q.behind _ _ _ _ _ p.is q.is p.upto q.upto p.beyond q.beyond in
+    (r.1, r.2, flags a b p.is_first p.is_later q.is_first q.is_later r.0)
+  where
+    flags : (a b : Bool) → (a ≡ true → p.before ≡ []) → (a ≡ false → p.before ≢ []) → (b ≡ true → q.before ≡ []) → (b ≡ false → q.before ≢ []) → p.before ≡ q.before → a ≡ b
+    flags true true x y z u e = refl
+    flags false false x y z u e = refl
+    flags true false x y z u e = absurd (u refl (sym e ∙ x refl))
+    flags false true x y z u e = absurd (y refl (e ∙ z refl))
+
+-- the page at which a clean path stands is passed
+pub clean_page : (nodes : Nodes) (key : Key) (path : List ℕ) (p : ℕ) (first : Bool) → CleanFrom nodes key p first path → (n : Node) → nodes p ≡ Some n → IsPassed nodes key p first n
+clean_page nodes key [] p first c n live = absurd c
+clean_page nodes key (q ∷ rest) p first c n live = subst (λ (z : Node). IsPassed nodes key p first z) (some_is c.1 n (sym c.2.live ∙ live)) c.2
+
+-- from an index it goes one down the list
+pub clean_down : (nodes : Nodes) (key : Key) (path : List ℕ) (p : ℕ) (first : Bool) → CleanFrom nodes key p first path → (n : Node) (es : List (Key × ℕ)) → nodes p ≡ Some n → n.content ≡ Index es → (l : Key) (c : ℕ) (b : Bool) → IsLastPointer es key l c b
+    → (rest : List ℕ) × (path ≡ p ∷ rest) × CleanFrom nodes key c b rest
+clean_down nodes key [] p first k n es live index l c b last = absurd k
+clean_down nodes key (q ∷ rest) p first k n es live index l c b last =
+    let same : k.1 ≡ n = some_is k.1 n (sym k.2.live ∙ live) in
+    elim k.3 [
+      | inl a ↦ absurd (apart (sym (ap (λ (z : Node). z.content) (sym same) ∙ a.1) ∙ index))
+      | inr a ↦
+          let list : a.0 ≡ es = one (sym a.1 ∙ ap (λ (z : Node). z.content) same ∙ index) in
+          let e = last_is (subst (λ z. IsLastPointer z key a.2 a.3 a.4) list a.5) last in
+          (rest, ap (λ z. z ∷ rest) k.0, subst (λ z. CleanFrom nodes key z b rest) e.1 (subst (λ z. CleanFrom nodes key a.3 z rest) e.2 a.6))
+    ]
+  where
+    apart : {xs : List (Key × Key)} {ys : List (Key × ℕ)} → Leaf xs ≡ Index ys → ⊥
+    apart e = cc
+
+    one : {xs ys : List (Key × ℕ)} → Index xs ≡ Index ys → xs ≡ ys
+    one e = cc
+
+-- at a leaf it ends
+pub clean_leaf : (nodes : Nodes) (key : Key) (path : List ℕ) (p : ℕ) (first : Bool) → CleanFrom nodes key p first path → (n : Node) (es : List (Key × Key)) → nodes p ≡ Some n → n.content ≡ Leaf es → path ≡ p ∷ []
+clean_leaf nodes key [] p first k n es live leaf = absurd k
+clean_leaf nodes key (q ∷ rest) p first k n es live leaf =
+    let same : k.1 ≡ n = some_is k.1 n (sym k.2.live ∙ live) in
+    elim k.3 [
+      | inl a ↦ ap (λ z. z ∷ rest) k.0 ∙ ap (λ z. p ∷ z) a.2
+      | inr a ↦ absurd (apart (sym (ap (λ (z : Node). z.content) (sym same) ∙ a.1) ∙ leaf))
+    ]
+  where
+    apart : {xs : List (Key × Key)} {ys : List (Key × ℕ)} → Index ys ≡ Leaf xs → ⊥
+    apart e = cc
+
+-- the last pointer is one of the index, and a later one if it is not the first
+pub last_in : {es : List (Key × ℕ)} {key l : Key} {c : ℕ} {b : Bool} → IsLastPointer es key l c b → In (l, c) es × (b ≡ false → In (l, c) (later es))
+last_in {es} {key} {l} {c} {b} k = (subst (λ z. In (l, c) z) (sym k.is) (In-right k.before ((l, c) ∷ k.behind) (l, c) (inl refl)), λ e. subst (λ z. In (l, c) (later z)) (sym k.is) (go k.before (k.is_later e)))
+  where
+    go : (xs : List (Key × ℕ)) → xs ≢ [] → In (l, c) (later (xs ++ (l, c) ∷ k.behind))
+    go [] off = absurd (off refl)
+    go (x ∷ xs) off = In-right xs ((l, c) ∷ k.behind) (l, c) (inl refl)
+
+-- a clean path from a page of a level has a page of each level from there on
+clean_length : {nodes : Nodes} {roots : Tree → Option ℕ} {w : Forest} (f : WellFormed nodes roots w) (t : Tree) (key : Key) (path : List ℕ) (h p : ℕ) (first : Bool) → In p (w.chain (place t h)) → CleanFrom nodes key p first path → length path ≡ suc h
+clean_length f t key [] h p first i k = absurd k
+clean_length {nodes} {roots} {w} f t key (q ∷ rest) h p first i k = elim k.3 [
+  | inl a ↦ ap (λ z. length (q ∷ z)) a.2 ∙ ap suc (sym (leaf_in f t h p k.1 a.0 i k.2.live a.1))
+  | inr a ↦
+      let up = index_high h k.1.lo k.1.hi a.0 (subst (λ d. Holds h k.1.lo k.1.hi d) a.1 (holds_at f (place t h) p k.1 i k.2.live)) in
+      let i' : In p (w.chain (place t (suc up.0))) = subst (λ z. In p (w.chain (place t z))) up.1 i in
+      let j : In (a.2, a.3) (pointers k.1.content) = subst (λ d. In (a.2, a.3) (pointers d)) (sym a.1) (last_in a.5).0 in
+      let c = pointer_in f t up.0 p k.1 a.2 a.3 i' k.2.live j (λ e. none_some (sym k.2.is_open.free ∙ e)) in
+      ap suc (clean_length f t key rest up.0 a.3 a.4 c.1 a.6) ∙ sym (ap suc up.1)
+]
+
+pub clean_law : CleanLaw
+clean_law s w f t key path k =
+    let r = root_in f t k.root k.is_root in
+    (r.0, k.root, k.is_root, r.2, clean_length f t key path r.0 k.root true r.2 k.clean)
