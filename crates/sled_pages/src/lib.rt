@@ -11,6 +11,9 @@ mod page;
 mod pages;
 mod pairs;
 mod pid;
+#[cfg(test)]
+mod tests;
+pub mod texts;
 
 pub use error::{Error, Fault, Result};
 pub use ivec::IVec;
