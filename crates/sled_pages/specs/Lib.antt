@@ -15,3 +15,5 @@ pub mod Memory
 pub mod Faults
 pub mod Laws
 pub mod Client
+pub mod Halves
+pub mod Posting
