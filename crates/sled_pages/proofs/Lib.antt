@@ -5,3 +5,4 @@ pub mod Roots
 pub mod Answered
 pub mod Back
 pub mod Runs
+pub mod Found

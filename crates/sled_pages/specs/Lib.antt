@@ -17,3 +17,5 @@ pub mod Laws
 pub mod Client
 pub mod Halves
 pub mod Posting
+pub mod Among
+pub mod Places

@@ -1,6 +1,7 @@
 //! Byte strings, nodes and the store of pages.
 #![tactic(auto)]
 
+mod among;
 mod client;
 mod error;
 mod ivec;
