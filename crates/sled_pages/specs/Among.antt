@@ -1,5 +1,5 @@
 -- Entries within a bound, and the first and the last of them.
-use Rattle.std.specs.Prelude.{◌≡◌, ℕ, Bool, true, false, not, nat_eq, length, List, [], ◌∷◌, ◌++◌}
+use Rattle.std.specs.Prelude.{◌≡◌, ℕ, Bool, true, false, not, nat_eq, length, List, [], ◌∷◌, ◌++◌, Option, MatchOption}
 use Rattle.std.proofs.Common.{Bor}
 use Rattle.std.specs.List.{list_any}
 use Rattle.std.specs.Ordering.{is_gt, is_lt}
@@ -47,6 +47,18 @@ pub record IsPointer (bound : Bound Key) (es : List (Key × ℕ)) (c : ℕ) (fir
   pub last : IsLast (λ e. is_up_to bound e.0) es (key, c)
   pub is_first : first ≡ nat_eq (length last.before) 0
 
+-- the first pair whose key is within a lower bound, or none is
+abbrev pub IsSuccessor : Bound Key → List (Key × Key) → Option (Key × Key) → Type 0
+IsSuccessor bound es found = MatchOption found (list_any (λ e. is_from bound e.0) es ≡ false) (IsFirst (λ e. is_from bound e.0) es)
+
+-- the last pair whose key is within an upper bound, or none is
+abbrev pub IsPredecessor : Bound Key → List (Key × Key) → Option (Key × Key) → Type 0
+IsPredecessor bound es found = MatchOption found (list_any (λ e. is_up_to bound e.0) es ≡ false) (IsLast (λ e. is_up_to bound e.0) es)
+
+-- the same of pointers
+abbrev pub IsPointerFor : Bound Key → List (Key × ℕ) → Option (ℕ × Bool) → Type 0
+IsPointerFor bound es found = MatchOption found (list_any (λ e. is_up_to bound e.0) es ≡ false) (λ c. IsPointer bound es c.0 c.1)
+
 -- the pointer just before the first one to c leads to b
 pub record IsBefore (c : ℕ) (es : List (Key × ℕ)) (b : ℕ) : Type 0 where
   pub front : List (Key × ℕ)
@@ -55,3 +67,6 @@ pub record IsBefore (c : ℕ) (es : List (Key × ℕ)) (b : ℕ) : Type 0 where
   pub after : List (Key × ℕ)
   pub is : es ≡ (front ++ (low, b) ∷ []) ++ (key, c) ∷ after
   pub none : list_any (λ e. nat_eq e.1 c) (front ++ (low, b) ∷ []) ≡ false
+
+abbrev pub IsPointerBefore : ℕ → List (Key × ℕ) → Option ℕ → Type 0
+IsPointerBefore c es found = MatchOption found ((b : ℕ) → IsBefore c es b → ⊥) (IsBefore c es)

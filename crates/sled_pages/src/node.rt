@@ -4,15 +4,18 @@ ghost use Rattle.sled_pages.specs.declared.error.Error.TheVariants.{NoMemory};
 ghost use Rattle.std.specs.FinMap.Entries.{put, find};
 ghost use Rattle.std.specs.Option.{option_copied};
 ghost use Rattle.sled_pages.specs.Order.{key_cmp};
-ghost use Rattle.sled_pages.specs.Node.{applied, count, value_at as value_in, without, unpointed};
+ghost use Rattle.sled_pages.specs.Node.{applied, count, pairs, pointers, value_at as value_in, without, unpointed};
 ghost use Rattle.sled_pages.specs.Halves.{first_half, second_half, first_half_of, second_half_of, first_key, first_key_of, left_half, right_half, appended, received};
+ghost use Rattle.sled_pages.specs.Among.{bound_of, IsSuccessor, IsPredecessor, IsPointerFor, IsPointerBefore};
 ghost use Rattle.sled_pages.specs.Posting.{IsOpen, IsIndex, Posts};
 
+use crate::among::{first_place, last_place, place_of};
 use crate::error::Result;
 use crate::pairs::{put_pair, take_out, value_at};
 use crate::{IVec, Link, Pid};
 use std::alloc::Global;
 use std::marker::Model;
+use std::ops::Bound;
 
 // A node of more entries is split, and one of as few or fewer is merged.
 const MOST: usize = 16;
@@ -202,6 +205,28 @@ impl Leaf {
         key_of_first(alloc, self.pairs.as_slice())
     }
 
+    // The first pair within a lower bound.
+    fn first_from(&self, bound: Bound<&[u8]>) -> Result<Option<(IVec, IVec)>>
+        ensures ok { IfOk result (IsSuccessor (bound_of bound.entry) self.now) }
+        ensures err { IfErr result (λ e. e ≡ NoMemory) }
+    {
+        match first_place(self.pairs.as_slice(), bound) {
+            Some(i) => Ok(Some((self.pairs[i].0.clone()?, self.pairs[i].1.clone()?))),
+            None => Ok(None),
+        }
+    }
+
+    // The last pair within an upper bound.
+    fn last_up_to(&self, bound: Bound<&[u8]>) -> Result<Option<(IVec, IVec)>>
+        ensures ok { IfOk result (IsPredecessor (bound_of bound.entry) self.now) }
+        ensures err { IfErr result (λ e. e ≡ NoMemory) }
+    {
+        match last_place(self.pairs.as_slice(), bound) {
+            Some(i) => Ok(Some((self.pairs[i].0.clone()?, self.pairs[i].1.clone()?))),
+            None => Ok(None),
+        }
+    }
+
     #[tactic(auto, unfolding(crate::specs::Order::key_cmp))]
     fn get(&self, key: &[u8]) -> Option<&IVec>
         ensures { option_copied result ≡ find key_cmp key.now self.now }
@@ -304,6 +329,27 @@ impl Index {
         }
         put_pair(&mut self.pointers, at, pid)?;
         Ok(true)
+    }
+
+    // The last pointer within an upper bound, and whether it is the first of all.
+    fn last_up_to(&self, bound: Bound<&[u8]>) -> Option<(Pid, bool)>
+        ensures { IsPointerFor (bound_of bound.entry) self.now result }
+    {
+        match last_place(self.pointers.as_slice(), bound) {
+            Some(i) => Some((self.pointers[i].1, i == 0)),
+            None => None,
+        }
+    }
+
+    // The pointer before the one to a page.
+    fn before(&self, to: Pid) -> Option<Pid>
+        ensures { IsPointerBefore to self.now result }
+    {
+        match place_of(self.pointers.as_slice(), to) {
+            Some(0) => None,
+            Some(i) => Some(self.pointers[i - 1].1),
+            None => None,
+        }
     }
 
     fn del_to(&mut self, to: Pid)
@@ -535,6 +581,49 @@ impl Node {
         match &self.content {
             Data::Leaf(_) => false,
             Data::Index(_) => self.is_open(),
+        }
+    }
+
+    /// An index's last pointer whose key is within an upper bound, and whether it is the first of all pointers.
+    /// `None` where no key is within the bound. It takes no memory.
+    pub fn pointer(&self, bound: Bound<&[u8]>) -> Option<(Pid, bool)>
+        ensures { IsPointerFor (bound_of bound.entry) (pointers self.now.content) result }
+    {
+        match &self.content {
+            Data::Leaf(_) => None,
+            Data::Index(index) => index.last_up_to(bound),
+        }
+    }
+
+    /// The pointer before an index's first one to this page. `None` where there is no such pointer. It takes no memory.
+    pub fn pointer_before(&self, pid: Pid) -> Option<Pid>
+        ensures { IsPointerBefore pid (pointers self.now.content) result }
+    {
+        match &self.content {
+            Data::Leaf(_) => None,
+            Data::Index(index) => index.before(pid),
+        }
+    }
+
+    /// A leaf's first pair whose key is within a lower bound. Refused with `NoMemory` alone.
+    pub fn successor(&self, bound: Bound<&[u8]>) -> Result<Option<(IVec, IVec)>>
+        ensures ok { IfOk result (IsSuccessor (bound_of bound.entry) (pairs self.now.content)) }
+        ensures err { IfErr result (λ e. e ≡ NoMemory) }
+    {
+        match &self.content {
+            Data::Leaf(leaf) => leaf.first_from(bound),
+            Data::Index(_) => Ok(None),
+        }
+    }
+
+    /// A leaf's last pair whose key is within an upper bound. Refused with `NoMemory` alone.
+    pub fn predecessor(&self, bound: Bound<&[u8]>) -> Result<Option<(IVec, IVec)>>
+        ensures ok { IfOk result (IsPredecessor (bound_of bound.entry) (pairs self.now.content)) }
+        ensures err { IfErr result (λ e. e ≡ NoMemory) }
+    {
+        match &self.content {
+            Data::Leaf(leaf) => leaf.last_up_to(bound),
+            Data::Index(_) => Ok(None),
         }
     }
 }
