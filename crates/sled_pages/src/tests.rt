@@ -2,6 +2,7 @@ use super::{texts, *};
 use crate::client::{may_leave_base, open_tree, two_links};
 use std::alloc::Global;
 use std::cmp::Ordering;
+use std::ops::Bound;
 use std::process::Abort;
 use std::test::Fail;
 
@@ -346,5 +347,179 @@ fn a_client_needs_the_contract_alone(rt: HostRuntime) -> std::result::Result<(),
     assert!(rt; !two_links(&mut pages, &view, set(alloc, 3)?, set(alloc, 4)?)?);
     assert!(rt; !pages.in_group());
     assert_eq!(rt; open_tree(&mut pages, b"t", leaf(alloc)?)?, None);
+    Ok(())
+}
+
+// A leaf of the keys [1] to [count], each to itself.
+fn leaf_of(alloc: Global, count: u8) -> std::result::Result<Node, Fail> {
+    let mut pairs = Vec::new(alloc);
+    for byte in 0..count {
+        pairs.push((key(alloc, byte)?, key(alloc, byte)?))?;
+    }
+    let mut node = leaf(alloc)?;
+    node.content = Data::Leaf(Leaf::from_pairs(alloc, pairs.as_slice())?);
+    Ok(node)
+}
+
+// An index with pointers from the keys [0], [10], [20] to the pages 1, 2, 3.
+fn index(alloc: Global) -> std::result::Result<Node, Fail> {
+    let pointers = [
+        (key(alloc, 0)?, Pid(1)),
+        (key(alloc, 10)?, Pid(2)),
+        (key(alloc, 20)?, Pid(3)),
+    ];
+    let mut node = leaf(alloc)?;
+    node.content = Data::Index(Index::from_pairs(alloc, &pointers)?);
+    Ok(node)
+}
+
+fn first_byte(key: &IVec) -> u8 {
+    match key.as_ref().first() {
+        Some(byte) => *byte,
+        None => 0,
+    }
+}
+
+// How many entries a node has.
+fn entries(node: &Node) -> usize {
+    match &node.content {
+        Data::Leaf(leaf) => leaf.len(),
+        Data::Index(index) => index.len(),
+    }
+}
+
+#[test]
+fn lists_keep_their_entries(rt: HostRuntime) -> std::result::Result<(), Fail> {
+    let alloc = rt.alloc();
+    let node = leaf_of(alloc, 3)?;
+    let copy = node.clone(alloc)?;
+    assert_eq!(rt; entries(&copy), 3);
+    let Data::Leaf(list) = &copy.content else {
+        assert!(rt; false);
+        return Ok(());
+    };
+    let pairs = list.pairs(alloc)?;
+    assert_eq!(rt; pairs.len(), 3);
+    assert_eq!(rt; first_byte(&pairs[2].0), 2);
+    assert_eq!(rt; first_byte(&pairs[2].1), 2);
+    assert_eq!(rt; list.clone(alloc)?.len(), 3);
+    let node = index(alloc)?;
+    let Data::Index(list) = &node.content else {
+        assert!(rt; false);
+        return Ok(());
+    };
+    let pointers = list.pairs(alloc)?;
+    assert_eq!(rt; pointers.len(), 3);
+    assert_eq!(rt; pointers[1].1, Pid(2));
+    assert_eq!(rt; list.clone(alloc)?.len(), 3);
+    Ok(())
+}
+
+#[test]
+fn a_node_is_split_and_received(rt: HostRuntime) -> std::result::Result<(), Fail> {
+    let alloc = rt.alloc();
+    let mut node = leaf_of(alloc, 17)?;
+    node.next = Some(Pid(9));
+    assert!(rt; node.should_split());
+    assert!(rt; !node.should_merge());
+    assert!(rt; !node.can_merge_child());
+    let (left, right) = node.split(alloc)?;
+    assert_eq!(rt; entries(&left), 8);
+    assert_eq!(rt; entries(&right), 9);
+    assert_eq!(rt; first_byte(&left.hi), 8);
+    assert_eq!(rt; first_byte(&right.lo), 8);
+    assert_eq!(rt; left.next, None);
+    assert_eq!(rt; right.next, Some(Pid(9)));
+    assert!(rt; left.lo == node.lo && right.hi == node.hi);
+    let both = left.receive_merge(alloc, &right)?;
+    assert_eq!(rt; entries(&both), 17);
+    assert_eq!(rt; both.next, Some(Pid(9)));
+    assert!(rt; both.lo == node.lo && both.hi == node.hi);
+    let Some(value) = both.get(&[16])? else {
+        assert!(rt; false);
+        return Ok(());
+    };
+    assert_eq!(rt; first_byte(&value), 16);
+    for (count, splits, merges) in [
+        (0, false, true),
+        (3, false, true),
+        (4, false, false),
+        (16, false, false),
+        (17, true, false),
+    ] {
+        let mut node = leaf_of(alloc, count)?;
+        assert_eq!(rt; node.should_split(), splits, "{count}");
+        assert_eq!(rt; node.should_merge(), merges, "{count}");
+        node.merging = true;
+        assert!(rt; !node.should_split() && !node.should_merge(), "{count}");
+    }
+    Ok(())
+}
+
+#[test]
+fn an_index_takes_and_loses_pointers(rt: HostRuntime) -> std::result::Result<(), Fail> {
+    let alloc = rt.alloc();
+    let mut node = index(alloc)?;
+    assert!(rt; node.can_merge_child());
+    assert!(rt; !node.parent_split(key(alloc, 10)?, Pid(7))?);
+    assert_eq!(rt; entries(&node), 3);
+    assert!(rt; node.parent_split(key(alloc, 15)?, Pid(7))?);
+    assert_eq!(rt; node.pointer_before(Pid(3)), Some(Pid(7)));
+    assert_eq!(rt; node.pointer_before(Pid(7)), Some(Pid(2)));
+    assert_eq!(rt; node.pointer_before(Pid(1)), None);
+    assert_eq!(rt; node.pointer_before(Pid(8)), None);
+    node.apply(Link::ParentMergeIntention(Pid(7)))?;
+    assert_eq!(rt; node.merging_child, Some(Pid(7)));
+    assert!(rt; !node.can_merge_child());
+    node.apply(Link::ParentMergeConfirm)?;
+    assert_eq!(rt; node.merging_child, None);
+    assert_eq!(rt; entries(&node), 3);
+    node.apply(Link::ChildMergeCap)?;
+    assert!(rt; node.merging);
+    assert!(rt; !leaf_of(alloc, 2)?.parent_split(key(alloc, 1)?, Pid(7))?);
+    Ok(())
+}
+
+// The first byte of a pair's key.
+fn byte_of(pair: &Option<(IVec, IVec)>) -> Option<u8> {
+    match pair {
+        Some(pair) => Some(first_byte(&pair.0)),
+        None => None,
+    }
+}
+
+#[test]
+fn pointers_are_found_by_bounds(rt: HostRuntime) -> std::result::Result<(), Fail> {
+    let alloc = rt.alloc();
+    let node = index(alloc)?;
+    assert_eq!(rt; node.pointer(Bound::Included(&[])), None);
+    assert_eq!(rt; node.pointer(Bound::Included(&[9])), Some((Pid(1), true)));
+    assert_eq!(rt; node.pointer(Bound::Included(&[10])), Some((Pid(2), false)));
+    assert_eq!(rt; node.pointer(Bound::Excluded(&[10])), Some((Pid(1), true)));
+    assert_eq!(rt; node.pointer(Bound::Unbounded), Some((Pid(3), false)));
+    assert_eq!(rt; leaf_of(alloc, 3)?.pointer(Bound::Unbounded), None);
+    assert!(rt; node.successor(Bound::Unbounded)?.is_none());
+    assert!(rt; node.predecessor(Bound::Unbounded)?.is_none());
+    Ok(())
+}
+
+#[test]
+fn pairs_are_found_by_bounds(rt: HostRuntime) -> std::result::Result<(), Fail> {
+    let alloc = rt.alloc();
+    let node = leaf_of(alloc, 3)?;
+    for (byte, at, above, upto, below) in [
+        (0, Some(0), Some(1), Some(0), None),
+        (1, Some(1), Some(2), Some(1), Some(0)),
+        (2, Some(2), None, Some(2), Some(1)),
+        (3, None, None, Some(2), Some(2)),
+    ] {
+        let bound = [byte];
+        assert_eq!(rt; byte_of(&node.successor(Bound::Included(&bound))?), at);
+        assert_eq!(rt; byte_of(&node.successor(Bound::Excluded(&bound))?), above);
+        assert_eq!(rt; byte_of(&node.predecessor(Bound::Included(&bound))?), upto);
+        assert_eq!(rt; byte_of(&node.predecessor(Bound::Excluded(&bound))?), below);
+    }
+    assert_eq!(rt; byte_of(&node.successor(Bound::Unbounded)?), Some(0));
+    assert_eq!(rt; byte_of(&node.predecessor(Bound::Unbounded)?), Some(2));
     Ok(())
 }
