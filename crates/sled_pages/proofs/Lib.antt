@@ -4,3 +4,5 @@ pub mod Kept
 pub mod Roots
 pub mod Answered
 pub mod Back
+pub mod Runs
+pub mod Found
