@@ -4,3 +4,4 @@ pub mod Kept
 pub mod Roots
 pub mod Answered
 pub mod Back
+pub mod Runs

@@ -1,7 +1,8 @@
 -- What follows of the state now, and of what a crash may leave, from an action. Clients of a store cite these.
-use Rattle.std.proofs.Common.{◌≡◌, ◌≢◌, ℕ, zero, suc, take, true, false, cond, List, [], ◌∷◌, ◌++◌, Option, Some, None, Ok, inl, inr, refl, sym, ap, subst, ◌∙◌, append_assoc, append-nil, if◌then◌else◌}
+use Rattle.std.proofs.Common.{◌≡◌, ◌≢◌, ℕ, zero, suc, take, true, false, cond, List, [], ◌∷◌, ◌++◌, Option, Some, None, Result, Ok, Err, inl, inr, refl, sym, ap, subst, ◌∙◌, append_assoc, append-nil, if◌then◌else◌}
 use Rattle.std.proofs.lemmas.Bool.{eq-eqb, ne_eqb}
 use Rattle.std.proofs.lemmas.Slice.Eq.{bytes_eq-Decides}
+use mathlib.Core.Bool.{true≢false}
 use Rattle.std.specs.Str.{bytes_eq}
 use Rattle.sled_pages.specs.In.{In}
 use Rattle.sled_pages.specs.Order.{Key}
@@ -9,7 +10,7 @@ use Rattle.sled_pages.specs.Update.{put_at, put_name}
 use Rattle.sled_pages.specs.declared.node.Node.{Node}
 use Rattle.sled_pages.specs.declared.page.Page.{Page}
 use Rattle.sled_pages.specs.State.{State, Action, PageBecomes, RootBecomes, after, after_all}
-use Rattle.sled_pages.specs.Store.{Store, now, acted, flushed, ActsAt, Allocates, Changes, Frees, SwapsRoot}
+use Rattle.sled_pages.specs.Store.{Store, now, acted, flushed, ActsAt, Allocates, Changes, Frees, SwapsRoot, AreGiven}
 use Rattle.sled_pages.specs.Crash.{left_from, states_left, MayLeave, Crashes}
 
 -- the state after actions and one more
@@ -147,3 +148,17 @@ left_at (suc k) (a ∷ actions) s e =
 
 pub may_leave_crashed : (keep : ℕ) (old new : Store) → Crashes keep old new → MayLeave old new.base
 may_leave_crashed keep old new h = record { is = subst (λ (x : State). In x (states_left old)) (sym (ap (λ (t : Store). t.base) h.is)) (left_at h.kept old.recent old.base h.sealed) }
+
+-- a swap of a root begins and ends no group, and leaves the pages
+pub swaps_group : (name : Key) (expected proposed : Option ℕ) (old new : Store) (answer : Result (Unit {0}) (Option ℕ)) → SwapsRoot name expected proposed old new answer → (now new).in_group ≡ (now old).in_group
+swaps_group name expected proposed old new (Ok done) h = ap (λ s. s.in_group) (now_swaps name expected proposed done old new h)
+swaps_group name expected proposed old new (Err present) h = ap (λ s. (now s).in_group) h.told.0
+
+pub swaps_pages : (name : Key) (expected proposed : Option ℕ) (old new : Store) (answer : Result (Unit {0}) (Option ℕ)) → SwapsRoot name expected proposed old new answer → (now new).pages ≡ (now old).pages
+swaps_pages name expected proposed old new (Ok done) h = ap (λ s. s.pages) (now_swaps name expected proposed done old new h)
+swaps_pages name expected proposed old new (Err present) h = ap (λ s. (now s).pages) h.told.0
+
+-- a number that was never given has no page
+pub fresh_page : (s : Store) (pid : ℕ) → AreGiven s → s.pids pid ≡ false → (now s).pages pid ≡ None
+fresh_page s pid given fresh =
+    elim ((now s).pages pid) as (λ o. (now s).pages pid ≡ o → o ≡ None) [ None ↦ λ e. refl | Some page ↦ λ e. absurd (true≢false (sym (given.pid pid page e) ∙ fresh)) ] refl

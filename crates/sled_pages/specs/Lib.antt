@@ -14,3 +14,4 @@ pub mod Replay
 pub mod Memory
 pub mod Faults
 pub mod Laws
+pub mod Client

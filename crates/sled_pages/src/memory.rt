@@ -21,7 +21,7 @@ use crate::error::Result;
 use crate::node::copy_pointers;
 use crate::pairs::value_at;
 use crate::{Error, Fault, IVec, Link, Node, Page, Pages, Pid, Version, View};
-use back::{set_root, take_all_back};
+use back::{forget, set_root, take_all_back};
 use slots::{Slot, Slots, push_reserved};
 use std::alloc::Global;
 use undo::Undo;
@@ -124,7 +124,7 @@ impl MemPages {
             ..
         } = self;
         take_all_back(&mut slots, &mut roots, &mut in_group, &mut log, keep)?;
-        log.clear();
+        forget(&mut log);
         Ok(MemPages {
             alloc,
             slots,
@@ -427,7 +427,7 @@ impl Pages for MemPages {
             return Err(e);
         }
         let count = self.log.len();
-        self.log.clear();
+        forget(&mut self.log);
         Ok(count)
     }
 

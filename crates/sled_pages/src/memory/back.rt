@@ -1,5 +1,5 @@
 //! Actions taken back, the last of them first.
-ghost use Rattle.std.specs.Prelude.{◌≡◌, ℕ, true, IfErr, OnOk, OnErr};
+ghost use Rattle.std.specs.Prelude.{◌≡◌, ℕ, [], true, IfErr, OnOk, OnErr};
 ghost use Rattle.std.specs.FinMap.{is_sorted};
 ghost use Rattle.sled_pages.specs.declared.error.Error.TheVariants.{NoMemory};
 ghost use Rattle.sled_pages.specs.Order.{key_cmp};
@@ -79,4 +79,11 @@ pub fn take_all_back(
         }
     }
     Ok(())
+}
+
+// Empties a log.
+pub fn forget(log: &mut Vec<Undo>)
+    ensures { log.new.items ≡ [] }
+{
+    log.clear();
 }

@@ -8,7 +8,7 @@ use Rattle.sled_pages.proofs.memory.MemPagesPages.flush.Goals as goal
 
 pub returns-clause-ok : goal.returns-clause-ok
 returns-clause-ok c = let m = c.count.new.self in
-    flushes (table_of m) m.log.items _ m.actions m.faults m.unreadable.items m.mark m.recovered (places_of m.slots) m.next_version c.clear.ensures.items ∙ ap flushed c.in_default.ensures.same
+    flushes (table_of m) m.log.items _ m.actions m.faults m.unreadable.items m.mark m.recovered (places_of m.slots) m.next_version c.forget.ensures ∙ ap flushed c.in_default.ensures.same
 
 pub returns-clause-count : goal.returns-clause-count
 returns-clause-count c = let m = c.count.new.self in
@@ -17,4 +17,4 @@ returns-clause-count c = let m = c.count.new.self in
 
 pub invariant_of-self-clause-kept : goal.invariant_of-self-clause-kept
 invariant_of-self-clause-kept c = let m = c.count.new.self in
-    flush_keeps (places_of m.slots) (table_of m) _ (sym (group_here m) ∙ (ap (λ s. (now s).in_group) c.in_default.ensures.same ∙ c.requires)) c.clear.ensures.items
+    flush_keeps (places_of m.slots) (table_of m) _ (sym (group_here m) ∙ (ap (λ s. (now s).in_group) c.in_default.ensures.same ∙ c.requires)) c.forget.ensures
