@@ -61,7 +61,11 @@ fn node_pairs_and_next(alloc: Global, node: &Node) -> Result<(Vec<(IVec, IVec)>,
 }
 
 // A page's pairs, and the next page.
-fn read_pairs<P: Pages>(alloc: Global, pages: &P, pid: Pid) -> Result<(Vec<(IVec, IVec)>, Option<Pid>)>
+fn read_pairs<P: Pages>(
+    alloc: Global,
+    pages: &P,
+    pid: Pid,
+) -> Result<(Vec<(IVec, IVec)>, Option<Pid>)>
     ensures ok { IfOk result (λ read. (read.0.items ≡ node_pairs (nodes_of (now (P.store pages.now)) pid)) × (read.1 ≡ next_of (nodes_of (now (P.store pages.now)) pid))) }
     ensures err { IfErr result (RefusesRead (P.store pages.now)) }
 {
@@ -97,7 +101,11 @@ fn pairs_along<P: Pages>(alloc: Global, pages: &P, first: Pid) -> Result<Vec<(IV
 }
 
 /// The pairs of the tree with this root, ascending by key. It reads each page on the way to the first leaf, and each leaf.
-pub(crate) fn pairs_under<P: Pages>(alloc: Global, pages: &P, root: Pid) -> Result<Vec<(IVec, IVec)>>
+pub(crate) fn pairs_under<P: Pages>(
+    alloc: Global,
+    pages: &P,
+    root: Pid,
+) -> Result<Vec<(IVec, IVec)>>
     ensures ok { IfOk result (λ all. all.items ≡ pairs_of_root (nodes_of (now (P.store pages.now))) root) }
     ensures err { IfErr result (RefusesRead (P.store pages.now)) }
 {
