@@ -6,6 +6,7 @@ mod export;
 mod open;
 
 pub use db::Db;
+pub use export::Collection;
 pub use sled_model::{
     Call, Event, MAX_LOOPS, MergeOperator, Outcome, Reply, Slot, Step, Tree, Whole,
 };
