@@ -198,7 +198,7 @@ module _ {P M : Type 0} (store : P → Store) (meant : M → Merge) (old : DbVal
     there =
         ap (λ n. named n (trees_of (now (store old.pages)) f.job.tree.name) (λ n. option_map meant (find nat_cmp n old.operators))) named_now
         ∙ ap (λ m. named (Some f.job.tree.number) m (λ n. option_map meant (find nat_cmp n old.operators)))
-            (trees_at (store old.pages) (numbers_of old.trees) (given_to old.trees_given) db.forest db.is f.job.tree.name ∙ ap (option_map (λ _. contents (nodes_at at) db.forest f.job.tree.name)) named_now)
+        (trees_at (store old.pages) (numbers_of old.trees) (given_to old.trees_given) db.forest db.is f.job.tree.name ∙ ap (option_map (λ _. contents (nodes_at at) db.forest f.job.tree.name)) named_now)
 
     module _ (q : P) (known : IsKnown at f) where
       abbrev after : Moment
@@ -248,17 +248,19 @@ module _ {P M : Type 0} (store : P → Store) (meant : M → Merge) (old : DbVal
 
         pub flies_moved : Flies store meant old f Moved new g
         flies_moved = record {
-          steps = λ slots given slot here. record { told = (
-            record {
-              flying = flying_of f;
-              here = here;
-              free = must;
-              few = few;
-              is = state_over q slots (put_at slots slot (Some (flying_of g))) given (λ t i. moved_trees i t) moved_touches.calm moved_touches.mark
-                  ∙ ap (λ (z : Flying). record (state_of store meant old slots given) { slots = put_at slots slot (Some z) }) flying_more;
-            },
-            refl,
-          ) };
+          steps = λ slots given slot here. record {
+            told = (
+              record {
+                flying = flying_of f;
+                here = here;
+                free = must;
+                few = few;
+                is = state_over q slots (put_at slots slot (Some (flying_of g))) given (λ t i. moved_trees i t) moved_touches.calm moved_touches.mark
+                    ∙ ap (λ (z : Flying). record (state_of store meant old slots given) { slots = put_at slots slot (Some z) }) flying_more;
+              },
+              refl,
+            );
+          };
           extends = moved_extends;
           once = moved_touches.once;
           quiet = λ k. absurd (apart k.reply k.decided);
@@ -289,15 +291,17 @@ module _ {P M : Type 0} (store : P → Store) (meant : M → Merge) (old : DbVal
 
         pub flies_refused : Flies store meant old f (Refused e) new g
         flies_refused = record {
-          steps = λ slots given slot here. record { told = (
-            record {
-              flying = flying_of f;
-              here = here;
-              may = may_refuse slots given (store old.pages) (store q) e (cause_is (state_of store meant old slots given) (flying_of f) e (store old.pages) (store q) moves.touches);
-              is = state_over q slots (put_at slots slot None) given (λ t. ap (λ (s : Rattle.sled_pages.specs.State.State). trees_of s t) (now_rests rests)) refused_calm rests.mark;
-            },
-            refl,
-          ) };
+          steps = λ slots given slot here. record {
+            told = (
+              record {
+                flying = flying_of f;
+                here = here;
+                may = may_refuse slots given (store old.pages) (store q) e (cause_is (state_of store meant old slots given) (flying_of f) e (store old.pages) (store q) moves.touches);
+                is = state_over q slots (put_at slots slot None) given (λ t. ap (λ (s : Rattle.sled_pages.specs.State.State). trees_of s t) (now_rests rests)) refused_calm rests.mark;
+              },
+              refl,
+            );
+          };
           extends = refused_extends;
           once = same rests.actions;
           quiet = λ k. absurd (apart k.reply k.decided);
@@ -374,19 +378,21 @@ module _ {P M : Type 0} (store : P → Store) (meant : M → Merge) (old : DbVal
 
         pub flies_decided : Flies store meant old f (Decided reply) new g
         flies_decided = record {
-          steps = λ slots given slot here. record { told = (
-            record {
-              flying = flying_of f;
-              here = here;
-              free = must;
-              few = few;
-              tree = tree_now;
-              there = there;
-              replies = done.2.replies;
-              is = done_state slots given slot;
-            },
-            refl,
-          ) };
+          steps = λ slots given slot here. record {
+            told = (
+              record {
+                flying = flying_of f;
+                here = here;
+                free = must;
+                few = few;
+                tree = tree_now;
+                there = there;
+                replies = done.2.replies;
+                is = done_state slots given slot;
+              },
+              refl,
+            );
+          };
           extends = subst (λ m. Extends (m ∷ []) (store old.pages) (store q)) (sym same_maps) done_extends;
           once = done_touches.once;
           quiet = λ k. done.2.quiet (ap (λ (t : NamedTree). (answer_of f.job.call t.map).event) (some_is (sym there ∙ k.there)) ∙ k.silent);
@@ -418,13 +424,13 @@ module _ {P M : Type 0} (store : P → Store) (meant : M → Merge) (inside old 
       → Advances (store inside.pages) f went (store q) g → Flies store meant old f went (record inside { pages = q }) g
   flies_as q few went g must known a =
       subst (λ (z : DbValue P M). must_refuse_of (db_state store meant z) (f.job.tree ∷ []) ≡ None → IsKnown (moment (store z.pages) z.trees z.trees_given) f → Flies store meant z f went (record inside { pages = q }) g)
-        e (λ must known. flies_on store meant inside db f must q known few went g a) must known
+      e (λ must known. flies_on store meant inside db f must q known few went g a) must known
 
   pub db_as : (q : P) (few : f.turns < MAX_LOOPS) (went : Went) (g : Flight) → must_refuse_of (db_state store meant old) (f.job.tree ∷ []) ≡ None → IsKnown (moment (store old.pages) old.trees old.trees_given) f
       → Advances (store inside.pages) f went (store q) g → IsDb (store q) inside.trees inside.trees_given
   db_as q few went g must known a =
       subst (λ (z : DbValue P M). must_refuse_of (db_state store meant z) (f.job.tree ∷ []) ≡ None → IsKnown (moment (store z.pages) z.trees z.trees_given) f → IsDb (store q) inside.trees inside.trees_given)
-        e (λ must known. db_on store meant inside db f must q known few went g a) must known
+      e (λ must known. db_on store meant inside db f must q known few went g a) must known
 
   pub untested_as : (g : Flight) (r : Error) → MustBeRefused (must_refuse_of (db_state store meant old) (f.job.tree ∷ [])) r → Flies store meant old f (Refused r) old g
   untested_as g r tested = flies_untested store meant old (subst (λ (z : DbValue P M). IsDb (store z.pages) z.trees z.trees_given) e db) f g r tested

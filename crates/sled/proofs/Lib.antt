@@ -2,3 +2,4 @@ pub mod Walks
 pub mod Trees
 pub mod Flying
 pub mod Flushing
+pub mod Opening

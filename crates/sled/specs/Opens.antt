@@ -1,13 +1,16 @@
 -- What opening a database does.
-use Rattle.std.specs.Prelude.{◌≡◌, ℕ, ◌+◌, ◌≤◌, ◌⊎◌, List, [], ◌∷◌, length, map, Option, Some, None, if◌then◌else◌, false, ◌<◌}
+use Rattle.std.specs.Prelude.{◌≡◌, ℕ, ◌+◌, ◌*◌, ◌≤◌, ◌⊎◌, true, false, List, [], ◌∷◌, length, map, Option, Some, None, is_some, if◌then◌else◌}
+use Rattle.std.specs.FinMap.Entries.{is_sorted}
 use Rattle.std.specs.Str.{bytes_eq}
-use Rattle.sled_pages.specs.Order.{Key}
-use Rattle.sled_pages.specs.Store.{Store, now}
+use Rattle.sled_pages.specs.Order.{Key, key_cmp}
+use Rattle.sled_pages.specs.Store.{Store, now, IsRoots}
+use Rattle.sled_pages.specs.State.{State}
+use Rattle.sled_pages.specs.Faults.{IsFault}
 use Rattle.sled_pages.specs.declared.error.Error.{Error}
-use Rattle.sled_pages.specs.declared.error.Error.TheVariants.{Io, NoMemory}
 use Rattle.sled_model.specs.Maps.{Map, Maps}
 use Rattle.tree_laws.specs.Contents.{trees_of}
 use Rattle.tree_laws.specs.Crashes.{IsWell, Extends, Flushes}
+use Rattle.sled.specs.Values.{DbValue, numbers_of}
 use Rattle.sled.specs.declared.TheConstants.{DEFAULT_TREE}
 
 abbrev pub or_empty : Option Map → Option Map
@@ -18,30 +21,73 @@ or_empty (Some m) = Some m
 abbrev pub with_default : Maps → Maps
 with_default maps t = if bytes_eq t DEFAULT_TREE.now then or_empty (maps t) else maps t
 
+-- the maps that opening adds: none where there is a default tree, and else those with the empty one
+abbrev pub planted : Maps → List Maps
+planted maps = if is_some (maps DEFAULT_TREE.now) then [] else (with_default maps ∷ [])
+
 -- numbers from n + 1 on, in the order of the names
 abbrev pub numbered : ℕ → List Key → List (Key × ℕ)
 numbered n [] = []
 numbered n (name ∷ names) = (name, n + 1) ∷ numbered (n + 1) names
 
--- The store grew by at most the default tree, in at most two actions
+-- where there was no default tree an empty one was made, by two actions; and else no action was done
 pub record GrowsByDefault (old new : Store) : Type 0 where
-  pub added : List Maps
-  pub which : (added ≡ []) ⊎ (added ≡ with_default (trees_of (now old)) ∷ [])
-  pub extends : Extends added old new
-  pub few : new.actions ≤ old.actions + 2
+  pub extends : Extends (planted (trees_of (now old))) old new
+  pub actions : new.actions ≡ old.actions + 2 * length (planted (trees_of (now old)))
+
+-- the maps are those of before and none was added, or the default tree is made
+abbrev pub GrowsAtMost : Store → Store → Type 0
+GrowsAtMost old new =
+    (Extends [] old new × (trees_of (now new) ≡ trees_of (now old)))
+    ⊎ (Extends (planted (trees_of (now old))) old new × (trees_of (now new) ≡ with_default (trees_of (now old))))
+
+-- The store can be opened. It has the maps of before, with or without the empty default tree
+pub record CanBeOpened (old new : Store) : Type 0 where
+  pub grows : GrowsAtMost old new
+  pub few : new.actions ≤ old.actions + 2 * length (planted (trees_of (now old)))
   pub well : IsWell (now new)
   pub calm : (now new).in_group ≡ false
   pub mark : new.mark ≡ old.mark
   pub recovered : new.recovered ≡ old.recovered
+  pub readable : new.is_readable ≡ old.is_readable
 
--- The pages as they are given back by a refused call: with the same maps, with or without the empty default tree.
--- The device failed, or memory did not do
-abbrev pub OpenRefused : Error → Store → Store → Type 0
-OpenRefused NoMemory old new = Unit {0}
-OpenRefused (Io fault) old new = old.faults < new.faults
-OpenRefused e old new = ⊥
-
+-- refused for a fault, which is counted, or for want of memory; and the store can be opened again
 pub record RefusesOpen (old : Store) (e : Error) (new : Store) : Type 0 where
-  pub cause : OpenRefused e old new
+  pub cause : IsFault old.faults new.faults e
+  pub again : CanBeOpened old new
+
+-- there is a default tree now, and no fault was met
+pub record HasDefault (old new : Store) : Type 0 where
   pub grows : GrowsByDefault old new
-  pub maps : (trees_of (now new) ≡ trees_of (now old)) ⊎ (trees_of (now new) ≡ with_default (trees_of (now old)))
+  pub maps : trees_of (now new) ≡ with_default (trees_of (now old))
+  pub faults : new.faults ≡ old.faults
+  pub again : CanBeOpened old new
+
+-- the names that have roots are numbered from 1, in their order
+pub record AreNumbered (s : State) (trees : List (Key × ℕ)) : Type 0 where
+  pub roots : List (Key × ℕ)
+  pub all : IsRoots s roots
+  pub is : trees ≡ numbered 0 (map (λ r. r.0) roots)
+
+-- The database of this name over the store
+pub record Opens {P M : Type 0} (store : P → Store) (before : Store) (called : Key) (d : DbValue P M) : Type 0 where
+  -- the default tree is made where there is none, and then all is flushed
+  pub middle : Store
+  pub grows : GrowsByDefault before middle
+  pub flushes : Flushes middle (store d.pages)
+  -- every tree has its map of before
+  pub maps : trees_of (now (store d.pages)) ≡ with_default (trees_of (now before))
+  -- the trees are numbered from 1 in the order of their names
+  pub names : List Key
+  pub numbers : d.trees ≡ numbered 0 names
+  pub ascends : is_sorted key_cmp d.trees ≡ true
+  pub each : (t : Key) → is_some (numbers_of d.trees t) ≡ is_some (trees_of (now (store d.pages)) t)
+  pub given : d.trees_given ≡ length d.trees
+  -- the ids up to the mark count as given, no tree has an operator, and no fault was met
+  pub ids : d.greatest_id ≡ before.mark
+  pub operators : d.operators ≡ []
+  pub name : d.name ≡ called
+  pub mark : (store d.pages).mark ≡ before.mark
+  pub recovered : (store d.pages).recovered ≡ before.recovered
+  pub readable : (store d.pages).is_readable ≡ before.is_readable
+  pub faults : (store d.pages).faults ≡ before.faults

@@ -5,11 +5,13 @@ ghost use Rattle.std.specs.FinMap.Entries.{find};
 ghost use Rattle.sled_pages.specs.Order.{key_cmp};
 ghost use Rattle.sled_pages.specs.declared.error.Error.TheVariants.{NoMemory};
 ghost use Rattle.sled_pages.specs.Store.{now};
+ghost use Rattle.tree_laws.specs.Crashes.{IsWell};
 ghost use Rattle.sled_model.specs.Refusal.{must_refuse_of};
 ghost use Rattle.sled.specs.Calls.{IsHandle, RefusesHandle, MustBeRefused};
 
-use crate::{DEFAULT_TREE, HANDLE_OF_ANOTHER_DATABASE, WALK_PASSED_TURNS};
+use crate::DEFAULT_TREE;
 use sled_model::{MAX_LOOPS, MergeOperator, Tree};
+use sled_pages::texts::{HANDLE_OF_ANOTHER_DATABASE, WALK_PASSED_TURNS};
 use sled_pages::{Error, IVec, Pages, Result};
 use sled_tree::{Flight, Went, advance};
 use std::alloc::Global;
@@ -77,6 +79,8 @@ impl<P: Pages, M: MergeOperator> Db<P, M> {
     pub fn into_pages(self) -> P
         ensures pages { result ≡ self.pages }
         ensures sound { IsDb (P.store result) self.trees self.trees_given }
+        ensures well { IsWell (now (P.store result)) }
+        ensures calm { (now (P.store result)).in_group ≡ false }
     {
         let Db { pages, .. } = self;
         pages

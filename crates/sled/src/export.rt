@@ -1,14 +1,17 @@
-//! The pairs of a tree, read from the pages without repairing anything.
-ghost use Rattle.std.specs.Prelude.{◌≡◌, ◌++◌, IfOk, IfErr, Some};
+//! The pairs of the trees, read from the pages without repairing anything.
+ghost use Rattle.std.specs.Prelude.{◌≡◌, ◌++◌, IfOk, IfErr, OnOk, Some, false, map};
 ghost use Rattle.sled_pages.specs.declared.error.Error.TheVariants.{NoMemory};
 ghost use Rattle.sled_pages.specs.Node.{pairs};
 ghost use Rattle.sled_pages.specs.State.{nodes_of};
 ghost use Rattle.sled_pages.specs.Store.{now};
 ghost use Rattle.tree_laws.specs.Forest.{node_pairs};
 ghost use Rattle.tree_laws.specs.Contents.{first_of, next_of, first_leaf as leaf_under, along, pairs_under as pairs_of_root, page_numbers};
-ghost use Rattle.sled.specs.Export.{RefusesRead};
+ghost use Rattle.tree_laws.specs.Contents.{trees_of};
+ghost use Rattle.sled.specs.Export.{RefusesRead, RefusesExport, collection, collections};
 
-use sled_pages::{Data, IVec, Node, Pages, Pid, Result};
+use crate::db::Db;
+use sled_model::MergeOperator;
+use sled_pages::{Data, Error, IVec, Node, Pages, Pid, Result};
 use std::alloc::Global;
 
 // The page under the first pointer of a page, if there is the page and a pointer.
@@ -61,7 +64,11 @@ fn node_pairs_and_next(alloc: Global, node: &Node) -> Result<(Vec<(IVec, IVec)>,
 }
 
 // A page's pairs, and the next page.
-fn read_pairs<P: Pages>(alloc: Global, pages: &P, pid: Pid) -> Result<(Vec<(IVec, IVec)>, Option<Pid>)>
+fn read_pairs<P: Pages>(
+    alloc: Global,
+    pages: &P,
+    pid: Pid,
+) -> Result<(Vec<(IVec, IVec)>, Option<Pid>)>
     ensures ok { IfOk result (λ read. (read.0.items ≡ node_pairs (nodes_of (now (P.store pages.now)) pid)) × (read.1 ≡ next_of (nodes_of (now (P.store pages.now)) pid))) }
     ensures err { IfErr result (RefusesRead (P.store pages.now)) }
 {
@@ -97,10 +104,67 @@ fn pairs_along<P: Pages>(alloc: Global, pages: &P, first: Pid) -> Result<Vec<(IV
 }
 
 /// The pairs of the tree with this root, ascending by key. It reads each page on the way to the first leaf, and each leaf.
-pub(crate) fn pairs_under<P: Pages>(alloc: Global, pages: &P, root: Pid) -> Result<Vec<(IVec, IVec)>>
+pub(crate) fn pairs_under<P: Pages>(
+    alloc: Global,
+    pages: &P,
+    root: Pid,
+) -> Result<Vec<(IVec, IVec)>>
     ensures ok { IfOk result (λ all. all.items ≡ pairs_of_root (nodes_of (now (P.store pages.now))) root) }
     ensures err { IfErr result (RefusesRead (P.store pages.now)) }
 {
     let leaf = first_leaf(alloc, pages, root)?;
     pairs_along(alloc, pages, leaf)
+}
+
+/// What an export has of a tree: the type of collection, which is `tree`, the tree's name, and its pairs.
+pub type Collection = (Vec<u8>, Vec<u8>, Vec<(IVec, IVec)>);
+
+// The collection of the tree of this name.
+fn collection_of<P: Pages>(alloc: Global, pages: &P, name: &IVec) -> Result<Collection>
+    ensures ok { IfOk result (λ c. (c.0.items, c.1.items, c.2.items) ≡ collection (trees_of (now (P.store pages.now))) name.now) }
+    ensures err { IfErr result (RefusesRead (P.store pages.now)) }
+{
+    let pairs = match pages.root(name.as_ref()) {
+        Some(root) => pairs_under(alloc, pages, root)?,
+        None => Vec::new(alloc),
+    };
+    Ok((
+        Vec::from_slice(alloc, b"tree")?,
+        Vec::from_slice(alloc, name.as_ref())?,
+        pairs,
+    ))
+}
+
+// The collections of these trees, in their order.
+fn collections_of<P: Pages>(
+    alloc: Global,
+    pages: &P,
+    trees: &[(IVec, u64)],
+) -> Result<Vec<Collection>>
+    ensures ok { IfOk result (λ all. map (λ c. (c.0.items, c.1.items, c.2.items)) all.items ≡ collections (trees_of (now (P.store pages.now))) trees.now) }
+    ensures err { IfErr result (RefusesRead (P.store pages.now)) }
+{
+    let mut all = Vec::new(alloc);
+    for tree in trees {
+        all.push(collection_of(alloc, pages, &tree.0)?)?;
+    }
+    Ok(all)
+}
+
+impl<P: Pages, M: MergeOperator> Db<P, M> {
+    /// The collection of every tree, in the order of the names, its pairs ascending by key. It reads the pages as they are
+    /// and repairs nothing. Refused with `Closed`, with `Io` where a page cannot be read, and with `NoMemory`.
+    pub fn export(&self) -> Result<Vec<Collection>>
+        ensures ok { IfOk result (λ all. map (λ c. (c.0.items, c.1.items, c.2.items)) all.items ≡ collections (trees_of (now (P.store self.now.pages))) self.now.trees) }
+        ensures calm { OnOk result ((now (P.store self.now.pages)).in_group ≡ false) }
+        ensures err { IfErr result (RefusesExport (P.store self.now.pages)) }
+    {
+        if self.pages.in_group() {
+            return Err(Error::Closed);
+        }
+        match collections_of(self.alloc, &self.pages, self.trees.as_slice()) {
+            Ok(all) => Ok(all),
+            Err(e) => Err(e),
+        }
+    }
 }

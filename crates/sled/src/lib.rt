@@ -6,7 +6,10 @@ mod export;
 mod open;
 
 pub use db::Db;
-pub use sled_model::{Call, Event, MAX_LOOPS, MergeOperator, Outcome, Reply, Slot, Step, Tree, Whole};
+pub use export::Collection;
+pub use sled_model::{
+    Call, Event, MAX_LOOPS, MergeOperator, Outcome, Reply, Slot, Step, Tree, Whole,
+};
 pub use sled_pages::{
     Data, Error, Fault, IVec, Index, Leaf, Link, Node, Page, Pages, Pid, Result, Version, View,
 };
@@ -14,7 +17,3 @@ pub use sled_tree::{Flight, Job, Stage, Went};
 
 /// The name of the default tree, which every database has.
 pub const DEFAULT_TREE: &str = "__sled__default";
-
-const HANDLE_OF_ANOTHER_DATABASE: &str = "handle of another database";
-
-const WALK_PASSED_TURNS: &str = "walk passed 1000000 turns";

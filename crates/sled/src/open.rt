@@ -1,1 +1,118 @@
 //! Opening a database.
+ghost use Rattle.std.specs.Prelude.{◌≡◌, map, false, None, [], IfOk, IfErr, OnOk};
+ghost use Rattle.sled_pages.specs.declared.error.Error.TheVariants.{NoMemory};
+ghost use Rattle.sled_pages.specs.declared.node.Data.TheVariants as kind;
+ghost use Rattle.sled_pages.specs.Store.{now};
+ghost use Rattle.tree_laws.specs.Crashes.{IsWell};
+ghost use Rattle.sled.specs.Opens.{Opens, RefusesOpen, HasDefault, AreNumbered, numbered};
+
+use crate::DEFAULT_TREE;
+use crate::db::Db;
+use sled_pages::{Data, Error, IVec, Leaf, Node, Pages, Pid, Result, law_given};
+use std::alloc::Global;
+
+// A leaf without pairs that covers every key.
+fn empty_leaf(alloc: Global) -> Result<Node>
+    ensures ok { IfOk result (λ node. node ≡ record { lo = []; hi = []; next = None; merging = false; merging_child = None; content = kind.Leaf [] }) }
+    ensures err { IfErr result (λ e. e ≡ NoMemory) }
+{
+    Ok(Node {
+        lo: IVec::from_slice(alloc, &[])?,
+        hi: IVec::from_slice(alloc, &[])?,
+        next: None,
+        merging: false,
+        merging_child: None,
+        content: Data::Leaf(Leaf::from_pairs(alloc, &[])?),
+    })
+}
+
+// Makes an empty default tree where there is none.
+fn plant_default<P: Pages>(alloc: Global, pages: &mut P) -> Result<()>
+    requires well { IsWell (now (P.store pages.old)) }
+    requires calm { (now (P.store pages.old)).in_group ≡ false }
+    ensures ok { OnOk result (HasDefault (P.store pages.old) (P.store pages.new)) }
+    ensures err { IfErr result (λ e. RefusesOpen (P.store pages.old) e (P.store pages.new)) }
+{
+    if pages.root(DEFAULT_TREE.as_bytes()).is_some() {
+        return Ok(());
+    }
+    let node = match empty_leaf(alloc) {
+        Ok(node) => node,
+        Err(e) => return Err(e),
+    };
+    law_given(pages);
+    let (pid, _) = match pages.allocate(node) {
+        Ok(given) => given,
+        Err(e) => return Err(e),
+    };
+    law_given(pages);
+    match pages.cas_root(DEFAULT_TREE.as_bytes(), None, Some(pid)) {
+        Ok(Ok(())) => Ok(()),
+        Ok(Err(_)) => unreachable!(),
+        Err(e) => Err(e),
+    }
+}
+
+// The names of these roots, numbered from 1 in their order.
+fn number_all(alloc: Global, roots: &[(IVec, Pid)]) -> Result<Vec<(IVec, u64)>>
+    ensures ok { IfOk result (λ trees. trees.items ≡ numbered 0 (map (λ r. r.0) roots.now)) }
+    ensures err { IfErr result (λ e. e ≡ NoMemory) }
+{
+    let mut trees = Vec::with_capacity(alloc, roots.len())?;
+    let mut last: u64 = 0;
+    for root in roots {
+        last += 1;
+        trees.push((root.0.clone()?, last))?;
+    }
+    Ok(trees)
+}
+
+// The names that have roots, numbered from 1 in their order.
+fn number_trees<P: Pages>(alloc: Global, pages: &P) -> Result<Vec<(IVec, u64)>>
+    ensures ok { IfOk result (λ trees. AreNumbered (now (P.store pages.now)) trees.items) }
+    ensures err { IfErr result (λ e. e ≡ NoMemory) }
+{
+    let roots = pages.roots(alloc)?;
+    number_all(alloc, roots.as_slice())
+}
+
+impl<P: Pages> Db<P> {
+    /// Opens the database that the pages hold, under this name; an empty store becomes one with an empty default tree.
+    /// All is flushed then, and the numbers of the trees that earlier databases over these pages gave mean nothing to it.
+    /// Refused with `Io` where the store counts a fault, and with `NoMemory`. The pages that are given back can be opened
+    /// again: they have all their pairs, and at most the empty default tree is new.
+    pub fn open(alloc: Global, pages: P, name: &[u8]) -> std::result::Result<Db<P>, (P, Error)>
+        requires well { IsWell (now (P.store pages)) }
+        requires calm { (now (P.store pages)).in_group ≡ false }
+        ensures ok { IfOk result (Opens P.store (P.store pages) name.now) }
+        ensures err { IfErr result (λ e. RefusesOpen (P.store pages) e.1 (P.store e.0)) }
+    {
+        let mut pages = pages;
+        if let Err(e) = plant_default(alloc, &mut pages) {
+            return Err((pages, e));
+        }
+        let trees = match number_trees(alloc, &pages) {
+            Ok(trees) => trees,
+            Err(e) => return Err((pages, e)),
+        };
+        let name = match IVec::from_slice(alloc, name) {
+            Ok(name) => name,
+            Err(e) => return Err((pages, e)),
+        };
+        law_given(&pages);
+        if let Err(e) = pages.flush() {
+            return Err((pages, e));
+        }
+        let trees_given = trees.len() as u64;
+        let greatest_id = pages.mark();
+        Ok(Db {
+            alloc,
+            pages,
+            name,
+            trees,
+            operators: Vec::new(alloc),
+            trees_given,
+            greatest_id,
+        })
+    }
+}

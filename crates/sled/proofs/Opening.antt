@@ -1,0 +1,427 @@
+-- Opening: the default tree is planted, the trees are numbered, and what may still be refused.
+use Rattle.std.proofs.Common.{◌≡◌, ◌≢◌, ℕ, suc, ◌+◌, ◌*◌, ◌<◌, ◌≤◌, ◌^◌, Bool, true, false, cond, ◌&&◌, List, [], ◌∷◌, length, map, Option, Some, None, is_some, option_map, Less, Equal, Greater, is_eq, Result, Ok, Err, sym, refl, ap, ◌∙◌, subst, inl, inr, ◌⊎◌, arith}
+use Rattle.std.proofs.Math.Path.{fun_ext}
+use Rattle.std.specs.FinMap.Entries.{find, is_sorted, below_all}
+use Rattle.std.specs.Ordering.{eq_by_cmp, nat_cmp}
+use Rattle.std.specs.declared.cmp.Ordering.{Ordering}
+use Rattle.std.proofs.lemmas.Bool.Decides.{nat_tests}
+use Rattle.std.specs.Str.{bytes_eq}
+use Rattle.sled_pages.specs.Order.{Key, key_cmp}
+use Rattle.sled_pages.specs.In.{In}
+use Rattle.sled_pages.specs.Update.{put_at, put_name}
+use Rattle.sled_pages.specs.Faults.{IsFault, fault_as}
+use Rattle.sled_pages.specs.Facts.{same_name, put_elsewhere, put_here, now_allocates, now_acted, now_swaps, fresh_page}
+use Rattle.sled_pages.specs.State.{State, Nodes, RootBecomes, PageBecomes, nodes_of, after}
+use Rattle.sled_pages.specs.Store.{Store, now, acted, flushed, Allocates, SwapsRoot, Refused, refused_as, AreGiven, IsRoots}
+use Rattle.sled_pages.specs.declared.error.Error.{Error}
+use Rattle.sled_pages.specs.declared.error.Error.TheVariants as error
+use Rattle.sled_pages.specs.declared.node.Node.{Node}
+use Rattle.sled_pages.specs.declared.node.Data.TheVariants as kind
+use Rattle.sled_pages.specs.declared.page.Page.{Page}
+use Rattle.sled_model.specs.Maps.{Map, Maps}
+use Rattle.tree_laws.specs.Forest.{Tree, Forest, Place, place, WellFormed, contents}
+use Rattle.tree_laws.specs.Contents.{trees_of}
+use Rattle.tree_laws.specs.Crashes.{IsWell, IsCrashSafe, Extends, Flushes, Adds}
+use Rattle.tree_laws.specs.Moment.{IsMoment, IsStray}
+use Rattle.tree_laws.specs.Laws.{IsAlone}
+use Rattle.tree_laws.proofs.Crashing.{adds_page, adds_is, adds_extends, adds_unseen, extends_nothing, extends_same, extends_then, flushes_same, flushes_safe, flushes_now}
+use Rattle.tree_laws.proofs.Known.{store_moment}
+use Rattle.tree_laws.proofs.Outside.{outside_kept, outside_contents}
+use Rattle.tree_laws.proofs.Order.{key_same}
+use Rattle.tree_laws.proofs.Roots.{plant_law}
+use Rattle.tree_laws.proofs.Fuel.{contents_law}
+use Rattle.sled.specs.declared.TheConstants.{DEFAULT_TREE}
+use Rattle.sled.specs.Values.{DbValue, numbers_of, given_to, moment}
+use Rattle.sled.specs.Sound.{IsDb}
+use Rattle.sled.specs.Opens.{or_empty, with_default, planted, numbered, GrowsByDefault, GrowsAtMost, CanBeOpened, RefusesOpen, HasDefault, AreNumbered, Opens}
+
+none_some : {P X : Type 0} {x : X} → None ≡ Some x → P
+none_some e = cc
+
+some_is : {X : Type 0} {x y : X} → Some x ≡ Some y → x ≡ y
+some_is e = cc
+
+false_true : {P : Type 0} → false ≡ true → P
+false_true e = cc
+
+-- the maps with a default tree
+
+-- where there is a default tree there is no other
+pub with_present : (maps : Maps) (m : Map) → maps DEFAULT_TREE.now ≡ Some m → with_default maps ≡ maps
+with_present maps m e = fun_ext (λ t. go t (bytes_eq t DEFAULT_TREE.now) refl)
+  where
+    go : (t : Key) (b : Bool) → bytes_eq t DEFAULT_TREE.now ≡ b → cond b (or_empty (maps t)) (maps t) ≡ maps t
+    go t true q = let f : maps t ≡ Some m = ap maps (same_name t DEFAULT_TREE.now q) ∙ e in ap or_empty f ∙ sym f
+    go t false q = refl
+
+pub planted_present : (maps : Maps) (m : Map) → maps DEFAULT_TREE.now ≡ Some m → planted maps ≡ []
+planted_present maps m e = ap (λ o. cond (is_some o) [] (with_default maps ∷ [])) e
+
+pub planted_absent : (maps : Maps) → maps DEFAULT_TREE.now ≡ None → planted maps ≡ with_default maps ∷ []
+planted_absent maps e = ap (λ o. cond (is_some o) [] (with_default maps ∷ [])) e
+
+-- a new page without a home, and the root of the default tree
+
+module _ {node : Node} {pid version : ℕ} {a b : Store} (are : AreGiven a) (new : Allocates node pid version a b) (w : Forest) (f : WellFormed (nodes_of (now a)) (now a).roots w) where
+  abbrev page : Page
+  page = record { version = version; node = node }
+
+  state : now b ≡ after (PageBecomes pid (Some page)) (now a)
+  state = now_allocates node pid version a b new
+
+  none : nodes_of (now a) pid ≡ None
+  none = ap (option_map (λ (g : Page). g.node)) (fresh_page a pid are new.fresh_pid)
+
+  pub made_stray : IsStray w pid
+  made_stray y e = let i = f.page y pid e in none_some (sym none ∙ i.1.live)
+
+  same : (p : ℕ) (x : Place) → w.home p ≡ Some x → nodes_of (now b) p ≡ nodes_of (now a) p
+  same p x e =
+      ap (λ (s : State). nodes_of s p) state
+      ∙ ap (option_map (λ (g : Page). g.node)) (put_elsewhere (now a).pages pid p (Some page) (λ s. made_stray x (ap w.home (sym s) ∙ e)))
+
+  roots : (now b).roots ≡ (now a).roots
+  roots = ap (λ (s : State). s.roots) state
+
+  pub made_formed : WellFormed (nodes_of (now b)) (now b).roots w
+  made_formed = subst (λ r. WellFormed (nodes_of (now b)) r w) (sym roots) (outside_kept (nodes_of (now a)) (nodes_of (now b)) (now a).roots w same f)
+
+  pub made_live : nodes_of (now b) pid ≡ Some node
+  made_live = ap (λ (s : State). nodes_of s pid) state ∙ ap (option_map (λ (g : Page). g.node)) (put_here (now a).pages pid (Some page))
+
+  pub made_same : AreGiven b → trees_of (now b) ≡ trees_of (now a)
+  made_same given = fun_ext (λ t.
+      contents_law (now b) w made_formed given.numbered t
+      ∙ ap (λ c. option_map (λ _. c) ((now b).roots t)) (outside_contents (nodes_of (now a)) (nodes_of (now b)) (now a).roots w same f t)
+      ∙ ap (λ (r : Tree → Option ℕ). option_map (λ _. contents (nodes_of (now a)) w t) (r t)) roots
+      ∙ sym (contents_law (now a) w f are.numbered t))
+
+-- the default tree gets its root
+module _ (s : State) (w : Forest) (f : WellFormed (nodes_of s) s.roots w) (below : (p : ℕ) (g : Page) → s.pages p ≡ Some g → p < 2 ^ 64)
+    (r : ℕ) (n : Node) (root : s.roots DEFAULT_TREE.now ≡ None) (stray : IsStray w r) (alone : IsAlone (nodes_of s) r n (kind.Leaf [])) where
+  abbrev rooted : State
+  rooted = after (RootBecomes DEFAULT_TREE.now (Some r)) s
+
+  pub planted_well : IsWell rooted
+  planted_well = let u = plant_law (nodes_of s) s.roots w f DEFAULT_TREE.now r n root stray alone in record { forest = u.0.after; formed = u.0.kept }
+
+  pub planted_trees : trees_of rooted ≡ with_default (trees_of s)
+  planted_trees =
+      let u = plant_law (nodes_of s) s.roots w f DEFAULT_TREE.now r n root stray alone in
+      fun_ext (λ t. contents_law rooted u.0.after u.0.kept below t ∙ go u.0.after u.0.others u.1 t (bytes_eq t DEFAULT_TREE.now) refl)
+    where
+      go : (v : Forest) → ((u : Tree) → u ≢ DEFAULT_TREE.now → contents (nodes_of s) v u ≡ contents (nodes_of s) w u) → contents (nodes_of s) v DEFAULT_TREE.now ≡ [] → (t : Key) (b : Bool) → bytes_eq t DEFAULT_TREE.now ≡ b
+          → option_map (λ _. contents (nodes_of s) v t) (cond b (Some r) (s.roots t)) ≡ cond b (or_empty (trees_of s t)) (trees_of s t)
+      go v others empty t true q =
+          let e : t ≡ DEFAULT_TREE.now = same_name t DEFAULT_TREE.now q in
+          ap Some (ap (contents (nodes_of s) v) e ∙ empty) ∙ sym (ap or_empty (contents_law s w f below t ∙ ap (option_map (λ _. contents (nodes_of s) w t)) (ap s.roots e ∙ root)))
+      go v others empty t false q =
+          ap (λ c. option_map (λ _. c) (s.roots t)) (others t (λ e. false_true (sym q ∙ ap (λ z. bytes_eq z DEFAULT_TREE.now) e ∙ Rattle.sled_pages.specs.Facts.name_itself DEFAULT_TREE.now))) ∙ sym (contents_law s w f below t)
+
+-- what may be refused still
+
+-- a fault is counted, and nothing else changes
+faulted : {maps : List Maps} {a b : Store} (n : ℕ) → Extends maps a b → Extends maps a (record b { faults = n })
+faulted n x = record { base = x.base; added = x.added; recent = x.recent; actions = x.actions; grew = x.grew; safe = λ s. record { well = (x.safe s).well } }
+
+faulted_again : {a b : Store} (n : ℕ) → CanBeOpened a b → CanBeOpened a (record b { faults = n })
+faulted_again n k = record {
+  grows = elim k.grows [ inl g ↦ inl (faulted n g.0, g.1) | inr g ↦ inr (faulted n g.0, g.1) ];
+  few = k.few;
+  well = k.well;
+  calm = k.calm;
+  mark = k.mark;
+  recovered = k.recovered;
+  readable = k.readable;
+}
+
+-- the store refuses a call
+pub refused : (a b c : Store) (e : Error) → CanBeOpened a b → b.faults ≡ a.faults → Refused e b c → RefusesOpen a e c
+refused a b c error.NoMemory k f r = record {
+  cause = record { told = ap (λ (s : Store). s.faults) r.told ∙ f };
+  again = subst (λ (s : Store). CanBeOpened a s) (sym r.told) k;
+}
+refused a b c (error.Io fault) k f r = record {
+  cause = record { told = ap (λ (s : Store). s.faults) r.told ∙ ap (λ n. n + 1) f };
+  again = subst (λ (s : Store). CanBeOpened a s) (sym r.told) (faulted_again (b.faults + 1) k);
+}
+refused a b c (error.CollectionNotFound name) k f r = absurd r.told
+refused a b c (error.Unsupported text) k f r = absurd r.told
+refused a b c (error.ReportableBug text) k f r = absurd r.told
+refused a b c (error.Corruption fault) k f r = absurd r.told
+refused a b c error.FullQueue k f r = absurd r.told
+refused a b c error.Closed k f r = absurd r.told
+
+-- there is no memory
+pub no_memory : (a b : Store) (e : Error) → e ≡ error.NoMemory → CanBeOpened a b → b.faults ≡ a.faults → RefusesOpen a e b
+no_memory a b e is k f = subst (λ z. RefusesOpen a z b) (sym is) (record { cause = record { told = f }; again = k })
+
+pub again_same : (a : Store) → IsWell (now a) → (now a).in_group ≡ false → CanBeOpened a a
+again_same a well calm = record { grows = inl (extends_same a, refl); few = omega arith; well = well; calm = calm; mark = refl; recovered = refl; readable = refl }
+
+-- the default tree is there
+pub has_present : (a : Store) → IsWell (now a) → (now a).in_group ≡ false → is_some ((now a).roots DEFAULT_TREE.now) ≡ true → HasDefault a a
+has_present a well calm there = go ((now a).roots DEFAULT_TREE.now) refl there
+  where
+    go : (o : Option ℕ) → (now a).roots DEFAULT_TREE.now ≡ o → is_some o ≡ true → HasDefault a a
+    go None e t = false_true t
+    go (Some r) e t =
+        let m : trees_of (now a) DEFAULT_TREE.now ≡ Some _ = ap (option_map (Rattle.tree_laws.specs.Contents.pairs_under (nodes_of (now a)))) e in
+        let none = planted_present (trees_of (now a)) _ m in
+        record {
+          grows = record {
+            extends = subst (λ l. Extends l a a) (sym none) (extends_same a);
+            actions = more (length (planted (trees_of (now a)))) (ap length none);
+          };
+          maps = sym (with_present (trees_of (now a)) _ m);
+          faults = refl;
+          again = again_same a well calm;
+        }
+      where
+        more : (n : ℕ) → n ≡ 0 → a.actions ≡ a.actions + 2 * n
+        more n e = omega arith
+
+-- it is made
+module _ {node : Node} {pid version : ℕ} {a b : Store} (well : IsWell (now a)) (calm : (now a).in_group ≡ false) (are : AreGiven a) (on : AreGiven b)
+    (none : (now a).roots DEFAULT_TREE.now ≡ None) (new : Allocates node pid version a b) where
+  w : Forest
+  w = well.forest
+
+  unseen : trees_of (now b) ≡ trees_of (now a)
+  unfolding w
+  unseen = made_same are new w well.formed on
+
+  calm_then : (now b).in_group ≡ false
+  calm_then = ap (λ (s : State). s.in_group) (now_allocates node pid version a b new) ∙ calm
+
+  well_then : IsWell (now b)
+  unfolding w
+  well_then = record { forest = w; formed = made_formed are new w well.formed }
+
+  absent : trees_of (now a) DEFAULT_TREE.now ≡ None
+  absent = ap (option_map (Rattle.tree_laws.specs.Contents.pairs_under (nodes_of (now a)))) none
+
+  one : length (planted (trees_of (now a))) ≡ 1
+  one = ap length (planted_absent (trees_of (now a)) absent)
+
+  grown : Extends [] a b
+  grown = adds_unseen (adds_page new) calm calm_then well_then unseen
+
+  pub made_again : CanBeOpened a b
+  made_again = record {
+    grows = inl (grown, unseen);
+    few = few a.actions b.actions (length (planted (trees_of (now a)))) one (adds_page new).actions;
+    well = well_then;
+    calm = calm_then;
+    mark = ap (λ (s : Store). s.mark) new.is;
+    recovered = ap (λ (s : Store). s.recovered) new.is;
+    readable = ap (λ (s : Store). s.is_readable) new.is;
+  }
+    where
+      few : (x y n : ℕ) → n ≡ 1 → y ≡ x + 1 → y ≤ x + 2 * n
+      few x y n e f = omega arith
+
+  pub made_faults : b.faults ≡ a.faults
+  made_faults = ap (λ (s : Store). s.faults) new.is
+
+  pub made_root : (now b).roots DEFAULT_TREE.now ≡ None
+  made_root = ap (λ (s : State). s.roots DEFAULT_TREE.now) (now_allocates node pid version a b new) ∙ none
+
+  pub has_planted : node ≡ record { lo = []; hi = []; next = None; merging = false; merging_child = None; content = kind.Leaf [] } → (c : Store) → c ≡ acted (RootBecomes DEFAULT_TREE.now (Some pid)) b → HasDefault a c
+  unfolding w
+  has_planted is c e =
+      let alone : IsAlone (nodes_of (now b)) pid node (kind.Leaf []) = record {
+        live = made_live are new w well.formed;
+        lo = ap (λ (n : Node). n.lo) is;
+        hi = ap (λ (n : Node). n.hi) is;
+        next = ap (λ (n : Node). n.next) is;
+        merging = ap (λ (n : Node). n.merging) is;
+        merging_child = ap (λ (n : Node). n.merging_child) is;
+        content = ap (λ (n : Node). n.content) is;
+      } in
+      let f = made_formed are new w well.formed in
+      let stray = made_stray are new w well.formed in
+      let at : now c ≡ after (RootBecomes DEFAULT_TREE.now (Some pid)) (now b) = ap now e ∙ now_acted _ b in
+      let good : IsWell (now c) = subst IsWell (sym at) (planted_well (now b) w f on.numbered pid node made_root stray alone) in
+      let maps : trees_of (now c) ≡ with_default (trees_of (now a)) = ap trees_of at ∙ planted_trees (now b) w f on.numbered pid node made_root stray alone ∙ ap with_default unseen in
+      let out : (now c).in_group ≡ false = ap (λ (s : State). s.in_group) at ∙ calm_then in
+      let adds = adds_is e in
+      let all : Extends (planted (trees_of (now a))) a c =
+      subst (λ l. Extends l a c) (ap (λ (m : Maps). m ∷ []) maps ∙ sym (planted_absent (trees_of (now a)) absent)) (extends_then grown (adds_extends adds out good)) in
+      let count : c.actions ≡ a.actions + 2 * length (planted (trees_of (now a))) = two a.actions b.actions c.actions (length (planted (trees_of (now a)))) one (adds_page new).actions adds.actions in
+      record {
+        grows = record { extends = all; actions = count };
+        maps = maps;
+        faults = ap (λ (s : Store). s.faults) e ∙ made_faults;
+        again = record {
+          grows = inr (all, maps);
+          few = at_most _ _ count;
+          well = good;
+          calm = out;
+          mark = ap (λ (s : Store). s.mark) e ∙ ap (λ (s : Store). s.mark) new.is;
+          recovered = ap (λ (s : Store). s.recovered) e ∙ ap (λ (s : Store). s.recovered) new.is;
+          readable = ap (λ (s : Store). s.is_readable) e ∙ ap (λ (s : Store). s.is_readable) new.is;
+        };
+      }
+    where
+      two : (x y z n : ℕ) → n ≡ 1 → y ≡ x + 1 → z ≡ y + 1 → z ≡ x + 2 * n
+      two x y z n e f g = omega arith
+
+      at_most : (x y : ℕ) → x ≡ y → x ≤ y
+      at_most x y e = omega arith
+
+-- what the root of the default tree is found to be
+
+pub root_there : (f : Key → Option ℕ) (k : Key) (o : Option ℕ) (b : Bool) → k ≡ DEFAULT_TREE.now → o ≡ f k → b ≡ is_some o → b ≡ true → is_some (f DEFAULT_TREE.now) ≡ true
+root_there f k o b at is some there = ap (λ z. is_some (f z)) (sym at) ∙ ap is_some (sym is) ∙ sym some ∙ there
+
+pub root_none : (f : Key → Option ℕ) (k : Key) (o : Option ℕ) (b : Bool) → k ≡ DEFAULT_TREE.now → o ≡ f k → b ≡ is_some o → b ≡ false → f DEFAULT_TREE.now ≡ None
+root_none f k None b at is some missing = sym (is ∙ ap f at)
+root_none f k (Some r) b at is some missing = false_true (sym missing ∙ some)
+
+-- no other root can stand in the way
+pub no_other : {p : Option ℕ} {b c : Store} {answer : Result (Unit {0}) (Option ℕ)} (k : Key) (present : Option ℕ) → k ≡ DEFAULT_TREE.now → (now b).roots DEFAULT_TREE.now ≡ None → SwapsRoot k None p b c answer → answer ≡ Err present → ⊥
+no_other {p} {b} {c} k present at none s is =
+    let t : SwapsRoot k None p b c (Err present) = subst (λ z. SwapsRoot k None p b c z) is s in
+    t.told.2 (t.told.1 ∙ ap (now b).roots at ∙ none)
+
+pub swapped : {r : ℕ} {b c : Store} {answer : Result (Unit {0}) (Option ℕ)} (k : Key) (done : Unit {0}) → k ≡ DEFAULT_TREE.now → SwapsRoot k None (Some r) b c answer → answer ≡ Ok done → c ≡ acted (RootBecomes DEFAULT_TREE.now (Some r)) b
+swapped {r} {b} {c} k done at s is =
+    let t : SwapsRoot k None (Some r) b c (Ok done) = subst (λ z. SwapsRoot k None (Some r) b c z) is s in
+    t.told.1 ∙ ap (λ z. acted (RootBecomes z (Some r)) b) at
+
+-- the numbers of the names
+
+-- the names of entries
+abbrev pub names_in : List (Key × ℕ) → List Key
+names_in rs = map (λ r. r.0) rs
+
+pub found_same : (n : ℕ) (rs : List (Key × ℕ)) (t : Key) → is_some (find key_cmp t (numbered n (names_in rs))) ≡ is_some (find key_cmp t rs)
+found_same n [] t = refl
+found_same n (r ∷ rs) t = elim (eq_by_cmp key_cmp t r.0) as (λ b. is_some (cond b (Some (n + 1)) (find key_cmp t (numbered (n + 1) (names_in rs)))) ≡ is_some (cond b (Some r.1) (find key_cmp t rs))) [
+  | true ↦ refl
+  | false ↦ found_same (n + 1) rs t
+]
+
+below_same : (k : Key) (n : ℕ) (rs : List (Key × ℕ)) → below_all key_cmp k (numbered n (names_in rs)) ≡ below_all key_cmp k rs
+below_same k n [] = refl
+below_same k n (r ∷ rs) = ap (λ b. Rattle.std.specs.Ordering.is_lt (key_cmp k r.0) && b) (below_same k (n + 1) rs)
+
+pub sorted_same : (n : ℕ) (rs : List (Key × ℕ)) → is_sorted key_cmp (numbered n (names_in rs)) ≡ is_sorted key_cmp rs
+sorted_same n [] = refl
+sorted_same n (r ∷ rs) = λ i. below_same r.0 (n + 1) rs i && sorted_same (n + 1) rs i
+
+-- a number that was given lies between
+pub number_in : (n : ℕ) (names : List Key) (t : Key) (k : ℕ) → find key_cmp t (numbered n names) ≡ Some k → (n < k) × (k ≤ n + length (numbered n names))
+number_in n [] t k e = none_some e
+number_in n (name ∷ names) t k e = go (number_in (n + 1) names t k) (eq_by_cmp key_cmp t name) e
+  where
+    go : (find key_cmp t (numbered (n + 1) names) ≡ Some k → (n + 1 < k) × (k ≤ (n + 1) + length (numbered (n + 1) names))) → (b : Bool) → cond b (Some (n + 1)) (find key_cmp t (numbered (n + 1) names)) ≡ Some k → (n < k) × (k ≤ n + suc (length (numbered (n + 1) names)))
+    go rest true f = let g : n + 1 ≡ k = some_is f in (omega arith, omega arith)
+    go rest false f = let g = rest f in let g0 = g.0 in let g1 = g.1 in (omega arith, omega arith)
+
+-- a number is one name's
+pub number_apart : (n : ℕ) (names : List Key) (t u : Key) (k : ℕ) → find key_cmp t (numbered n names) ≡ Some k → find key_cmp u (numbered n names) ≡ Some k → t ≡ u
+number_apart n [] t u k e f = none_some e
+number_apart n (name ∷ names) t u k e f = go (number_apart (n + 1) names t u k) (eq_by_cmp key_cmp t name) (eq_by_cmp key_cmp u name) refl refl e f
+  where
+    named : (x : Key) → eq_by_cmp key_cmp x name ≡ true → x ≡ name
+    named x q = key_same x name (order (key_cmp x name) q)
+      where
+        order : (o : Ordering) → is_eq o ≡ true → o ≡ Equal
+        order Less q = false_true q
+        order Equal q = refl
+        order Greater q = false_true q
+
+    later : {X : Type 0} (x : Key) → n + 1 ≡ k → find key_cmp x (numbered (n + 1) names) ≡ Some k → X
+    later x g h = let l = (number_in (n + 1) names x k h).0 in absurd (omega arith)
+
+    go : (find key_cmp t (numbered (n + 1) names) ≡ Some k → find key_cmp u (numbered (n + 1) names) ≡ Some k → t ≡ u) → (a b : Bool) → eq_by_cmp key_cmp t name ≡ a → eq_by_cmp key_cmp u name ≡ b
+        → cond a (Some (n + 1)) (find key_cmp t (numbered (n + 1) names)) ≡ Some k → cond b (Some (n + 1)) (find key_cmp u (numbered (n + 1) names)) ≡ Some k → t ≡ u
+    go rest true true p q g h = named t p ∙ sym (named u q)
+    go rest true false p q g h = later u (some_is g) h
+    go rest false true p q g h = later t (some_is h) g
+    go rest false false p q g h = rest g h
+
+none_no : {X : Type 0} (o : Option X) → is_some o ≡ true → (x : X) × (o ≡ Some x)
+none_no None e = false_true e
+none_no (Some x) e = (x, refl)
+
+-- the trees of a store are numbered
+module _ (s : Store) {trees : List (Key × ℕ)} (all : AreNumbered (now s) trees) where
+  pub is_number : (t : Key) → is_some (numbers_of trees t) ≡ is_some ((now s).roots t)
+  is_number t = ap (λ l. is_some (find key_cmp t l)) all.is ∙ found_same 0 all.roots t ∙ ap is_some (sym (all.all.is t))
+
+  pub ascends : is_sorted key_cmp trees ≡ true
+  ascends = ap (is_sorted key_cmp) all.is ∙ sorted_same 0 all.roots ∙ all.all.ascends
+
+  in_all : (t : Key) (n : ℕ) → numbers_of trees t ≡ Some n → find key_cmp t (numbered 0 (names_in all.roots)) ≡ Some n
+  in_all t n e = ap (find key_cmp t) (sym all.is) ∙ e
+
+  pub moment_here : (given : ℕ) → given ≡ length trees → AreGiven s → (w : Forest) → WellFormed (nodes_of (now s)) (now s).roots w → IsMoment (moment s trees given) w
+  moment_here given count are w f = store_moment s (numbers_of trees) (given_to given) w are
+      (λ t r e. none_no (numbers_of trees t) (is_number t ∙ ap is_some e))
+      (λ t n e. none_no ((now s).roots t) (sym (is_number t) ∙ ap is_some e))
+      (λ t n e. let b = number_in 0 (names_in all.roots) t n (in_all t n e) in within n (length (numbered 0 (names_in all.roots))) given b.0 b.1 (count ∙ ap length all.is))
+      (λ t u n e g. number_apart 0 (names_in all.roots) t u n (in_all t n e) (in_all u n g))
+      f
+    where
+      within : (n m given : ℕ) → 0 < n → n ≤ 0 + m → given ≡ m → given_to given n ≡ true
+      within n m given p q e = grind (arith, nat_tests)
+
+  pub opened_db : (given : ℕ) → given ≡ length trees → AreGiven s → (a c : Store) → HasDefault a s → c ≡ flushed s → IsDb c trees given
+  opened_db given count are a c h e =
+      let well = h.again.well in
+      subst (λ (z : Store). IsDb z trees given) (sym e) (record {
+        forest = well.forest;
+        is = moment_here given count are well.forest well.formed;
+        safe = flushes_safe (flushes_same s) h.again.calm well;
+        calm = h.again.calm;
+        default = none_no (numbers_of trees DEFAULT_TREE.now) (is_number DEFAULT_TREE.now ∙ there);
+      })
+    where
+      maps : trees_of (now s) DEFAULT_TREE.now ≡ or_empty (trees_of (now a) DEFAULT_TREE.now)
+      maps = ap (λ (m : Maps). m DEFAULT_TREE.now) h.maps
+
+      full : (o : Option Map) → is_some (or_empty o) ≡ true
+      full None = refl
+      full (Some m) = refl
+
+      mapped : (o : Option ℕ) → is_some (option_map (Rattle.tree_laws.specs.Contents.pairs_under (nodes_of (now s))) o) ≡ is_some o
+      mapped None = refl
+      mapped (Some r) = refl
+
+      there : is_some ((now s).roots DEFAULT_TREE.now) ≡ true
+      there = sym (mapped ((now s).roots DEFAULT_TREE.now)) ∙ ap is_some maps ∙ full (trees_of (now a) DEFAULT_TREE.now)
+
+-- the database that is opened
+pub opens : {P M : Type 0} (store : P → Store) (a s : Store) (called : Key) (d : DbValue P M) → HasDefault a s → AreNumbered (now s) d.trees → store d.pages ≡ flushed s
+    → d.trees_given ≡ length d.trees → d.greatest_id ≡ (store d.pages).mark → d.operators ≡ [] → d.name ≡ called → Opens store a called d
+opens store a s called d h all e given ids operators name = record {
+  middle = s;
+  grows = h.grows;
+  flushes = subst (λ (z : Store). Flushes s z) (sym e) (flushes_same s);
+  maps = ap (λ (z : Store). trees_of (now z)) e ∙ h.maps;
+  names = names_in all.roots;
+  numbers = all.is;
+  ascends = ascends s all;
+  each = λ t. is_number s all t ∙ sym (mapped (now s) t) ∙ ap (λ (z : Store). is_some (trees_of (now z) t)) (sym e);
+  given = given;
+  ids = ids ∙ mark;
+  operators = operators;
+  name = name;
+  mark = mark;
+  recovered = ap (λ (z : Store). z.recovered) e ∙ h.again.recovered;
+  readable = ap (λ (z : Store). z.is_readable) e ∙ h.again.readable;
+  faults = ap (λ (z : Store). z.faults) e ∙ h.faults;
+}
+  where
+    mark : (store d.pages).mark ≡ a.mark
+    mark = ap (λ (z : Store). z.mark) e ∙ h.again.mark
+
+    mapped : (x : State) (t : Key) → is_some (trees_of x t) ≡ is_some (x.roots t)
+    mapped x t = go (x.roots t)
+      where
+        go : (o : Option ℕ) → is_some (option_map (Rattle.tree_laws.specs.Contents.pairs_under (nodes_of x)) o) ≡ is_some o
+        go None = refl
+        go (Some r) = refl
