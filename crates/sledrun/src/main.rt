@@ -2,6 +2,7 @@
 #![tactic(auto)]
 
 mod command;
+mod print;
 mod words;
 
 use std::io;
