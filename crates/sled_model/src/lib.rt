@@ -8,6 +8,7 @@ mod call;
 mod event;
 mod operator;
 mod outcome;
+pub mod plain;
 mod reply;
 mod tree;
 
