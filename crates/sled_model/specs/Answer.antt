@@ -11,6 +11,11 @@ use Rattle.sled_model.specs.declared.reply.Reply.TheVariants.{Value}
 use Rattle.sled_model.specs.declared.event.Event.{Event}
 use Rattle.sled_model.specs.declared.event.Event.TheVariants as event
 
+-- the key that a point call is about
+abbrev pub key_of : Call → Key
+key_of (Get k) = k
+key_of (Insert k v) = k
+
 pub record Answer : Type 0 where
   pub map : Map
   pub reply : Reply

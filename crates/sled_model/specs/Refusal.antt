@@ -52,8 +52,11 @@ dropped_test s [] = None
 dropped_test s (t ∷ ts) = if is_number t.number (s.trees t.name) then dropped_test s ts else Some (IsDropped t.name)
 
 -- The first cause of a refusal, if there is one: the tests go in this order, over all trees test by test
+abbrev pub must_refuse_of : State → List Tree → Option MustRefuse
+must_refuse_of s trees = first_of (if s.is_open then None else Some IsClosed) (first_of (foreign_test s.name trees) (dropped_test s trees))
+
 abbrev pub must_refuse : State → Asked → Option MustRefuse
-must_refuse s asked = first_of (if s.is_open then None else Some IsClosed) (first_of (foreign_test s.name (trees_asked asked)) (dropped_test s (trees_asked asked)))
+must_refuse s asked = must_refuse_of s (trees_asked asked)
 
 -- the error that tells the cause. A tree's name may want memory
 abbrev pub tells : MustRefuse → Error → Type 0

@@ -1,6 +1,7 @@
 //! The calls on a database.
 ghost use Rattle.std.specs.Prelude.{◌≡◌, IfOk, IfErr};
 ghost use Rattle.sled_pages.specs.declared.error.Error.TheVariants.{NoMemory};
+ghost use Rattle.sled_model.specs.Answer.{key_of};
 
 use sled_pages::{IVec, Result};
 
@@ -21,6 +22,16 @@ pub enum Whole {
 }
 
 impl Call {
+    /// The key that the call is about.
+    pub fn key(&self) -> &IVec
+        ensures { result.now ≡ key_of self.now }
+    {
+        match self {
+            Call::Get(key) => key,
+            Call::Insert(key, _) => key,
+        }
+    }
+
     /// The same call. Refused with `NoMemory` alone.
     pub fn clone(&self) -> Result<Call>
         ensures ok { IfOk result (λ copy. copy ≡ self.now) }

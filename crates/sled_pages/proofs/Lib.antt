@@ -1,1 +1,6 @@
 pub mod Put
+pub mod Places
+pub mod Kept
+pub mod Roots
+pub mod Answered
+pub mod Back

@@ -8,3 +8,9 @@ pub mod State
 pub mod Store
 pub mod Crash
 pub mod Facts
+pub mod Slots
+pub mod Table
+pub mod Replay
+pub mod Memory
+pub mod Faults
+pub mod Laws

@@ -4,6 +4,7 @@
 mod error;
 mod ivec;
 mod link;
+mod memory;
 mod node;
 mod page;
 mod pages;
@@ -13,6 +14,7 @@ mod pid;
 pub use error::{Error, Fault, Result};
 pub use ivec::IVec;
 pub use link::Link;
+pub use memory::MemPages;
 pub use node::{Data, Index, Leaf, Node};
 pub use page::{Page, View};
 pub use pages::Pages;

@@ -1,0 +1,120 @@
+//! The database.
+ghost use Rattle.std.specs.Prelude.{◌≡◌, ◌≢◌, IfOk, IfErr, OnOk, OnErr, IfSome, false, true, Some, None, [], ◌∷◌, map};
+ghost use Rattle.std.specs.Option.{option_copied};
+ghost use Rattle.std.specs.FinMap.Entries.{find};
+ghost use Rattle.sled_pages.specs.Order.{key_cmp};
+ghost use Rattle.sled_pages.specs.declared.error.Error.TheVariants.{NoMemory};
+ghost use Rattle.sled_pages.specs.Store.{now};
+ghost use Rattle.sled_model.specs.Refusal.{must_refuse_of};
+ghost use Rattle.sled.specs.Calls.{IsHandle, RefusesHandle, MustBeRefused};
+
+use crate::{DEFAULT_TREE, HANDLE_OF_ANOTHER_DATABASE};
+use sled_model::{MergeOperator, Tree};
+use sled_pages::{Error, IVec, Pages, Result};
+use std::alloc::Global;
+use std::marker::Model;
+
+// The number of the tree of a name.
+#[tactic(auto, unfolding(sled_pages::specs::Order::key_cmp))]
+pub(crate) fn number_of(trees: &[(IVec, u64)], name: &[u8]) -> Option<u64>
+    ensures { result ≡ find key_cmp name.now trees.now }
+{
+    for tree in trees {
+        if name.cmp(tree.0.as_ref()).is_eq() {
+            return Some(tree.1);
+        }
+    }
+    None
+}
+
+/// A database: named trees over a store of pages.
+#[derive(Drop)]
+pub struct Db<P: Pages, M = Box<dyn MergeOperator + Send>> {
+    pub(crate) alloc: Global,
+    pub(crate) pages: P,
+    pub(crate) name: IVec,
+    // the trees' numbers, ascending by name
+    pub(crate) trees: Vec<(IVec, u64)>,
+    // the merge operators, by the number of the tree
+    pub(crate) operators: Vec<(u64, M)>,
+    pub(crate) trees_given: u64,
+    pub(crate) greatest_id: u64,
+}
+
+impl<P: Pages, M> Model for Db<P, M> {
+    ghost use Rattle.sled.specs.Values.{DbValue};
+
+    ghost Value = { DbValue P M };
+
+    ghost use Rattle.sled.specs.Sound.{IsDb};
+
+    ghost view = { λ d. record { pages = d.pages; name = d.name; trees = d.trees.items; operators = d.operators.items; trees_given = d.trees_given; greatest_id = d.greatest_id } };
+
+    ghost invariant = { λ d. IsDb (P.store d.pages) d.trees.items d.trees_given };
+}
+
+impl<P: Pages, M: MergeOperator> Db<P, M> {
+    ghost use Rattle.sled.specs.Sound.{IsDb};
+    ghost use Rattle.sled.specs.Values.{db_state};
+
+    /// What holds of every database: its pages are well formed now and in every state that a crash may leave, and its trees
+    /// are those that the pages have roots for. It does nothing.
+    pub fn audit(&self)
+        ensures { IsDb (P.store self.now.pages) self.now.trees self.now.trees_given }
+    {
+        let _ = &self.pages;
+    }
+
+    /// The pages, as they are. They can be opened again.
+    pub fn into_pages(self) -> P
+        ensures pages { result ≡ self.pages }
+        ensures sound { IsDb (P.store result) self.trees self.trees_given }
+    {
+        let Db { pages, .. } = self;
+        pages
+    }
+
+    /// Whether the store was made from what an earlier one left.
+    pub fn was_recovered(&self) -> bool
+        ensures { result ≡ (P.store self.now.pages).recovered }
+    {
+        self.pages.was_recovered()
+    }
+
+    /// The default tree. Refused with `Closed` and `NoMemory` alone.
+    pub fn default_tree(&self) -> Result<Tree>
+        ensures ok { IfOk result (IsHandle self.now DEFAULT_TREE.now) }
+        ensures calm { OnOk result ((now (P.store self.now.pages)).in_group ≡ false) }
+        ensures err { IfErr result (RefusesHandle (P.store self.now.pages)) }
+    {
+        if self.pages.in_group() {
+            return Err(Error::Closed);
+        }
+        match number_of(self.trees.as_slice(), DEFAULT_TREE.as_bytes()) {
+            Some(number) => Ok(Tree {
+                database: self.name.clone()?,
+                name: IVec::from_slice(self.alloc, DEFAULT_TREE.as_bytes())?,
+                number,
+            }),
+            None => unreachable!(),
+        }
+    }
+
+    /// The tests that come before every call on a tree, in this order: that the database is open, that the tree is its
+    /// own, and that the tree was not dropped.
+    pub fn check(&self, tree: &Tree) -> Result<()>
+        ensures ok { OnOk result (must_refuse_of (db_state P.store M.meant self.now) (tree.now ∷ []) ≡ None) }
+        ensures err { IfErr result (MustBeRefused (must_refuse_of (db_state P.store M.meant self.now) (tree.now ∷ []))) }
+    {
+        if self.pages.in_group() {
+            return Err(Error::Closed);
+        }
+        if tree.database != self.name {
+            return Err(Error::Unsupported(HANDLE_OF_ANOTHER_DATABASE));
+        }
+        match number_of(self.trees.as_slice(), tree.name.as_ref()) {
+            Some(number) if number == tree.number => Ok(()),
+            _ => Err(Error::CollectionNotFound(tree.name.clone()?)),
+        }
+    }
+}

@@ -1,0 +1,89 @@
+-- What one page action of a call in flight does.
+use Rattle.std.specs.Prelude.{◌≡◌, ◌≢◌, ℕ, ◌+◌, ◌⊎◌, Bool, false, List, [], ◌++◌, Option, Some, None}
+use Rattle.sled_pages.specs.Order.{Key}
+use Rattle.sled_pages.specs.In.{In}
+use Rattle.sled_pages.specs.State.{Action, State}
+use Rattle.sled_pages.specs.Store.{Store, acted, now}
+use Rattle.sled_pages.specs.declared.page.View.{View}
+use Rattle.sled_pages.specs.declared.page.Page.{Page}
+use Rattle.sled_pages.specs.declared.error.Error.{Error}
+use Rattle.sled_pages.specs.declared.error.Error.TheVariants.{Io, NoMemory}
+use Rattle.sled_model.specs.Answer.{answer_of}
+use Rattle.sled_model.specs.declared.reply.Reply.{Reply}
+use Rattle.tree_laws.specs.Forest.{Tree, Forest, Place, place, contents}
+use Rattle.tree_laws.specs.Moment.{Moment, moment_of, nodes_at, IsMoment, Goes, Viewed, Stood, IsOpen}
+use Rattle.sled_tree.specs.declared.flight.Job.{Job}
+use Rattle.sled_tree.specs.declared.flight.Stage.{Stage}
+use Rattle.sled_tree.specs.declared.flight.Next.{Next}
+use Rattle.sled_tree.specs.declared.flight.Next.TheVariants.{Go, Decided, Refused}
+use Rattle.sled_tree.specs.Stages.{IsStage, owned}
+
+-- one changing action, and what it gave; nothing else of the store changes
+pub record ActsOnce (old new : Store) : Type 0 where
+  pub action : Action
+  pub pids : ℕ → Bool
+  pub versions : ℕ → Bool
+  pub is : new ≡ record (acted action old) { pids = pids; versions = versions }
+  -- no group begins or ends
+  pub calm : (now new).in_group ≡ (now old).in_group
+
+-- nothing, or one changing action
+abbrev pub ActsAtMostOnce : Store → Store → Type 0
+ActsAtMostOnce old new = (new ≡ old) ⊎ ActsOnce old new
+
+abbrev pub refuses_as : Error → Store → Store → Type 0
+refuses_as NoMemory old new = new ≡ old
+refuses_as (Io fault) old new = (new ≡ record old { faults = old.faults + 1 }) ⊎ ((new ≡ old) × ((pid : ℕ) × (old.is_readable pid ≡ false)))
+refuses_as _ old new = ⊥
+
+-- a refusal changes nothing, but that a fault may be counted; without one some page is not readable
+abbrev pub touches_as : Next → Store → Store → Type 0
+touches_as (Go stage) old new = ActsAtMostOnce old new
+touches_as (Decided reply) old new = ActsAtMostOnce old new
+touches_as (Refused e) old new = refuses_as e old new
+
+-- An action of a call that owned the pages `mine` before it and `own` after it
+pub record Acts (mine own : List ℕ) (old : Moment) (w : Forest) (new : Moment) (v : Forest) : Type 0 where
+  pub is : IsMoment new v
+  pub goes : Goes (mine ++ own) None old w new v
+  -- what it came to own is new, or had a home until then
+  pub fresh : (q : ℕ) → In q own → In q mine ⊎ ((old.pids q ≡ false) ⊎ ((x : Place) × (w.home q ≡ Some x)))
+
+-- no tree's contents change
+pub record Same (old : Moment) (w : Forest) (new : Moment) (v : Forest) : Type 0 where
+  pub same : (t : Tree) → contents (nodes_at new) v t ≡ contents (nodes_at old) w t
+
+-- The call replies and changes its tree as its answer on the contents now says. Without an event nothing is touched
+pub record Decides (j : Job) (reply : Reply) (old : Moment) (w : Forest) (new : Moment) (v : Forest) : Type 0 where
+  pub replies : reply ≡ (answer_of j.call (contents (nodes_at old) w j.tree.name)).reply
+  pub here : contents (nodes_at new) v j.tree.name ≡ (answer_of j.call (contents (nodes_at old) w j.tree.name)).map
+  pub others : (t : Tree) → t ≢ j.tree.name → contents (nodes_at new) v t ≡ contents (nodes_at old) w t
+  pub quiet : (answer_of j.call (contents (nodes_at old) w j.tree.name)).event ≡ None → new ≡ old
+
+abbrev pub owned_next : Next → List ℕ
+owned_next (Go stage) = owned stage
+owned_next (Decided reply) = []
+owned_next (Refused e) = []
+
+abbrev pub Comes : Job → Moment → Forest → Next → Moment → Forest → Type 0
+Comes j old w (Go stage) new v = IsStage new v j stage × Same old w new v
+Comes j old w (Decided reply) new v = Decides j reply old w new v
+Comes j old w (Refused e) new v = Same old w new v
+
+-- One page action of a call whose tree is current, from a stage to what comes next.
+-- At every forest that shows the pages well formed, where the stage's facts hold, there is a forest after
+pub record Moves (j : Job) (old : Store) (stage : Stage) (next : Next) (new : Store) : Type 0 where
+  pub touches : touches_as next old new
+  pub told : (numbers : Tree → Option ℕ) (given : ℕ → Bool) (w : Forest)
+      → IsMoment (moment_of old numbers given) w → numbers j.tree.name ≡ Some j.tree.number → IsStage (moment_of old numbers given) w j stage
+      → (v : Forest) × Acts (owned stage) (owned_next next) (moment_of old numbers given) w (moment_of new numbers given) v × Comes j (moment_of old numbers given) w next (moment_of new numbers given) v
+
+-- the root of the call's tree was just read
+pub record IsHere (m : Moment) (w : Forest) (j : Job) (v : View) : Type 0 where
+  pub live : m.state.pages v.pid ≡ Some (record { version = v.version; node = v.node })
+  pub root : m.state.roots j.tree.name ≡ Some v.pid
+
+-- What comes after a page was read, at every moment at which it was read
+pub record Arrives (j : Job) (view : View) (next : Next) : Type 0 where
+  pub touches : (s : Store) → touches_as next s s
+  pub told : (m : Moment) (w : Forest) → IsMoment m w → m.numbers j.tree.name ≡ Some j.tree.number → IsHere m w j view → (owned_next next ≡ []) × Comes j m w next m w

@@ -1,0 +1,50 @@
+//! The call's change at its leaf.
+ghost use Rattle.std.specs.Prelude.{◌≡◌, IfOk, IfErr};
+ghost use Rattle.sled_pages.specs.declared.error.Error.TheVariants.{NoMemory};
+ghost use Rattle.sled_tree.specs.Moves.{Moves};
+ghost use Rattle.sled_tree.specs.Change.{IsChangeOf};
+
+use crate::flight::{Job, Next, Stage};
+use sled_model::{Call, Reply};
+use sled_pages::{Link, Node, Pages, Result, View};
+
+// A link, and the reply of the call that makes it.
+#[derive(Drop)]
+pub(crate) struct Change {
+    pub(crate) link: Link,
+    pub(crate) reply: Reply,
+}
+
+// Prepares the call's change of its leaf: all that wants memory comes before the link, after which nothing is refused.
+fn prepare(job: &Job, node: &Node) -> Result<Option<Change>>
+    ensures ok { IfOk result (IsChangeOf job.now.call node.now.content) }
+    ensures err { IfErr result (λ e. e ≡ NoMemory) }
+{
+    match &job.call {
+        Call::Get(_) => Ok(None),
+        Call::Insert(key, value) => {
+            let old = node.get(key.as_ref())?;
+            let link = Link::Set(key.clone()?, value.clone()?);
+            Ok(Some(Change {
+                link,
+                reply: Reply::Value(old),
+            }))
+        }
+    }
+}
+
+// Links the call's change at the version of the leaf that it has read.
+pub(crate) fn act<P: Pages>(pages: &mut P, job: &Job, view: View) -> Next
+    ensures { Moves job.now (P.store pages.old) (Stage.Act view) result (P.store pages.new) }
+{
+    let change = match prepare(job, &view.node) {
+        Err(e) => return Next::Refused(e),
+        Ok(None) => return Next::Go(Stage::Root),
+        Ok(Some(change)) => change,
+    };
+    match pages.link(view.pid, view.version, change.link) {
+        Err(e) => Next::Refused(e),
+        Ok(Err(_)) => Next::Go(Stage::Root),
+        Ok(Ok(_)) => Next::Decided(change.reply),
+    }
+}

@@ -1,0 +1,23 @@
+-- A store with no page and no tree.
+use Rattle.std.proofs.Common.{◌≡◌, Some, None, refl, inl}
+use Rattle.tree_laws.specs.Laws.{EmptyLaw}
+
+none_some : {P : Type 0} {A : Type 0} {a : A} → None ≡ Some a → P
+none_some e = cc
+
+pub empty_law : EmptyLaw
+empty_law = (
+  record {
+    homed = λ x p i. absurd i;
+    page = λ x p e. none_some e;
+    run = λ x. inl refl;
+    pointer = λ t h p n i. absurd i;
+    child = λ x p n i. absurd i;
+    down = λ t h p n e. none_some e;
+    top = λ t h. refl;
+  },
+  record {
+    few = λ x p n e. none_some e;
+    child = λ x p c n d i. absurd i;
+  },
+)

@@ -1,0 +1,17 @@
+pub mod Order
+pub mod Runs
+pub mod Pairs
+pub mod Replace
+pub mod Cover
+pub mod Update
+pub mod Sizes
+pub mod Outside
+pub mod Leaf
+pub mod Stable
+pub mod States
+pub mod Reading
+pub mod Roots
+pub mod Empty
+pub mod Fuel
+pub mod Crashing
+pub mod Known

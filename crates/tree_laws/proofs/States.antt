@@ -1,0 +1,341 @@
+-- From the nodes to the pages with versions.
+use Rattle.std.proofs.Common.{◌≡◌, ◌≢◌, ◌<◌, ◌^◌, ◌⊎◌, ℕ, Bool, true, false, cond, List, [], ◌∷◌, nat_eq, Option, Some, None, option_map, sym, refl, ap, ◌∙◌, subst, inl, inr}
+use Rattle.sled_pages.specs.In.{In}
+use Rattle.sled_pages.specs.State.{Nodes, State, RootBecomes, nodes_of, after}
+use Rattle.sled_pages.specs.Update.{put_at, put_name}
+use Rattle.sled_pages.specs.declared.node.Node.{Node}
+use Rattle.sled_pages.specs.declared.page.Page.{Page}
+use Rattle.tree_laws.specs.Action.{put_node}
+use Rattle.tree_laws.specs.Forest.{Tree, Forest, Place, WellFormed, IsSized, contents}
+use Rattle.tree_laws.specs.Moment.{Moment, IsMoment, nodes_at, IsStray, Keeps, Grows}
+use Rattle.tree_laws.specs.Laws.{ReplaceLaw, AllocateLaw, FreeLaw, PlantedLaw, HoistedLaw, DroppedLaw, Rooted, Steps, replaced, planted, hoisted, dropped}
+use Rattle.tree_laws.proofs.Update.{put_here, put_there, name_here, name_there}
+use Rattle.tree_laws.proofs.Outside.{outside_kept, outside_contents, outside_keeps, outside_sized, outside_grows}
+use Rattle.tree_laws.proofs.Replace.{same_number, same_tree, some_is}
+
+-- one more page, seen as nodes
+nodes_put : (f : ℕ → Option Page) (p : ℕ) (o : Option Page) → (λ (q : ℕ). option_map (λ (g : Page). g.node) (put_at f p o q)) ≡ put_at (λ q. option_map (λ (g : Page). g.node) (f q)) p (option_map (λ (g : Page). g.node) o)
+nodes_put f p o = λ i q. at q i
+  where
+    at : (q : ℕ) → option_map (λ (g : Page). g.node) (put_at f p o q) ≡ put_at (λ q. option_map (λ (g : Page). g.node) (f q)) p (option_map (λ (g : Page). g.node) o) q
+    at q = elim (nat_eq q p) as (λ b. option_map (λ (g : Page). g.node) (cond b o (f q)) ≡ cond b (option_map (λ (g : Page). g.node) o) (option_map (λ (g : Page). g.node) (f q))) [ true ↦ refl | false ↦ refl ]
+
+-- what was true stays so
+true_on : (f : ℕ → Bool) (v q : ℕ) → f q ≡ true → put_at f v true q ≡ true
+true_on f v q e = elim (nat_eq q v) as (λ b. cond b true (f q) ≡ true) [ true ↦ refl | false ↦ e ]
+
+not_both : {P : Type 0} (b : Bool) → b ≡ true → b ≡ false → P
+not_both b e f = cc
+
+none_some : {P A : Type 0} {a : A} → None ≡ Some a → P
+none_some e = cc
+
+pub replace_law : ReplaceLaw
+replace_law mine m w v p g new is live fresh owner formed keeps =
+    let s = m.state in
+    let same : put_node (nodes_at m) p new.node ≡ nodes_at (replaced m p new) = sym (nodes_put s.pages p (Some new)) in
+    record {
+      is = record {
+        pids = λ q h e. elim (same_number q p) [
+          | inl a ↦ ap m.pids a ∙ is.pids p g live
+          | inr a ↦ is.pids q h (sym (put_there s.pages p (Some new) q a) ∙ e)
+        ];
+        versions = λ q h e. elim (same_number q p) [
+          | inl a ↦ ap (λ (z : Page). put_at m.versions new.version true z.version) (some_is h new (sym e ∙ ap (put_at s.pages p (Some new)) a ∙ put_here s.pages p (Some new))) ∙ put_here m.versions new.version true
+          | inr a ↦ true_on m.versions new.version h.version (is.versions q h (sym (put_there s.pages p (Some new) q a) ∙ e))
+        ];
+        below = λ q h e. elim (same_number q p) [
+          | inl a ↦ subst (λ z. z < 2 ^ 64) (sym a) (is.below p g live)
+          | inr a ↦ is.below q h (sym (put_there s.pages p (Some new) q a) ∙ e)
+        ];
+        numbered = is.numbered;
+        rooted = is.rooted;
+        given = is.given;
+        apart = is.apart;
+        formed = subst (λ (z : Nodes). WellFormed z s.roots v) same formed;
+      };
+      goes = record {
+        pids = λ q e. e;
+        versions = λ q e. true_on m.versions new.version q e;
+        given = λ n e. e;
+        gone = λ q e none. elim (same_number q p) [
+          | inl a ↦ none_some (sym none ∙ ap s.pages a ∙ live)
+          | inr a ↦ put_there s.pages p (Some new) q a ∙ none
+        ];
+        fresh = λ q h e. elim (same_number q p) [
+          | inl a ↦ inr (ap (λ (z : Page). m.versions z.version) (some_is h new (sym e ∙ ap (put_at s.pages p (Some new)) a ∙ put_here s.pages p (Some new))) ∙ fresh)
+          | inr a ↦ inl (sym (put_there s.pages p (Some new) q a) ∙ e)
+        ];
+        lasts = λ t n o e. e;
+        dropped = λ t n e no. no;
+        loses = λ t e. none_some e;
+        rooted = λ t r e. inl e;
+        own = λ q stray off. elim (same_number q p) [
+          | inl a ↦ elim owner [ inl b ↦ absurd (stray b.0 (ap w.home a ∙ b.1)) | inr b ↦ absurd (off (subst (λ z. In z mine) (sym a) b)) ]
+          | inr a ↦ put_there s.pages p (Some new) q a
+        ];
+        keeps = subst (λ (z : Nodes). Keeps mine None (nodes_at m) z w v) same keeps;
+      };
+    }
+
+-- a page with no place is put or taken
+module _ (m : Moment) (w : Forest) (p : ℕ) (o : Option Page) (is : IsMoment m w) (stray : IsStray w p) where
+  off : (q : ℕ) (x : Place) → w.home q ≡ Some x → put_at (nodes_at m) p (option_map (λ (g : Page). g.node) o) q ≡ nodes_at m q
+  off q x e = put_there (nodes_at m) p _ q (λ a. stray x (ap w.home (sym a) ∙ e))
+
+  abbrev nodes_then : Nodes
+  nodes_then = λ q. option_map (λ (g : Page). g.node) (put_at m.state.pages p o q)
+
+  pub put_formed : WellFormed nodes_then m.state.roots w
+  put_formed = subst (λ (z : Nodes). WellFormed z m.state.roots w) (sym (nodes_put m.state.pages p o)) (outside_kept (nodes_at m) _ m.state.roots w off is.formed)
+
+  pub put_contents : (t : Tree) → contents nodes_then w t ≡ contents (nodes_at m) w t
+  put_contents t = ap (λ (z : Nodes). contents z w t) (nodes_put m.state.pages p o) ∙ outside_contents (nodes_at m) _ m.state.roots w off is.formed t
+
+  pub put_sized : IsSized (nodes_at m) w → IsSized nodes_then w
+  put_sized z = subst (λ (z : Nodes). IsSized z w) (sym (nodes_put m.state.pages p o)) (outside_sized (nodes_at m) _ m.state.roots w off is.formed z)
+
+  pub put_grows : Grows (nodes_at m) nodes_then w
+  put_grows = subst (λ (z : Nodes). Grows (nodes_at m) z w) (sym (nodes_put m.state.pages p o)) (outside_grows (nodes_at m) _ m.state.roots w off is.formed)
+
+  pub put_keeps : (mine : List ℕ) → ((q : ℕ) → q ≡ p → ¬ (In q mine) → put_at (nodes_at m) p (option_map (λ (g : Page). g.node) o) q ≡ nodes_at m q)
+      → ((n : Node) → nodes_at m p ≡ Some n → option_map (λ (g : Page). g.node) o ≡ None)
+      → Keeps mine None (nodes_at m) nodes_then w w
+  put_keeps mine own gone = subst (λ (z : Nodes). Keeps mine None (nodes_at m) z w w) (sym (nodes_put m.state.pages p o))
+      (outside_keeps (nodes_at m) _ m.state.roots w off is.formed mine None
+      (λ q u k. elim (same_number q p) [ inl a ↦ own q a k | inr a ↦ put_there (nodes_at m) p _ q a ])
+      (λ q n live. elim (same_number q p) [
+        | inl a ↦ inr (ap (put_at (nodes_at m) p _) a ∙ put_here (nodes_at m) p _ ∙ gone n (ap (nodes_at m) (sym a) ∙ live))
+        | inr a ↦ inl (put_there (nodes_at m) p _ q a ∙ live)
+      ]))
+
+no_page_yet : (m : Moment) (w : Forest) (p : ℕ) → IsMoment m w → m.pids p ≡ false → m.state.pages p ≡ None
+no_page_yet m w p is e = go (m.state.pages p) refl
+  where
+    go : (o : Option Page) → m.state.pages p ≡ o → o ≡ None
+    go None h = refl
+    go (Some g) h = not_both (m.pids p) (is.pids p g h) e
+
+pub allocate_law : AllocateLaw
+allocate_law m w p g is new fresh small =
+    let s = m.state in
+    let none : s.pages p ≡ None = no_page_yet m w p is new in
+    let none_node : nodes_at m p ≡ None = ap (option_map (λ (g : Page). g.node)) none in
+    let stray : IsStray w p = λ x e. let h = is.formed.page x p e in none_some (sym none_node ∙ h.1.live) in (
+      record {
+        is = record {
+          pids = λ q h e. elim (same_number q p) [
+            | inl a ↦ ap (put_at m.pids p true) a ∙ put_here m.pids p true
+            | inr a ↦ true_on m.pids p q (is.pids q h (sym (put_there s.pages p (Some g) q a) ∙ e))
+          ];
+          versions = λ q h e. elim (same_number q p) [
+            | inl a ↦ ap (λ (z : Page). put_at m.versions g.version true z.version) (some_is h g (sym e ∙ ap (put_at s.pages p (Some g)) a ∙ put_here s.pages p (Some g))) ∙ put_here m.versions g.version true
+            | inr a ↦ true_on m.versions g.version h.version (is.versions q h (sym (put_there s.pages p (Some g) q a) ∙ e))
+          ];
+          below = λ q h e. elim (same_number q p) [
+            | inl a ↦ subst (λ z. z < 2 ^ 64) (sym a) small
+            | inr a ↦ is.below q h (sym (put_there s.pages p (Some g) q a) ∙ e)
+          ];
+          numbered = is.numbered;
+          rooted = is.rooted;
+          given = is.given;
+          apart = is.apart;
+          formed = put_formed m w p (Some g) is stray;
+        };
+        goes = record {
+          pids = λ q e. true_on m.pids p q e;
+          versions = λ q e. true_on m.versions g.version q e;
+          given = λ n e. e;
+          gone = λ q e no. elim (same_number q p) [
+            | inl a ↦ not_both (m.pids p) (ap m.pids (sym a) ∙ e) new
+            | inr a ↦ put_there s.pages p (Some g) q a ∙ no
+          ];
+          fresh = λ q h e. elim (same_number q p) [
+            | inl a ↦ inr (ap (λ (z : Page). m.versions z.version) (some_is h g (sym e ∙ ap (put_at s.pages p (Some g)) a ∙ put_here s.pages p (Some g))) ∙ fresh)
+            | inr a ↦ inl (sym (put_there s.pages p (Some g) q a) ∙ e)
+          ];
+          lasts = λ t n o e. e;
+          dropped = λ t n e no. no;
+          loses = λ t e. none_some e;
+          rooted = λ t r e. inl e;
+          own = λ q u k. elim (same_number q p) [ inl a ↦ absurd (k (inl a)) | inr a ↦ put_there s.pages p (Some g) q a ];
+          keeps = put_keeps m w p (Some g) is stray (p ∷ []) (λ q a k. absurd (k (inl a))) (λ n live. none_some (sym none_node ∙ live));
+        };
+      },
+      stray,
+      put_contents m w p (Some g) is stray,
+      put_sized m w p (Some g) is stray,
+      put_grows m w p (Some g) is stray,
+    )
+
+pub free_law : FreeLaw
+free_law m w p is stray =
+    let s = m.state in (
+      record {
+        is = record {
+          pids = λ q h e. elim (same_number q p) [
+            | inl a ↦ none_some (sym (ap (put_at s.pages p None) a ∙ put_here s.pages p None) ∙ e)
+            | inr a ↦ is.pids q h (sym (put_there s.pages p None q a) ∙ e)
+          ];
+          versions = λ q h e. elim (same_number q p) [
+            | inl a ↦ none_some (sym (ap (put_at s.pages p None) a ∙ put_here s.pages p None) ∙ e)
+            | inr a ↦ is.versions q h (sym (put_there s.pages p None q a) ∙ e)
+          ];
+          below = λ q h e. elim (same_number q p) [
+            | inl a ↦ none_some (sym (ap (put_at s.pages p None) a ∙ put_here s.pages p None) ∙ e)
+            | inr a ↦ is.below q h (sym (put_there s.pages p None q a) ∙ e)
+          ];
+          numbered = is.numbered;
+          rooted = is.rooted;
+          given = is.given;
+          apart = is.apart;
+          formed = put_formed m w p None is stray;
+        };
+        goes = record {
+          pids = λ q e. e;
+          versions = λ q e. e;
+          given = λ n e. e;
+          gone = λ q e no. elim (same_number q p) [ inl a ↦ ap (put_at s.pages p None) a ∙ put_here s.pages p None | inr a ↦ put_there s.pages p None q a ∙ no ];
+          fresh = λ q h e. elim (same_number q p) [
+            | inl a ↦ none_some (sym (ap (put_at s.pages p None) a ∙ put_here s.pages p None) ∙ e)
+            | inr a ↦ inl (sym (put_there s.pages p None q a) ∙ e)
+          ];
+          lasts = λ t n o e. e;
+          dropped = λ t n e no. no;
+          loses = λ t e. none_some e;
+          rooted = λ t r e. inl e;
+          own = λ q u k. elim (same_number q p) [ inl a ↦ absurd (k (inl a)) | inr a ↦ put_there s.pages p None q a ];
+          keeps = put_keeps m w p None is stray (p ∷ []) (λ q a k. absurd (k (inl a))) (λ n live. refl);
+        };
+      },
+      put_contents m w p None is stray,
+      put_sized m w p None is stray,
+      put_grows m w p None is stray,
+    )
+
+-- an action on a root alone: what it does to the names and their numbers is told apart
+module _ (mine : List ℕ) (lost : Option Tree) (m new : Moment) (w : Forest) (t : Tree) (root : Option ℕ) (is : IsMoment m w) (u : Rooted mine lost (nodes_at m) m.state.roots w t root) where
+  rooted_steps : new.state ≡ after (RootBecomes t root) m.state → new.pids ≡ m.pids → new.versions ≡ m.versions
+      → ((n : ℕ) → m.given n ≡ true → new.given n ≡ true)
+      → ((z : Tree) (r : ℕ) → put_name m.state.roots t root z ≡ Some r → (n : ℕ) × (new.numbers z ≡ Some n))
+      → ((z : Tree) (n : ℕ) → new.numbers z ≡ Some n → (r : ℕ) × (put_name m.state.roots t root z ≡ Some r))
+      → ((z : Tree) (n : ℕ) → new.numbers z ≡ Some n → new.given n ≡ true)
+      → ((z y : Tree) (n : ℕ) → new.numbers z ≡ Some n → new.numbers y ≡ Some n → z ≡ y)
+      → ((z : Tree) (n : ℕ) → lost ≢ Some z → m.numbers z ≡ Some n → new.numbers z ≡ Some n)
+      → ((z : Tree) (n : ℕ) → m.given n ≡ true → m.numbers z ≢ Some n → new.numbers z ≢ Some n)
+      → ((z : Tree) → lost ≡ Some z → new.numbers z ≡ None)
+      → ((r : ℕ) → root ≡ Some r → IsStray w r × ((n : Node) × (nodes_at m r ≡ Some n) × (n.merging ≡ false)))
+      → Steps mine lost m w new u.after
+  rooted_steps state pids versions given numbered rooted of apart lasts gone loses fresh =
+      let pages : (q : ℕ) → new.state.pages q ≡ m.state.pages q = λ q. ap (λ (z : State). z.pages q) state in
+      let nodes : nodes_at new ≡ nodes_at m = ap nodes_of state in
+      let roots : new.state.roots ≡ put_name m.state.roots t root = ap (λ (z : State). z.roots) state in
+      record {
+        is = record {
+          pids = λ q g e. ap (λ f. f q) pids ∙ is.pids q g (sym (pages q) ∙ e);
+          versions = λ q g e. ap (λ f. f g.version) versions ∙ is.versions q g (sym (pages q) ∙ e);
+          below = λ q g e. is.below q g (sym (pages q) ∙ e);
+          numbered = λ z r e. numbered z r (sym (ap (λ f. f z) roots) ∙ e);
+          rooted = λ z n e. let a = rooted z n e in (a.0, ap (λ f. f z) roots ∙ a.1);
+          given = of;
+          apart = apart;
+          formed = subst (λ f. WellFormed (nodes_at new) f u.after) (sym roots) (subst (λ f. WellFormed f (put_name m.state.roots t root) u.after) (sym nodes) u.kept);
+        };
+        goes = record {
+          pids = λ q e. ap (λ f. f q) pids ∙ e;
+          versions = λ q e. ap (λ f. f q) versions ∙ e;
+          given = given;
+          gone = λ q e none. pages q ∙ none;
+          fresh = λ q g e. inl (sym (pages q) ∙ e);
+          lasts = lasts;
+          dropped = gone;
+          loses = loses;
+          rooted = λ z r e. elim (same_tree z t) [
+            | inl a ↦ inr (fresh r (sym (name_here m.state.roots t root) ∙ ap (put_name m.state.roots t root) (sym a) ∙ sym (ap (λ f. f z) roots) ∙ e))
+            | inr a ↦ inl (sym (name_there m.state.roots t root z a) ∙ sym (ap (λ f. f z) roots) ∙ e)
+          ];
+          own = λ q stray off. pages q;
+          keeps = subst (λ f. Keeps mine lost (nodes_at m) f w u.after) (sym nodes) u.keeps;
+        };
+      }
+
+pub planted_law : PlantedLaw
+planted_law m w t r number n is none free stray awake live u =
+    let unnamed : m.numbers t ≡ None = no_number (m.numbers t) refl in
+    let fresh : (z : Tree) (k : ℕ) → m.numbers z ≡ Some k → k ≢ number = λ z k e a. not_both (m.given number) (ap m.given (sym a) ∙ is.given z k e) free in
+    let old : (z : Tree) (k : ℕ) → put_name m.numbers t (Some number) z ≡ Some k → ((z ≡ t) × (k ≡ number)) ⊎ ((z ≢ t) × (m.numbers z ≡ Some k)) =
+    λ z k e. elim (same_tree z t) [
+      | inl a ↦ inl (a, some_is k number (sym e ∙ ap (put_name m.numbers t (Some number)) a ∙ name_here m.numbers t (Some number)))
+      | inr a ↦ inr (a, sym (name_there m.numbers t (Some number) z a) ∙ e)
+    ] in
+    rooted_steps (r ∷ []) None m (planted m t r number) w t (Some r) is u refl refl refl
+    (λ k e. true_on m.given number k e)
+    (λ z q e. elim (same_tree z t) [
+      | inl a ↦ (number, ap (put_name m.numbers t (Some number)) a ∙ name_here m.numbers t (Some number))
+      | inr a ↦ let b = is.numbered z q (sym (name_there m.state.roots t (Some r) z a) ∙ e) in (b.0, name_there m.numbers t (Some number) z a ∙ b.1)
+    ])
+    (λ z k e. elim (old z k e) [
+      | inl a ↦ (r, ap (put_name m.state.roots t (Some r)) a.0 ∙ name_here m.state.roots t (Some r))
+      | inr a ↦ let b = is.rooted z k a.1 in (b.0, name_there m.state.roots t (Some r) z a.0 ∙ b.1)
+    ])
+    (λ z k e. elim (old z k e) [
+      | inl a ↦ ap (put_at m.given number true) a.1 ∙ put_here m.given number true
+      | inr a ↦ true_on m.given number k (is.given z k a.1)
+    ])
+    (λ z y k e g. elim (old z k e) [
+      | inl a ↦ elim (old y k g) [ inl b ↦ a.0 ∙ sym b.0 | inr b ↦ absurd (fresh y k b.1 a.1) ]
+      | inr a ↦ elim (old y k g) [ inl b ↦ absurd (fresh z k a.1 b.1) | inr b ↦ is.apart z y k a.1 b.1 ]
+    ])
+    (λ z k o e. name_there m.numbers t (Some number) z (λ a. none_some (sym unnamed ∙ ap m.numbers (sym a) ∙ e)) ∙ e)
+    (λ z k given no e. elim (old z k e) [
+      | inl a ↦ not_both (m.given number) (ap m.given (sym a.1) ∙ given) free
+      | inr a ↦ no a.1
+    ])
+    (λ z e. none_some e)
+    (λ q e. (subst (λ z. IsStray w z) (some_is r q e) stray, (n, ap (nodes_at m) (sym (some_is r q e)) ∙ live, awake)))
+  where
+    no_number : (o : Option ℕ) → m.numbers t ≡ o → o ≡ None
+    no_number None e = refl
+    no_number (Some k) e = let a = is.rooted t k e in none_some (sym none ∙ a.1)
+
+pub hoisted_law : HoistedLaw
+hoisted_law m w t left r n is root stray awake live u =
+    let old : (z : Tree) (k : ℕ) → put_name m.state.roots t (Some r) z ≡ Some k → (j : ℕ) × (m.state.roots z ≡ Some j) =
+    λ z k e. elim (same_tree z t) [ inl a ↦ (left, ap m.state.roots a ∙ root) | inr a ↦ (k, sym (name_there m.state.roots t (Some r) z a) ∙ e) ] in
+    rooted_steps (r ∷ []) None m (hoisted m t r) w t (Some r) is u refl refl refl
+    (λ k e. e)
+    (λ z q e. let b = old z q e in is.numbered z b.0 b.1)
+    (λ z k e. elim (same_tree z t) [
+      | inl a ↦ (r, ap (put_name m.state.roots t (Some r)) a ∙ name_here m.state.roots t (Some r))
+      | inr a ↦ let b = is.rooted z k e in (b.0, name_there m.state.roots t (Some r) z a ∙ b.1)
+    ])
+    is.given
+    is.apart
+    (λ z k o e. e)
+    (λ z k given no e. no e)
+    (λ z e. none_some e)
+    (λ q e. (subst (λ z. IsStray w z) (some_is r q e) stray, (n, ap (nodes_at m) (sym (some_is r q e)) ∙ live, awake)))
+
+pub dropped_law : DroppedLaw
+dropped_law m w t is u =
+    let old : (z : Tree) (k : ℕ) → put_name m.numbers t None z ≡ Some k → (z ≢ t) × (m.numbers z ≡ Some k) =
+    λ z k e. elim (same_tree z t) [
+      | inl a ↦ none_some (sym (ap (put_name m.numbers t None) a ∙ name_here m.numbers t None) ∙ e)
+      | inr a ↦ (a, sym (name_there m.numbers t None z a) ∙ e)
+    ] in
+    rooted_steps [] (Some t) m (dropped m t) w t None is u refl refl refl
+    (λ k e. e)
+    (λ z q e. elim (same_tree z t) [
+      | inl a ↦ none_some (sym (ap (put_name m.state.roots t None) a ∙ name_here m.state.roots t None) ∙ e)
+      | inr a ↦ let b = is.numbered z q (sym (name_there m.state.roots t None z a) ∙ e) in (b.0, name_there m.numbers t None z a ∙ b.1)
+    ])
+    (λ z k e. let a = old z k e in let b = is.rooted z k a.1 in (b.0, name_there m.state.roots t None z a.0 ∙ b.1))
+    (λ z k e. is.given z k (old z k e).1)
+    (λ z y k e g. is.apart z y k (old z k e).1 (old y k g).1)
+    (λ z k o e. name_there m.numbers t None z (λ a. o (ap Some (sym a))) ∙ e)
+    (λ z k given no e. no (old z k e).1)
+    (λ z e. ap (put_name m.numbers t None) (sym (some_is t z e)) ∙ name_here m.numbers t None)
+    (λ q e. none_some e)
+
+pub nodes_replaced : (m : Moment) (p : ℕ) (g : Page) → nodes_at (replaced m p g) ≡ put_node (nodes_at m) p g.node
+nodes_replaced m p g = nodes_put m.state.pages p (Some g)

@@ -1,0 +1,47 @@
+-- What page actions make of a page.
+use Rattle.std.specs.Prelude.{◌≡◌, ℕ, false, ◌++◌, Some, None}
+use Rattle.sled_pages.specs.Order.{Below}
+use Rattle.sled_pages.specs.Node.{Within}
+use Rattle.sled_pages.specs.State.{Nodes}
+use Rattle.sled_pages.specs.Update.{put_at}
+use Rattle.sled_pages.specs.declared.node.Node.{Node}
+use Rattle.sled_pages.specs.declared.node.Data.{Data}
+use Rattle.sled_pages.specs.declared.node.Data.TheVariants.{Leaf, Index}
+use Rattle.tree_laws.specs.Forest.{IsNodeAt}
+
+-- the page p is n, the others as before
+abbrev pub put_node : Nodes → ℕ → Node → Nodes
+put_node nodes p n = put_at nodes p (Some n)
+
+-- two halves of the same kind
+abbrev pub Halves : Data → Data → Data → Type 0
+Halves (Leaf es) (Leaf a) (Leaf b) = es ≡ a ++ b
+Halves (Index es) (Index a) (Index b) = es ≡ a ++ b
+Halves (Leaf es) (Index a) c = ⊥
+Halves (Leaf es) (Leaf a) (Index b) = ⊥
+Halves (Index es) (Leaf a) c = ⊥
+Halves (Index es) (Index a) (Leaf b) = ⊥
+
+-- n is split at the key right.lo, and the right half is the page q
+pub record IsSplit (h : ℕ) (n : Node) (left right : Node) (q : ℕ) : Type 0 where
+  pub left_sound : IsNodeAt h left
+  pub right_sound : IsNodeAt h right
+  pub halves : Halves n.content left.content right.content
+  pub left_lo : left.lo ≡ n.lo
+  pub left_hi : left.hi ≡ right.lo
+  pub left_next : left.next ≡ Some q
+  pub right_hi : right.hi ≡ n.hi
+  pub right_next : right.next ≡ n.next
+  pub apart : Below n.lo right.lo
+  pub within : Within n.lo n.hi right.lo
+  pub calm : (left.merging ≡ false) × (left.merging_child ≡ None) × (right.merging ≡ false) × (right.merging_child ≡ None)
+
+-- n takes the entries, the end and the next page of c
+pub record IsReceived (h : ℕ) (n c both : Node) : Type 0 where
+  pub sound : IsNodeAt h both
+  pub halves : Halves both.content n.content c.content
+  pub lo : both.lo ≡ n.lo
+  pub hi : both.hi ≡ c.hi
+  pub next : both.next ≡ c.next
+  pub merging : both.merging ≡ n.merging
+  pub merging_child : both.merging_child ≡ n.merging_child

@@ -1,0 +1,136 @@
+-- The store at one moment, what every action of a call keeps for the others, and what a call in flight knows.
+use Rattle.std.specs.Prelude.{◌≡◌, ◌≢◌, ℕ, suc, ◌<◌, ◌≤◌, ◌^◌, ◌⊎◌, Bool, true, false, List, Option, Some, None}
+use Rattle.sled_pages.specs.Order.{Key}
+use Rattle.sled_pages.specs.In.{In}
+use Rattle.sled_pages.specs.Node.{count, Within}
+use Rattle.sled_pages.specs.State.{State, Nodes, nodes_of}
+use Rattle.sled_pages.specs.Store.{Store, now}
+use Rattle.sled_pages.specs.declared.node.Node.{Node}
+use Rattle.sled_pages.specs.declared.node.Data.TheVariants.{Leaf}
+use Rattle.sled_pages.specs.declared.page.Page.{Page}
+use Rattle.sled_pages.specs.declared.page.View.{View}
+use Rattle.tree_laws.specs.Forest.{Tree, Forest, Place, place, WellFormed, IsNodeAt}
+
+-- The pages and roots now, the page numbers and versions ever given, each tree's number now, and the tree numbers ever given
+pub record Moment : Type 0 where
+  pub state : State
+  pub pids : ℕ → Bool
+  pub versions : ℕ → Bool
+  pub numbers : Tree → Option ℕ
+  pub given : ℕ → Bool
+
+-- a store now, where the trees have these numbers
+abbrev pub moment_of : Store → (Tree → Option ℕ) → (ℕ → Bool) → Moment
+moment_of s numbers given = record { state = now s; pids = s.pids; versions = s.versions; numbers = numbers; given = given }
+
+-- the nodes by page number
+abbrev pub nodes_at : Moment → Nodes
+nodes_at m = nodes_of m.state
+
+pub record IsMoment (m : Moment) (w : Forest) : Type 0 where
+  -- each page has a number and a version that were given, and its number fits 64 bits
+  pub pids : (p : ℕ) (g : Page) → m.state.pages p ≡ Some g → m.pids p ≡ true
+  pub versions : (p : ℕ) (g : Page) → m.state.pages p ≡ Some g → m.versions g.version ≡ true
+  pub below : (p : ℕ) (g : Page) → m.state.pages p ≡ Some g → p < 2 ^ 64
+  -- a name has a number exactly where it has a root
+  pub numbered : (t : Tree) (r : ℕ) → m.state.roots t ≡ Some r → (n : ℕ) × (m.numbers t ≡ Some n)
+  pub rooted : (t : Tree) (n : ℕ) → m.numbers t ≡ Some n → (r : ℕ) × (m.state.roots t ≡ Some r)
+  -- a tree's number was given, and is no other tree's
+  pub given : (t : Tree) (n : ℕ) → m.numbers t ≡ Some n → m.given n ≡ true
+  pub apart : (t u : Tree) (n : ℕ) → m.numbers t ≡ Some n → m.numbers u ≡ Some n → t ≡ u
+  pub formed : WellFormed (nodes_at m) m.state.roots w
+
+-- p has no home
+abbrev pub IsStray : Forest → ℕ → Type 0
+IsStray w p = (y : Place) → w.home p ≢ Some y
+
+-- p is live with this lo, and stands in the chain at x or is merging
+abbrev pub Stands : Nodes → Forest → Place → Key → ℕ → Type 0
+Stands nodes w x lo p = (n : Node) × (nodes p ≡ Some n) × (n.lo ≡ lo) × (In p (w.chain x) ⊎ (n.merging ≡ true))
+
+-- What an action keeps of the nodes and of the forest. `mine` are the acting call's own pages, which have no home and which
+-- it may bring into a tree or free; `lost` is the tree that it drops, if it drops one
+pub record Keeps (mine : List ℕ) (lost : Option Tree) (old new : Nodes) (w v : Forest) : Type 0 where
+  -- a page of a chain stays live, and stands there or is merging
+  pub stood : (x : Place) (p : ℕ) (n : Node) → lost ≢ Some x.tree → In p (w.chain x) → old p ≡ Some n → Stands new v x n.lo p
+  -- a merging page does not change any more; it is only freed
+  pub capped : (p : ℕ) (n : Node) → old p ≡ Some n → n.merging ≡ true → (new p ≡ Some n) ⊎ (new p ≡ None)
+  -- a page without a home stays as it is and without a home, but for the acting call's own
+  pub stray : (p : ℕ) → IsStray w p → ¬ (In p mine) → (new p ≡ old p) × IsStray v p
+  -- a merging page that left its chain never comes back
+  pub left : (x : Place) (p : ℕ) (n : Node) → old p ≡ Some n → n.merging ≡ true → ¬ (In p (w.chain x)) → ¬ (In p (v.chain x))
+  -- a page begins to merge only as the merging child of a page above it
+  pub wakes : (x : Place) (p : ℕ) (n m : Node) → In p (w.chain x) → old p ≡ Some n → n.merging ≡ false → new p ≡ Some m → m.merging ≡ true
+      → (q : ℕ) × (d : Node) × In q (w.chain (place x.tree (suc x.height))) × (old q ≡ Some d) × (d.merging_child ≡ Some p)
+  -- who has a merging child keeps it until it was received
+  pub child : (x : Place) (p c : ℕ) (n : Node) → lost ≢ Some x.tree → In p (w.chain x) → old p ≡ Some n → n.merging_child ≡ Some c
+      → (In p (v.chain x) × ((m : Node) × (new p ≡ Some m) × (m.merging_child ≡ Some c))) ⊎ ((d : Node) × (old c ≡ Some d) × (d.merging ≡ true) × ((y : Place) → ¬ (In c (w.chain y))))
+
+-- what every action of a call gives to every other call in flight
+pub record Goes (mine : List ℕ) (lost : Option Tree) (old : Moment) (w : Forest) (new : Moment) (v : Forest) : Type 0 where
+  -- what was given stays given
+  pub pids : (p : ℕ) → old.pids p ≡ true → new.pids p ≡ true
+  pub versions : (p : ℕ) → old.versions p ≡ true → new.versions p ≡ true
+  pub given : (n : ℕ) → old.given n ≡ true → new.given n ≡ true
+  -- a page that is gone stays gone, and a page that changes has a version never given before
+  pub gone : (p : ℕ) → old.pids p ≡ true → old.state.pages p ≡ None → new.state.pages p ≡ None
+  pub fresh : (p : ℕ) (g : Page) → new.state.pages p ≡ Some g → (old.state.pages p ≡ Some g) ⊎ (old.versions g.version ≡ false)
+  -- a tree keeps its number until it is dropped, and a number that was given is no other tree's later
+  pub lasts : (t : Tree) (n : ℕ) → lost ≢ Some t → old.numbers t ≡ Some n → new.numbers t ≡ Some n
+  pub dropped : (t : Tree) (n : ℕ) → old.given n ≡ true → old.numbers t ≢ Some n → new.numbers t ≢ Some n
+  pub loses : (t : Tree) → lost ≡ Some t → new.numbers t ≡ None
+  -- a new root was a page without a home
+  pub rooted : (t : Tree) (r : ℕ) → new.state.roots t ≡ Some r → (old.state.roots t ≡ Some r) ⊎ (IsStray w r × ((n : Node) × (nodes_at old r ≡ Some n) × (n.merging ≡ false)))
+  -- the pages that are another call's own are kept whole, versions included
+  pub own : (p : ℕ) → IsStray w p → ¬ (In p mine) → new.state.pages p ≡ old.state.pages p
+  pub keeps : Keeps mine lost (nodes_at old) (nodes_at new) w v
+
+-- a page grows past 17 entries only as it receives the page behind it
+pub record Grows (old new : Nodes) (w : Forest) : Type 0 where
+  pub grows : (x : Place) (p : ℕ) (n m : Node) → In p (w.chain x) → old p ≡ Some n → new p ≡ Some m
+      → (count m.content ≤ count n.content) ⊎ ((count m.content ≤ 17) ⊎ ((c : ℕ) × (d : Node) × (n.next ≡ Some c) × (old c ≡ Some d) × (d.merging ≡ true)))
+
+-- a view of the page p at version v as the node n: it speaks of the page while the page has this version
+pub record Viewed (m : Moment) (p v : ℕ) (n : Node) : Type 0 where
+  pub given : m.versions v ≡ true
+  pub speaks : (g : Page) → m.state.pages p ≡ Some g → g.version ≡ v → g.node ≡ n
+
+-- p stood with this lo in the chain at x of the tree of this number: the tree's number is not the name's now, or the page
+-- is gone, or it is live with this lo and stands there or is merging
+pub record Stood (m : Moment) (w : Forest) (x : Place) (number : ℕ) (lo : Key) (p : ℕ) : Type 0 where
+  pub page : m.pids p ≡ true
+  pub tree : m.given number ≡ true
+  pub now : (m.numbers x.tree ≢ Some number) ⊎ ((nodes_at m p ≡ None) ⊎ Stands (nodes_at m) w x lo p)
+
+-- a page as it was read
+abbrev pub Look : Type 0
+Look = View
+
+-- neither merging nor with a merging child
+pub record IsOpen (n : Node) : Type 0 where
+  pub awake : n.merging ≡ false
+  pub free : n.merging_child ≡ None
+
+-- the page has this version still
+pub record IsFresh (m : Moment) (look : Look) : Type 0 where
+  pub page : Page
+  pub live : m.state.pages look.pid ≡ Some page
+  pub same : page.version ≡ look.version
+
+-- an open page that was read in the chain at x
+pub record Seen (m : Moment) (w : Forest) (x : Place) (number : ℕ) (look : Look) : Type 0 where
+  pub view : Viewed m look.pid look.version look.node
+  pub stood : Stood m w x number look.node.lo look.pid
+  pub is_open : IsOpen look.node
+  pub sound : IsNodeAt x.height look.node
+
+-- a leaf that covers the key
+pub record IsActing (m : Moment) (w : Forest) (t : Tree) (number : ℕ) (key : Key) (look : Look) : Type 0 where
+  pub seen : Seen m w (place t 0) number look
+  pub covers : Within look.node.lo look.node.hi key
+  pub es : List (Key × Key)
+  pub content : look.node.content ≡ Leaf es
+
+-- a view that takes one entry more and still need not be split
+pub record IsFew (look : Look) : Type 0 where
+  pub few : count look.node.content ≤ 16
