@@ -1,1 +1,3 @@
 mod Put
+mod Places
+mod Follow

@@ -26,7 +26,11 @@ fn hex_digit(number: u8) -> u8
     requires { number < 16 }
     ensures { result ≡ hex_digit number }
 {
-    if number < 10 { b'0' + number } else { b'a' - 10 + number }
+    if number < 10 {
+        b'0' + number
+    } else {
+        b'a' - 10 + number
+    }
 }
 
 // What a hexadecimal digit counts.
@@ -107,7 +111,11 @@ fn first_byte(word: &[u8]) -> Option<(u8, &[u8])>
 {
     let (first, rest) = word.split_first()?;
     if *first != b'%' {
-        return if is_plain(*first) { Some((*first, rest)) } else { None };
+        return if is_plain(*first) {
+            Some((*first, rest))
+        } else {
+            None
+        };
     }
     let Some((high, rest)) = rest.split_first() else {
         return None;
@@ -195,15 +203,13 @@ pub fn read_number(word: &[u8]) -> Option<u64>
 #[allow(dead_code)]
 fn reads_printed()
     ensures { ReadsPrinted }
-{
-}
+{}
 
 // A number is read from its decimal digits, and from nothing else.
 #[allow(dead_code)]
 fn reads_decimals()
     ensures { ReadsDecimals }
-{
-}
+{}
 
 /// The first word of a line, and what stands after the space that ends it, if there is a space.
 pub fn first_word(line: &[u8]) -> (&[u8], Option<&[u8]>)

@@ -1,6 +1,4 @@
-use Rattle.std.proofs.Common.{sym, ap, ◌∙◌, ◌∷◌}
-use Rattle.sledrun.specs.Words.{words_after}
-use Rattle.sledrun.specs.Command.{one_of}
+use Rattle.std.proofs.Common.{sym}
 use Rattle.sledrun.proofs.Lines.{one_of-more}
 use Rattle.sledrun.proofs.command.one_of.Goals as goal
 

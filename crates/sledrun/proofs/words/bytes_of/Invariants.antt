@@ -1,4 +1,4 @@
-use Rattle.std.proofs.Common.{◌≡◌, List, ◌++◌, length, option_map}
+use Rattle.std.proofs.Common.{◌≡◌, ◌++◌, length, option_map}
 use Rattle.sledrun.specs.Words.{bytes_of}
 use Rattle.sledrun.proofs.words.bytes_of.Given as goal
 

@@ -1,4 +1,4 @@
-use Rattle.std.proofs.Common.{arith, sym}
+use Rattle.std.proofs.Common.{sym}
 use Rattle.sledrun.proofs.Numbers.{number_of-too_great, number_of-all}
 use Rattle.sledrun.proofs.words.number_of.Goals as goal
 
