@@ -5,3 +5,4 @@ pub mod State
 pub mod Refusal
 pub mod Steps
 pub mod Runs
+pub mod Plain

@@ -8,6 +8,7 @@ mod call;
 mod event;
 mod operator;
 mod outcome;
+pub mod plain;
 mod reply;
 mod tree;
 
@@ -23,3 +24,6 @@ pub const MAX_LOOPS: u64 = 1_000_000;
 
 /// So many events wait in a subscriber's queue at the most.
 pub const QUEUE_LIMIT: usize = 1024;
+
+#[cfg(test)]
+mod tests;

@@ -1,0 +1,3 @@
+mod Put
+mod Places
+mod Follow

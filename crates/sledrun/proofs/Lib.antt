@@ -1,0 +1,3 @@
+mod Spelling
+mod Numbers
+mod Lines
