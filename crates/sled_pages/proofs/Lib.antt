@@ -6,3 +6,4 @@ pub mod Answered
 pub mod Back
 pub mod Runs
 pub mod Found
+pub mod Laying

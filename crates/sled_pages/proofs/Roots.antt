@@ -17,7 +17,7 @@ pub root_put : (name : Key) (pid : ℕ) (roots : List (Key × ℕ)) → roots_of
 unfolding key_cmp
 root_put name pid roots = fun_ext (λ q. find-put (slice_cmp nat_cmp) nat_list_cmp_total q name pid roots ∙ ap (λ b. cond b (Some pid) (find (slice_cmp nat_cmp) q roots)) (sym (texts_ties q name)))
 
-same_test : (q name : Key) → bytes_eq name q ≡ bytes_eq q name
+pub same_test : (q name : Key) → bytes_eq name q ≡ bytes_eq q name
 same_test q name =
     elim (bytes_eq q name) as (λ b. bytes_eq q name ≡ b → bytes_eq name q ≡ b) [
       | true ↦ λ e. ap (λ x. bytes_eq x q) (sym (same_name q name e)) ∙ name_itself q

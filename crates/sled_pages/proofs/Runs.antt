@@ -1,6 +1,7 @@
 -- Two calls of a store, one after the other.
-use Rattle.std.proofs.Common.{◌≡◌, ℕ, true, [], ◌∷◌, ◌++◌, Option, Some, None, Result, Ok, Err, sym, ap, subst, ◌∙◌, append_assoc}
+use Rattle.std.proofs.Common.{◌≡◌, ℕ, true, [], ◌∷◌, ◌++◌, Option, Some, None, Result, Ok, Err, refl, sym, ap, subst, ◌∙◌, append_assoc}
 use Rattle.std.specs.Result.{is_ok}
+use Rattle.std.specs.Option.{option_map}
 use Rattle.sled_pages.specs.Order.{Key}
 use Rattle.sled_pages.specs.Update.{put_name}
 use Rattle.sled_pages.specs.declared.node.Node.{Node}
@@ -8,7 +9,7 @@ use Rattle.sled_pages.specs.declared.page.Page.{Page}
 use Rattle.sled_pages.specs.State.{Action, PageBecomes}
 use Rattle.sled_pages.specs.Store.{Store, now, flushed, ActsAt, Allocates, Changes, SwapsRoot, AreGiven}
 use Rattle.sled_pages.specs.Facts.{page_changed, now_allocates, now_swaps, swaps_group, fresh_page}
-use Rattle.sled_pages.specs.Client.{Twice, Opens}
+use Rattle.sled_pages.specs.Client.{Twice, Opens, links_as}
 
 recent_two : (a b : Action) (v w : ℕ) (old mid new : Store) → ActsAt a v old mid → ActsAt b w mid new → new.recent ≡ old.recent ++ a ∷ b ∷ []
 recent_two a b v w old mid new h k = ap (λ s. s.recent) k.is ∙ (ap (λ s. s.recent ++ b ∷ []) h.is ∙ append_assoc old.recent (a ∷ []) (b ∷ []))
@@ -36,6 +37,13 @@ twice f g pid v w old mid new q (Ok x) e ok h k =
       is = page_changed pid x _ mid new acts;
     }
 twice f g pid v w old mid new q (Err o) e ok h k = cc
+
+-- the second change finds the version that the first one gave
+pub links_told : (f g : Node → Node) (pid v w : ℕ) (old mid new : Store) (q r : Result ℕ (Option ℕ)) → q ≡ Ok w → Changes f pid v old mid q → Changes g pid w mid new r → links_as f g pid v old new (is_ok r)
+links_told f g pid v w old mid new q (Ok x) e h k = twice f g pid v w old mid new q (Ok x) e refl h k
+links_told f g pid v w old mid new q (Err o) e h k =
+    let h' : Changes f pid v old mid (Ok w) = subst (Changes f pid v old mid) e h in
+    absurd (k.told.2 (k.told.1 ∙ ap (option_map (λ (p : Page). p.version)) (page_changed pid w (Some (record { version = w; node = f h'.told.0 })) old mid h'.told.2)))
 
 -- a new page and a swap keep the group
 pub opened_group : (node : Node) (pid version : ℕ) (name : Key) (expected proposed : Option ℕ) (old mid new : Store) (answer : Result (Unit {0}) (Option ℕ)) → Allocates node pid version old mid → SwapsRoot name expected proposed mid new answer → (now new).in_group ≡ (now old).in_group

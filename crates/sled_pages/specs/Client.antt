@@ -1,10 +1,10 @@
 -- What the clients that test the contract of a store say.
-use Rattle.std.specs.Prelude.{◌≡◌, ◌≢◌, ℕ, ◌∷◌, [], ◌++◌, Option, Some, None}
+use Rattle.std.specs.Prelude.{◌≡◌, ◌≢◌, ℕ, Bool, true, false, ◌∷◌, [], ◌++◌, Option, Some, None}
 use Rattle.sled_pages.specs.Order.{Key}
 use Rattle.sled_pages.specs.Update.{put_at, put_name}
 use Rattle.sled_pages.specs.declared.node.Node.{Node}
 use Rattle.sled_pages.specs.State.{PageBecomes}
-use Rattle.sled_pages.specs.Store.{Store, now}
+use Rattle.sled_pages.specs.Store.{Store, now, version_now}
 
 -- two entries more, and the page has both changes now
 pub record Twice (f g : Node → Node) (pid version : ℕ) (old new : Store) : Type 0 where
@@ -14,6 +14,11 @@ pub record Twice (f g : Node → Node) (pid version : ℕ) (old new : Store) : T
   pub last : ℕ
   pub recent : new.recent ≡ old.recent ++ PageBecomes pid (Some (record { version = middle; node = f node })) ∷ PageBecomes pid (Some (record { version = last; node = g (f node) })) ∷ []
   pub is : (now new).pages pid ≡ Some (record { version = last; node = g (f node) })
+
+-- two changes, or none where the page had another version
+abbrev pub links_as : (Node → Node) → (Node → Node) → ℕ → ℕ → Store → Store → Bool → Type 0
+links_as f g pid version old new true = Twice f g pid version old new
+links_as f g pid version old new false = (new ≡ old) × (version_now old pid ≢ Some version)
 
 abbrev pub opens_as : Key → Node → Option ℕ → Store → Store → Type 0
 opens_as name node (Some pid) old new =

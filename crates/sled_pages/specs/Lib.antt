@@ -19,3 +19,5 @@ pub mod Halves
 pub mod Posting
 pub mod Among
 pub mod Places
+pub mod Image
+pub mod Laid

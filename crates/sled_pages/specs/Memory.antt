@@ -28,6 +28,10 @@ meaning t log actions faults unreadable mark recovered places next_version = rec
 abbrev pub store_of : MemPages → Store
 store_of m = meaning (table_of m) m.log.items m.actions m.faults m.unreadable.items m.mark m.recovered (places_of m.slots) m.next_version
 
+-- the calls that will be refused, by their numbers
+abbrev pub calls_refused : MemPages → List ℕ
+calls_refused m = m.refused.items
+
 -- a store that has nothing in it, and never gave anything
 abbrev pub empty_store : Store
 empty_store = record {

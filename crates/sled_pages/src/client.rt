@@ -1,7 +1,7 @@
 //! What a layer above can say of a store, whichever it is: tests of the contract, written against its clauses alone.
 ghost use Rattle.std.specs.Prelude.{◌≡◌, ◌++◌, ◌∷◌, [], true, false, Some, None, IfOk};
 ghost use Rattle.sled_pages.specs.Node.{applied};
-ghost use Rattle.sled_pages.specs.Client.{Twice, Opens};
+ghost use Rattle.sled_pages.specs.Client.{links_as, Opens};
 ghost use Rattle.sled_pages.specs.Crash.{MayLeave, states_left};
 ghost use Rattle.sled_pages.specs.Store.{now};
 
@@ -10,7 +10,7 @@ use crate::{Link, Node, Pages, Pid, View, law_given, law_sealed};
 
 /// Two changes of one page, one after the other. `false` where another was there first.
 pub fn two_links<P: Pages>(pages: &mut P, view: &View, first: Link, second: Link) -> Result<bool>
-    ensures both { IfOk result (λ both. both ≡ true → Twice (applied first) (applied second) view.now.pid view.now.version (P.store pages.old) (P.store pages.new)) }
+    ensures { IfOk result (links_as (applied first) (applied second) view.now.pid view.now.version (P.store pages.old) (P.store pages.new)) }
 {
     let Ok(version) = pages.link(view.pid, view.version, first)? else {
         return Ok(false);

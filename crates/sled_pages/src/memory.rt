@@ -5,13 +5,14 @@ ghost use Rattle.sled_pages.specs.declared.error.Error.TheVariants.{NoMemory, Io
 ghost use Rattle.sled_pages.specs.Order.{key_cmp};
 ghost use Rattle.sled_pages.specs.Slots.{slots_of, places_of};
 ghost use Rattle.sled_pages.specs.Table.{Table, roots_of, IsKept, AreBelow};
-ghost use Rattle.sled_pages.specs.Faults.{IsFault};
+ghost use Rattle.sled_pages.specs.Faults.{IsFault, is_named};
 ghost use Rattle.std.specs.Option.{option_map};
-ghost use Rattle.sled_pages.specs.Update.{put_name};
+ghost use Rattle.sled_pages.specs.Update.{put_at, put_name};
 ghost use Rattle.sled_pages.specs.Table.{page_of, slot_given};
 ghost use Rattle.sled_pages.specs.State.{PageBecomes, RootBecomes, GroupBegins, GroupEnds};
 ghost use Rattle.sled_pages.specs.Store.{Refused, ActsAt, acted, flushed, now, version_now};
 ghost use Rattle.sled_pages.specs.Crash.{Crashes, MayLeave};
+ghost use Rattle.sled_pages.specs.Image.{IsImage};
 
 mod back;
 mod slots;
@@ -21,7 +22,7 @@ use crate::error::Result;
 use crate::node::copy_pointers;
 use crate::pairs::value_at;
 use crate::{Error, Fault, IVec, Link, Node, Page, Pages, Pid, Version, View};
-use back::{forget, set_root, take_all_back};
+use back::{forget, set_root, sorted_roots, take_all_back};
 use slots::{Slot, Slots, push_reserved};
 use std::alloc::Global;
 use undo::Undo;
@@ -68,6 +69,8 @@ fn fault(faults: &mut u64, code: u32) -> Error
 // Counts a call, which is refused where its number was named.
 fn count_call(calls: &mut u64, faults: &mut u64, refused: &[u64]) -> Result<()>
     ensures ok { OnOk result (faults.new ≡ faults.old) }
+    ensures counted { OnOk result (calls.new ≡ calls.old + 1) }
+    ensures named { OnOk result (is_named (calls.old + 1) refused.now ≡ false) }
     ensures err { IfErr result (λ e. IsFault faults.old faults.new e) }
 {
     if *calls == u64::MAX {
@@ -81,7 +84,7 @@ fn count_call(calls: &mut u64, faults: &mut u64, refused: &[u64]) -> Result<()>
 }
 
 impl MemPages {
-    ghost use Rattle.sled_pages.specs.Memory.{store_of, empty_store, HasRoom, IsOther};
+    ghost use Rattle.sled_pages.specs.Memory.{store_of, calls_refused, empty_store, HasRoom, IsOther};
 
     /// An empty store. It takes no memory.
     pub fn new(alloc: Global) -> MemPages
@@ -102,6 +105,36 @@ impl MemPages {
             mark: 0,
             recovered: false,
         }
+    }
+
+    /// A store of these pages, roots and mark, as if an earlier store had left them. Of one number or name the last entry
+    /// stands. Its next page number and version are greater than all of the image's. Refused with `NoMemory` alone.
+    pub fn from_image(
+        alloc: Global,
+        pages: Vec<(Pid, Node)>,
+        roots: Vec<(IVec, Pid)>,
+        mark: u64,
+    ) -> Result<MemPages>
+        ensures ok { IfOk result (λ made. IsImage pages.items roots.items mark (store_of made)) }
+        ensures err { IfErr result (λ e. e ≡ NoMemory) }
+    {
+        let (slots, next_version) = Slots::from_pages(alloc, pages)?;
+        let roots = sorted_roots(alloc, roots)?;
+        Ok(MemPages {
+            alloc,
+            slots,
+            roots,
+            in_group: false,
+            log: Vec::new(alloc),
+            actions: 0,
+            next_version,
+            calls: 0,
+            refused: Vec::new(alloc),
+            faults: 0,
+            unreadable: Vec::new(alloc),
+            mark,
+            recovered: true,
+        })
     }
 
     /// What a crash leaves that keeps this many of the actions since the last flush, less a group that is not sealed within
@@ -146,15 +179,28 @@ impl MemPages {
     /// from 1 in the order made. Refused with `NoMemory` alone, and then the calls that were named before stay named.
     pub fn refuse_at(&mut self, calls: &[u64]) -> Result<()>
         ensures same { store_of self.new ≡ store_of self.old }
+        ensures named { OnOk result (calls_refused self.new ≡ calls.now) }
+        ensures kept { OnErr result (calls_refused self.new ≡ calls_refused self.old) }
         ensures err { IfErr result (λ e. e ≡ NoMemory) }
     {
         self.refused = Vec::from_slice(self.alloc, calls)?;
         Ok(())
     }
 
+    /// The page of this number cannot be read any more, until a crash. Refused with `NoMemory` alone, and then unchanged.
+    pub fn unreadable(&mut self, pid: Pid) -> Result<()>
+        ensures ok { OnOk result (store_of self.new ≡ record (store_of self.old) { is_readable = put_at (store_of self.old).is_readable pid false }) }
+        ensures err { OnErr result (store_of self.new ≡ store_of self.old) }
+        ensures cause { IfErr result (λ e. e ≡ NoMemory) }
+    {
+        self.unreadable.push(pid.0)?;
+        Ok(())
+    }
+
     // Counts a call that makes no action.
     fn count(&mut self) -> Result<()>
         ensures same { OnOk result (store_of self.new ≡ store_of self.old) }
+        ensures named { OnOk result (is_named (self.old.calls + 1) (calls_refused self.old) ≡ false) }
         ensures err { IfErr result (λ e. Refused e (store_of self.old) (store_of self.new)) }
     {
         count_call(&mut self.calls, &mut self.faults, self.refused.as_slice())
@@ -163,6 +209,7 @@ impl MemPages {
     // Counts a call. Where it is not refused there is room for one action.
     fn start(&mut self) -> Result<()>
         ensures same { OnOk result (store_of self.new ≡ store_of self.old) }
+        ensures named { OnOk result (is_named (self.old.calls + 1) (calls_refused self.old) ≡ false) }
         ensures room { OnOk result (HasRoom self.new) }
         ensures err { IfErr result (λ e. Refused e (store_of self.old) (store_of self.new)) }
     {

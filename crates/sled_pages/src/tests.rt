@@ -523,3 +523,77 @@ fn pairs_are_found_by_bounds(rt: HostRuntime) -> std::result::Result<(), Fail> {
     assert_eq!(rt; byte_of(&node.predecessor(Bound::Unbounded)?), Some(2));
     Ok(())
 }
+
+// An image whose page 2^40 is listed twice, with a page of the number 0 and a root that is listed twice.
+fn image(alloc: Global) -> std::result::Result<MemPages, Fail> {
+    let mut pages = Vec::new(alloc);
+    pages.push((Pid(1 << 40), leaf_of(alloc, 3)?))?;
+    pages.push((Pid(0), leaf_of(alloc, 1)?))?;
+    pages.push((Pid(1 << 40), leaf_of(alloc, 2)?))?;
+    let mut roots = Vec::new(alloc);
+    roots.push((key(alloc, 7)?, Pid(5)))?;
+    roots.push((key(alloc, 1)?, Pid(0)))?;
+    roots.push((key(alloc, 7)?, Pid(1 << 40)))?;
+    Ok(MemPages::from_image(alloc, pages, roots, 9)?)
+}
+
+#[test]
+fn an_image_is_the_base(rt: HostRuntime) -> std::result::Result<(), Fail> {
+    let alloc = rt.alloc();
+    let mut pages = image(alloc)?;
+    assert!(rt; pages.was_recovered());
+    assert_eq!(rt; pages.mark(), 9);
+    assert_eq!(rt; keys_of(alloc, &pages, Pid(1 << 40))?.as_str(), "1");
+    assert_eq!(rt; keys_of(alloc, &pages, Pid(0))?.as_str(), "");
+    assert_eq!(rt; keys_of(alloc, &pages, Pid(5))?.as_str(), "none");
+    assert_eq!(rt; pages.root(&[7]), Some(Pid(1 << 40)));
+    assert_eq!(rt; pages.root(&[1]), Some(Pid(0)));
+    assert_eq!(rt; flushed(&rt, &mut pages)?, 0);
+    Ok(())
+}
+
+#[test]
+fn pages_of_an_image_change_as_others(rt: HostRuntime) -> std::result::Result<(), Fail> {
+    let alloc = rt.alloc();
+    let mut pages = image(alloc)?;
+    let (pid, _) = pages.allocate(leaf(alloc)?)?;
+    assert_eq!(rt; pid, Pid((1 << 40) + 1));
+    let Some(view) = pages.read(alloc, Pid(0))? else {
+        assert!(rt; false);
+        return Ok(());
+    };
+    linked(&rt, alloc, &mut pages, Pid(0), view.version, 4)?;
+    assert_eq!(rt; keys_of(alloc, &pages, Pid(0))?.as_str(), "4");
+    let pages = pages.crash(0)?;
+    assert_eq!(rt; keys_of(alloc, &pages, Pid(0))?.as_str(), "");
+    assert_eq!(rt; keys_of(alloc, &pages, pid)?.as_str(), "none");
+    Ok(())
+}
+
+#[test]
+fn numbers_are_used_up(rt: HostRuntime) -> std::result::Result<(), Fail> {
+    let alloc = rt.alloc();
+    let mut list = Vec::new(alloc);
+    list.push((Pid(u64::MAX), leaf(alloc)?))?;
+    let mut pages = MemPages::from_image(alloc, list, Vec::new(alloc), 0)?;
+    assert_eq!(rt; pages.allocate(leaf(alloc)?), Err(Error::Io(Fault(3))));
+    assert_eq!(rt; keys_of(alloc, &pages, Pid(u64::MAX))?.as_str(), "");
+    Ok(())
+}
+
+#[test]
+fn a_named_page_cannot_be_read(rt: HostRuntime) -> std::result::Result<(), Fail> {
+    let alloc = rt.alloc();
+    let (mut pages, pid) = three_links(&rt, alloc)?;
+    pages.unreadable(Pid(77))?;
+    assert!(rt; pages.read(alloc, pid)?.is_some());
+    pages.unreadable(pid)?;
+    let refused = match pages.read(alloc, pid) {
+        Ok(_) => false,
+        Err(e) => e == Error::Io(Fault(2)),
+    };
+    assert!(rt; refused);
+    let pages = pages.crash(9)?;
+    assert_eq!(rt; keys_of(alloc, &pages, pid)?.as_str(), "123");
+    Ok(())
+}

@@ -1,17 +1,19 @@
 //! Actions taken back, the last of them first.
-ghost use Rattle.std.specs.Prelude.{◌≡◌, ℕ, [], true, IfErr, OnOk, OnErr};
+ghost use Rattle.std.specs.Prelude.{◌≡◌, ℕ, [], true, IfOk, IfErr, OnOk, OnErr};
 ghost use Rattle.std.specs.FinMap.{is_sorted};
 ghost use Rattle.sled_pages.specs.declared.error.Error.TheVariants.{NoMemory};
-ghost use Rattle.sled_pages.specs.Order.{key_cmp};
+ghost use Rattle.sled_pages.specs.Order.{Key, key_cmp};
 ghost use Rattle.sled_pages.specs.Update.{put_name};
 ghost use Rattle.sled_pages.specs.Slots.{slots_of, places_of};
 ghost use Rattle.sled_pages.specs.Table.{roots_of, undone, has_place, slot_given, undo_given, IsKept, AreBelow, TakenBack, table};
+ghost use Rattle.sled_pages.specs.Image.{root_in};
 
 use super::slots::Slots;
 use super::undo::Undo;
 use crate::error::Result;
 use crate::pairs::{put_pair, take_out};
 use crate::{IVec, Pid};
+use std::alloc::Global;
 
 // Makes another the root of a name, or takes the name out.
 #[tactic(auto, unfolding(crate::specs::Order::key_cmp))]
@@ -28,6 +30,19 @@ pub fn set_root(roots: &mut Vec<(IVec, Pid)>, name: IVec, root: Option<Pid>) -> 
             Ok(())
         }
     }
+}
+
+// The roots of a list in order. Of one name the last entry stands.
+pub fn sorted_roots(alloc: Global, list: Vec<(IVec, Pid)>) -> Result<Vec<(IVec, Pid)>>
+    ensures ok { IfOk result (λ roots. (name : Key) → roots_of roots.items name ≡ root_in list.items name) }
+    ensures ascends { IfOk result (λ roots. is_sorted key_cmp roots.items ≡ true) }
+    ensures err { IfErr result (λ e. e ≡ NoMemory) }
+{
+    let mut roots = Vec::new(alloc);
+    for (name, pid) in list {
+        set_root(&mut roots, name, Some(pid))?;
+    }
+    Ok(roots)
 }
 
 // Takes one action back.

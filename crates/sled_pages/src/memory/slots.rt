@@ -1,5 +1,5 @@
 //! Pages by number, as the store in memory keeps them.
-ghost use Rattle.std.specs.Prelude.{◌≡◌, ◌+◌, ◌^◌, ◌<◌, ◌++◌, ◌∷◌, [], Some, None, true, false, IfErr, OnOk, IsTrue, ◌↔◌, length};
+ghost use Rattle.std.specs.Prelude.{◌≡◌, ◌+◌, ◌^◌, ◌<◌, ◌++◌, ◌∷◌, [], Some, None, true, false, IfOk, IfErr, OnOk, IsTrue, ◌↔◌, length};
 ghost use Rattle.std.specs.Option.{option_copied};
 ghost use Rattle.std.specs.Vec.{vec_len, vec_capacity};
 ghost use Rattle.sled_pages.specs.declared.error.Error.TheVariants.{NoMemory};
@@ -37,6 +37,7 @@ pub fn push_reserved<T: Drop>(list: &mut Vec<T>, item: T)
 }
 
 impl Slots {
+    ghost use Rattle.sled_pages.specs.Laid.{IsLaid};
     ghost use Rattle.sled_pages.specs.Slots.{slots_of, places_of, HasNumber, HasSlotRoom};
 
     /// No slots.
@@ -49,6 +50,28 @@ impl Slots {
             foreign: BTreeMap::new(alloc),
             own: Vec::new(alloc),
         }
+    }
+
+    /// The slots of an image's pages, and the first version that none of them has. Of one number the last entry stands.
+    /// Refused with `NoMemory` alone.
+    pub fn from_pages(alloc: Global, pages: Vec<(Pid, Node)>) -> Result<(Slots, u64)>
+        ensures ok { IfOk result (λ laid. IsLaid pages.items laid.0 laid.1) }
+        ensures err { IfErr result (λ e. e ≡ NoMemory) }
+    {
+        let mut foreign = BTreeMap::new(alloc);
+        let mut last = 0;
+        let mut next = 0;
+        for (pid, node) in pages {
+            let slot = Slot {
+                version: Version(next),
+                node,
+            };
+            foreign.insert(pid.0, Some(slot))?;
+            next += 1;
+            last = last.max(pid.0);
+        }
+        let own = Vec::new(alloc);
+        Ok((Slots { last, foreign, own }, next))
     }
 
     /// The slot of a number.

@@ -1,0 +1,32 @@
+-- What a store that is made from an image means.
+use Rattle.std.specs.Prelude.{◌≡◌, ℕ, Bool, true, false, nat_eq, is_some, List, [], Option, option_map}
+use Rattle.std.specs.List.{find}
+use Rattle.std.specs.Str.{bytes_eq}
+use mathlib.Core.List.{reverse}
+use Rattle.sled_pages.specs.Order.{Key}
+use Rattle.sled_pages.specs.declared.node.Node.{Node}
+use Rattle.sled_pages.specs.State.{nodes_of}
+use Rattle.sled_pages.specs.Store.{Store}
+
+-- what the last entry has whose key passes
+abbrev pub last_of : {K X : Type 0} → (K → Bool) → List (K × X) → Option X
+last_of passes es = option_map (λ e. e.1) (find (λ e. passes e.0) (reverse es))
+
+abbrev pub node_in : List (ℕ × Node) → ℕ → Option Node
+node_in image p = last_of (λ q. nat_eq q p) image
+
+abbrev pub root_in : List (Key × ℕ) → Key → Option ℕ
+root_in roots name = last_of (λ q. bytes_eq q name) roots
+
+-- a recovered store with these pages, roots and mark, of which nothing is recent; of one number or name the last entry stands
+pub record IsImage (image : List (ℕ × Node)) (roots : List (Key × ℕ)) (mark : ℕ) (s : Store) : Type 0 where
+  pub pages : (p : ℕ) → nodes_of s.base p ≡ node_in image p
+  pub rooted : (name : Key) → s.base.roots name ≡ root_in roots name
+  pub in_group : s.base.in_group ≡ false
+  pub recent : s.recent ≡ []
+  pub actions : s.actions ≡ 0
+  pub faults : s.faults ≡ 0
+  pub readable : (p : ℕ) → s.is_readable p ≡ true
+  pub marked : s.mark ≡ mark
+  pub recovered : s.recovered ≡ true
+  pub pids : (p : ℕ) → s.pids p ≡ is_some (node_in image p)
