@@ -1,1 +1,8 @@
 pub mod Put
+pub mod Places
+pub mod Kept
+pub mod Roots
+pub mod Answered
+pub mod Back
+pub mod Runs
+pub mod Found

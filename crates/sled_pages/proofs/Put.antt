@@ -1,10 +1,9 @@
 -- A pair put in its place, one pair at a time from the front.
-use Rattle.std.proofs.Common.{◌≡◌, ℕ, suc, ◌<◌, ◌≤◌, ◌+◌, List, [], ◌∷◌, ◌++◌, length, get_or, take, drop, set, refl, sym, ap, ◌∙◌, arith, drop-cons, append_assoc, add-one}
+use Rattle.std.proofs.Common.{◌≡◌, ℕ, suc, ◌<◌, ◌+◌, List, [], ◌∷◌, ◌++◌, length, get_or, take, drop, set, sym, ap, ◌∙◌, arith, drop-cons, append_assoc, add-one}
 use Rattle.std.proofs.lemmas.List.{set_split, get_or_default}
-use Rattle.std.proofs.Math.Seq.{take-suc, take-length, drop-length}
+use Rattle.std.proofs.Math.Seq.{take-suc, drop-length}
 use Rattle.std.specs.FinMap.{put}
 use Rattle.std.specs.FinMap.Entries.{by_order}
-use Rattle.std.specs.List.{insert}
 use Rattle.std.specs.declared.cmp.Ordering.{Ordering}
 use Rattle.std.specs.declared.cmp.Ordering.TheVariants.{Less, Equal, Greater}
 use Rattle.sled_pages.specs.Pairs.{Stands, Goes}

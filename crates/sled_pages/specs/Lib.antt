@@ -8,3 +8,14 @@ pub mod State
 pub mod Store
 pub mod Crash
 pub mod Facts
+pub mod Slots
+pub mod Table
+pub mod Replay
+pub mod Memory
+pub mod Faults
+pub mod Laws
+pub mod Client
+pub mod Halves
+pub mod Posting
+pub mod Among
+pub mod Places

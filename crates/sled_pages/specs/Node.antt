@@ -1,5 +1,5 @@
 -- What a node holds, what it covers, and what a link makes of it.
-use Rattle.std.specs.Prelude.{◌≡◌, ℕ, ◌⊎◌, true, not, nat_eq, filter, length, List, [], ◌∷◌, Option, Some, None}
+use Rattle.std.specs.Prelude.{◌≡◌, ℕ, ◌⊎◌, true, not, nat_eq, filter, length, List, [], Option, Some, None}
 use Rattle.std.specs.Ordering.{eq_by_cmp}
 use Rattle.std.specs.FinMap.Entries.{put, find, where_key}
 use Rattle.sled_pages.specs.Order.{Key, key_cmp, Below, UpTo}

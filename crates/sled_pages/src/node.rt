@@ -1,16 +1,26 @@
 //! One page of a tree: a leaf of pairs or an index of pointers.
-ghost use Rattle.std.specs.Prelude.{◌≡◌, length, IfOk, IfErr, OnOk, OnErr};
+ghost use Rattle.std.specs.Prelude.{◌≡◌, ◌<◌, ◌≤◌, ◌++◌, ◌↔◌, IsTrue, if◌then◌else◌, is_none, length, IfOk, IfErr, OnOk, OnErr};
 ghost use Rattle.sled_pages.specs.declared.error.Error.TheVariants.{NoMemory};
 ghost use Rattle.std.specs.FinMap.Entries.{put, find};
 ghost use Rattle.std.specs.Option.{option_copied};
 ghost use Rattle.sled_pages.specs.Order.{key_cmp};
-ghost use Rattle.sled_pages.specs.Node.{applied, value_at as value_in, without, unpointed};
+ghost use Rattle.sled_pages.specs.Node.{applied, count, pairs, pointers, value_at as value_in, without, unpointed};
+ghost use Rattle.sled_pages.specs.Halves.{first_half, second_half, first_half_of, second_half_of, first_key, first_key_of, left_half, right_half, appended, received};
+ghost use Rattle.sled_pages.specs.Among.{bound_of, IsSuccessor, IsPredecessor, IsPointerFor, IsPointerBefore};
+ghost use Rattle.sled_pages.specs.Posting.{IsOpen, IsIndex, Posts};
 
+use crate::among::{first_place, last_place, place_of};
 use crate::error::Result;
 use crate::pairs::{put_pair, take_out, value_at};
 use crate::{IVec, Link, Pid};
 use std::alloc::Global;
 use std::marker::Model;
+use std::ops::Bound;
+
+// A node of more entries is split, and one of as few or fewer is merged.
+const MOST: usize = 16;
+
+const FEW: usize = 3;
 
 /// A leaf's pairs of a key and a value. Contracts see it as the list of them.
 #[derive(Debug, Drop)]
@@ -85,6 +95,39 @@ fn copy_pairs(alloc: Global, pairs: &[(IVec, IVec)]) -> Result<Vec<(IVec, IVec)>
     Ok(copy)
 }
 
+fn add_pairs(pairs: &mut Vec<(IVec, IVec)>, more: &[(IVec, IVec)]) -> Result<()>
+    ensures ok { OnOk result (pairs.new.items ≡ pairs.old.items ++ more.now) }
+    ensures err { IfErr result (λ e. e ≡ NoMemory) }
+{
+    for pair in more {
+        let key = pair.0.clone()?;
+        let value = pair.1.clone()?;
+        pairs.push((key, value))?;
+    }
+    Ok(())
+}
+
+fn add_pointers(pointers: &mut Vec<(IVec, Pid)>, more: &[(IVec, Pid)]) -> Result<()>
+    ensures ok { OnOk result (pointers.new.items ≡ pointers.old.items ++ more.now) }
+    ensures err { IfErr result (λ e. e ≡ NoMemory) }
+{
+    for pointer in more {
+        let key = pointer.0.clone()?;
+        pointers.push((key, pointer.1))?;
+    }
+    Ok(())
+}
+
+fn key_of_first<V>(alloc: Global, pairs: &[(IVec, V)]) -> Result<IVec>
+    ensures ok { IfOk result (λ key. key ≡ first_key pairs.now) }
+    ensures err { IfErr result (λ e. e ≡ NoMemory) }
+{
+    match pairs.first() {
+        Some(pair) => pair.0.clone(),
+        None => IVec::from_slice(alloc, &[]),
+    }
+}
+
 pub(crate) fn copy_pointers(alloc: Global, pointers: &[(IVec, Pid)]) -> Result<Vec<(IVec, Pid)>>
     ensures ok { IfOk result (λ copy. copy.items ≡ pointers.now) }
     ensures err { IfErr result (λ e. e ≡ NoMemory) }
@@ -131,6 +174,57 @@ impl Leaf {
         Ok(Leaf {
             pairs: copy_pairs(alloc, self.pairs.as_slice())?,
         })
+    }
+
+    // The two halves, the first of them rounded down.
+    fn halves(&self, alloc: Global) -> Result<(Leaf, Leaf)>
+        ensures ok { IfOk result (λ halves. (halves.0 ≡ first_half self.now) × (halves.1 ≡ second_half self.now)) }
+        ensures err { IfErr result (λ e. e ≡ NoMemory) }
+    {
+        let middle = self.pairs.len() / 2;
+        let left = copy_pairs(alloc, &self.pairs.as_slice()[..middle])?;
+        let right = copy_pairs(alloc, &self.pairs.as_slice()[middle..])?;
+        Ok((Leaf { pairs: left }, Leaf { pairs: right }))
+    }
+
+    // These pairs and then those of another leaf.
+    fn followed_by(&self, alloc: Global, other: &Leaf) -> Result<Leaf>
+        ensures ok { IfOk result (λ both. both ≡ self.now ++ other.now) }
+        ensures err { IfErr result (λ e. e ≡ NoMemory) }
+    {
+        let mut pairs = copy_pairs(alloc, self.pairs.as_slice())?;
+        add_pairs(&mut pairs, other.pairs.as_slice())?;
+        Ok(Leaf { pairs })
+    }
+
+    // The key of the first pair, or the empty one.
+    fn first_key(&self, alloc: Global) -> Result<IVec>
+        ensures ok { IfOk result (λ key. key ≡ first_key self.now) }
+        ensures err { IfErr result (λ e. e ≡ NoMemory) }
+    {
+        key_of_first(alloc, self.pairs.as_slice())
+    }
+
+    // The first pair within a lower bound.
+    fn first_from(&self, bound: Bound<&[u8]>) -> Result<Option<(IVec, IVec)>>
+        ensures ok { IfOk result (IsSuccessor (bound_of bound.entry) self.now) }
+        ensures err { IfErr result (λ e. e ≡ NoMemory) }
+    {
+        match first_place(self.pairs.as_slice(), bound) {
+            Some(i) => Ok(Some((self.pairs[i].0.clone()?, self.pairs[i].1.clone()?))),
+            None => Ok(None),
+        }
+    }
+
+    // The last pair within an upper bound.
+    fn last_up_to(&self, bound: Bound<&[u8]>) -> Result<Option<(IVec, IVec)>>
+        ensures ok { IfOk result (IsPredecessor (bound_of bound.entry) self.now) }
+        ensures err { IfErr result (λ e. e ≡ NoMemory) }
+    {
+        match last_place(self.pairs.as_slice(), bound) {
+            Some(i) => Ok(Some((self.pairs[i].0.clone()?, self.pairs[i].1.clone()?))),
+            None => Ok(None),
+        }
     }
 
     #[tactic(auto, unfolding(crate::specs::Order::key_cmp))]
@@ -193,6 +287,71 @@ impl Index {
         })
     }
 
+    // The two halves, the first of them rounded down.
+    fn halves(&self, alloc: Global) -> Result<(Index, Index)>
+        ensures ok { IfOk result (λ halves. (halves.0 ≡ first_half self.now) × (halves.1 ≡ second_half self.now)) }
+        ensures err { IfErr result (λ e. e ≡ NoMemory) }
+    {
+        let middle = self.pointers.len() / 2;
+        let left = copy_pointers(alloc, &self.pointers.as_slice()[..middle])?;
+        let right = copy_pointers(alloc, &self.pointers.as_slice()[middle..])?;
+        Ok((Index { pointers: left }, Index { pointers: right }))
+    }
+
+    // These pointers and then those of another index.
+    fn followed_by(&self, alloc: Global, other: &Index) -> Result<Index>
+        ensures ok { IfOk result (λ both. both ≡ self.now ++ other.now) }
+        ensures err { IfErr result (λ e. e ≡ NoMemory) }
+    {
+        let mut pointers = copy_pointers(alloc, self.pointers.as_slice())?;
+        add_pointers(&mut pointers, other.pointers.as_slice())?;
+        Ok(Index { pointers })
+    }
+
+    // The key of the first pointer, or the empty one.
+    fn first_key(&self, alloc: Global) -> Result<IVec>
+        ensures ok { IfOk result (λ key. key ≡ first_key self.now) }
+        ensures err { IfErr result (λ e. e ≡ NoMemory) }
+    {
+        key_of_first(alloc, self.pointers.as_slice())
+    }
+
+    // Puts a pointer in its place where the key has none.
+    #[tactic(auto, unfolding(crate::specs::Order::key_cmp))]
+    fn post(&mut self, at: IVec, pid: Pid) -> Result<bool>
+        ensures ok { IfOk result (λ posted. posted ≡ is_none (find key_cmp at self.old)) }
+        ensures is { IfOk result (λ posted. self.new ≡ (if posted then put key_cmp at pid self.old else self.old)) }
+        ensures err { OnErr result (self.new ≡ self.old) }
+        ensures cause { IfErr result (λ e. e ≡ NoMemory) }
+    {
+        if value_at(self.pointers.as_slice(), at.as_ref()).is_some() {
+            return Ok(false);
+        }
+        put_pair(&mut self.pointers, at, pid)?;
+        Ok(true)
+    }
+
+    // The last pointer within an upper bound, and whether it is the first of all.
+    fn last_up_to(&self, bound: Bound<&[u8]>) -> Option<(Pid, bool)>
+        ensures { IsPointerFor (bound_of bound.entry) self.now result }
+    {
+        match last_place(self.pointers.as_slice(), bound) {
+            Some(i) => Some((self.pointers[i].1, i == 0)),
+            None => None,
+        }
+    }
+
+    // The pointer before the one to a page.
+    fn before(&self, to: Pid) -> Option<Pid>
+        ensures { IsPointerBefore to self.now result }
+    {
+        match place_of(self.pointers.as_slice(), to) {
+            Some(0) => None,
+            Some(i) => Some(self.pointers[i - 1].1),
+            None => None,
+        }
+    }
+
     fn del_to(&mut self, to: Pid)
         ensures { self.new ≡ unpointed to self.old }
     {
@@ -209,6 +368,63 @@ impl Data {
         match self {
             Data::Leaf(leaf) => Ok(Data::Leaf(leaf.clone(alloc)?)),
             Data::Index(index) => Ok(Data::Index(index.clone(alloc)?)),
+        }
+    }
+}
+
+impl Data {
+    // How many entries there are.
+    fn len(&self) -> usize
+        ensures { result ≡ count self.now }
+    {
+        match self {
+            Data::Leaf(leaf) => leaf.len(),
+            Data::Index(index) => index.len(),
+        }
+    }
+
+    // The two halves, the first of them rounded down.
+    fn halves(&self, alloc: Global) -> Result<(Data, Data)>
+        ensures ok { IfOk result (λ halves. (halves.0 ≡ first_half_of self.now) × (halves.1 ≡ second_half_of self.now)) }
+        ensures err { IfErr result (λ e. e ≡ NoMemory) }
+    {
+        match self {
+            Data::Leaf(leaf) => {
+                let (left, right) = leaf.halves(alloc)?;
+                Ok((Data::Leaf(left), Data::Leaf(right)))
+            }
+            Data::Index(index) => {
+                let (left, right) = index.halves(alloc)?;
+                Ok((Data::Index(left), Data::Index(right)))
+            }
+        }
+    }
+
+    // These entries and then those of another of the kind.
+    fn followed_by(&self, alloc: Global, other: &Data) -> Result<Data>
+        ensures ok { IfOk result (λ both. both ≡ appended self.now other.now) }
+        ensures err { IfErr result (λ e. e ≡ NoMemory) }
+    {
+        match self {
+            Data::Leaf(leaf) => match other {
+                Data::Leaf(more) => Ok(Data::Leaf(leaf.followed_by(alloc, more)?)),
+                Data::Index(_) => Ok(Data::Leaf(leaf.clone(alloc)?)),
+            },
+            Data::Index(index) => match other {
+                Data::Index(more) => Ok(Data::Index(index.followed_by(alloc, more)?)),
+                Data::Leaf(_) => Ok(Data::Index(index.clone(alloc)?)),
+            },
+        }
+    }
+
+    // The key of the first entry, or the empty one.
+    fn first_key(&self, alloc: Global) -> Result<IVec>
+        ensures ok { IfOk result (λ key. key ≡ first_key_of self.now) }
+        ensures err { IfErr result (λ e. e ≡ NoMemory) }
+    {
+        match self {
+            Data::Leaf(leaf) => leaf.first_key(alloc),
+            Data::Index(index) => index.first_key(alloc),
         }
     }
 }
@@ -277,5 +493,137 @@ impl Node {
             Link::ChildMergeCap => self.merging = true,
         }
         Ok(())
+    }
+
+    /// The left and the right half of a node of two entries or more. The first half of the entries, rounded down, stays left.
+    /// The right half begins at its first key and has the old `next`; the left half has none yet. Both are open.
+    /// Refused with `NoMemory` alone.
+    pub fn split(&self, alloc: Global) -> Result<(Node, Node)>
+        requires { 2 ≤ count self.now.content }
+        ensures ok { IfOk result (λ halves. (halves.0 ≡ left_half self.now) × (halves.1 ≡ right_half self.now)) }
+        ensures err { IfErr result (λ e. e ≡ NoMemory) }
+    {
+        let (left, right) = self.content.halves(alloc)?;
+        let hi = right.first_key(alloc)?;
+        let left = Node {
+            lo: self.lo.clone()?,
+            hi: hi.clone()?,
+            next: None,
+            merging: false,
+            merging_child: None,
+            content: left,
+        };
+        let right = Node {
+            lo: hi,
+            hi: self.hi.clone()?,
+            next: self.next,
+            merging: false,
+            merging_child: None,
+            content: right,
+        };
+        Ok((left, right))
+    }
+
+    /// The node with the entries, the `hi` and the `next` of the node behind it, which is of the same kind and begins where
+    /// this one ends. Of another kind the entries stay. Refused with `NoMemory` alone.
+    pub fn receive_merge(&self, alloc: Global, child: &Node) -> Result<Node>
+        ensures ok { IfOk result (λ both. both ≡ received self.now child.now) }
+        ensures err { IfErr result (λ e. e ≡ NoMemory) }
+    {
+        Ok(Node {
+            lo: self.lo.clone()?,
+            hi: child.hi.clone()?,
+            next: child.next,
+            merging: self.merging,
+            merging_child: self.merging_child,
+            content: self.content.followed_by(alloc, &child.content)?,
+        })
+    }
+
+    /// Puts a pointer into an index where the key has none, and says whether it did. Else, and in a leaf, nothing changes.
+    /// Refused with `NoMemory` alone, and then unchanged.
+    pub fn parent_split(&mut self, at: IVec, pid: Pid) -> Result<bool>
+        ensures ok { IfOk result (Posts at pid self.old self.new) }
+        ensures err { OnErr result (self.new ≡ self.old) }
+        ensures cause { IfErr result (λ e. e ≡ NoMemory) }
+    {
+        match &mut self.content {
+            Data::Leaf(_) => Ok(false),
+            Data::Index(index) => index.post(at, pid),
+        }
+    }
+
+    // Whether it is neither merging nor has a merging child.
+    fn is_open(&self) -> bool
+        ensures { IsTrue result ↔ IsOpen self.now }
+    {
+        !self.merging && self.merging_child.is_none()
+    }
+
+    /// Whether it is open and has more than 16 entries.
+    pub fn should_split(&self) -> bool
+        ensures { IsTrue result ↔ (16 < count self.now.content × IsOpen self.now) }
+    {
+        self.content.len() > MOST && self.is_open()
+    }
+
+    /// Whether it is open and has 3 entries or fewer.
+    pub fn should_merge(&self) -> bool
+        ensures { IsTrue result ↔ (count self.now.content ≤ 3 × IsOpen self.now) }
+    {
+        self.content.len() <= FEW && self.is_open()
+    }
+
+    /// Whether it is an open index.
+    pub fn can_merge_child(&self) -> bool
+        ensures { IsTrue result ↔ (IsIndex self.now.content × IsOpen self.now) }
+    {
+        match &self.content {
+            Data::Leaf(_) => false,
+            Data::Index(_) => self.is_open(),
+        }
+    }
+
+    /// An index's last pointer whose key is within an upper bound, and whether it is the first of all pointers.
+    /// `None` where no key is within the bound. It takes no memory.
+    pub fn pointer(&self, bound: Bound<&[u8]>) -> Option<(Pid, bool)>
+        ensures { IsPointerFor (bound_of bound.entry) (pointers self.now.content) result }
+    {
+        match &self.content {
+            Data::Leaf(_) => None,
+            Data::Index(index) => index.last_up_to(bound),
+        }
+    }
+
+    /// The pointer before an index's first one to this page. `None` where there is no such pointer. It takes no memory.
+    pub fn pointer_before(&self, pid: Pid) -> Option<Pid>
+        ensures { IsPointerBefore pid (pointers self.now.content) result }
+    {
+        match &self.content {
+            Data::Leaf(_) => None,
+            Data::Index(index) => index.before(pid),
+        }
+    }
+
+    /// A leaf's first pair whose key is within a lower bound. Refused with `NoMemory` alone.
+    pub fn successor(&self, bound: Bound<&[u8]>) -> Result<Option<(IVec, IVec)>>
+        ensures ok { IfOk result (IsSuccessor (bound_of bound.entry) (pairs self.now.content)) }
+        ensures err { IfErr result (λ e. e ≡ NoMemory) }
+    {
+        match &self.content {
+            Data::Leaf(leaf) => leaf.first_from(bound),
+            Data::Index(_) => Ok(None),
+        }
+    }
+
+    /// A leaf's last pair whose key is within an upper bound. Refused with `NoMemory` alone.
+    pub fn predecessor(&self, bound: Bound<&[u8]>) -> Result<Option<(IVec, IVec)>>
+        ensures ok { IfOk result (IsPredecessor (bound_of bound.entry) (pairs self.now.content)) }
+        ensures err { IfErr result (λ e. e ≡ NoMemory) }
+    {
+        match &self.content {
+            Data::Leaf(leaf) => leaf.last_up_to(bound),
+            Data::Index(_) => Ok(None),
+        }
     }
 }

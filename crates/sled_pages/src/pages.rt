@@ -118,3 +118,13 @@ pub trait Pages: Send + Drop {
     /// Each page has a number and a version that were given.
     ghost given: { (s : Self) → AreGiven (store s) };
 }
+
+/// Does nothing. It hands the law `given` on to code that is generic over the store.
+pub fn law_given<P: Pages>(pages: &P)
+    ensures { AreGiven (P.store pages.now) }
+{}
+
+/// Does nothing. It hands the law `sealed` on to code that is generic over the store.
+pub fn law_sealed<P: Pages>(pages: &P)
+    ensures { (P.store pages.now).base.in_group ≡ false }
+{}

@@ -1,0 +1,20 @@
+use Rattle.std.proofs.Common.{◌≡◌, length, rules, ap, sym, ◌∙◌}
+use Rattle.sled_pages.specs.Slots.{places_of}
+use Rattle.sled_pages.specs.Store.{Store, flushed, now}
+use Rattle.sled_pages.specs.Memory.{table_of}
+use Rattle.sled_pages.proofs.Kept.{flushes, flush_keeps, group_here}
+use Rattle.sled_pages.proofs.Back.{length_recent_log}
+use Rattle.sled_pages.proofs.memory.MemPagesPages.flush.Goals as goal
+
+pub returns-clause-ok : goal.returns-clause-ok
+returns-clause-ok c = let m = c.count.new.self in
+    flushes (table_of m) m.log.items _ m.actions m.faults m.unreadable.items m.mark m.recovered (places_of m.slots) m.next_version c.forget.ensures ∙ ap flushed c.in_default.ensures.same
+
+pub returns-clause-count : goal.returns-clause-count
+returns-clause-count c = let m = c.count.new.self in
+    let n : c.len-count.result ≡ length m.log.items = search rules in
+    n ∙ (sym (length_recent_log m.log.items (table_of m)) ∙ ap (λ (s : Store). length s.recent) c.in_default.ensures.same)
+
+pub invariant_of-self-clause-kept : goal.invariant_of-self-clause-kept
+invariant_of-self-clause-kept c = let m = c.count.new.self in
+    flush_keeps (places_of m.slots) (table_of m) _ (sym (group_here m) ∙ (ap (λ s. (now s).in_group) c.in_default.ensures.same ∙ c.requires)) c.forget.ensures

@@ -1,0 +1,12 @@
+use Rattle.std.proofs.Common.{ap, sym, ◌∙◌}
+use Rattle.std.specs.FinMap.{find}
+use Rattle.std.specs.Cmp.Lexicographic.{slice_cmp}
+use Rattle.std.specs.Ordering.{nat_cmp}
+use Rattle.sled_pages.specs.Order.{key_cmp}
+use Rattle.sled_pages.proofs.Kept.{roots_here}
+use Rattle.sled_pages.proofs.memory.MemPagesPages.root.Goals as goal
+
+pub returns : goal.returns
+unfolding key_cmp
+returns c =
+    c.copied.ensures ∙ (c.value_at.ensures ∙ (ap (find (slice_cmp nat_cmp) c.args.name.now) c.as_slice.ensures.value ∙ sym (roots_here c.args.self.now c.args.name.now)))

@@ -1,0 +1,53 @@
+-- What a store in memory means.
+use Rattle.std.specs.Prelude.{◌≡◌, ℕ, ◌+◌, ◌^◌, ◌<◌, vec_len, vec_capacity, Bool, List, Option, Some, None, true, false, not, [], nat_eq, nat_lt}
+use Rattle.std.specs.List.{list_any}
+use mathlib.Core.List.{reverse}
+use Rattle.sled_pages.specs.declared.memory.MemPages.{MemPages}
+use Rattle.sled_pages.specs.declared.memory.undo.Undo.{Undo}
+use Rattle.sled_pages.specs.Store.{Store, version_now}
+use Rattle.sled_pages.specs.Slots.{slots_of, places_of}
+use Rattle.sled_pages.specs.Table.{Table, roots_of, state_of, base_of, recent_of}
+
+abbrev pub table_of : MemPages → Table
+table_of m = record { slots = slots_of m.slots; roots = roots_of m.roots.items; in_group = m.in_group }
+
+-- the state at the last flush is the one before all that the log has, and the versions that were given are those below the next one
+abbrev pub meaning : Table → List Undo → ℕ → ℕ → List ℕ → ℕ → Bool → (ℕ → Bool) → ℕ → Store
+meaning t log actions faults unreadable mark recovered places next_version = record {
+  base = state_of (base_of (reverse log) t);
+  recent = recent_of (reverse log) t;
+  actions = actions;
+  faults = faults;
+  is_readable = λ pid. not (list_any (λ p. nat_eq p pid) unreadable);
+  mark = mark;
+  recovered = recovered;
+  pids = places;
+  versions = λ v. nat_lt v next_version;
+}
+
+abbrev pub store_of : MemPages → Store
+store_of m = meaning (table_of m) m.log.items m.actions m.faults m.unreadable.items m.mark m.recovered (places_of m.slots) m.next_version
+
+-- a store that has nothing in it, and never gave anything
+abbrev pub empty_store : Store
+empty_store = record {
+  base = record { pages = λ _. None; roots = λ _. None; in_group = false };
+  recent = [];
+  actions = 0;
+  faults = 0;
+  is_readable = λ _. true;
+  mark = 0;
+  recovered = false;
+  pids = λ _. false;
+  versions = λ _. false;
+}
+
+-- there is room for one action more
+pub record HasRoom (m : MemPages) : Type 0 where
+  pub log : vec_len m.log < vec_capacity m.log
+  pub actions : m.actions + 1 < 2 ^ 64
+
+-- what a page has in place of a version
+pub record IsOther (pid version : ℕ) (s : Store) (present : Option ℕ) : Type 0 where
+  pub is : present ≡ version_now s pid
+  pub other : (present ≡ Some version) → ⊥

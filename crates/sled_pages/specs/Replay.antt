@@ -1,0 +1,101 @@
+-- A log says what the state was, and how it came to what it is.
+use Rattle.std.proofs.Common.{◌≡◌, ℕ, ◌+◌, ◌-◌, ◌<◌, ◌^◌, nat_lt, nat_le, true, false, cond, List, [], ◌∷◌, length, Option, Some, None, refl, sym, ap, ◌∙◌, arith, slice_get, is_some, if◌then◌else◌}
+use Rattle.std.specs.Option.{option_map}
+use Rattle.std.proofs.Math.Path.{fun_ext}
+use Rattle.std.proofs.lemmas.Bool.{eqb-true}
+use Rattle.std.proofs.lemmas.Bool.Decides.{nat_tests}
+use Rattle.std.proofs.lemmas.Option.{slice_get_within}
+use Rattle.std.specs.Ordering.{nat_cmp}
+use Rattle.std.specs.BTreeMap.{BTreeMap, get}
+use Rattle.std.specs.Str.{bytes_eq}
+use lib.Dec.{eqb}
+use Rattle.sled_pages.specs.Order.{Key}
+use Rattle.sled_pages.specs.Update.{put_at, put_name}
+use Rattle.sled_pages.specs.declared.page.Page.{Page}
+use Rattle.sled_pages.specs.declared.memory.slots.Slot.{Slot}
+use Rattle.sled_pages.specs.declared.memory.undo.Undo.{Undo}
+use Rattle.sled_pages.specs.declared.memory.undo.Undo.TheVariants.{UndoSlot, UndoRoot, UndoGroup}
+use Rattle.sled_pages.specs.State.{GroupBegins, GroupEnds, after, after_all}
+use Rattle.sled_pages.specs.Slots.{joined, slot_in, place_in}
+use Rattle.sled_pages.specs.Table.{Table, page_of, pages_of, state_of, undone, undoes, base_of, recent_of, slot_given}
+use Rattle.sled_pages.specs.Facts.{after_last, same_name}
+
+-- a value put over, and then the old one put back
+back_page : (pid : ℕ) (slot : Option Slot) (slots : ℕ → Option Slot) → put_at (pages_of (put_at slots pid slot)) pid (pages_of slots pid) ≡ pages_of slots
+back_page pid slot slots = fun_ext (λ q.
+    elim (eqb q pid) as (λ b. eqb q pid ≡ b → cond b (pages_of slots pid) (option_map page_of (cond b slot (slots q))) ≡ pages_of slots q) [
+      | true ↦ λ e. ap (pages_of slots) (sym (eqb-true q pid e))
+      | false ↦ λ e. refl
+    ] refl)
+
+pub back_name : (name : Key) (root : Option ℕ) (roots : Key → Option ℕ) → put_name (put_name roots name root) name (roots name) ≡ roots
+back_name name root roots = fun_ext (λ q.
+    elim (bytes_eq q name) as (λ b. bytes_eq q name ≡ b → cond b (roots name) (cond b root (roots q)) ≡ roots q) [
+      | true ↦ λ e. ap roots (sym (same_name q name e))
+      | false ↦ λ e. refl
+    ] refl)
+
+-- doing again what was undone
+again : (u : Undo) (t : Table) → after (undoes u t) (state_of (undone u t)) ≡ state_of t
+again (UndoSlot pid slot) t = ap (λ p. record (state_of t) { pages = p }) (back_page pid slot t.slots)
+again (UndoRoot name root) t = ap (λ r. record (state_of t) { roots = r }) (back_name name root t.roots)
+again (UndoGroup was_open) t =
+    elim t.in_group as (λ b. after (if b then GroupBegins else GroupEnds) (record (state_of t) { in_group = was_open }) ≡ record (state_of t) { in_group = b }) [ true ↦ refl | false ↦ refl ]
+
+-- the state now is what the actions make of the base
+pub replay : (log : List Undo) (t : Table) → after_all (recent_of log t) (state_of (base_of log t)) ≡ state_of t
+replay [] t = refl
+replay (u ∷ log) t =
+    after_last (recent_of log (undone u t)) (undoes u t) (state_of (base_of log (undone u t)))
+    ∙ (ap (after (undoes u t)) (replay log (undone u t)) ∙ again u t)
+
+-- a slot that is there has a place
+within : {X : Type 0} (o : Option (Option X)) (x : X) → joined o ≡ Some x → o ≡ Some (Some x)
+within None x e = cc
+within (Some o) x e = ap (λ p. Some p) e
+
+has_some : {X : Type 0} (o : Option (Option X)) (x : X) → joined o ≡ Some x → is_some o ≡ true
+has_some None x e = cc
+has_some (Some o) x e = refl
+
+lt_is : (a b : ℕ) → a < b → nat_lt a b ≡ true
+lt_is a b h = grind (arith, nat_tests)
+
+pub slot_placed : (last : ℕ) (foreign : BTreeMap ℕ (Option Slot)) (own : List (Option Slot)) (p : ℕ) (slot : Slot) → slot_in last foreign own p ≡ Some slot → place_in last foreign own p ≡ true
+slot_placed last foreign own p slot =
+    elim (nat_le p last) as (λ b. cond b (joined (get nat_cmp foreign p)) (joined (slice_get own (p - last - 1))) ≡ Some slot → cond b (is_some (get nat_cmp foreign p)) (nat_lt (p - last - 1) (length own)) ≡ true) [
+      | true ↦ λ e. has_some (get nat_cmp foreign p) slot e
+      | false ↦ λ e. lt_is (p - last - 1) (length own) (slice_get_within own (p - last - 1) (Some slot) (within (slice_get own (p - last - 1)) slot e))
+    ]
+
+-- a number that has a place fits 64 bits
+pub place_fits : (last : ℕ) (foreign : BTreeMap ℕ (Option Slot)) (own : List (Option Slot)) (p : ℕ) → last + length own < 2 ^ 64 → place_in last foreign own p ≡ true → p < 2 ^ 64
+place_fits last foreign own p h =
+    elim (nat_le p last) as (λ b. nat_le p last ≡ b → cond b (is_some (get nat_cmp foreign p)) (nat_lt (p - last - 1) (length own)) ≡ true → p < 2 ^ 64) [
+      | true ↦ λ e f. grind (arith, nat_tests)
+      | false ↦ λ e f. grind (arith, nat_tests)
+    ] refl
+
+-- the pages now, by the slots
+pub page_here : (log : List Undo) (t : Table) (p : ℕ) → (after_all (recent_of log t) (state_of (base_of log t))).pages p ≡ pages_of t.slots p
+page_here log t p = ap (λ s. s.pages p) (replay log t)
+
+slot_of : (o : Option Slot) (page : Page) → option_map page_of o ≡ Some page → (slot : Slot) × (o ≡ Some slot) × (page ≡ page_of slot)
+slot_of None page e = cc
+slot_of (Some slot) page e = (slot, refl, some_is (sym e))
+  where
+    some_is : {x y : Page} → Some x ≡ Some y → x ≡ y
+    some_is f = cc
+
+-- each page now has a number that has a place, and a version below the next one
+pub page_placed : (t : Table) (log : List Undo) (last : ℕ) (foreign : BTreeMap ℕ (Option Slot)) (own : List (Option Slot)) (p : ℕ) (page : Page) → t.slots ≡ slot_in last foreign own →
+    (after_all (recent_of log t) (state_of (base_of log t))).pages p ≡ Some page → place_in last foreign own p ≡ true
+page_placed t log last foreign own p page e f =
+    let k = slot_of (t.slots p) page (sym (page_here log t p) ∙ f) in
+    slot_placed last foreign own p k.0 (sym (ap (λ s. s p) e) ∙ k.1)
+
+pub version_below : (t : Table) (log : List Undo) (next p : ℕ) (page : Page) → ((q : ℕ) → slot_given next (t.slots q) ≡ true) →
+    (after_all (recent_of log t) (state_of (base_of log t))).pages p ≡ Some page → nat_lt page.version next ≡ true
+version_below t log next p page below f =
+    let k = slot_of (t.slots p) page (sym (page_here log t p) ∙ f) in
+    ap (λ (g : Page). nat_lt g.version next) k.2 ∙ (ap (slot_given next) (sym k.1) ∙ below p)

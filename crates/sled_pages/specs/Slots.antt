@@ -1,0 +1,32 @@
+-- Slots by number, as they lie.
+use Rattle.std.specs.Prelude.{ℕ, ◌+◌, ◌-◌, ◌^◌, ◌<◌, nat_le, nat_lt, is_some, Bool, List, length, Option, Some, None, slice_get, if◌then◌else◌, vec_len, vec_capacity}
+use Rattle.std.specs.Ordering.{nat_cmp}
+use Rattle.std.specs.BTreeMap.{BTreeMap, get}
+use Rattle.sled_pages.specs.declared.memory.slots.Slot.{Slot}
+use Rattle.sled_pages.specs.declared.memory.slots.Slots.{Slots}
+
+abbrev pub joined : {X : Type 0} → Option (Option X) → Option X
+joined None = None
+joined (Some o) = o
+
+-- a number up to the last one of the image is looked up there, a greater one lies by place
+abbrev pub slot_in : ℕ → BTreeMap ℕ (Option Slot) → List (Option Slot) → ℕ → Option Slot
+slot_in last foreign own p = if nat_le p last then joined (get nat_cmp foreign p) else joined (slice_get own (p - last - 1))
+
+-- the numbers that have a place: those that were ever given
+abbrev pub place_in : ℕ → BTreeMap ℕ (Option Slot) → List (Option Slot) → ℕ → Bool
+place_in last foreign own p = if nat_le p last then is_some (get nat_cmp foreign p) else nat_lt (p - last - 1) (length own)
+
+abbrev pub slots_of : Slots → ℕ → Option Slot
+slots_of s = slot_in s.last s.foreign s.own.items
+
+abbrev pub places_of : Slots → ℕ → Bool
+places_of s = place_in s.last s.foreign s.own.items
+
+-- a number is left for one slot more
+abbrev pub HasNumber : Slots → Type 0
+HasNumber s = s.last + length s.own.items + 1 < 2 ^ 64
+
+-- there is room for one slot more
+pub record HasSlotRoom (s : Slots) : Type 0 where
+  pub room : vec_len s.own < vec_capacity s.own

@@ -1,0 +1,100 @@
+-- A store in memory as slots by number, and what its log of undone work says: the state before it, and the actions in it.
+use Rattle.std.specs.Prelude.{◌≡◌, ℕ, ◌<◌, ◌≤◌, true, false, nat_lt, Bool, List, [], ◌∷◌, ◌++◌, length, take, Option, Some, None, option_map, if◌then◌else◌}
+use Rattle.std.specs.List.{list_all}
+use mathlib.Core.List.{reverse}
+use Rattle.std.specs.FinMap.Entries.{find}
+use Rattle.sled_pages.specs.Order.{Key, key_cmp}
+use Rattle.sled_pages.specs.Update.{put_at, put_name}
+use Rattle.sled_pages.specs.declared.page.Page.{Page}
+use Rattle.sled_pages.specs.declared.memory.slots.Slot.{Slot}
+use Rattle.sled_pages.specs.declared.memory.undo.Undo.{Undo}
+use Rattle.sled_pages.specs.declared.memory.undo.Undo.TheVariants.{UndoSlot, UndoRoot, UndoGroup}
+use Rattle.sled_pages.specs.State.{State, Action, PageBecomes, RootBecomes, GroupBegins, GroupEnds, after_all}
+
+-- the page that a slot stands for
+abbrev pub page_of : Slot → Page
+page_of s = record { version = s.version; node = s.node }
+
+-- the slots by number, the roots by name, and whether a group is open
+pub record Table : Type 0 where
+  pub slots : ℕ → Option Slot
+  pub roots : Key → Option ℕ
+  pub in_group : Bool
+
+abbrev pub table : (ℕ → Option Slot) → (Key → Option ℕ) → Bool → Table
+table slots roots in_group = record { slots = slots; roots = roots; in_group = in_group }
+
+abbrev pub roots_of : List (Key × ℕ) → Key → Option ℕ
+roots_of roots name = find key_cmp name roots
+
+-- the pages that the slots stand for
+abbrev pub pages_of : (ℕ → Option Slot) → ℕ → Option Page
+pages_of slots p = option_map page_of (slots p)
+
+abbrev pub state_of : Table → State
+state_of t = record { pages = pages_of t.slots; roots = t.roots; in_group = t.in_group }
+
+-- the table without the last action
+abbrev pub undone : Undo → Table → Table
+undone (UndoSlot pid slot) t = record t { slots = put_at t.slots pid slot }
+undone (UndoRoot name root) t = record t { roots = put_name t.roots name root }
+undone (UndoGroup was_open) t = record t { in_group = was_open }
+
+-- the last action, by what it left
+abbrev pub undoes : Undo → Table → Action
+undoes (UndoSlot pid slot) t = PageBecomes pid (pages_of t.slots pid)
+undoes (UndoRoot name root) t = RootBecomes name (t.roots name)
+undoes (UndoGroup was_open) t = if t.in_group then GroupBegins else GroupEnds
+
+-- the table before all of them, the last of them first
+abbrev pub base_of : List Undo → Table → Table
+base_of [] t = t
+base_of (u ∷ log) t = base_of log (undone u t)
+
+-- the actions, the first of them first
+abbrev pub recent_of : List Undo → Table → List Action
+recent_of [] t = []
+recent_of (u ∷ log) t = recent_of log (undone u t) ++ undoes u t ∷ []
+
+-- the state after the first j actions of a log
+abbrev pub state_at : ℕ → List Undo → Table → State
+state_at j log t = after_all (take j (recent_of (reverse log) t)) (state_of (base_of (reverse log) t))
+
+-- a slot that is put back has a place
+abbrev pub has_place : (ℕ → Bool) → Undo → Bool
+has_place places (UndoSlot pid slot) = places pid
+has_place places (UndoRoot name root) = true
+has_place places (UndoGroup was_open) = true
+
+-- all can be undone, and then no group is open
+pub record IsKept (places : ℕ → Bool) (t : Table) (log : List Undo) : Type 0 where
+  pub placed : list_all (has_place places) log ≡ true
+  pub sealed : (base_of (reverse log) t).in_group ≡ false
+
+-- actions were taken back, none of which ends outside a group and within this number
+pub record TakesBack (keep : ℕ) (old : Table) (old_log : List Undo) (new : Table) (new_log : List Undo) : Type 0 where
+  pub base : base_of (reverse new_log) new ≡ base_of (reverse old_log) old
+  pub recent : recent_of (reverse new_log) new ≡ take (length new_log) (recent_of (reverse old_log) old)
+  pub no_longer : length new_log ≤ length old_log
+  pub most : (j : ℕ) → length new_log < j → j ≤ keep → j ≤ length old_log → (state_at j old_log old).in_group ≡ true
+
+-- the same, at least down to this number, and no group is open
+pub record TakenBack (keep : ℕ) (old : Table) (old_log : List Undo) (new : Table) (new_log : List Undo) : Type 0 where
+  pub back : TakesBack keep old old_log new new_log
+  pub at_most : length new_log ≤ keep
+  pub sealed : new.in_group ≡ false
+
+-- its version is below the next one
+abbrev pub slot_given : ℕ → Option Slot → Bool
+slot_given next None = true
+slot_given next (Some s) = nat_lt s.version next
+
+abbrev pub undo_given : ℕ → Undo → Bool
+undo_given next (UndoSlot pid slot) = slot_given next slot
+undo_given next (UndoRoot name root) = true
+undo_given next (UndoGroup was_open) = true
+
+-- every version that stands somewhere is below the next one
+pub record AreBelow (next : ℕ) (slots : ℕ → Option Slot) (log : List Undo) : Type 0 where
+  pub here : (p : ℕ) → slot_given next (slots p) ≡ true
+  pub in_log : list_all (undo_given next) log ≡ true

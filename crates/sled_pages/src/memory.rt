@@ -1,0 +1,455 @@
+//! A store in memory. It keeps the pages as they are now, and how to take each action since the last flush back.
+ghost use Rattle.std.specs.Prelude.{◌≡◌, ◌+◌, ◌^◌, ◌<◌, Some, None, true, false, if◌then◌else◌, IfOk, IfErr, OnOk, OnErr, length};
+ghost use Rattle.std.specs.FinMap.{is_sorted};
+ghost use Rattle.sled_pages.specs.declared.error.Error.TheVariants.{NoMemory, Io};
+ghost use Rattle.sled_pages.specs.Order.{key_cmp};
+ghost use Rattle.sled_pages.specs.Slots.{slots_of, places_of};
+ghost use Rattle.sled_pages.specs.Table.{Table, roots_of, IsKept, AreBelow};
+ghost use Rattle.sled_pages.specs.Faults.{IsFault};
+ghost use Rattle.std.specs.Option.{option_map};
+ghost use Rattle.sled_pages.specs.Update.{put_name};
+ghost use Rattle.sled_pages.specs.Table.{page_of, slot_given};
+ghost use Rattle.sled_pages.specs.State.{PageBecomes, RootBecomes, GroupBegins, GroupEnds};
+ghost use Rattle.sled_pages.specs.Store.{Refused, ActsAt, acted, flushed, now, version_now};
+ghost use Rattle.sled_pages.specs.Crash.{Crashes, MayLeave};
+
+mod back;
+mod slots;
+mod undo;
+
+use crate::error::Result;
+use crate::node::copy_pointers;
+use crate::pairs::value_at;
+use crate::{Error, Fault, IVec, Link, Node, Page, Pages, Pid, Version, View};
+use back::{forget, set_root, take_all_back};
+use slots::{Slot, Slots, push_reserved};
+use std::alloc::Global;
+use undo::Undo;
+
+/// A store in memory.
+#[derive(Drop)]
+pub struct MemPages {
+    alloc: Global,
+    slots: Slots,
+    roots: Vec<(IVec, Pid)>,
+    in_group: bool,
+    log: Vec<Undo>,
+    actions: u64,
+    next_version: u64,
+    calls: u64,
+    refused: Vec<u64>,
+    faults: u64,
+    unreadable: Vec<u64>,
+    mark: u64,
+    recovered: bool,
+    ghost kept: { IsKept (places_of slots) (record { slots = slots_of slots; roots = roots_of roots.items; in_group = in_group }) log.items },
+    ghost ascends: { is_sorted key_cmp roots.items ≡ true },
+    ghost below: { AreBelow next_version (slots_of slots) log.items },
+}
+
+// The codes of this store's faults: a call that was named, a page that was named, numbers that are used up.
+const REFUSED: u32 = 1;
+
+const UNREADABLE: u32 = 2;
+
+const USED_UP: u32 = 3;
+
+// A fault of the device, while faults can be counted.
+fn fault(faults: &mut u64, code: u32) -> Error
+    ensures { IsFault faults.old faults.new result }
+{
+    if *faults == u64::MAX {
+        return Error::NoMemory;
+    }
+    *faults += 1;
+    Error::Io(Fault(code))
+}
+
+// Counts a call, which is refused where its number was named.
+fn count_call(calls: &mut u64, faults: &mut u64, refused: &[u64]) -> Result<()>
+    ensures ok { OnOk result (faults.new ≡ faults.old) }
+    ensures err { IfErr result (λ e. IsFault faults.old faults.new e) }
+{
+    if *calls == u64::MAX {
+        return Err(fault(faults, USED_UP));
+    }
+    *calls += 1;
+    if refused.contains(&*calls) {
+        return Err(fault(faults, REFUSED));
+    }
+    Ok(())
+}
+
+impl MemPages {
+    ghost use Rattle.sled_pages.specs.Memory.{store_of, empty_store, HasRoom, IsOther};
+
+    /// An empty store. It takes no memory.
+    pub fn new(alloc: Global) -> MemPages
+        ensures { store_of result ≡ empty_store }
+    {
+        MemPages {
+            alloc,
+            slots: Slots::new(alloc),
+            roots: Vec::new(alloc),
+            in_group: false,
+            log: Vec::new(alloc),
+            actions: 0,
+            next_version: 0,
+            calls: 0,
+            refused: Vec::new(alloc),
+            faults: 0,
+            unreadable: Vec::new(alloc),
+            mark: 0,
+            recovered: false,
+        }
+    }
+
+    /// What a crash leaves that keeps this many of the actions since the last flush, less a group that is not sealed within
+    /// them. Calls are counted anew from 1, none is refused, and every page can be read. Refused with `NoMemory` alone: then
+    /// the store is lost.
+    pub fn crash(self, keep: usize) -> Result<MemPages>
+        ensures ok { IfOk result (λ left. Crashes keep (store_of self) (store_of left)) }
+        ensures left { IfOk result (λ left. MayLeave (store_of self) (store_of left).base) }
+        ensures err { IfErr result (λ e. e ≡ NoMemory) }
+    {
+        let MemPages {
+            alloc,
+            mut slots,
+            mut roots,
+            mut in_group,
+            mut log,
+            actions,
+            next_version,
+            mark,
+            ..
+        } = self;
+        take_all_back(&mut slots, &mut roots, &mut in_group, &mut log, keep)?;
+        forget(&mut log);
+        Ok(MemPages {
+            alloc,
+            slots,
+            roots,
+            in_group,
+            log,
+            actions,
+            next_version,
+            calls: 0,
+            refused: Vec::new(alloc),
+            faults: 0,
+            unreadable: Vec::new(alloc),
+            mark,
+            recovered: true,
+        })
+    }
+
+    /// The calls of these numbers will be refused, and no others. The calls are those of `Pages` by `&mut self`, counted
+    /// from 1 in the order made. Refused with `NoMemory` alone, and then the calls that were named before stay named.
+    pub fn refuse_at(&mut self, calls: &[u64]) -> Result<()>
+        ensures same { store_of self.new ≡ store_of self.old }
+        ensures err { IfErr result (λ e. e ≡ NoMemory) }
+    {
+        self.refused = Vec::from_slice(self.alloc, calls)?;
+        Ok(())
+    }
+
+    // Counts a call that makes no action.
+    fn count(&mut self) -> Result<()>
+        ensures same { OnOk result (store_of self.new ≡ store_of self.old) }
+        ensures err { IfErr result (λ e. Refused e (store_of self.old) (store_of self.new)) }
+    {
+        count_call(&mut self.calls, &mut self.faults, self.refused.as_slice())
+    }
+
+    // Counts a call. Where it is not refused there is room for one action.
+    fn start(&mut self) -> Result<()>
+        ensures same { OnOk result (store_of self.new ≡ store_of self.old) }
+        ensures room { OnOk result (HasRoom self.new) }
+        ensures err { IfErr result (λ e. Refused e (store_of self.old) (store_of self.new)) }
+    {
+        if let Err(e) = count_call(&mut self.calls, &mut self.faults, self.refused.as_slice()) {
+            return Err(e);
+        }
+        if self.actions == u64::MAX {
+            return Err(fault(&mut self.faults, USED_UP));
+        }
+        if self.log.reserve(1).is_err() {
+            return Err(Error::NoMemory);
+        }
+        Ok(())
+    }
+
+    // The same of a call that gives a version.
+    fn start_version(&mut self) -> Result<()>
+        ensures same { OnOk result (store_of self.new ≡ store_of self.old) }
+        ensures room { OnOk result (HasRoom self.new) }
+        ensures versions { OnOk result (self.new.next_version + 1 < 2 ^ 64) }
+        ensures err { IfErr result (λ e. Refused e (store_of self.old) (store_of self.new)) }
+    {
+        if let Err(e) = self.start() {
+            return Err(e);
+        }
+        if self.next_version == u64::MAX {
+            return Err(fault(&mut self.faults, USED_UP));
+        }
+        Ok(())
+    }
+
+    // Whether a page has this version; else the version that it has.
+    fn tested(&self, pid: Pid, version: Version) -> std::result::Result<(), Option<Version>>
+        ensures ok { OnOk result (version_now (store_of self.now) pid ≡ Some version) }
+        ensures placed { OnOk result (places_of self.now.slots pid ≡ true) }
+        ensures err { IfErr result (IsOther pid version (store_of self.now)) }
+    {
+        match self.slots.get(pid) {
+            Some(slot) => {
+                if slot.version == version {
+                    Ok(())
+                } else {
+                    Err(Some(slot.version))
+                }
+            }
+            None => Err(None),
+        }
+    }
+
+    // The page of a number, copied.
+    fn copied(&self, alloc: Global, pid: Pid) -> Result<Option<Page>>
+        ensures ok { IfOk result (λ page. page ≡ (now (store_of self.now)).pages pid) }
+        ensures err { IfErr result (λ e. e ≡ NoMemory) }
+    {
+        match self.slots.get(pid) {
+            Some(slot) => Ok(Some(Page {
+                version: slot.version,
+                node: slot.node.clone(alloc)?,
+            })),
+            None => Ok(None),
+        }
+    }
+
+    // Puts a page in the place of another, or takes it out.
+    fn commit(&mut self, pid: Pid, slot: Option<Slot>)
+        requires room { HasRoom self.old }
+        requires placed { places_of self.old.slots pid ≡ true }
+        requires below { slot_given self.old.next_version slot ≡ true }
+        ensures { store_of self.new ≡ acted (PageBecomes pid (option_map page_of slot)) (store_of self.old) }
+    {
+        let old = self.slots.put(pid, slot);
+        push_reserved(&mut self.log, Undo::UndoSlot(pid, old));
+        self.actions += 1;
+    }
+
+    // Puts a new version of a page in its place.
+    fn commit_node(&mut self, pid: Pid, node: Node) -> Version
+        requires room { HasRoom self.old }
+        requires versions { self.old.next_version + 1 < 2 ^ 64 }
+        requires placed { places_of self.old.slots pid ≡ true }
+        ensures { ActsAt (PageBecomes pid (Some (record { version = result; node = node }))) result (store_of self.old) (store_of self.new) }
+    {
+        let version = Version(self.next_version);
+        self.next_version += 1;
+        self.commit(pid, Some(Slot { version, node }));
+        version
+    }
+
+    // Begins or ends a group.
+    fn commit_group(&mut self, begins: bool)
+        requires room { HasRoom self.old }
+        ensures { store_of self.new ≡ acted (if begins then GroupBegins else GroupEnds) (store_of self.old) }
+    {
+        push_reserved(&mut self.log, Undo::UndoGroup(self.in_group));
+        self.in_group = begins;
+        self.actions += 1;
+    }
+
+    // Makes another the root of a name, or takes the name out.
+    fn commit_root(&mut self, name: &[u8], old: Option<Pid>, new: Option<Pid>) -> Result<()>
+        requires room { HasRoom self.old }
+        requires root { (now (store_of self.old)).roots name.now ≡ old }
+        ensures ok { OnOk result (store_of self.new ≡ acted (RootBecomes name.now new) (store_of self.old)) }
+        ensures err { OnErr result (store_of self.new ≡ store_of self.old) }
+        ensures cause { IfErr result (λ e. e ≡ NoMemory) }
+    {
+        let key = IVec::from_slice(self.alloc, name)?;
+        let undo = IVec::from_slice(self.alloc, name)?;
+        set_root(&mut self.roots, key, new)?;
+        push_reserved(&mut self.log, Undo::UndoRoot(undo, old));
+        self.actions += 1;
+        Ok(())
+    }
+}
+
+impl Pages for MemPages {
+    ghost use Rattle.sled_pages.specs.Memory.{store_of};
+
+    ghost store = { store_of };
+
+    fn read(&self, alloc: Global, pid: Pid) -> Result<Option<View>> {
+        if self.unreadable.contains(&pid.0) {
+            return Err(Error::Io(Fault(UNREADABLE)));
+        }
+        match self.copied(alloc, pid)? {
+            Some(page) => Ok(Some(View {
+                pid,
+                version: page.version,
+                node: page.node,
+            })),
+            None => Ok(None),
+        }
+    }
+
+    fn allocate(&mut self, node: Node) -> Result<(Pid, Version)> {
+        if let Err(e) = self.start_version() {
+            return Err(e);
+        }
+        if !self.slots.has_number() {
+            return Err(fault(&mut self.faults, USED_UP));
+        }
+        if let Err(e) = self.slots.reserve() {
+            return Err(e);
+        }
+        let version = Version(self.next_version);
+        self.next_version += 1;
+        let pid = self.slots.add(Slot { version, node });
+        push_reserved(&mut self.log, Undo::UndoSlot(pid, None));
+        self.actions += 1;
+        Ok((pid, version))
+    }
+
+    fn link(
+        &mut self,
+        pid: Pid,
+        version: Version,
+        link: Link,
+    ) -> Result<std::result::Result<Version, Option<Version>>> {
+        if let Err(e) = self.start_version() {
+            return Err(e);
+        }
+        if let Err(present) = self.tested(pid, version) {
+            return Ok(Err(present));
+        }
+        let mut node = match self.copied(self.alloc, pid) {
+            Ok(Some(page)) => page.node,
+            Ok(None) => return Ok(Err(None)),
+            Err(e) => return Err(e),
+        };
+        if let Err(e) = node.apply(link) {
+            return Err(e);
+        }
+        Ok(Ok(self.commit_node(pid, node)))
+    }
+
+    fn replace(
+        &mut self,
+        pid: Pid,
+        version: Version,
+        node: Node,
+    ) -> Result<std::result::Result<Version, Option<Version>>> {
+        if let Err(e) = self.start_version() {
+            return Err(e);
+        }
+        if let Err(present) = self.tested(pid, version) {
+            return Ok(Err(present));
+        }
+        Ok(Ok(self.commit_node(pid, node)))
+    }
+
+    fn free(
+        &mut self,
+        pid: Pid,
+        version: Version,
+    ) -> Result<std::result::Result<(), Option<Version>>> {
+        if let Err(e) = self.start() {
+            return Err(e);
+        }
+        if let Err(present) = self.tested(pid, version) {
+            return Ok(Err(present));
+        }
+        self.commit(pid, None);
+        Ok(Ok(()))
+    }
+
+    #[tactic(auto, unfolding(crate::specs::Order::key_cmp))]
+    fn root(&self, name: &[u8]) -> Option<Pid> {
+        value_at(self.roots.as_slice(), name).copied()
+    }
+
+    fn roots(&self, alloc: Global) -> Result<Vec<(IVec, Pid)>> {
+        copy_pointers(alloc, self.roots.as_slice())
+    }
+
+    fn cas_root(
+        &mut self,
+        name: &[u8],
+        old: Option<Pid>,
+        new: Option<Pid>,
+    ) -> Result<std::result::Result<(), Option<Pid>>> {
+        if let Err(e) = self.start() {
+            return Err(e);
+        }
+        let present = self.root(name);
+        if present != old {
+            return Ok(Err(present));
+        }
+        if let Err(e) = self.commit_root(name, present, new) {
+            return Err(e);
+        }
+        Ok(Ok(()))
+    }
+
+    fn begin_group(&mut self) -> Result<()> {
+        if let Err(e) = self.start() {
+            return Err(e);
+        }
+        self.commit_group(true);
+        Ok(())
+    }
+
+    fn seal_group(&mut self) -> Result<()> {
+        if let Err(e) = self.start() {
+            return Err(e);
+        }
+        self.commit_group(false);
+        Ok(())
+    }
+
+    fn in_group(&self) -> bool {
+        self.in_group
+    }
+
+    /// Makes all that was done durable. The number is that of the changing actions since the last flush.
+    fn flush(&mut self) -> Result<usize>
+        requires { (now (store_of self.old)).in_group ≡ false }
+        ensures ok { OnOk result (store_of self.new ≡ flushed (store_of self.old)) }
+        ensures count { IfOk result (λ n. n ≡ length (store_of self.old).recent) }
+        ensures err { IfErr result (λ e. Refused e (store_of self.old) (store_of self.new)) }
+    {
+        if let Err(e) = self.count() {
+            return Err(e);
+        }
+        let count = self.log.len();
+        forget(&mut self.log);
+        Ok(count)
+    }
+
+    fn set_aside(&mut self, upto: u64) -> Result<()> {
+        if let Err(e) = self.count() {
+            return Err(e);
+        }
+        self.mark = upto;
+        Ok(())
+    }
+
+    fn mark(&self) -> u64 {
+        self.mark
+    }
+
+    fn was_recovered(&self) -> bool {
+        self.recovered
+    }
+
+    ghost sealed = { λ m. m.kept.sealed };
+
+    ghost use Rattle.sled_pages.specs.Laws.{law_given};
+
+    ghost given = { λ m. law_given m };
+}

@@ -1,0 +1,89 @@
+//! Actions taken back, the last of them first.
+ghost use Rattle.std.specs.Prelude.{◌≡◌, ℕ, [], true, IfErr, OnOk, OnErr};
+ghost use Rattle.std.specs.FinMap.{is_sorted};
+ghost use Rattle.sled_pages.specs.declared.error.Error.TheVariants.{NoMemory};
+ghost use Rattle.sled_pages.specs.Order.{key_cmp};
+ghost use Rattle.sled_pages.specs.Update.{put_name};
+ghost use Rattle.sled_pages.specs.Slots.{slots_of, places_of};
+ghost use Rattle.sled_pages.specs.Table.{roots_of, undone, has_place, slot_given, undo_given, IsKept, AreBelow, TakenBack, table};
+
+use super::slots::Slots;
+use super::undo::Undo;
+use crate::error::Result;
+use crate::pairs::{put_pair, take_out};
+use crate::{IVec, Pid};
+
+// Makes another the root of a name, or takes the name out.
+#[tactic(auto, unfolding(crate::specs::Order::key_cmp))]
+pub fn set_root(roots: &mut Vec<(IVec, Pid)>, name: IVec, root: Option<Pid>) -> Result<()>
+    ensures ok { OnOk result (roots_of roots.new.items ≡ put_name (roots_of roots.old.items) name root) }
+    ensures err { OnErr result (roots.new.items ≡ roots.old.items) }
+    ensures ascends { is_sorted key_cmp roots.old.items ≡ true → is_sorted key_cmp roots.new.items ≡ true }
+    ensures cause { IfErr result (λ e. e ≡ NoMemory) }
+{
+    match root {
+        Some(pid) => put_pair(roots, name, pid),
+        None => {
+            take_out(roots, &name);
+            Ok(())
+        }
+    }
+}
+
+// Takes one action back.
+fn take_back(
+    slots: &mut Slots,
+    roots: &mut Vec<(IVec, Pid)>,
+    in_group: &mut bool,
+    undo: Undo,
+) -> Result<()>
+    requires { has_place (places_of slots.old) undo ≡ true }
+    ensures ok { OnOk result (table (slots_of slots.new) (roots_of roots.new.items) in_group.new ≡ undone undo (table (slots_of slots.old) (roots_of roots.old.items) in_group.old)) }
+    ensures places { places_of slots.new ≡ places_of slots.old }
+    ensures ascends { is_sorted key_cmp roots.old.items ≡ true → is_sorted key_cmp roots.new.items ≡ true }
+    ensures below { (next : ℕ) → ((p : ℕ) → slot_given next (slots_of slots.old p) ≡ true) → undo_given next undo ≡ true → (p : ℕ) → slot_given next (slots_of slots.new p) ≡ true }
+    ensures cause { IfErr result (λ e. e ≡ NoMemory) }
+{
+    match undo {
+        Undo::UndoSlot(pid, slot) => {
+            slots.put(pid, slot);
+            Ok(())
+        }
+        Undo::UndoRoot(name, root) => set_root(roots, name, root),
+        Undo::UndoGroup(was_open) => {
+            *in_group = was_open;
+            Ok(())
+        }
+    }
+}
+
+// Takes actions back, down to this number of them, and on to where no group is open.
+pub fn take_all_back(
+    slots: &mut Slots,
+    roots: &mut Vec<(IVec, Pid)>,
+    in_group: &mut bool,
+    log: &mut Vec<Undo>,
+    keep: usize,
+) -> Result<()>
+    requires { IsKept (places_of slots.old) (table (slots_of slots.old) (roots_of roots.old.items) in_group.old) log.old.items }
+    ensures ok { OnOk result (TakenBack keep (table (slots_of slots.old) (roots_of roots.old.items) in_group.old) log.old.items (table (slots_of slots.new) (roots_of roots.new.items) in_group.new) log.new.items) }
+    ensures places { places_of slots.new ≡ places_of slots.old }
+    ensures ascends { is_sorted key_cmp roots.old.items ≡ true → is_sorted key_cmp roots.new.items ≡ true }
+    ensures below { OnOk result ((next : ℕ) → AreBelow next (slots_of slots.old) log.old.items → AreBelow next (slots_of slots.new) log.new.items) }
+    ensures cause { IfErr result (λ e. e ≡ NoMemory) }
+{
+    while log.len() > keep || *in_group {
+        match log.pop() {
+            Some(undo) => take_back(slots, roots, in_group, undo)?,
+            None => return Ok(()),
+        }
+    }
+    Ok(())
+}
+
+// Empties a log.
+pub fn forget(log: &mut Vec<Undo>)
+    ensures { log.new.items ≡ [] }
+{
+    log.clear();
+}

@@ -1,0 +1,121 @@
+//! Pages by number, as the store in memory keeps them.
+ghost use Rattle.std.specs.Prelude.{◌≡◌, ◌+◌, ◌^◌, ◌<◌, ◌++◌, ◌∷◌, [], Some, None, true, false, IfErr, OnOk, IsTrue, ◌↔◌, length};
+ghost use Rattle.std.specs.Option.{option_copied};
+ghost use Rattle.std.specs.Vec.{vec_len, vec_capacity};
+ghost use Rattle.sled_pages.specs.declared.error.Error.TheVariants.{NoMemory};
+ghost use Rattle.sled_pages.specs.Update.{put_at};
+
+use crate::error::Result;
+use crate::{Node, Pid, Version};
+use std::alloc::Global;
+use std::collections::BTreeMap;
+
+/// A page as it is kept.
+#[derive(Debug, Drop)]
+pub struct Slot {
+    pub version: Version,
+    pub node: Node,
+}
+
+/// Slots by number. Those of an image have any numbers up to `last`; those that were added since lie in order behind.
+#[derive(Drop)]
+pub struct Slots {
+    last: u64,
+    foreign: BTreeMap<u64, Option<Slot>>,
+    own: Vec<Option<Slot>>,
+    ghost numbered: { last + length own.items < 2 ^ 64 },
+}
+
+// Adds to a list that has room.
+pub fn push_reserved<T: Drop>(list: &mut Vec<T>, item: T)
+    requires { vec_len list.old < vec_capacity list.old }
+    ensures { list.new.items ≡ list.old.items ++ item ∷ [] }
+{
+    let pushed = list.push(item);
+    let full = pushed.is_err();
+    prove!(!full);
+}
+
+impl Slots {
+    ghost use Rattle.sled_pages.specs.Slots.{slots_of, places_of, HasNumber, HasSlotRoom};
+
+    /// No slots.
+    pub fn new(alloc: Global) -> Slots
+        ensures slots { slots_of result ≡ λ _. None }
+        ensures places { places_of result ≡ λ _. false }
+    {
+        Slots {
+            last: 0,
+            foreign: BTreeMap::new(alloc),
+            own: Vec::new(alloc),
+        }
+    }
+
+    /// The slot of a number.
+    pub fn get(&self, pid: Pid) -> Option<&Slot>
+        ensures { option_copied result ≡ slots_of self.now pid }
+    {
+        if pid.0 <= self.last {
+            match self.foreign.get(&pid.0) {
+                Some(slot) => slot.as_ref(),
+                None => None,
+            }
+        } else {
+            match self.own.get((pid.0 - self.last - 1) as usize) {
+                Some(slot) => slot.as_ref(),
+                None => None,
+            }
+        }
+    }
+
+    /// Puts a slot at a number that has a place, and gives back what stood there.
+    pub fn put(&mut self, pid: Pid, slot: Option<Slot>) -> Option<Slot>
+        requires { places_of self.old pid ≡ true }
+        ensures was { result ≡ slots_of self.old pid }
+        ensures slots { slots_of self.new ≡ put_at (slots_of self.old) pid slot }
+        ensures places { places_of self.new ≡ places_of self.old }
+    {
+        if pid.0 <= self.last {
+            match self.foreign.insert(pid.0, slot) {
+                Ok(Some(old)) => old,
+                Ok(None) => None,
+                Err(_) => None,
+            }
+        } else {
+            std::mem::replace(&mut self.own[(pid.0 - self.last - 1) as usize], slot)
+        }
+    }
+
+    /// Whether a number is left for one slot more.
+    pub fn has_number(&self) -> bool
+        ensures { IsTrue result ↔ HasNumber self.now }
+    {
+        (self.own.len() as u64) < u64::MAX - self.last
+    }
+
+    /// Makes room for one slot more. Refused with `NoMemory` alone.
+    pub fn reserve(&mut self) -> Result<()>
+        ensures slots { slots_of self.new ≡ slots_of self.old }
+        ensures places { places_of self.new ≡ places_of self.old }
+        ensures number { HasNumber self.old → HasNumber self.new }
+        ensures room { OnOk result (HasSlotRoom self.new) }
+        ensures err { IfErr result (λ e. e ≡ NoMemory) }
+    {
+        self.own.reserve(1)?;
+        Ok(())
+    }
+
+    /// Adds a slot under a number that never had a place.
+    pub fn add(&mut self, slot: Slot) -> Pid
+        requires room { HasSlotRoom self.old }
+        requires number { HasNumber self.old }
+        ensures positive { 0 < result }
+        ensures fresh { places_of self.old result ≡ false }
+        ensures slots { slots_of self.new ≡ put_at (slots_of self.old) result (Some slot) }
+        ensures places { places_of self.new ≡ put_at (places_of self.old) result true }
+    {
+        let pid = Pid(self.last + self.own.len() as u64 + 1);
+        push_reserved(&mut self.own, Some(slot));
+        pid
+    }
+}
