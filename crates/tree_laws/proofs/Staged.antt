@@ -8,7 +8,7 @@ use Rattle.sled_pages.specs.declared.node.Data.TheVariants.{Index}
 use Rattle.tree_laws.specs.Forest.{Forest, place}
 use Rattle.tree_laws.specs.Moment.{Look, IsFew}
 use Rattle.tree_laws.specs.Laws.{replaced}
-use Rattle.tree_laws.specs.Stages.{IsHere, IsPosting, IsHoisting, Posts, AtParent, AtRoot, Nowhere, IsReplacing, Quiet}
+use Rattle.tree_laws.specs.Stages.{IsHere, IsPosting, IsHoisting, PostsAt, AtParent, AtRoot, Nowhere, IsReplacing, Quiet}
 use Rattle.tree_laws.specs.StageLaws.{StagesLaw, ApartLaw, HereLaw, RootHereLaw, CursorHereLaw, MergeHereLaw, HalfLaw, LeftHalfLaw, PointerLaw, RaiseLaw, SwapLaw, FreesLaw, IntendLaw, ChildSeeksLaw, ChildCapsLaw, CapsLaw, SeekLaw, ReceivesLaw, SeekAgainLaw, ConfirmsLaw}
 use Rattle.tree_laws.proofs.Replace.{some_is}
 use Rattle.tree_laws.proofs.Known.{acting_kept}
@@ -87,7 +87,7 @@ left_half_law m w t number page posts left at q own version node is k c unused =
       hoisted = λ e. up posts k e d;
     }
   where
-    go : (posts : Posts) (k : IsReplacing m w t number page posts left at q own) → {parent : Look} → posts ≡ AtParent parent
+    go : (posts : PostsAt) (k : IsReplacing m w t number page posts left at q own) → {parent : Look} → posts ≡ AtParent parent
         → (d : splitting.IsSplitNow m w (replaced m page.pid (record { version = version; node = left })) (place t k.height) page.pid q left k.right) → IsPosting (replaced m page.pid (record { version = version; node = left })) d.after t number parent at q
     go (AtParent p) k {parent} e d = subst (λ z. IsPosting (replaced m page.pid (record { version = version; node = left })) d.after t number z at q) (one e) (splitting.replace_posts t number page p left at q own version node is k c unused d)
       where
@@ -102,7 +102,7 @@ left_half_law m w t number page posts left at q own version node is k c unused =
         apart : {p : Look} → Nowhere ≡ AtParent p → ⊥
         apart e = cc
 
-    up : (posts : Posts) (k : IsReplacing m w t number page posts left at q own) → posts ≡ AtRoot
+    up : (posts : PostsAt) (k : IsReplacing m w t number page posts left at q own) → posts ≡ AtRoot
         → (d : splitting.IsSplitNow m w (replaced m page.pid (record { version = version; node = left })) (place t k.height) page.pid q left k.right) → IsHoisting (replaced m page.pid (record { version = version; node = left })) d.after t number page.pid at q
     up AtRoot k e d = splitting.replace_hoists t number page left at q own version k d
     up (AtParent p) k e d = absurd (apart e)

@@ -10,7 +10,7 @@ use Rattle.sled_pages.specs.declared.link.Link.TheVariants.{ParentMergeIntention
 use Rattle.tree_laws.specs.Forest.{Tree, Forest, Place, contents, later}
 use Rattle.tree_laws.specs.Moment.{Moment, IsMoment, nodes_at, Goes, Grows, Look, IsOpen, IsFew, IsActing}
 use Rattle.tree_laws.specs.Laws.{IsCurrent, replaced, allocated, freed, hoisted}
-use Rattle.tree_laws.specs.Stages.{IsWalking, IsHere, Posts, AtParent, AtRoot, Nowhere, IsSplitting, IsReplacing, IsPosting, IsHoisting, IsOver, IsSwapping, IsFreeing, Quiet, IsHalved, IsJoined}
+use Rattle.tree_laws.specs.Stages.{IsWalking, IsHere, PostsAt, AtParent, AtRoot, Nowhere, IsSplitting, IsReplacing, IsPosting, IsHoisting, IsOver, IsSwapping, IsFreeing, Quiet, IsHalved, IsJoined}
 use Rattle.tree_laws.specs.Merging.{IsIntending, IsSmallChild, IsMergingOf, IsCappingOf, IsSeekingOf, IsReceivingOf, IsConfirmingOf}
 
 -- an action of another call
@@ -22,8 +22,8 @@ pub record IsOthers (mine : List ℕ) (lost : Option Tree) (old : Moment) (w : F
 pub record StagesKept (mine : List ℕ) (old : Moment) (w : Forest) (new : Moment) (v : Forest) (t : Tree) (number : ℕ) : Type 0 where
   pub walking : (key : Key) (cursor : ℕ) (parent : Look) (first unsplit : Bool) → IsWalking old w t number key cursor parent first unsplit → IsWalking new v t number key cursor parent first unsplit
   pub acting : (key : Key) (look : Look) → IsActing old w t number key look → IsActing new v t number key look
-  pub splitting : (page : Look) (posts : Posts) → IsSplitting old w t number page posts → IsSplitting new v t number page posts
-  pub replacing : (page : Look) (posts : Posts) (left : Node) (at : Key) (q version : ℕ) → ¬ (In q mine) → IsReplacing old w t number page posts left at q version → IsReplacing new v t number page posts left at q version
+  pub splitting : (page : Look) (posts : PostsAt) → IsSplitting old w t number page posts → IsSplitting new v t number page posts
+  pub replacing : (page : Look) (posts : PostsAt) (left : Node) (at : Key) (q version : ℕ) → ¬ (In q mine) → IsReplacing old w t number page posts left at q version → IsReplacing new v t number page posts left at q version
   pub posting : (parent : Look) (at : Key) (pid : ℕ) → IsPosting old w t number parent at pid → IsPosting new v t number parent at pid
   pub hoisting : (left : ℕ) (at : Key) (right : ℕ) → IsHoisting old w t number left at right → IsHoisting new v t number left at right
   pub swapping : (left q version : ℕ) → ¬ (In q mine) → IsSwapping old w t number left q version → IsSwapping new v t number left q version
@@ -85,19 +85,19 @@ MergeHereLaw = (m : Moment) (w : Forest) → IsMoment m w → (t : Tree) (number
 
 -- The steps of a split: the right half is allocated,
 abbrev pub HalfLaw : Type 0
-HalfLaw = (m : Moment) (w : Forest) (t : Tree) (number : ℕ) (page : Look) (posts : Posts) (left right : Node) (q version : ℕ) → IsMoment m w → m.pids q ≡ false → m.versions version ≡ false → q < 2 ^ 64
+HalfLaw = (m : Moment) (w : Forest) (t : Tree) (number : ℕ) (page : Look) (posts : PostsAt) (left right : Node) (q version : ℕ) → IsMoment m w → m.pids q ≡ false → m.versions version ≡ false → q < 2 ^ 64
     → IsSplitting m w t number page posts → IsHalved page.node left right q
     → let new : Moment = allocated m q (record { version = version; node = right }) in Quiet [] (q ∷ []) m w new w (Unit {0}) × IsReplacing new w t number page posts left right.lo q version
 
 -- the page becomes the left half, where it has its version and the tree its number,
-pub record Halved (m : Moment) (w : Forest) (new : Moment) (t : Tree) (number : ℕ) (page : Look) (posts : Posts) (left right : Node) (at : Key) (q : ℕ) : Type 0 where
+pub record Halved (m : Moment) (w : Forest) (new : Moment) (t : Tree) (number : ℕ) (page : Look) (posts : PostsAt) (left right : Node) (at : Key) (q : ℕ) : Type 0 where
   pub after : Forest
   pub quiet : Quiet (q ∷ []) [] m w new after ((count left.content ≤ 17) × (count right.content ≤ 33))
   pub posted : (parent : Look) → posts ≡ AtParent parent → IsPosting new after t number parent at q
   pub hoisted : posts ≡ AtRoot → IsHoisting new after t number page.pid at q
 
 abbrev pub LeftHalfLaw : Type 0
-LeftHalfLaw = (m : Moment) (w : Forest) (t : Tree) (number : ℕ) (page : Look) (posts : Posts) (left : Node) (at : Key) (q own version : ℕ) (node : Node) → IsMoment m w → (k : IsReplacing m w t number page posts left at q own) → IsCurrent m t number page node → m.versions version ≡ false
+LeftHalfLaw = (m : Moment) (w : Forest) (t : Tree) (number : ℕ) (page : Look) (posts : PostsAt) (left : Node) (at : Key) (q own version : ℕ) (node : Node) → IsMoment m w → (k : IsReplacing m w t number page posts left at q own) → IsCurrent m t number page node → m.versions version ≡ false
     → Halved m w (replaced m page.pid (record { version = version; node = left })) t number page posts left k.right at q
 
 -- and the pointer to it goes into the parent
