@@ -28,3 +28,4 @@ pub mod Merges
 pub mod Looking
 pub mod Leaving
 pub mod Staged
+pub mod Halving

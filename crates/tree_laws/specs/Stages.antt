@@ -144,7 +144,7 @@ pub record IsHalved (n left right : Node) (q : ℕ) : Type 0 where
 
 -- n with what the page behind it holds, whatever its height
 pub record IsJoined (n d both : Node) : Type 0 where
-  pub joined : (h : ℕ) → IsNodeAt h n → IsNodeAt h d → n.hi ≡ d.lo → Below n.lo d.lo → IsReceived h n d both
+  pub joined : (h : ℕ) → IsNodeAt h n → IsNodeAt h d → n.hi ≡ d.lo → Below n.lo d.lo → (d.hi ≡ []) ⊎ Below d.lo d.hi → IsReceived h n d both
 
 -- a leaf as it was read, of a scan or a read that goes on later: it covers the target, and nothing is said of the store
 pub record IsResting (key : Key) (look : Look) : Type 0 where
