@@ -1,25 +1,23 @@
 -- What a node's own functions make of it is what the laws ask for: halves, joined pages, pointers.
-use Rattle.std.proofs.Common.{◌≡◌, ◌≢◌, ℕ, zero, suc, ◌+◌, ◌-◌, ◌/◌, ◌<◌, ◌≤◌, Bool, true, false, T, ◌&&◌, List, [], ◌∷◌, ◌++◌, length, take, drop, Option, Some, None, MatchOption, nat_eq, sym, refl, ap, ◌∙◌, subst, inl, inr, ◌⊎◌, is_lt, Ordering, Less, Equal, Greater, arith}
+use Rattle.std.proofs.Common.{◌≡◌, ℕ, zero, suc, ◌-◌, ◌/◌, ◌≤◌, Bool, true, false, T, ◌&&◌, List, [], ◌∷◌, ◌++◌, length, Some, None, sym, refl, ap, ◌∙◌, subst, inl, inr, ◌⊎◌, is_lt, Ordering, Less, Equal, Greater, arith}
 use Rattle.std.proofs.lemmas.List.{take-append-drop, length-take-le, length-drop}
-use Rattle.std.specs.List.{AllByRecursion, list_any}
+use Rattle.std.specs.List.{AllByRecursion}
 use Rattle.std.specs.FinMap.{is_sorted}
 use Rattle.std.specs.FinMap.Entries.{below_all}
 use Rattle.sled_pages.specs.In.{In}
 use Rattle.sled_pages.specs.Order.{Key, key_cmp, Below, UpTo}
-use Rattle.sled_pages.specs.Node.{Within, pairs, pointers, count}
+use Rattle.sled_pages.specs.Node.{Within, pointers, count}
 use Rattle.sled_pages.specs.Halves.{first_half, second_half, first_half_of, second_half_of, first_key_of, left_half, right_half, appended, received}
 use Rattle.sled_pages.specs.Halves as halves
 use Rattle.sled_pages.specs.Among.{IsBefore}
 use Rattle.sled_pages.specs.declared.node.Node.{Node}
 use Rattle.sled_pages.specs.declared.node.Data.{Data}
 use Rattle.sled_pages.specs.declared.node.Data.TheVariants.{Leaf, Index}
-use Rattle.tree_laws.specs.Forest.{Holds, IsNodeAt, first_key, later}
-use Rattle.tree_laws.specs.Action.{Halves, IsSplit, IsReceived}
-use Rattle.tree_laws.specs.Moment.{IsOpen}
+use Rattle.tree_laws.specs.Forest.{Holds, IsNodeAt, first_key}
+use Rattle.tree_laws.specs.Action.{Halves, IsSplit}
 use Rattle.tree_laws.specs.Stages.{IsHalved, IsJoined}
-use Rattle.tree_laws.proofs.Order.{upto-refl, upto-below, upto-trans, below-trans, below_upto-trans, upto_below-trans}
-use Rattle.tree_laws.proofs.Pairs.{each_weaker, each_append, under, not_below_empty}
-use Rattle.tree_laws.proofs.Replace.{some_is}
+use Rattle.tree_laws.proofs.Order.{upto-refl, upto-below, upto-trans, below-trans, upto_below-trans}
+use Rattle.tree_laws.proofs.Pairs.{each_weaker, each_append, under}
 use Rattle.tree_laws.proofs.Reading.{sorted-append}
 use Rattle.tree_laws.proofs.Runs.{In-right, In-left}
 

@@ -29,3 +29,4 @@ pub mod Looking
 pub mod Leaving
 pub mod Staged
 pub mod Halving
+pub mod Mapped

@@ -6,7 +6,7 @@ use Rattle.std.specs.declared.ops.Bound.TheVariants.{Included}
 use Rattle.sled_pages.specs.Among.{IsPointer, is_up_to}
 use Rattle.sled_pages.specs.In.{In}
 use Rattle.sled_pages.specs.Node.{pointers}
-use Rattle.sled_pages.specs.Order.{Key, Below, UpTo}
+use Rattle.sled_pages.specs.Order.{Key}
 use Rattle.sled_pages.specs.State.{Nodes, nodes_of}
 use Rattle.sled_pages.specs.declared.node.Node.{Node}
 use Rattle.sled_pages.specs.declared.node.Data.{Data}
@@ -16,7 +16,6 @@ use Rattle.tree_laws.specs.Forest.{Tree, Forest, Place, place, head, first_child
 use Rattle.tree_laws.specs.Contents.{page_numbers, next_of, first_of}
 use Rattle.tree_laws.specs.Paths.{IsPassed, CleanFrom, length_along, pages_under, pages_below, IsAhead}
 use Rattle.tree_laws.specs.Laws.{PagesLaw, CleanLaw}
-use Rattle.tree_laws.proofs.Order.{below_upto-trans, below_irrefl}
 use Rattle.tree_laws.proofs.Runs.{In_split, In-right, run_parts}
 use Rattle.tree_laws.proofs.Replace.{some_is, head_in}
 use Rattle.tree_laws.proofs.Cover.{chain_run}

@@ -11,3 +11,4 @@ pub mod Merging
 pub mod Paths
 pub mod Drops
 pub mod StageLaws
+pub mod MapLaws

@@ -101,6 +101,17 @@
 //! - `law_inside`: A page lies within the bounds of the index above that covers where it begins.
 //! - `law_reached`: A merge that was done is seen at the page before.
 //!
+//! `maps`: the contents of all trees, as a function of pages and roots.
+//!
+//! - `law_new`: A store with no page and no root is well formed.
+//! - `law_well`: The state at a well-formed moment has the shape of a forest, and its size if the forest has it.
+//! - `law_map`: The map of a name with a root is the contents of its tree.
+//! - `law_quiet`: Where no tree's contents change, no map does.
+//! - `law_changed`: Where one tree's contents change, its map changes so, and no other does.
+//! - `law_quiet_crash`: An action outside every group that no tree's contents show adds nothing to what a crash may leave.
+//! - `law_plants`: A new name over an empty leaf of the call's own has an empty map, and every other map is as it was.
+//! - `law_drops`: A name that is dropped has no map, every other map is as it was, and its chains are left to be freed.
+//!
 //! `meaning`: what the pages say of the trees.
 //!
 //! - `law_find`: What the leaf that covers a key has at it is what the tree has at it.
@@ -162,6 +173,7 @@ mod actions;
 mod crashes;
 mod kept;
 mod levels;
+mod maps;
 mod meaning;
 mod splits;
 mod stages;
@@ -174,6 +186,9 @@ pub use crashes::{
 };
 pub use kept::{law_acting, law_now, law_stood, law_view};
 pub use levels::{law_inside, law_reached};
+pub use maps::{
+    law_changed, law_drops, law_map, law_new, law_plants, law_quiet, law_quiet_crash, law_well,
+};
 pub use meaning::{law_clean, law_contents, law_find, law_one, law_pages, law_range, law_sorted};
 pub use splits::{law_cap, law_confirm, law_intention, law_post, law_receive, law_split};
 pub use stages::{
