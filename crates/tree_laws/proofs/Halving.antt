@@ -9,6 +9,8 @@ use Rattle.sled_pages.specs.Order.{Key, key_cmp, Below, UpTo}
 use Rattle.sled_pages.specs.Node.{Within, pointers, count}
 use Rattle.sled_pages.specs.Halves.{first_half, second_half, first_half_of, second_half_of, first_key_of, left_half, right_half, appended, received}
 use Rattle.sled_pages.specs.Halves as halves
+use Rattle.sled_pages.specs.Posting as posting
+use Rattle.tree_laws.specs.StageLaws.{HalvedLaw, JoinedLaw, BeforeLaw}
 use Rattle.sled_pages.specs.Among.{IsBefore}
 use Rattle.sled_pages.specs.declared.node.Node.{Node}
 use Rattle.sled_pages.specs.declared.node.Data.{Data}
@@ -16,6 +18,7 @@ use Rattle.sled_pages.specs.declared.node.Data.TheVariants.{Leaf, Index}
 use Rattle.tree_laws.specs.Forest.{Holds, IsNodeAt, first_key}
 use Rattle.tree_laws.specs.Action.{Halves, IsSplit}
 use Rattle.tree_laws.specs.Stages.{IsHalved, IsJoined}
+use Rattle.tree_laws.specs.Moment.{IsOpen}
 use Rattle.tree_laws.proofs.Order.{upto-refl, upto-below, upto-trans, below-trans, upto_below-trans}
 use Rattle.tree_laws.proofs.Pairs.{each_weaker, each_append, under}
 use Rattle.tree_laws.proofs.Reading.{sorted-append}
@@ -224,3 +227,16 @@ before_child h n c b sound k =
     last : (xs : List (Key × ℕ)) → AllByRecursion (λ e. Below e.0 k.key) (xs ++ (k.low, b) ∷ []) → Below k.low k.key
     last [] a = a.0
     last (x ∷ xs) a = last xs a.1
+
+-- an open node, in the words of nodes
+pub opens : {n : Node} → posting.IsOpen n → IsOpen n
+opens k = record { awake = k.0; free = k.1 }
+
+pub halved_law : HalvedLaw
+halved_law = halved
+
+pub joined_law : JoinedLaw
+joined_law = joined
+
+pub before_law : BeforeLaw
+before_law = before_child

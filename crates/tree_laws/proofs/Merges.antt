@@ -31,11 +31,11 @@ none_some : {P A : Type 0} {a : A} → None ≡ Some a → P
 none_some e = cc
 
 -- The intention: the parent takes the child, and the merge begins. `before` is the page whose pointer stands before the child's
-pub intends : {m : Moment} {w : Forest} (t : Tree) (number : ℕ) (parent : Look) (c before version : ℕ) (low : Key) (node : Node) (is : IsMoment m w) (k : IsIntending m w t number parent c) → IsCurrent m t number parent node → m.versions version ≡ false
-    → In (low, before) (pointers parent.node.content) → Below low k.key
+pub intends : {m : Moment} {w : Forest} (t : Tree) (number : ℕ) (parent : Look) (c before version : ℕ) (key low : Key) (node : Node) (is : IsMoment m w) (k : IsIntending m w t number parent c) → IsCurrent m t number parent node → m.versions version ≡ false
+    → In (key, c) (pointers parent.node.content) → In (low, before) (pointers parent.node.content) → Below low key
     → let next : Node = applied (ParentMergeIntention c) parent.node in let new : Moment = replaced m parent.pid (record { version = version; node = next }) in
     (v : Forest) × Quiet [] [] m w new v (IsSmallChild m t number parent c) × IsMergingOf new v t number (record { pid = parent.pid; version = version; node = next }) c before
-intends {m} {w} t number parent c before version low node is k current unused bi below =
+intends {m} {w} t number parent c before version key low node is k current unused ci bi below =
     let h : ℕ = k.height in
     let next : Node = applied (ParentMergeIntention c) parent.node in
     let new : Moment = replaced m parent.pid (record { version = version; node = next }) in
@@ -55,7 +55,7 @@ intends {m} {w} t number parent c before version low node is k current unused bi
       q,
       record {
         height = h;
-        merging = merge_begins s.is t number h c before (record { pid = parent.pid; version = version; node = next }) index.0 k.key low current.named chained live here.is_open.awake child index.1 (later_in parent.node.content k.key c k.pointer) bi below;
+        merging = merge_begins s.is t number h c before (record { pid = parent.pid; version = version; node = next }) index.0 key low current.named chained live here.is_open.awake child index.1 ci bi below;
       },
     )
 

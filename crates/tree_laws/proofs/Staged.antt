@@ -1,10 +1,8 @@
 -- The laws of the stages.
-use Rattle.std.proofs.Common.{◌≡◌, ◌≤◌, ℕ, List, [], Some, None, sym, ◌∙◌, subst, inl, inr, false, true}
-use Rattle.std.specs.FinMap.Entries.{put}
+use Rattle.std.proofs.Common.{ap, ◌≡◌, ◌≤◌, [], Some, None, sym, ◌∙◌, subst, inl, inr, false, true}
 use Rattle.sled_pages.specs.Node.{count}
-use Rattle.sled_pages.specs.Order.{Key, key_cmp}
+use Rattle.sled_pages.specs.Posting.{with_pointer}
 use Rattle.sled_pages.specs.declared.node.Node.{Node}
-use Rattle.sled_pages.specs.declared.node.Data.TheVariants.{Index}
 use Rattle.tree_laws.specs.Forest.{Forest, place}
 use Rattle.tree_laws.specs.Moment.{Look, IsFew}
 use Rattle.tree_laws.specs.Laws.{replaced}
@@ -115,12 +113,8 @@ left_half_law m w t number page posts left at q own version node is k c unused =
         apart e = cc
 
 pub pointer_law : PointerLaw
-pointer_law m w t number parent at pid version node es is k index c unused =
-    let same : k.above.es ≡ es = one (sym k.above.content ∙ index) in
-    subst (λ z. (v : Forest) × Quiet [] [] m w (replaced m parent.pid (record { version = version; node = record (parent.node) { content = Index (put key_cmp at pid z) } })) v (IsFew parent)) same (splitting.posts t number parent at pid version node is k c unused)
-  where
-    one : {xs ys : List (Key × ℕ)} → Index xs ≡ Index ys → xs ≡ ys
-    one e = cc
+pointer_law m w t number parent at pid version node is k c unused =
+    subst (λ z. (v : Forest) × Quiet [] [] m w (replaced m parent.pid (record { version = version; node = record (parent.node) { content = z } })) v (IsFew parent)) (sym (ap (with_pointer at pid) k.above.content)) (splitting.posts t number parent at pid version node is k c unused)
 
 pub raise_law : RaiseLaw
 raise_law m w t number left right q version at n is = splitting.raises t number left right q version at n is
@@ -132,7 +126,7 @@ pub frees_law : FreesLaw
 frees_law m w pid version is = splitting.frees pid version is
 
 pub intend_law : IntendLaw
-intend_law m w t number parent c before version low node is k = merges.intends t number parent c before version low node is k
+intend_law m w t number parent c before version k low node is i = merges.intends t number parent c before version k low node is i
 
 pub child_seeks_law : ChildSeeksLaw
 child_seeks_law m w t number parent c before version d = merges.child_seeks t number parent c before version d

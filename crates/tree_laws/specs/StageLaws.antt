@@ -1,13 +1,16 @@
 -- The laws of the stages of a call in flight, as types.
 use Rattle.std.specs.Prelude.{◌≡◌, ◌≢◌, ◌⊎◌, ℕ, ◌<◌, ◌≤◌, ◌^◌, Bool, true, false, List, [], ◌∷◌, Option, Some, None}
-use Rattle.std.specs.FinMap.Entries.{put, find}
+use Rattle.std.specs.FinMap.Entries.{find}
 use Rattle.sled_pages.specs.Order.{Key, key_cmp, Below, UpTo}
 use Rattle.sled_pages.specs.In.{In}
 use Rattle.sled_pages.specs.Node.{pointers, count, Covers, applied, value_at}
+use Rattle.sled_pages.specs.Posting.{with_pointer}
+use Rattle.sled_pages.specs.Halves.{left_half, right_half, received}
+use Rattle.sled_pages.specs.Among.{IsBefore}
 use Rattle.sled_pages.specs.declared.node.Node.{Node}
 use Rattle.sled_pages.specs.declared.node.Data.TheVariants.{Leaf, Index}
 use Rattle.sled_pages.specs.declared.link.Link.TheVariants.{ParentMergeIntention, ParentMergeConfirm, ChildMergeCap}
-use Rattle.tree_laws.specs.Forest.{Tree, Forest, Place, contents, later}
+use Rattle.tree_laws.specs.Forest.{Tree, Forest, Place, IsNodeAt, contents, later}
 use Rattle.tree_laws.specs.Moment.{Moment, IsMoment, nodes_at, Goes, Grows, Look, IsOpen, IsFew, IsActing}
 use Rattle.tree_laws.specs.Laws.{IsCurrent, replaced, allocated, freed, hoisted}
 use Rattle.tree_laws.specs.Stages.{IsWalking, IsHere, PostsAt, AtParent, AtRoot, Nowhere, IsSplitting, IsReplacing, IsPosting, IsHoisting, IsOver, IsSwapping, IsFreeing, Quiet, IsHalved, IsJoined}
@@ -102,8 +105,8 @@ LeftHalfLaw = (m : Moment) (w : Forest) (t : Tree) (number : ℕ) (page : Look) 
 
 -- and the pointer to it goes into the parent
 abbrev pub PointerLaw : Type 0
-PointerLaw = (m : Moment) (w : Forest) (t : Tree) (number : ℕ) (parent : Look) (at : Key) (pid version : ℕ) (node : Node) (es : List (Key × ℕ)) → IsMoment m w → IsPosting m w t number parent at pid → parent.node.content ≡ Index es → IsCurrent m t number parent node → m.versions version ≡ false
-    → (v : Forest) × Quiet [] [] m w (replaced m parent.pid (record { version = version; node = record (parent.node) { content = Index (put key_cmp at pid es) } })) v (IsFew parent)
+PointerLaw = (m : Moment) (w : Forest) (t : Tree) (number : ℕ) (parent : Look) (at : Key) (pid version : ℕ) (node : Node) → IsMoment m w → IsPosting m w t number parent at pid → IsCurrent m t number parent node → m.versions version ≡ false
+    → (v : Forest) × Quiet [] [] m w (replaced m parent.pid (record { version = version; node = record (parent.node) { content = with_pointer at pid parent.node.content } })) v (IsFew parent)
 
 -- the steps of a hoist: the new root is allocated, and becomes the root
 abbrev pub RaiseLaw : Type 0
@@ -119,10 +122,11 @@ SwapLaw = (m : Moment) (w : Forest) (t : Tree) (number left q version : ℕ) →
 abbrev pub FreesLaw : Type 0
 FreesLaw = (m : Moment) (w : Forest) (pid version : ℕ) → IsMoment m w → IsFreeing m w pid version → Quiet (pid ∷ []) [] m w (freed m pid) w (Unit {0})
 
--- The steps of a merge: the parent takes the child for its merging child,
+-- The steps of a merge: the parent takes the child for its merging child. `before` is the page whose pointer stands before one to
+-- the child
 abbrev pub IntendLaw : Type 0
-IntendLaw = (m : Moment) (w : Forest) (t : Tree) (number : ℕ) (parent : Look) (c before version : ℕ) (low : Key) (node : Node) → IsMoment m w → (k : IsIntending m w t number parent c) → IsCurrent m t number parent node → m.versions version ≡ false
-    → In (low, before) (pointers parent.node.content) → Below low k.key
+IntendLaw = (m : Moment) (w : Forest) (t : Tree) (number : ℕ) (parent : Look) (c before version : ℕ) (k low : Key) (node : Node) → IsMoment m w → IsIntending m w t number parent c → IsCurrent m t number parent node → m.versions version ≡ false
+    → In (k, c) (pointers parent.node.content) → In (low, before) (pointers parent.node.content) → Below low k
     → let next : Node = applied (ParentMergeIntention c) parent.node in let new : Moment = replaced m parent.pid (record { version = version; node = next }) in
     (v : Forest) × Quiet [] [] m w new v (IsSmallChild m t number parent c) × IsMergingOf new v t number (record { pid = parent.pid; version = version; node = next }) c before
 
@@ -167,3 +171,14 @@ abbrev pub ConfirmsLaw : Type 0
 ConfirmsLaw = (m : Moment) (w : Forest) (t : Tree) (number : ℕ) (parent : Look) (c old : ℕ) (d : Node) (version : ℕ) (node : Node) → IsMoment m w → IsConfirmingOf m w t number parent c old d → IsCurrent m t number parent node → m.versions version ≡ false
     → let new : Moment = replaced m parent.pid (record { version = version; node = applied ParentMergeConfirm parent.node }) in
     (v : Forest) × Quiet [] (c ∷ []) m w new v (Unit {0}) × IsFreeing new v c old
+
+-- The halves of a node of two entries or more are halves, the joined node is joined, and the pointer before one to a page stands
+-- below it
+abbrev pub HalvedLaw : Type 0
+HalvedLaw = (n : Node) (q : ℕ) → 2 ≤ count n.content → IsHalved n (record (left_half n) { next = Some q }) (right_half n) q
+
+abbrev pub JoinedLaw : Type 0
+JoinedLaw = (n d : Node) → IsJoined n d (received n d)
+
+abbrev pub BeforeLaw : Type 0
+BeforeLaw = (h : ℕ) (n : Node) (c b : ℕ) → IsNodeAt h n → (k : IsBefore c (pointers n.content) b) → In (k.key, c) (pointers n.content) × In (k.low, b) (pointers n.content) × Below k.low k.key

@@ -1,5 +1,6 @@
-//! How the pages of a level lie under those of the level above.
+//! How the pages of a level lie under those of the level above, and what a node's own functions make of it.
 ghost use Rattle.tree_laws.specs.PageLaws.{InsideLaw, ReachedLaw};
+ghost use Rattle.tree_laws.specs.StageLaws.{BeforeLaw, HalvedLaw, JoinedLaw};
 
 /// A page lies within the bounds of the index above that covers where it begins.
 pub fn law_inside()
@@ -9,4 +10,19 @@ pub fn law_inside()
 /// A merge that was done is seen at the page before.
 pub fn law_reached()
     ensures { ReachedLaw }
+{}
+
+/// The halves of a node of two entries or more make a split, whatever its height.
+pub fn law_halved()
+    ensures { HalvedLaw }
+{}
+
+/// A node with what the node behind it holds is sound, whatever its height.
+pub fn law_joined()
+    ensures { JoinedLaw }
+{}
+
+/// The pointer before one to a page has a lower key.
+pub fn law_before()
+    ensures { BeforeLaw }
 {}

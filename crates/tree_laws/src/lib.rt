@@ -96,10 +96,13 @@
 //! - `law_now`: A page that stood in a chain, is live and not merging, and whose tree has its number, stands there now.
 //! - `law_acting`: A leaf that a call means to change stays so.
 //!
-//! `levels`: how the pages of a level lie under those of the level above.
+//! `levels`: how the pages of a level lie under those of the level above, and what a node's own functions make of it.
 //!
 //! - `law_inside`: A page lies within the bounds of the index above that covers where it begins.
 //! - `law_reached`: A merge that was done is seen at the page before.
+//! - `law_halved`: The halves of a node of two entries or more make a split, whatever its height.
+//! - `law_joined`: A node with what the node behind it holds is sound, whatever its height.
+//! - `law_before`: The pointer before one to a page has a lower key.
 //!
 //! `maps`: the contents of all trees, as a function of pages and roots.
 //!
@@ -185,7 +188,7 @@ pub use crashes::{
     law_whole,
 };
 pub use kept::{law_acting, law_now, law_stood, law_view};
-pub use levels::{law_inside, law_reached};
+pub use levels::{law_before, law_halved, law_inside, law_joined, law_reached};
 pub use maps::{
     law_changed, law_drops, law_map, law_new, law_plants, law_quiet, law_quiet_crash, law_well,
 };
