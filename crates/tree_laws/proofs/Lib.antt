@@ -30,3 +30,4 @@ pub mod Leaving
 pub mod Staged
 pub mod Halving
 pub mod Mapped
+pub mod Before

@@ -15,6 +15,7 @@ use Rattle.sled_pages.specs.declared.page.Page.{Page}
 use Rattle.tree_laws.specs.Forest.{Tree, Forest, Place, place, head, first_child, Holds, Run, WellFormed, later}
 use Rattle.tree_laws.specs.Contents.{page_numbers, next_of, first_of}
 use Rattle.tree_laws.specs.Paths.{IsPassed, CleanFrom, length_along, pages_under, pages_below, IsAhead}
+use Rattle.tree_laws.specs.PathLaws.{PointerInLaw, NextInLaw, AheadLaw, CleanStepLaw, LastPointerLaw}
 use Rattle.tree_laws.specs.Laws.{PagesLaw, CleanLaw}
 use Rattle.tree_laws.proofs.Runs.{In_split, In-right, run_parts}
 use Rattle.tree_laws.proofs.Replace.{some_is, head_in}
@@ -272,3 +273,24 @@ pub clean_law : CleanLaw
 clean_law s w f t key path k =
     let r = root_in f t k.root k.is_root in
     (r.0, k.root, k.is_root, r.2, clean_length f t key path r.0 k.root true r.2 k.clean)
+
+-- the laws
+
+pub pointer_in_law : PointerInLaw
+pointer_in_law nodes roots w f = pointer_in f
+
+pub next_in_law : NextInLaw
+next_in_law nodes roots w f x p n i live = (λ q. next_in f x p q n i live, next_some f x p n i live)
+
+pub ahead_law : AheadLaw
+ahead_law nodes roots w f t = record { begins = ahead_at f t; few = ahead_few f t; along = ahead_next f t; down = ahead_down f t }
+
+pub clean_step_law : CleanStepLaw
+clean_step_law nodes key path p first n k live = record {
+  passed = clean_page nodes key path p first k n live;
+  down = λ es c b index last. clean_down nodes key path p first k n es live index c b last;
+  leaf = λ es leaf. clean_leaf nodes key path p first k n es live leaf;
+}
+
+pub last_pointer_law : LastPointerLaw
+last_pointer_law bound es c b k = let i = last_in k in (i.0, i.1, λ d a q. last_is k q)

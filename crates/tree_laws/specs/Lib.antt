@@ -12,3 +12,4 @@ pub mod Paths
 pub mod Drops
 pub mod StageLaws
 pub mod MapLaws
+pub mod PathLaws

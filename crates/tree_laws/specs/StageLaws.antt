@@ -1,16 +1,19 @@
 -- The laws of the stages of a call in flight, as types.
-use Rattle.std.specs.Prelude.{◌≡◌, ◌≢◌, ◌⊎◌, ℕ, ◌<◌, ◌≤◌, ◌^◌, Bool, true, false, List, [], ◌∷◌, Option, Some, None}
+use Rattle.std.specs.Prelude.{◌≡◌, ◌≢◌, ◌⊎◌, ℕ, suc, ◌<◌, ◌≤◌, ◌^◌, Bool, true, false, List, [], ◌∷◌, Option, Some, None}
 use Rattle.std.specs.FinMap.Entries.{find}
 use Rattle.sled_pages.specs.Order.{Key, key_cmp, Below, UpTo}
 use Rattle.sled_pages.specs.In.{In}
 use Rattle.sled_pages.specs.Node.{pointers, count, Covers, applied, value_at}
 use Rattle.sled_pages.specs.Posting.{with_pointer}
 use Rattle.sled_pages.specs.Halves.{left_half, right_half, received}
-use Rattle.sled_pages.specs.Among.{IsBefore}
+use Rattle.sled_pages.specs.Among.{IsBefore, is_up_to}
+use Rattle.std.specs.List.{list_any}
+use Rattle.std.specs.declared.ops.Bound.{Bound}
+use Rattle.sled_pages.specs.State.{Nodes}
 use Rattle.sled_pages.specs.declared.node.Node.{Node}
 use Rattle.sled_pages.specs.declared.node.Data.TheVariants.{Leaf, Index}
 use Rattle.sled_pages.specs.declared.link.Link.TheVariants.{ParentMergeIntention, ParentMergeConfirm, ChildMergeCap}
-use Rattle.tree_laws.specs.Forest.{Tree, Forest, Place, IsNodeAt, contents, later}
+use Rattle.tree_laws.specs.Forest.{Tree, Forest, Place, place, IsNodeAt, WellFormed, contents, later}
 use Rattle.tree_laws.specs.Moment.{Moment, IsMoment, nodes_at, Goes, Grows, Look, IsOpen, IsFew, IsActing}
 use Rattle.tree_laws.specs.Laws.{IsCurrent, replaced, allocated, freed, hoisted}
 use Rattle.tree_laws.specs.Stages.{IsWalking, IsHere, PostsAt, AtParent, AtRoot, Nowhere, IsSplitting, IsReplacing, IsPosting, IsHoisting, IsOver, IsSwapping, IsFreeing, Quiet, IsHalved, IsJoined}
@@ -182,3 +185,14 @@ JoinedLaw = (n d : Node) → IsJoined n d (received n d)
 
 abbrev pub BeforeLaw : Type 0
 BeforeLaw = (h : ℕ) (n : Node) (c b : ℕ) → IsNodeAt h n → (k : IsBefore c (pointers n.content) b) → In (k.key, c) (pointers n.content) × In (k.low, b) (pointers n.content) × Below k.low k.key
+
+-- A merging child has a pointer before its own. Where that leads stands in the chain, and begins at the pointer's key, which is
+-- lower
+abbrev pub BeforeChildLaw : Type 0
+BeforeChildLaw = (nodes : Nodes) (roots : Tree → Option ℕ) (w : Forest) → WellFormed nodes roots w → (t : Tree) (h p : ℕ) (n : Node) (c : ℕ) → In p (w.chain (place t (suc h))) → nodes p ≡ Some n → n.merging_child ≡ Some c
+    → ((b : ℕ) × IsBefore c (pointers n.content) b)
+    × ((b : ℕ) → (k : IsBefore c (pointers n.content) b) → (d : Node) × In b (w.chain (place t h)) × (nodes b ≡ Some d) × (d.lo ≡ k.low) × Below k.low k.key)
+
+-- an index whose lo is within an upper bound has a pointer within it
+abbrev pub LeadsDownLaw : Type 0
+LeadsDownLaw = (h : ℕ) (n : Node) (bound : Bound Key) (es : List (Key × ℕ)) → IsNodeAt (suc h) n → n.content ≡ Index es → is_up_to bound n.lo ≡ true → list_any (λ e. is_up_to bound e.0) es ≡ true

@@ -103,6 +103,8 @@
 //! - `law_halved`: The halves of a node of two entries or more make a split, whatever its height.
 //! - `law_joined`: A node with what the node behind it holds is sound, whatever its height.
 //! - `law_before`: The pointer before one to a page has a lower key.
+//! - `law_before_child`: A merging child has a pointer before its own, which leads into the chain at a lower key.
+//! - `law_leads_down`: An index that begins within an upper bound has a pointer within it.
 //!
 //! `maps`: the contents of all trees, as a function of pages and roots.
 //!
@@ -119,11 +121,19 @@
 //!
 //! - `law_find`: What the leaf that covers a key has at it is what the tree has at it.
 //! - `law_range`: A leaf's pairs are the part of the tree's contents that lies within its bounds.
-//! - `law_clean`: A clean path has a page of each level.
 //! - `law_sorted`: The contents of a tree ascend.
 //! - `law_one`: The pages and the roots determine the forest.
-//! - `law_pages`: The number of a tree's pages as a function of pages and roots is the forest's.
 //! - `law_contents`: The contents as a function of pages and roots are the forest's.
+//!
+//! `paths`: reading walks and clean paths.
+//!
+//! - `law_pointer_in`: Where a pointer that is not to the merging child leads stands in the chain below, and begins at its key.
+//! - `law_next_in`: The next page stands in the chain, and begins where this one ends.
+//! - `law_ahead`: A reading walk has fewer pages ahead of it with each step, so that it looks at each page at most once.
+//! - `law_last_pointer`: The last pointer within a bound is one alone, and a later one if it is not the first.
+//! - `law_clean_step`: A walk at the first page of a clean path repairs nothing there, and goes one down the path.
+//! - `law_clean`: A clean path has a page of each level.
+//! - `law_pages`: The number of a tree's pages as a function of pages and roots is the forest's.
 //!
 //! `splits`: what the actions of splits and merges do to the shape, the size and the contents of trees.
 //!
@@ -178,6 +188,7 @@ mod kept;
 mod levels;
 mod maps;
 mod meaning;
+mod paths;
 mod splits;
 mod stages;
 mod steps;
@@ -188,11 +199,16 @@ pub use crashes::{
     law_whole,
 };
 pub use kept::{law_acting, law_now, law_stood, law_view};
-pub use levels::{law_before, law_halved, law_inside, law_joined, law_reached};
+pub use levels::{
+    law_before, law_before_child, law_halved, law_inside, law_joined, law_leads_down, law_reached,
+};
 pub use maps::{
     law_changed, law_drops, law_map, law_new, law_plants, law_quiet, law_quiet_crash, law_well,
 };
-pub use meaning::{law_clean, law_contents, law_find, law_one, law_pages, law_range, law_sorted};
+pub use meaning::{law_contents, law_find, law_one, law_range, law_sorted};
+pub use paths::{
+    law_ahead, law_clean, law_clean_step, law_last_pointer, law_next_in, law_pages, law_pointer_in,
+};
 pub use splits::{law_cap, law_confirm, law_intention, law_post, law_receive, law_split};
 pub use stages::{
     law_apart, law_caps, law_child_caps, law_child_seeks, law_confirms, law_cursor_here, law_frees,
