@@ -7,7 +7,7 @@ use Rattle.tree_laws.specs.Forest.{Forest, place}
 use Rattle.tree_laws.specs.Moment.{Look, IsFew}
 use Rattle.tree_laws.specs.Laws.{replaced}
 use Rattle.tree_laws.specs.Stages.{IsHere, IsPosting, IsHoisting, PostsAt, AtParent, AtRoot, Nowhere, IsReplacing, Quiet}
-use Rattle.tree_laws.specs.StageLaws.{StagesLaw, ApartLaw, HereLaw, RootHereLaw, CursorHereLaw, MergeHereLaw, HalfLaw, LeftHalfLaw, PointerLaw, RaiseLaw, SwapLaw, FreesLaw, IntendLaw, ChildSeeksLaw, ChildCapsLaw, CapsLaw, SeekLaw, ReceivesLaw, SeekAgainLaw, ConfirmsLaw}
+use Rattle.tree_laws.specs.StageLaws.{StagesLaw, ApartLaw, HereLaw, RootHereLaw, CursorHereLaw, MergeHereLaw, StoodMergesLaw, HalfLaw, LeftHalfLaw, PointerLaw, RaiseLaw, SwapLaw, FreesLaw, IntendLaw, ChildSeeksLaw, ChildCapsLaw, CapsLaw, SeekLaw, ReceivesLaw, SeekAgainLaw, ConfirmsLaw}
 use Rattle.tree_laws.proofs.Replace.{some_is}
 use Rattle.tree_laws.proofs.Known.{acting_kept}
 use Rattle.tree_laws.proofs.Staying as kept
@@ -71,6 +71,9 @@ cursor_here_law m w is t number key parent look first unsplit named k live = wal
 
 pub merge_here_law : MergeHereLaw
 merge_here_law m w is t number key look parent first unsplit here c before k low = walks.to_merging is here c before k low
+
+pub stood_merges_law : StoodMergesLaw
+stood_merges_law m w t number h c before look lo k low is = merges.stood_merges t number h c before look lo k low is
 
 pub half_law : HalfLaw
 half_law m w t number page posts left right q version is = splitting.split_allocates t number page posts left right q version is

@@ -14,7 +14,7 @@ use Rattle.sled_pages.specs.declared.node.Node.{Node}
 use Rattle.sled_pages.specs.declared.node.Data.TheVariants.{Leaf, Index}
 use Rattle.sled_pages.specs.declared.link.Link.TheVariants.{ParentMergeIntention, ParentMergeConfirm, ChildMergeCap}
 use Rattle.tree_laws.specs.Forest.{Tree, Forest, Place, place, IsNodeAt, WellFormed, contents, later}
-use Rattle.tree_laws.specs.Moment.{Moment, IsMoment, nodes_at, Goes, Grows, Look, IsOpen, IsFew, IsActing}
+use Rattle.tree_laws.specs.Moment.{Moment, IsMoment, nodes_at, Stood, Goes, Grows, Look, IsOpen, IsFew, IsActing}
 use Rattle.tree_laws.specs.Laws.{IsCurrent, replaced, allocated, freed, hoisted}
 use Rattle.tree_laws.specs.Stages.{IsWalking, IsHere, PostsAt, AtParent, AtRoot, Nowhere, IsSplitting, IsReplacing, IsPosting, IsHoisting, IsOver, IsSwapping, IsFreeing, Quiet, IsHalved, IsJoined}
 use Rattle.tree_laws.specs.Merging.{IsIntending, IsSmallChild, IsMergingOf, IsCappingOf, IsSeekingOf, IsReceivingOf, IsConfirmingOf}
@@ -89,6 +89,12 @@ MergeHereLaw = (m : Moment) (w : Forest) → IsMoment m w → (t : Tree) (number
     → IsHere m w t number key look parent first unsplit → (c before : ℕ) (k low : Key) → look.node.merging ≡ false → look.node.merging_child ≡ Some c → In (k, c) (pointers look.node.content) → In (low, before) (pointers look.node.content) → Below low k
     → IsMergingOf m w t number look c before
 
+-- A page that stood on a level was read with a merging child of its own: that merge begins. So it does where the search for the
+-- page before a child, or the reading of the child, finds one
+abbrev pub StoodMergesLaw : Type 0
+StoodMergesLaw = (m : Moment) (w : Forest) (t : Tree) (number h c before : ℕ) (look : Look) (lo k low : Key) → IsMoment m w → m.numbers t ≡ Some number → Stood m w (place t h) number lo look.pid → m.state.pages look.pid ≡ Some (record { version = look.version; node = look.node })
+    → look.node.merging ≡ false → look.node.merging_child ≡ Some c → In (k, c) (pointers look.node.content) → In (low, before) (pointers look.node.content) → Below low k → IsMergingOf m w t number look c before
+
 -- The steps of a split: the right half is allocated,
 abbrev pub HalfLaw : Type 0
 HalfLaw = (m : Moment) (w : Forest) (t : Tree) (number : ℕ) (page : Look) (posts : PostsAt) (left right : Node) (q version : ℕ) → IsMoment m w → m.pids q ≡ false → m.versions version ≡ false → q < 2 ^ 64
@@ -98,7 +104,7 @@ HalfLaw = (m : Moment) (w : Forest) (t : Tree) (number : ℕ) (page : Look) (pos
 -- the page becomes the left half, where it has its version and the tree its number,
 pub record Halved (m : Moment) (w : Forest) (new : Moment) (t : Tree) (number : ℕ) (page : Look) (posts : PostsAt) (left right : Node) (at : Key) (q : ℕ) : Type 0 where
   pub after : Forest
-  pub quiet : Quiet (q ∷ []) [] m w new after ((count left.content ≤ 17) × (count right.content ≤ 33))
+  pub quiet : Quiet (q ∷ []) [] m w new after (Unit {0})
   pub posted : (parent : Look) → posts ≡ AtParent parent → IsPosting new after t number parent at q
   pub hoisted : posts ≡ AtRoot → IsHoisting new after t number page.pid at q
 

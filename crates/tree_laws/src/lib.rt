@@ -152,6 +152,7 @@
 //! - `law_cursor_here`: What is known of the cursor of a walk as it is read.
 //! - `law_here`: What a walk knows after it read an open page, by what it goes on to.
 //! - `law_merge_here`: Where a walk read a page with a merging child, that merge begins.
+//! - `law_stood_merges`: Where a page of a level was read with a merging child of its own, that merge begins.
 //! - `law_half`: A split begins with its right half as a new page, and changes no tree.
 //! - `law_left_half`: The page that is split becomes its left half, which changes no tree, and its right half is to be posted or hoisted over.
 //! - `law_pointer`: The pointer to the right half goes into the parent, which changes no tree.
@@ -213,7 +214,7 @@ pub use splits::{law_cap, law_confirm, law_intention, law_post, law_receive, law
 pub use stages::{
     law_apart, law_caps, law_child_caps, law_child_seeks, law_confirms, law_cursor_here, law_frees,
     law_half, law_here, law_intend, law_left_half, law_merge_here, law_pointer, law_raise,
-    law_receives, law_root_here, law_seek, law_seek_again, law_stages, law_swap,
+    law_receives, law_root_here, law_seek, law_seek_again, law_stages, law_stood_merges, law_swap,
 };
 pub use steps::{
     law_allocated, law_answer, law_dropped, law_erase, law_freed, law_frees_left, law_hoisted,
