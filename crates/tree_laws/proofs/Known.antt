@@ -251,13 +251,13 @@ module _ {m : Moment} {w : Forest} (is : IsMoment m w) (t : Tree) (number : ℕ)
           apart e = cc
 
   module _ (version : ℕ) (unused : m.versions version ≡ false) (n : Node) (change : List (Key × Key) → List (Key × Key)) (few : Type 0) (d : Changed (nodes_at m) (put_node (nodes_at m) look.pid n) m.state.roots w t change few) where
-    abbrev new : Moment
-    new = replaced m look.pid (record { version = version; node = n })
+    abbrev then_is : Moment
+    then_is = replaced m look.pid (record { version = version; node = n })
 
-    nodes_new : nodes_at new ≡ put_node (nodes_at m) look.pid n
+    nodes_new : nodes_at then_is ≡ put_node (nodes_at m) look.pid n
     nodes_new = nodes_replaced m look.pid (record { version = version; node = n })
 
-    written : Written m w new t change few
+    written : Written m w then_is t change few
     written = record {
       steps = replace_law [] m w w look.pid _ (record { version = version; node = n }) is c.page leaf_now.awake unused (inl (place t 0, is.formed.homed (place t 0) look.pid leaf_now.chained)) d.kept d.keeps;
       here = ap (λ z. contents z w t) nodes_new ∙ d.here;
