@@ -70,7 +70,7 @@ inside_law nodes roots w f t h p q n m i pn j qm begin k here = (
 )
 
 -- a page of a chain covers its own beginning
-covers_itself : {nodes : Nodes} {roots : Tree → Option ℕ} {w : Forest} (f : WellFormed nodes roots w) (x : Place) (p : ℕ) (n : Node) → In p (w.chain x) → nodes p ≡ Some n → Within n.lo n.hi n.lo
+pub covers_itself : {nodes : Nodes} {roots : Tree → Option ℕ} {w : Forest} (f : WellFormed nodes roots w) (x : Place) (p : ℕ) (n : Node) → In p (w.chain x) → nodes p ≡ Some n → Within n.lo n.hi n.lo
 covers_itself {nodes = nodes} {w = w} f x p n i live =
     let s = In_split (w.chain x) p i in
     let whole : Run nodes (s.0 ++ (p ∷ s.1)) (head (w.chain x)) [] None [] = subst (λ z. Run nodes z (head (w.chain x)) [] None []) s.2 (chain_run f x p i) in

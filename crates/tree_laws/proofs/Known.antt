@@ -4,7 +4,8 @@ use Rattle.std.specs.FinMap.Entries.{find, put, by_order}
 use Rattle.sled_pages.specs.In.{In}
 use Rattle.sled_pages.specs.Order.{Key, key_cmp}
 use Rattle.sled_pages.specs.Node.{pairs, count, Covers, with_pair, value_at, without, applied}
-use Rattle.sled_pages.specs.State.{State, Nodes, Action, PageBecomes, nodes_of, after}
+use Rattle.sled_pages.specs.State.{State, Nodes, Action, PageBecomes, RootBecomes, nodes_of, after}
+use Rattle.sled_pages.specs.Update.{put_at, put_name}
 use Rattle.sled_pages.specs.Store.{Store, now, acted, ActsAt, Allocates, AreGiven}
 use Rattle.sled_pages.specs.Facts.{now_acted}
 use Rattle.sled_pages.specs.declared.node.Node.{Node}
@@ -14,7 +15,7 @@ use Rattle.sled_pages.specs.declared.page.Page.{Page}
 use Rattle.tree_laws.specs.Forest.{Tree, Forest, Place, place, head, Holds, IsNodeAt, Run, WellFormed, IsSized, contents}
 use Rattle.tree_laws.specs.Moment.{Moment, moment_of, nodes_at, IsMoment, Goes, Viewed, Stood, Look, IsOpen, IsFresh, IsFew, Seen, IsActing, Grows}
 use Rattle.tree_laws.specs.Action.{put_node}
-use Rattle.tree_laws.specs.Laws.{WriteLaw, EraseLaw, AnswerLaw, ActingLaw, IsAt, IsCurrent, Changed, Written, Steps, replaced, allocated}
+use Rattle.tree_laws.specs.Laws.{WriteLaw, EraseLaw, AnswerLaw, ActingLaw, IsAt, IsCurrent, Changed, Written, Steps, replaced, allocated, freed, planted, hoisted, dropped}
 use Rattle.tree_laws.proofs.Replace.{some_is, head_in}
 use Rattle.tree_laws.proofs.Cover.{holds_at}
 use Rattle.tree_laws.proofs.Stable.{view_law, stood_law, now_law}
@@ -100,6 +101,22 @@ module _ (numbers : Tree → Option ℕ) (given : ℕ → Bool) where
 
   pub store_acted : (act : Action) (old new : Store) → new ≡ acted act old → moment_of new numbers given ≡ record (moment_of old numbers given) { state = after act (now old) }
   store_acted act old new a = at_state new _ _ _ (ap now a ∙ now_acted act old) (ap (λ (s : Store). s.pids) a) (ap (λ (s : Store). s.versions) a)
+
+-- a page that went, and a root that became another
+pub store_freed : (numbers : Tree → Option ℕ) (given : ℕ → Bool) (p : ℕ) (old new : Store) → new ≡ acted (PageBecomes p None) old → moment_of new numbers given ≡ freed (moment_of old numbers given) p
+store_freed numbers given p old new a = store_acted numbers given (PageBecomes p None) old new a
+
+pub store_hoisted : (numbers : Tree → Option ℕ) (given : ℕ → Bool) (t : Tree) (r : ℕ) (old new : Store) → new ≡ acted (RootBecomes t (Some r)) old → moment_of new numbers given ≡ hoisted (moment_of old numbers given) t r
+store_hoisted numbers given t r old new a = store_acted numbers given (RootBecomes t (Some r)) old new a
+
+-- a name that got its first root and its number, and one that lost both
+pub store_planted : (numbers : Tree → Option ℕ) (given : ℕ → Bool) (t : Tree) (r number : ℕ) (old new : Store) → new ≡ acted (RootBecomes t (Some r)) old
+    → moment_of new (put_name numbers t (Some number)) (put_at given number true) ≡ planted (moment_of old numbers given) t r number
+store_planted numbers given t r number old new a = store_acted (put_name numbers t (Some number)) (put_at given number true) (RootBecomes t (Some r)) old new a
+
+pub store_dropped : (numbers : Tree → Option ℕ) (given : ℕ → Bool) (t : Tree) (old new : Store) → new ≡ acted (RootBecomes t None) old
+    → moment_of new (put_name numbers t None) given ≡ dropped (moment_of old numbers given) t
+store_dropped numbers given t old new a = store_acted (put_name numbers t None) given (RootBecomes t None) old new a
 
 -- a store's moment, from the law of stores
 pub store_moment : (s : Store) (numbers : Tree → Option ℕ) (given : ℕ → Bool) (w : Forest) → AreGiven s
@@ -251,13 +268,13 @@ module _ {m : Moment} {w : Forest} (is : IsMoment m w) (t : Tree) (number : ℕ)
           apart e = cc
 
   module _ (version : ℕ) (unused : m.versions version ≡ false) (n : Node) (change : List (Key × Key) → List (Key × Key)) (few : Type 0) (d : Changed (nodes_at m) (put_node (nodes_at m) look.pid n) m.state.roots w t change few) where
-    abbrev new : Moment
-    new = replaced m look.pid (record { version = version; node = n })
+    abbrev then_is : Moment
+    then_is = replaced m look.pid (record { version = version; node = n })
 
-    nodes_new : nodes_at new ≡ put_node (nodes_at m) look.pid n
+    nodes_new : nodes_at then_is ≡ put_node (nodes_at m) look.pid n
     nodes_new = nodes_replaced m look.pid (record { version = version; node = n })
 
-    written : Written m w new t change few
+    written : Written m w then_is t change few
     written = record {
       steps = replace_law [] m w w look.pid _ (record { version = version; node = n }) is c.page leaf_now.awake unused (inl (place t 0, is.formed.homed (place t 0) look.pid leaf_now.chained)) d.kept d.keeps;
       here = ap (λ z. contents z w t) nodes_new ∙ d.here;

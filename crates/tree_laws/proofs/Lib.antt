@@ -28,3 +28,6 @@ pub mod Merges
 pub mod Looking
 pub mod Leaving
 pub mod Staged
+pub mod Halving
+pub mod Mapped
+pub mod Before

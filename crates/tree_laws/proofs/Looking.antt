@@ -1,8 +1,12 @@
 -- The reading walk, which repairs nothing, and how many pages it may look at.
-use Rattle.std.proofs.Common.{◌≡◌, ◌≢◌, ℕ, zero, suc, ◌+◌, ◌<◌, ◌≤◌, ◌^◌, Bool, true, false, List, [], ◌∷◌, ◌++◌, length, length-append, Option, Some, None, MatchOption, option_map, sym, refl, ap, ◌∙◌, subst, inl, inr, append_assoc, arith}
+use Rattle.std.proofs.Common.{◌≡◌, ◌≢◌, ℕ, zero, suc, ◌+◌, ◌<◌, ◌≤◌, ◌^◌, Bool, true, false, List, [], ◌∷◌, ◌++◌, length, length-append, Option, Some, None, MatchOption, option_map, sym, refl, ap, ◌∙◌, subst, inl, inr, append_assoc, nat_eq, ◌||◌, arith}
+use Rattle.std.specs.List.{list_any}
+use Rattle.std.specs.declared.ops.Bound.{Bound}
+use Rattle.std.specs.declared.ops.Bound.TheVariants.{Included}
+use Rattle.sled_pages.specs.Among.{IsPointer, is_up_to}
 use Rattle.sled_pages.specs.In.{In}
 use Rattle.sled_pages.specs.Node.{pointers}
-use Rattle.sled_pages.specs.Order.{Key, Below, UpTo}
+use Rattle.sled_pages.specs.Order.{Key}
 use Rattle.sled_pages.specs.State.{Nodes, nodes_of}
 use Rattle.sled_pages.specs.declared.node.Node.{Node}
 use Rattle.sled_pages.specs.declared.node.Data.{Data}
@@ -10,9 +14,9 @@ use Rattle.sled_pages.specs.declared.node.Data.TheVariants.{Leaf, Index}
 use Rattle.sled_pages.specs.declared.page.Page.{Page}
 use Rattle.tree_laws.specs.Forest.{Tree, Forest, Place, place, head, first_child, Holds, Run, WellFormed, later}
 use Rattle.tree_laws.specs.Contents.{page_numbers, next_of, first_of}
-use Rattle.tree_laws.specs.Paths.{IsLastPointer, IsPassed, CleanFrom, length_along, pages_under, pages_below, IsAhead}
+use Rattle.tree_laws.specs.Paths.{IsPassed, CleanFrom, length_along, pages_under, pages_below, IsAhead}
+use Rattle.tree_laws.specs.PathLaws.{PointerInLaw, NextInLaw, AheadLaw, CleanStepLaw, LastPointerLaw}
 use Rattle.tree_laws.specs.Laws.{PagesLaw, CleanLaw}
-use Rattle.tree_laws.proofs.Order.{below_upto-trans, below_irrefl}
 use Rattle.tree_laws.proofs.Runs.{In_split, In-right, run_parts}
 use Rattle.tree_laws.proofs.Replace.{some_is, head_in}
 use Rattle.tree_laws.proofs.Cover.{chain_run}
@@ -159,50 +163,46 @@ pages_law s w f below t root is =
 
 -- clean paths
 
--- the last pointer at or below a key is one
-last_one : (es xs ys us vs : List (Key × ℕ)) (key a b : Key) (c d : ℕ) → es ≡ xs ++ (a, c) ∷ ys → es ≡ us ++ (b, d) ∷ vs → UpTo a key → UpTo b key
-    → ((k : Key) (e : ℕ) → In (k, e) ys → Below key k) → ((k : Key) (e : ℕ) → In (k, e) vs → Below key k) → (xs ≡ us) × (a ≡ b) × (c ≡ d)
-last_one es [] ys [] vs key a b c d e g p q h k = let s : (a, c) ∷ ys ≡ (b, d) ∷ vs = sym e ∙ g in (refl, ap (λ (z : Key × ℕ). z.0) (first s), ap (λ (z : Key × ℕ). z.1) (first s))
+-- who passes is not among those of whom none does
+none_in : {X P : Type 0} (passes : X → Bool) (xs ys : List X) (x : X) → passes x ≡ true → list_any passes (xs ++ x ∷ ys) ≡ false → P
+none_in passes [] ys x p e = absurd (apart (passes x) (list_any passes ys) p e)
   where
-    first : {x y : Key × ℕ} {xs ys : List (Key × ℕ)} → x ∷ xs ≡ y ∷ ys → x ≡ y
-    first e = cc
-last_one es [] ys (u ∷ us) vs key a b c d e g p q h k =
-    let s : ys ≡ us ++ (b, d) ∷ vs = rest (sym e ∙ g) in
-    absurd (below_irrefl key (below_upto-trans key b key (h b d (subst (λ l. In (b, d) l) (sym s) (In-right us ((b, d) ∷ vs) (b, d) (inl refl)))) q))
+    apart : (a b : Bool) → a ≡ true → (a || b) ≡ false → ⊥
+    apart true b p e = cc
+    apart false b p e = cc
+none_in passes (z ∷ xs) ys x p e = none_in passes xs ys x p (second (passes z) (list_any passes (xs ++ x ∷ ys)) e)
   where
-    rest : {x y : Key × ℕ} {xs ys : List (Key × ℕ)} → x ∷ xs ≡ y ∷ ys → xs ≡ ys
-    rest e = cc
-last_one es (x ∷ xs) ys [] vs key a b c d e g p q h k =
-    let s : xs ++ (a, c) ∷ ys ≡ vs = rest (sym e ∙ g) in
-    absurd (below_irrefl key (below_upto-trans key a key (k a c (subst (λ l. In (a, c) l) s (In-right xs ((a, c) ∷ ys) (a, c) (inl refl)))) p))
-  where
-    rest : {x y : Key × ℕ} {xs ys : List (Key × ℕ)} → x ∷ xs ≡ y ∷ ys → xs ≡ ys
-    rest e = cc
-last_one es (x ∷ xs) ys (u ∷ us) vs key a b c d e g p q h k =
-    let s : x ∷ (xs ++ (a, c) ∷ ys) ≡ u ∷ (us ++ (b, d) ∷ vs) = sym e ∙ g in
-    let r = last_one (xs ++ (a, c) ∷ ys) xs ys us vs key a b c d refl (rest s) p q h k in
-    (same (first s) r.0, r.1, r.2)
-  where
-    first : {x y : Key × ℕ} {xs ys : List (Key × ℕ)} → x ∷ xs ≡ y ∷ ys → x ≡ y
-    first e = cc
+    second : (a b : Bool) → (a || b) ≡ false → b ≡ false
+    second true b e = absurd (apart e)
+      where
+        apart : true ≡ false → ⊥
+        apart e = cc
+    second false b e = e
 
-    rest : {x y : Key × ℕ} {xs ys : List (Key × ℕ)} → x ∷ xs ≡ y ∷ ys → xs ≡ ys
-    rest e = cc
+cons_first : {X : Type 0} {x y : X} {xs ys : List X} → x ∷ xs ≡ y ∷ ys → x ≡ y
+cons_first e = cc
 
-    same : x ≡ u → xs ≡ us → x ∷ xs ≡ u ∷ us
-    same e g = cc
+cons_rest : {X : Type 0} {x y : X} {xs ys : List X} → x ∷ xs ≡ y ∷ ys → xs ≡ ys
+cons_rest e = cc
 
--- a pointer of an index that is the last at or below the key is the one that a clean path takes
-pub last_is : {es : List (Key × ℕ)} {key l m : Key} {c d : ℕ} {a b : Bool} → IsLastPointer es key l c a → IsLastPointer es key m d b → (l ≡ m) × (c ≡ d) × (a ≡ b)
-last_is {a} {b} p q =
-    let r = last_one _ p.before p.behind q.before q.behind _ _ _ _ _ p.is q.is p.upto q.upto p.beyond q.beyond in
-    (r.1, r.2, flags a b p.is_first p.is_later q.is_first q.is_later r.0)
-  where
-    flags : (a b : Bool) → (a ≡ true → p.before ≡ []) → (a ≡ false → p.before ≢ []) → (b ≡ true → q.before ≡ []) → (b ≡ false → q.before ≢ []) → p.before ≡ q.before → a ≡ b
-    flags true true x y z u e = refl
-    flags false false x y z u e = refl
-    flags true false x y z u e = absurd (u refl (sym e ∙ x refl))
-    flags false true x y z u e = absurd (y refl (e ∙ z refl))
+cons_same : {X : Type 0} {x y : X} {xs ys : List X} → x ≡ y → xs ≡ ys → x ∷ xs ≡ y ∷ ys
+cons_same e g = cc
+
+-- the last of a list that passes is one
+last_one : {X : Type 0} (passes : X → Bool) (es xs ys us vs : List X) (x u : X) → es ≡ xs ++ x ∷ ys → es ≡ us ++ u ∷ vs → passes x ≡ true → passes u ≡ true → list_any passes ys ≡ false → list_any passes vs ≡ false → (xs ≡ us) × (x ≡ u)
+last_one passes es [] ys [] vs x u e g p q h k = (refl, cons_first (sym e ∙ g))
+last_one passes es [] ys (z ∷ us) vs x u e g p q h k = absurd (none_in passes us vs u q (sym (ap (list_any passes) (cons_rest (sym e ∙ g))) ∙ h))
+last_one passes es (z ∷ xs) ys [] vs x u e g p q h k = absurd (none_in passes xs ys x p (ap (list_any passes) (cons_rest (sym e ∙ g)) ∙ k))
+last_one passes es (z ∷ xs) ys (y ∷ us) vs x u e g p q h k =
+    let s : z ∷ (xs ++ x ∷ ys) ≡ y ∷ (us ++ u ∷ vs) = sym e ∙ g in
+    let r = last_one passes (xs ++ x ∷ ys) xs ys us vs x u refl (cons_rest s) p q h k in
+    (cons_same (cons_first s) r.0, r.1)
+
+-- the last pointer within a bound is one
+pub last_is : {bound : Bound Key} {es : List (Key × ℕ)} {c d : ℕ} {a b : Bool} → IsPointer bound es c a → IsPointer bound es d b → (c ≡ d) × (a ≡ b)
+last_is {bound} {es} p q =
+    let r = last_one (λ e. is_up_to bound e.0) es p.last.before p.last.after q.last.before q.last.after (p.key, _) (q.key, _) p.last.is q.last.is p.last.passed q.last.passed p.last.none q.last.none in
+    (ap (λ (z : Key × ℕ). z.1) r.1, p.is_first ∙ ap (λ l. nat_eq (length l) 0) r.0 ∙ sym q.is_first)
 
 -- the page at which a clean path stands is passed
 pub clean_page : (nodes : Nodes) (key : Key) (path : List ℕ) (p : ℕ) (first : Bool) → CleanFrom nodes key p first path → (n : Node) → nodes p ≡ Some n → IsPassed nodes key p first n
@@ -210,17 +210,17 @@ clean_page nodes key [] p first c n live = absurd c
 clean_page nodes key (q ∷ rest) p first c n live = subst (λ (z : Node). IsPassed nodes key p first z) (some_is c.1 n (sym c.2.live ∙ live)) c.2
 
 -- from an index it goes one down the list
-pub clean_down : (nodes : Nodes) (key : Key) (path : List ℕ) (p : ℕ) (first : Bool) → CleanFrom nodes key p first path → (n : Node) (es : List (Key × ℕ)) → nodes p ≡ Some n → n.content ≡ Index es → (l : Key) (c : ℕ) (b : Bool) → IsLastPointer es key l c b
+pub clean_down : (nodes : Nodes) (key : Key) (path : List ℕ) (p : ℕ) (first : Bool) → CleanFrom nodes key p first path → (n : Node) (es : List (Key × ℕ)) → nodes p ≡ Some n → n.content ≡ Index es → (c : ℕ) (b : Bool) → IsPointer (Included key) es c b
     → (rest : List ℕ) × (path ≡ p ∷ rest) × CleanFrom nodes key c b rest
-clean_down nodes key [] p first k n es live index l c b last = absurd k
-clean_down nodes key (q ∷ rest) p first k n es live index l c b last =
+clean_down nodes key [] p first k n es live index c b last = absurd k
+clean_down nodes key (q ∷ rest) p first k n es live index c b last =
     let same : k.1 ≡ n = some_is k.1 n (sym k.2.live ∙ live) in
     elim k.3 [
       | inl a ↦ absurd (apart (sym (ap (λ (z : Node). z.content) (sym same) ∙ a.1) ∙ index))
       | inr a ↦
           let list : a.0 ≡ es = one (sym a.1 ∙ ap (λ (z : Node). z.content) same ∙ index) in
-          let e = last_is (subst (λ z. IsLastPointer z key a.2 a.3 a.4) list a.5) last in
-          (rest, ap (λ z. z ∷ rest) k.0, subst (λ z. CleanFrom nodes key z b rest) e.1 (subst (λ z. CleanFrom nodes key a.3 z rest) e.2 a.6))
+          let e = last_is (subst (λ z. IsPointer (Included key) z a.2 a.3) list a.4) last in
+          (rest, ap (λ z. z ∷ rest) k.0, subst (λ z. CleanFrom nodes key z b rest) e.0 (subst (λ z. CleanFrom nodes key a.2 z rest) e.1 a.5))
     ]
   where
     apart : {xs : List (Key × Key)} {ys : List (Key × ℕ)} → Leaf xs ≡ Index ys → ⊥
@@ -242,13 +242,19 @@ clean_leaf nodes key (q ∷ rest) p first k n es live leaf =
     apart : {xs : List (Key × Key)} {ys : List (Key × ℕ)} → Index ys ≡ Leaf xs → ⊥
     apart e = cc
 
--- the last pointer is one of the index, and a later one if it is not the first
-pub last_in : {es : List (Key × ℕ)} {key l : Key} {c : ℕ} {b : Bool} → IsLastPointer es key l c b → In (l, c) es × (b ≡ false → In (l, c) (later es))
-last_in {es} {key} {l} {c} {b} k = (subst (λ z. In (l, c) z) (sym k.is) (In-right k.before ((l, c) ∷ k.behind) (l, c) (inl refl)), λ e. subst (λ z. In (l, c) (later z)) (sym k.is) (go k.before (k.is_later e)))
+-- the last pointer within a bound is one of the index, and a later one if it is not the first
+pub last_in : {bound : Bound Key} {es : List (Key × ℕ)} {c : ℕ} {b : Bool} → (k : IsPointer bound es c b) → In (k.key, c) es × (b ≡ false → In (k.key, c) (later es))
+last_in {bound} {es} {c} {b} k = (
+  subst (λ z. In (k.key, c) z) (sym k.last.is) (In-right k.last.before ((k.key, c) ∷ k.last.after) (k.key, c) (inl refl)),
+  λ e. subst (λ z. In (k.key, c) (later z)) (sym k.last.is) (go k.last.before (sym k.is_first ∙ e)),
+)
   where
-    go : (xs : List (Key × ℕ)) → xs ≢ [] → In (l, c) (later (xs ++ (l, c) ∷ k.behind))
-    go [] off = absurd (off refl)
-    go (x ∷ xs) off = In-right xs ((l, c) ∷ k.behind) (l, c) (inl refl)
+    go : (xs : List (Key × ℕ)) → nat_eq (length xs) 0 ≡ false → In (k.key, c) (later (xs ++ (k.key, c) ∷ k.last.after))
+    go [] off = absurd (apart off)
+      where
+        apart : true ≡ false → ⊥
+        apart e = cc
+    go (x ∷ xs) off = In-right xs ((k.key, c) ∷ k.last.after) (k.key, c) (inl refl)
 
 -- a clean path from a page of a level has a page of each level from there on
 clean_length : {nodes : Nodes} {roots : Tree → Option ℕ} {w : Forest} (f : WellFormed nodes roots w) (t : Tree) (key : Key) (path : List ℕ) (h p : ℕ) (first : Bool) → In p (w.chain (place t h)) → CleanFrom nodes key p first path → length path ≡ suc h
@@ -258,12 +264,33 @@ clean_length {nodes} {roots} {w} f t key (q ∷ rest) h p first i k = elim k.3 [
   | inr a ↦
       let up = index_high h k.1.lo k.1.hi a.0 (subst (λ d. Holds h k.1.lo k.1.hi d) a.1 (holds_at f (place t h) p k.1 i k.2.live)) in
       let i' : In p (w.chain (place t (suc up.0))) = subst (λ z. In p (w.chain (place t z))) up.1 i in
-      let j : In (a.2, a.3) (pointers k.1.content) = subst (λ d. In (a.2, a.3) (pointers d)) (sym a.1) (last_in a.5).0 in
-      let c = pointer_in f t up.0 p k.1 a.2 a.3 i' k.2.live j (λ e. none_some (sym k.2.is_open.free ∙ e)) in
-      ap suc (clean_length f t key rest up.0 a.3 a.4 c.1 a.6) ∙ sym (ap suc up.1)
+      let j : In (a.4.key, a.2) (pointers k.1.content) = subst (λ d. In (a.4.key, a.2) (pointers d)) (sym a.1) (last_in a.4).0 in
+      let c = pointer_in f t up.0 p k.1 a.4.key a.2 i' k.2.live j (λ e. none_some (sym k.2.is_open.free ∙ e)) in
+      ap suc (clean_length f t key rest up.0 a.2 a.3 c.1 a.5) ∙ sym (ap suc up.1)
 ]
 
 pub clean_law : CleanLaw
 clean_law s w f t key path k =
     let r = root_in f t k.root k.is_root in
     (r.0, k.root, k.is_root, r.2, clean_length f t key path r.0 k.root true r.2 k.clean)
+
+-- the laws
+
+pub pointer_in_law : PointerInLaw
+pointer_in_law nodes roots w f = pointer_in f
+
+pub next_in_law : NextInLaw
+next_in_law nodes roots w f x p n i live = (λ q. next_in f x p q n i live, next_some f x p n i live)
+
+pub ahead_law : AheadLaw
+ahead_law nodes roots w f t = record { begins = ahead_at f t; few = ahead_few f t; along = ahead_next f t; down = ahead_down f t }
+
+pub clean_step_law : CleanStepLaw
+clean_step_law nodes key path p first n k live = record {
+  passed = clean_page nodes key path p first k n live;
+  down = λ es c b index last. clean_down nodes key path p first k n es live index c b last;
+  leaf = λ es leaf. clean_leaf nodes key path p first k n es live leaf;
+}
+
+pub last_pointer_law : LastPointerLaw
+last_pointer_law bound es c b k = let i = last_in k in (i.0, i.1, λ d a q. last_is k q)

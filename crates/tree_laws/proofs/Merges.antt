@@ -18,7 +18,7 @@ use Rattle.tree_laws.proofs.Runs.{In-right}
 use Rattle.tree_laws.proofs.Update.{put_here, put_there}
 use Rattle.tree_laws.proofs.Replace.{some_is, false_true}
 use Rattle.tree_laws.proofs.Cover.{later_in}
-use Rattle.tree_laws.proofs.Inside.{behind, reached_law}
+use Rattle.tree_laws.proofs.Inside.{behind, reached_law, covers_itself}
 use Rattle.tree_laws.proofs.Flags.{intention_law, cap_law, confirm_law, index_at}
 use Rattle.tree_laws.proofs.Receive.{followed, receive_law}
 use Rattle.tree_laws.proofs.Stable.{now_law}
@@ -31,11 +31,11 @@ none_some : {P A : Type 0} {a : A} → None ≡ Some a → P
 none_some e = cc
 
 -- The intention: the parent takes the child, and the merge begins. `before` is the page whose pointer stands before the child's
-pub intends : {m : Moment} {w : Forest} (t : Tree) (number : ℕ) (parent : Look) (c before version : ℕ) (low : Key) (node : Node) (is : IsMoment m w) (k : IsIntending m w t number parent c) → IsCurrent m t number parent node → m.versions version ≡ false
-    → In (low, before) (pointers parent.node.content) → Below low k.key
+pub intends : {m : Moment} {w : Forest} (t : Tree) (number : ℕ) (parent : Look) (c before version : ℕ) (key low : Key) (node : Node) (is : IsMoment m w) (k : IsIntending m w t number parent c) → IsCurrent m t number parent node → m.versions version ≡ false
+    → In (key, c) (pointers parent.node.content) → In (low, before) (pointers parent.node.content) → Below low key
     → let next : Node = applied (ParentMergeIntention c) parent.node in let new : Moment = replaced m parent.pid (record { version = version; node = next }) in
     (v : Forest) × Quiet [] [] m w new v (IsSmallChild m t number parent c) × IsMergingOf new v t number (record { pid = parent.pid; version = version; node = next }) c before
-intends {m} {w} t number parent c before version low node is k current unused bi below =
+intends {m} {w} t number parent c before version key low node is k current unused ci bi below =
     let h : ℕ = k.height in
     let next : Node = applied (ParentMergeIntention c) parent.node in
     let new : Moment = replaced m parent.pid (record { version = version; node = next }) in
@@ -55,7 +55,7 @@ intends {m} {w} t number parent c before version low node is k current unused bi
       q,
       record {
         height = h;
-        merging = merge_begins s.is t number h c before (record { pid = parent.pid; version = version; node = next }) index.0 k.key low current.named chained live here.is_open.awake child index.1 (later_in parent.node.content k.key c k.pointer) bi below;
+        merging = merge_begins s.is t number h c before (record { pid = parent.pid; version = version; node = next }) index.0 key low current.named chained live here.is_open.awake child index.1 ci bi below;
       },
     )
 
@@ -222,7 +222,7 @@ receives {m} {w} t number parent c before old d left both version node is k curr
       | inl none ↦ absurd (not_below_empty n.lo (subst (λ l. Below n.lo l) none up))
       | inr z ↦ sym z.4 ∙ ap (λ (y : Node). y.lo) (some_is z.1 d (sym z.3 ∙ ap (nodes_at m) (some_is z.0 c (sym z.5 ∙ k.receiving.next)) ∙ there.1))
     ] in
-    let r = joined.joined h (sound_at f x left.pid n here.chained here.live) (sound_at f x c d there.0 there.1) meets k.receiving.before in
+    let r = joined.joined h (sound_at f x left.pid n here.chained here.live) (sound_at f x c d there.0 there.1) meets k.receiving.before (covers_itself f x c d there.0 there.1).1 in
     let u = receive_law (nodes_at m) m.state.roots w f x left.pid c n d both here k.receiving.next there.1 k.receiving.frozen.capped r in
     let s = unseen_step left.pid _ (record { version = version; node = both }) is current.page (awake_now k.receiving.seen current) unused (inl (x, f.homed x left.pid here.chained)) u.0 in
     let off : c ≢ left.pid = λ e. false_true d.merging (subst (λ (z : Node). z.merging ≡ false) (some_is n d (sym here.live ∙ ap (nodes_at m) (sym e) ∙ there.1)) here.is_open.awake) k.receiving.frozen.capped in

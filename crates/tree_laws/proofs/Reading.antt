@@ -85,15 +85,15 @@ snd : (a b : Bool) → T (a && b) → T b
 snd true b p = p
 snd false b p = absurd p
 
-all_above : (a : Key) (ys : List (Key × Key)) → AllByRecursion (λ e. Below a e.0) ys → T (below_all key_cmp a ys)
+all_above : {X : Type 0} (a : Key) (ys : List (Key × X)) → AllByRecursion (λ e. Below a e.0) ys → T (below_all key_cmp a ys)
 all_above a [] h = tt
 all_above a (y ∷ ys) h = both _ _ (subst (λ o. T (is_lt o)) (sym h.0) tt) (all_above a ys h.1)
 
-below-append : (a : Key) (xs ys : List (Key × Key)) → T (below_all key_cmp a xs) → T (below_all key_cmp a ys) → T (below_all key_cmp a (xs ++ ys))
+below-append : {X : Type 0} (a : Key) (xs ys : List (Key × X)) → T (below_all key_cmp a xs) → T (below_all key_cmp a ys) → T (below_all key_cmp a (xs ++ ys))
 below-append a [] ys p q = q
 below-append a (x ∷ xs) ys p q = both _ _ (fst _ _ p) (below-append a xs ys (snd _ _ p) q)
 
-sorted-append : (k : Key) (xs ys : List (Key × Key)) → T (is_sorted key_cmp xs) → T (is_sorted key_cmp ys) → AllByRecursion (λ e. Below e.0 k) xs → AllByRecursion (λ e. UpTo k e.0) ys → T (is_sorted key_cmp (xs ++ ys))
+pub sorted-append : {X : Type 0} (k : Key) (xs ys : List (Key × X)) → T (is_sorted key_cmp xs) → T (is_sorted key_cmp ys) → AllByRecursion (λ e. Below e.0 k) xs → AllByRecursion (λ e. UpTo k e.0) ys → T (is_sorted key_cmp (xs ++ ys))
 sorted-append k [] ys s u a b = u
 sorted-append k (x ∷ xs) ys s u a b =
     both _ _ (below-append x.0 xs ys (fst _ _ s) (all_above x.0 ys (each_weaker (λ e. UpTo k e.0) (λ e. Below x.0 e.0) (λ e h. below_upto-trans x.0 k e.0 a.0 h) ys b)))

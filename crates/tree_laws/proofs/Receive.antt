@@ -1,13 +1,11 @@
 -- The merge of a capped page into its left sibling.
-use Rattle.std.proofs.Common.{◌+◌, length, length-append, arith, ◌≡◌, ℕ, suc, ◌≤◌, true, false, List, [], ◌∷◌, ◌++◌, Option, Some, None, sym, refl, ap, ◌∙◌, subst, inl, inr, ◌⊎◌, append_assoc}
+use Rattle.std.proofs.Common.{◌+◌, arith, ◌≡◌, ℕ, suc, ◌≤◌, true, false, List, [], ◌∷◌, ◌++◌, Option, Some, None, sym, refl, ap, ◌∙◌, subst, inl, inr, ◌⊎◌, append_assoc}
 use Rattle.sled_pages.specs.In.{In}
 use Rattle.sled_pages.specs.Node.{pairs, pointers, count}
 use Rattle.sled_pages.specs.Order.{Key, Below}
 use Rattle.sled_pages.specs.State.{Nodes}
 use Rattle.sled_pages.specs.declared.node.Node.{Node}
-use Rattle.sled_pages.specs.declared.node.Data.{Data}
-use Rattle.sled_pages.specs.declared.node.Data.TheVariants.{Leaf, Index}
-use Rattle.tree_laws.specs.Action.{Halves, put_node, IsReceived}
+use Rattle.tree_laws.specs.Action.{put_node, IsReceived}
 use Rattle.tree_laws.specs.Forest.{IsSized, Forest, Place, place, Run, IsPointer, WellFormed, node_pairs, head, Tree}
 use Rattle.tree_laws.specs.PageLaws.{IsOpenAt, Unseen, ReceiveLaw}
 use Rattle.tree_laws.proofs.Order.{below-trans, below_irrefl}
@@ -15,7 +13,7 @@ use Rattle.tree_laws.proofs.Runs.{In_split, In-right, In_cases, run_parts, run_t
 use Rattle.tree_laws.proofs.Update.{put_here, put_there, put_chain, chain_here, chain_there}
 use Rattle.tree_laws.proofs.Sizes.{replaced_sized, replaced_grows}
 use Rattle.tree_laws.proofs.Replace.{same_place, some_is, Replaces, replaced_kept, replaced_keeps, pairs_of, pairs_kept, behind_first}
-use Rattle.tree_laws.proofs.Split.{halves_pairs, halves_pointers, halves_first, pointer_like}
+use Rattle.tree_laws.proofs.Split.{halves_count, halves_pairs, halves_pointers, halves_first, pointer_like}
 use Rattle.tree_laws.proofs.Cover.{chain_run, not_both_children, holds_at}
 
 module _ {nodes : Nodes} {roots : Tree → Option ℕ} {w : Forest} (f : WellFormed nodes roots w) where
@@ -33,15 +31,6 @@ module _ {nodes : Nodes} {roots : Tree → Option ℕ} {w : Forest} (f : WellFor
           no : None ≡ Some c → ⊥
           no h = cc
       go xs (z ∷ zs) e m r g = (xs, zs, e ∙ ap (λ k. xs ++ (p ∷ (k ∷ zs))) (some_is z c (sym r.1.here ∙ g)))
-
--- how many entries two halves have together
-pub halves_count : (c a b : Data) → Halves c a b → count c ≡ count a + count b
-halves_count (Leaf es) (Leaf a) (Leaf b) h = ap length h ∙ length-append a b
-halves_count (Index es) (Index a) (Index b) h = ap length h ∙ length-append a b
-halves_count (Leaf es) (Index a) b h = absurd h
-halves_count (Leaf es) (Leaf a) (Index b) h = absurd h
-halves_count (Index es) (Leaf a) b h = absurd h
-halves_count (Index es) (Index a) (Leaf b) h = absurd h
 
 module _ (nodes : Nodes) (roots : Tree → Option ℕ) (w : Forest) (f : WellFormed nodes roots w) (x : Place) (p c : ℕ) (n d both : Node) (o : IsOpenAt nodes w x p n) (next : n.next ≡ Some c) (there : nodes c ≡ Some d) (capped : d.merging ≡ true) (s : IsReceived x.height n d both) where
   i : In p (w.chain x)

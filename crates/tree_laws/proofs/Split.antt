@@ -1,5 +1,5 @@
 -- The split of a page, and the merge of a page into its left sibling.
-use Rattle.std.proofs.Common.{◌≡◌, ◌≢◌, ℕ, zero, suc, ◌≤◌, false, [], ◌∷◌, ◌++◌, Option, Some, None, sym, refl, ap, ◌∙◌, subst, inl, inr, ◌⊎◌, append_assoc, arith}
+use Rattle.std.proofs.Common.{◌≡◌, ◌≢◌, ℕ, zero, suc, ◌≤◌, false, [], ◌∷◌, ◌++◌, Option, Some, None, sym, refl, ap, ◌∙◌, subst, inl, inr, ◌⊎◌, append_assoc, arith, le_trans, length, length-append, ◌+◌}
 use Rattle.sled_pages.specs.In.{In}
 use Rattle.sled_pages.specs.Node.{pairs, pointers, count}
 use Rattle.sled_pages.specs.Order.{Key, Below}
@@ -16,6 +16,15 @@ use Rattle.tree_laws.proofs.Runs.{In_split, In-left, In-right}
 use Rattle.tree_laws.proofs.Update.{put_here, put_there, put_chain, chain_here, chain_there}
 use Rattle.tree_laws.proofs.Sizes.{replaced_sized, replaced_grows}
 use Rattle.tree_laws.proofs.Replace.{same_number, some_is, IsAdded, Replaces, replaced_kept, replaced_keeps, pairs_of, pairs_kept}
+
+-- how many entries two halves have together
+pub halves_count : (c a b : Data) → Halves c a b → count c ≡ count a + count b
+halves_count (Leaf es) (Leaf a) (Leaf b) h = ap length h ∙ length-append a b
+halves_count (Index es) (Index a) (Index b) h = ap length h ∙ length-append a b
+halves_count (Leaf es) (Index a) b h = absurd h
+halves_count (Leaf es) (Leaf a) (Index b) h = absurd h
+halves_count (Index es) (Leaf a) b h = absurd h
+halves_count (Index es) (Index a) (Leaf b) h = absurd h
 
 pub halves_pairs : (c a b : Data) → Halves c a b → pairs c ≡ pairs a ++ pairs b
 halves_pairs (Leaf es) (Leaf a) (Leaf b) h = h
@@ -157,7 +166,19 @@ module _ (nodes : Nodes) (roots : Tree → Option ℕ) (w : Forest) (f : WellFor
       ap (λ z. node_pairs z ++ pairs_of new (q ∷ [])) (put_here nodes p (Some left)) ∙ ap (λ z. pairs left.content ++ (node_pairs z ++ [])) (put_there nodes p (Some left) q q_off ∙ there)
       ∙ sym (append_assoc (pairs left.content) (pairs right.content) []) ∙ ap (λ l. l ++ []) (sym (halves_pairs _ _ _ s.halves)) ∙ ap (λ z. node_pairs z ++ []) (sym live)
 
-  pub split_unseen : (u : Unseen (q ∷ []) nodes (put_node nodes p left) roots w ((count left.content ≤ 17) × (count right.content ≤ 33))) × In q (u.after.chain x)
+  left_le : count left.content ≤ count n.content
+  left_le = part (count n.content) (count left.content) (count right.content) (halves_count n.content left.content right.content s.halves)
+    where
+      part : (a b c : ℕ) → a ≡ b + c → b ≤ a
+      part a b c e = omega arith
+
+  right_le : count right.content ≤ count n.content
+  right_le = part (count n.content) (count left.content) (count right.content) (halves_count n.content left.content right.content s.halves)
+    where
+      part : (a b c : ℕ) → a ≡ b + c → c ≤ a
+      part a b c e = omega arith
+
+  pub split_unseen : (u : Unseen (q ∷ []) nodes (put_node nodes p left) roots w (Unit {0})) × In q (u.after.chain x)
   unfolding new split_forest
   split_unseen = (
     record {
@@ -165,18 +186,15 @@ module _ (nodes : Nodes) (roots : Tree → Option ℕ) (w : Forest) (f : WellFor
       kept = replaced_kept parts f;
       same = pairs_kept parts f same_pairs;
       keeps = replaced_keeps parts f (q ∷ []) (λ z h. h);
-      sized = λ few. replaced_sized parts f (record {
-        few = wide (count left.content) few.0;
-        added_few = λ z d h is. elim h [ inl e ↦ subst (λ (k : Node). count k.content ≤ 33) (some_is right d (sym there ∙ ap nodes (sym e) ∙ is)) few.1 | inr e ↦ absurd e ];
-        child = λ z d j is e. few.0;
-      });
-      grows = λ few. replaced_grows parts f (inr (inl few.0));
+      sized = λ e z. replaced_sized parts f (record {
+        few = le_trans left_le (z.few x p n (f.homed x p i) live);
+        added_few = λ y d h is. elim h [ inl e ↦ subst (λ (k : Node). count k.content ≤ 33) (some_is right d (sym there ∙ ap nodes (sym e) ∙ is)) (le_trans right_le (z.few x p n (f.homed x p i) live)) | inr e ↦ absurd e ];
+        child = λ y d j is e. le_trans left_le (z.child (place x.tree (suc x.height)) y p d n j is e live);
+      }) z;
+      grows = λ e. replaced_grows parts f (inl left_le);
     },
     let a = In_split (w.chain x) p i in subst (λ c. In q c) (sym (chain_here w.chain x (a.0 ++ (p ∷ (q ∷ a.1))))) (In-right a.0 (p ∷ (q ∷ a.1)) q (inr (inl refl))),
   )
-    where
-      wide : (n : ℕ) → n ≤ 17 → n ≤ 33
-      wide n l = omega arith
 
 pub split_law : SplitLaw
 split_law = split_unseen

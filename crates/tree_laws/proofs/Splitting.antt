@@ -12,7 +12,7 @@ use Rattle.tree_laws.specs.Action.{put_node}
 use Rattle.tree_laws.specs.Moment.{Moment, IsMoment, nodes_at, Goes, Grows, Stood, Look, IsFresh, IsFew, Seen}
 use Rattle.tree_laws.specs.Laws.{IsCurrent, IsAlone, replaced, allocated, freed, hoisted}
 use Rattle.tree_laws.specs.PageLaws.{IsOpenAt, Unseen}
-use Rattle.tree_laws.specs.Stages.{Posts, AtParent, AtRoot, IsSplitting, IsOwn, IsReplacing, IsPosting, IsHoisting, IsOver, IsSwapping, IsFreeing, Quiet, IsHalved}
+use Rattle.tree_laws.specs.Stages.{PostsAt, AtParent, AtRoot, IsSplitting, IsOwn, IsReplacing, IsPosting, IsHoisting, IsOver, IsSwapping, IsFreeing, Quiet, IsHalved}
 use Rattle.tree_laws.proofs.Order.{upto_below-trans}
 use Rattle.tree_laws.proofs.Update.{put_here, put_there}
 use Rattle.tree_laws.proofs.Replace.{same_tree, some_is}
@@ -78,7 +78,7 @@ allocates {m} {w} {q} {version} {n} is fresh unused small =
     )
 
 -- the right half of a split is a new page
-pub split_allocates : {m : Moment} {w : Forest} (t : Tree) (number : ℕ) (page : Look) (posts : Posts) (left right : Node) (q version : ℕ) → IsMoment m w → m.pids q ≡ false → m.versions version ≡ false → q < 2 ^ 64
+pub split_allocates : {m : Moment} {w : Forest} (t : Tree) (number : ℕ) (page : Look) (posts : PostsAt) (left right : Node) (q version : ℕ) → IsMoment m w → m.pids q ≡ false → m.versions version ≡ false → q < 2 ^ 64
     → IsSplitting m w t number page posts → IsHalved page.node left right q
     → let new : Moment = allocated m q (record { version = version; node = right }) in Quiet [] (q ∷ []) m w new w (Unit {0}) × IsReplacing new w t number page posts left right.lo q version
 split_allocates t number page posts left right q version is fresh unused small k h =
@@ -98,11 +98,11 @@ split_allocates t number page posts left right q version is fresh unused small k
 -- the page becomes the left half
 pub record IsSplitNow (m : Moment) (w : Forest) (new : Moment) (x : Place) (p q : ℕ) (left right : Node) : Type 0 where
   pub after : Forest
-  pub quiet : Quiet (q ∷ []) [] m w new after ((count left.content ≤ 17) × (count right.content ≤ 33))
+  pub quiet : Quiet (q ∷ []) [] m w new after (Unit {0})
   pub in_after : In q (after.chain x)
   pub live : nodes_at new q ≡ Some right
 
-module _ {m : Moment} {w : Forest} (t : Tree) (number : ℕ) (page : Look) (posts : Posts) (left : Node) (at : Key) (q own version : ℕ) (node : Node) (is : IsMoment m w) (k : IsReplacing m w t number page posts left at q own) (c : IsCurrent m t number page node) (unused : m.versions version ≡ false) where
+module _ {m : Moment} {w : Forest} (t : Tree) (number : ℕ) (page : Look) (posts : PostsAt) (left : Node) (at : Key) (q own version : ℕ) (node : Node) (is : IsMoment m w) (k : IsReplacing m w t number page posts left at q own) (c : IsCurrent m t number page node) (unused : m.versions version ≡ false) where
   abbrev new : Moment
   new = replaced m page.pid (record { version = version; node = left })
 

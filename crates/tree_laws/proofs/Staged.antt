@@ -1,15 +1,13 @@
 -- The laws of the stages.
-use Rattle.std.proofs.Common.{◌≡◌, ◌≤◌, ℕ, List, [], Some, None, sym, ◌∙◌, subst, inl, inr, false, true}
-use Rattle.std.specs.FinMap.Entries.{put}
+use Rattle.std.proofs.Common.{ap, ◌≡◌, ◌≤◌, [], Some, None, sym, ◌∙◌, subst, inl, inr, false, true}
 use Rattle.sled_pages.specs.Node.{count}
-use Rattle.sled_pages.specs.Order.{Key, key_cmp}
+use Rattle.sled_pages.specs.Posting.{with_pointer}
 use Rattle.sled_pages.specs.declared.node.Node.{Node}
-use Rattle.sled_pages.specs.declared.node.Data.TheVariants.{Index}
 use Rattle.tree_laws.specs.Forest.{Forest, place}
 use Rattle.tree_laws.specs.Moment.{Look, IsFew}
 use Rattle.tree_laws.specs.Laws.{replaced}
-use Rattle.tree_laws.specs.Stages.{IsHere, IsPosting, IsHoisting, Posts, AtParent, AtRoot, Nowhere, IsReplacing, Quiet}
-use Rattle.tree_laws.specs.StageLaws.{StagesLaw, ApartLaw, HereLaw, RootHereLaw, CursorHereLaw, MergeHereLaw, HalfLaw, LeftHalfLaw, PointerLaw, RaiseLaw, SwapLaw, FreesLaw, IntendLaw, ChildSeeksLaw, ChildCapsLaw, CapsLaw, SeekLaw, ReceivesLaw, SeekAgainLaw, ConfirmsLaw}
+use Rattle.tree_laws.specs.Stages.{IsHere, IsPosting, IsHoisting, PostsAt, AtParent, AtRoot, Nowhere, IsReplacing, Quiet}
+use Rattle.tree_laws.specs.StageLaws.{StagesLaw, ApartLaw, HereLaw, RootHereLaw, CursorHereLaw, MergeHereLaw, StoodMergesLaw, HalfLaw, LeftHalfLaw, PointerLaw, RaiseLaw, SwapLaw, FreesLaw, IntendLaw, ChildSeeksLaw, ChildCapsLaw, CapsLaw, SeekLaw, ReceivesLaw, SeekAgainLaw, ConfirmsLaw}
 use Rattle.tree_laws.proofs.Replace.{some_is}
 use Rattle.tree_laws.proofs.Known.{acting_kept}
 use Rattle.tree_laws.proofs.Staying as kept
@@ -74,6 +72,9 @@ cursor_here_law m w is t number key parent look first unsplit named k live = wal
 pub merge_here_law : MergeHereLaw
 merge_here_law m w is t number key look parent first unsplit here c before k low = walks.to_merging is here c before k low
 
+pub stood_merges_law : StoodMergesLaw
+stood_merges_law m w t number h c before look lo k low is = merges.stood_merges t number h c before look lo k low is
+
 pub half_law : HalfLaw
 half_law m w t number page posts left right q version is = splitting.split_allocates t number page posts left right q version is
 
@@ -87,7 +88,7 @@ left_half_law m w t number page posts left at q own version node is k c unused =
       hoisted = λ e. up posts k e d;
     }
   where
-    go : (posts : Posts) (k : IsReplacing m w t number page posts left at q own) → {parent : Look} → posts ≡ AtParent parent
+    go : (posts : PostsAt) (k : IsReplacing m w t number page posts left at q own) → {parent : Look} → posts ≡ AtParent parent
         → (d : splitting.IsSplitNow m w (replaced m page.pid (record { version = version; node = left })) (place t k.height) page.pid q left k.right) → IsPosting (replaced m page.pid (record { version = version; node = left })) d.after t number parent at q
     go (AtParent p) k {parent} e d = subst (λ z. IsPosting (replaced m page.pid (record { version = version; node = left })) d.after t number z at q) (one e) (splitting.replace_posts t number page p left at q own version node is k c unused d)
       where
@@ -102,7 +103,7 @@ left_half_law m w t number page posts left at q own version node is k c unused =
         apart : {p : Look} → Nowhere ≡ AtParent p → ⊥
         apart e = cc
 
-    up : (posts : Posts) (k : IsReplacing m w t number page posts left at q own) → posts ≡ AtRoot
+    up : (posts : PostsAt) (k : IsReplacing m w t number page posts left at q own) → posts ≡ AtRoot
         → (d : splitting.IsSplitNow m w (replaced m page.pid (record { version = version; node = left })) (place t k.height) page.pid q left k.right) → IsHoisting (replaced m page.pid (record { version = version; node = left })) d.after t number page.pid at q
     up AtRoot k e d = splitting.replace_hoists t number page left at q own version k d
     up (AtParent p) k e d = absurd (apart e)
@@ -115,12 +116,8 @@ left_half_law m w t number page posts left at q own version node is k c unused =
         apart e = cc
 
 pub pointer_law : PointerLaw
-pointer_law m w t number parent at pid version node es is k index c unused =
-    let same : k.above.es ≡ es = one (sym k.above.content ∙ index) in
-    subst (λ z. (v : Forest) × Quiet [] [] m w (replaced m parent.pid (record { version = version; node = record (parent.node) { content = Index (put key_cmp at pid z) } })) v (IsFew parent)) same (splitting.posts t number parent at pid version node is k c unused)
-  where
-    one : {xs ys : List (Key × ℕ)} → Index xs ≡ Index ys → xs ≡ ys
-    one e = cc
+pointer_law m w t number parent at pid version node is k c unused =
+    subst (λ z. (v : Forest) × Quiet [] [] m w (replaced m parent.pid (record { version = version; node = record (parent.node) { content = z } })) v (IsFew parent)) (sym (ap (with_pointer at pid) k.above.content)) (splitting.posts t number parent at pid version node is k c unused)
 
 pub raise_law : RaiseLaw
 raise_law m w t number left right q version at n is = splitting.raises t number left right q version at n is
@@ -132,7 +129,7 @@ pub frees_law : FreesLaw
 frees_law m w pid version is = splitting.frees pid version is
 
 pub intend_law : IntendLaw
-intend_law m w t number parent c before version low node is k = merges.intends t number parent c before version low node is k
+intend_law m w t number parent c before version k low node is i = merges.intends t number parent c before version k low node is i
 
 pub child_seeks_law : ChildSeeksLaw
 child_seeks_law m w t number parent c before version d = merges.child_seeks t number parent c before version d

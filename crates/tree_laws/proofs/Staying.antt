@@ -8,7 +8,7 @@ use Rattle.sled_pages.specs.declared.node.Node.{Node}
 use Rattle.sled_pages.specs.declared.page.Page.{Page}
 use Rattle.tree_laws.specs.Forest.{Tree, Forest, Place, place, head, WellFormed}
 use Rattle.tree_laws.specs.Moment.{Moment, IsMoment, nodes_at, Goes, Grows, Viewed, Stood, Look, IsFresh}
-use Rattle.tree_laws.specs.Stages.{IsParent, IsWalking, Posts, AtParent, AtRoot, Nowhere, IsPlace, IsSplitting, IsOwn, IsReplacing, IsUnder, IsPosting, IsHoisting, IsSwapping, IsFreeing}
+use Rattle.tree_laws.specs.Stages.{IsParent, IsWalking, PostsAt, AtParent, AtRoot, Nowhere, IsPlace, IsSplitting, IsOwn, IsReplacing, IsUnder, IsPosting, IsHoisting, IsSwapping, IsFreeing}
 use Rattle.tree_laws.specs.Merging.{IsIntending, IsSmallChild, IsFrozen, IsChild, IsWanted, IsMerger, IsMerging, IsCapping, IsSeeking, IsReceiving, IsOut, IsConfirming, IsMergingOf, IsCappingOf, IsSeekingOf, IsReceivingOf, IsConfirmingOf}
 use Rattle.tree_laws.proofs.Replace.{some_is, false_true, head_in}
 use Rattle.tree_laws.proofs.Cover.{one_cover, one_later, later_in, pointer_within, holds_at}
@@ -91,15 +91,15 @@ module _ {mine : List ℕ} {lost : Option Tree} {old new : Moment} {w v : Forest
     reached = k.reached;
   }
 
-  pub place_kept : (t : Tree) (number h : ℕ) (page : Look) (posts : Posts) → IsPlace old w t number h page posts → IsPlace new v t number h page posts
+  pub place_kept : (t : Tree) (number h : ℕ) (page : Look) (posts : PostsAt) → IsPlace old w t number h page posts → IsPlace new v t number h page posts
   place_kept t number h page (AtParent parent) k = (parent_kept t number h parent k.0, k.1)
   place_kept t number h page AtRoot k = k
   place_kept t number h page Nowhere k = k
 
-  pub splitting_kept : (t : Tree) (number : ℕ) (page : Look) (posts : Posts) → IsSplitting old w t number page posts → IsSplitting new v t number page posts
+  pub splitting_kept : (t : Tree) (number : ℕ) (page : Look) (posts : PostsAt) → IsSplitting old w t number page posts → IsSplitting new v t number page posts
   splitting_kept t number page posts k = record { height = k.height; seen = seen_kept g (place t k.height) number page k.seen; posted = place_kept t number k.height page posts k.posted }
 
-  pub replacing_kept : (t : Tree) (number : ℕ) (page : Look) (posts : Posts) (left : Node) (at : Key) (q version : ℕ) → ¬ (In q mine) → IsReplacing old w t number page posts left at q version → IsReplacing new v t number page posts left at q version
+  pub replacing_kept : (t : Tree) (number : ℕ) (page : Look) (posts : PostsAt) (left : Node) (at : Key) (q version : ℕ) → ¬ (In q mine) → IsReplacing old w t number page posts left at q version → IsReplacing new v t number page posts left at q version
   replacing_kept t number page posts left at q version off k = record {
     height = k.height;
     seen = seen_kept g (place t k.height) number page k.seen;

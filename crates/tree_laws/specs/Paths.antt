@@ -1,7 +1,8 @@
 -- Ways down a tree that repair nothing, and how many pages a tree has.
-use Rattle.std.specs.Prelude.{◌≡◌, ◌≢◌, ℕ, ◌+◌, ◌≤◌, ◌⊎◌, Bool, true, false, List, [], ◌∷◌, ◌++◌, Option, Some, None, length}
-use Rattle.sled_pages.specs.Order.{Key, Below, UpTo}
-use Rattle.sled_pages.specs.In.{In}
+use Rattle.std.specs.Prelude.{◌≡◌, ℕ, ◌+◌, ◌≤◌, ◌⊎◌, Bool, true, List, [], ◌∷◌, ◌++◌, Option, Some, None, length}
+use Rattle.std.specs.declared.ops.Bound.TheVariants.{Included}
+use Rattle.sled_pages.specs.Order.{Key}
+use Rattle.sled_pages.specs.Among.{IsPointer}
 use Rattle.sled_pages.specs.Node.{count, Covers}
 use Rattle.sled_pages.specs.State.{State, Nodes, nodes_of}
 use Rattle.sled_pages.specs.declared.node.Node.{Node}
@@ -9,16 +10,6 @@ use Rattle.sled_pages.specs.declared.node.Data.TheVariants.{Leaf, Index}
 use Rattle.tree_laws.specs.Forest.{Tree, Forest, place}
 use Rattle.tree_laws.specs.Contents.{page_numbers, next_of, first_of}
 use Rattle.tree_laws.specs.Moment.{IsOpen}
-
--- the last pointer whose key is at or below the key, and whether it is the first of all
-pub record IsLastPointer (es : List (Key × ℕ)) (key : Key) (low : Key) (c : ℕ) (first : Bool) : Type 0 where
-  pub before : List (Key × ℕ)
-  pub behind : List (Key × ℕ)
-  pub is : es ≡ before ++ (low, c) ∷ behind
-  pub upto : UpTo low key
-  pub beyond : (k : Key) (d : ℕ) → In (k, d) behind → Below key k
-  pub is_first : first ≡ true → before ≡ []
-  pub is_later : first ≡ false → before ≢ []
 
 -- a page that a walk to the key passes without a repair, and whether it was reached by a first pointer or is the root
 pub record IsPassed (nodes : Nodes) (key : Key) (p : ℕ) (first : Bool) (n : Node) : Type 0 where
@@ -33,7 +24,7 @@ abbrev pub CleanFrom : Nodes → Key → ℕ → Bool → List ℕ → Type 0
 CleanFrom nodes key p first [] = ⊥
 CleanFrom nodes key p first (q ∷ rest) = (q ≡ p) × (n : Node) × IsPassed nodes key p first n
     × (((es : List (Key × Key)) × (n.content ≡ Leaf es) × (rest ≡ []))
-    ⊎ ((es : List (Key × ℕ)) × (n.content ≡ Index es) × (low : Key) × (c : ℕ) × (b : Bool) × IsLastPointer es key low c b × CleanFrom nodes key c b rest))
+    ⊎ ((es : List (Key × ℕ)) × (n.content ≡ Index es) × (c : ℕ) × (b : Bool) × IsPointer (Included key) es c b × CleanFrom nodes key c b rest))
 
 -- a clean path of the key: one page of each level, from the root on
 pub record IsClean (s : State) (t : Tree) (key : Key) (path : List ℕ) : Type 0 where

@@ -1,16 +1,22 @@
 -- The laws of the stages of a call in flight, as types.
-use Rattle.std.specs.Prelude.{◌≡◌, ◌≢◌, ◌⊎◌, ℕ, ◌<◌, ◌≤◌, ◌^◌, Bool, true, false, List, [], ◌∷◌, Option, Some, None}
-use Rattle.std.specs.FinMap.Entries.{put, find}
+use Rattle.std.specs.Prelude.{◌≡◌, ◌≢◌, ◌⊎◌, ℕ, suc, ◌<◌, ◌≤◌, ◌^◌, Bool, true, false, List, [], ◌∷◌, Option, Some, None}
+use Rattle.std.specs.FinMap.Entries.{find}
 use Rattle.sled_pages.specs.Order.{Key, key_cmp, Below, UpTo}
 use Rattle.sled_pages.specs.In.{In}
 use Rattle.sled_pages.specs.Node.{pointers, count, Covers, applied, value_at}
+use Rattle.sled_pages.specs.Posting.{with_pointer}
+use Rattle.sled_pages.specs.Halves.{left_half, right_half, received}
+use Rattle.sled_pages.specs.Among.{IsBefore, is_up_to}
+use Rattle.std.specs.List.{list_any}
+use Rattle.std.specs.declared.ops.Bound.{Bound}
+use Rattle.sled_pages.specs.State.{Nodes}
 use Rattle.sled_pages.specs.declared.node.Node.{Node}
 use Rattle.sled_pages.specs.declared.node.Data.TheVariants.{Leaf, Index}
 use Rattle.sled_pages.specs.declared.link.Link.TheVariants.{ParentMergeIntention, ParentMergeConfirm, ChildMergeCap}
-use Rattle.tree_laws.specs.Forest.{Tree, Forest, Place, contents, later}
-use Rattle.tree_laws.specs.Moment.{Moment, IsMoment, nodes_at, Goes, Grows, Look, IsOpen, IsFew, IsActing}
+use Rattle.tree_laws.specs.Forest.{Tree, Forest, Place, place, IsNodeAt, WellFormed, contents, later}
+use Rattle.tree_laws.specs.Moment.{Moment, IsMoment, nodes_at, Stood, Goes, Grows, Look, IsOpen, IsFew, IsActing}
 use Rattle.tree_laws.specs.Laws.{IsCurrent, replaced, allocated, freed, hoisted}
-use Rattle.tree_laws.specs.Stages.{IsWalking, IsHere, Posts, AtParent, AtRoot, Nowhere, IsSplitting, IsReplacing, IsPosting, IsHoisting, IsOver, IsSwapping, IsFreeing, Quiet, IsHalved, IsJoined}
+use Rattle.tree_laws.specs.Stages.{IsWalking, IsHere, PostsAt, AtParent, AtRoot, Nowhere, IsSplitting, IsReplacing, IsPosting, IsHoisting, IsOver, IsSwapping, IsFreeing, Quiet, IsHalved, IsJoined}
 use Rattle.tree_laws.specs.Merging.{IsIntending, IsSmallChild, IsMergingOf, IsCappingOf, IsSeekingOf, IsReceivingOf, IsConfirmingOf}
 
 -- an action of another call
@@ -22,8 +28,8 @@ pub record IsOthers (mine : List ℕ) (lost : Option Tree) (old : Moment) (w : F
 pub record StagesKept (mine : List ℕ) (old : Moment) (w : Forest) (new : Moment) (v : Forest) (t : Tree) (number : ℕ) : Type 0 where
   pub walking : (key : Key) (cursor : ℕ) (parent : Look) (first unsplit : Bool) → IsWalking old w t number key cursor parent first unsplit → IsWalking new v t number key cursor parent first unsplit
   pub acting : (key : Key) (look : Look) → IsActing old w t number key look → IsActing new v t number key look
-  pub splitting : (page : Look) (posts : Posts) → IsSplitting old w t number page posts → IsSplitting new v t number page posts
-  pub replacing : (page : Look) (posts : Posts) (left : Node) (at : Key) (q version : ℕ) → ¬ (In q mine) → IsReplacing old w t number page posts left at q version → IsReplacing new v t number page posts left at q version
+  pub splitting : (page : Look) (posts : PostsAt) → IsSplitting old w t number page posts → IsSplitting new v t number page posts
+  pub replacing : (page : Look) (posts : PostsAt) (left : Node) (at : Key) (q version : ℕ) → ¬ (In q mine) → IsReplacing old w t number page posts left at q version → IsReplacing new v t number page posts left at q version
   pub posting : (parent : Look) (at : Key) (pid : ℕ) → IsPosting old w t number parent at pid → IsPosting new v t number parent at pid
   pub hoisting : (left : ℕ) (at : Key) (right : ℕ) → IsHoisting old w t number left at right → IsHoisting new v t number left at right
   pub swapping : (left q version : ℕ) → ¬ (In q mine) → IsSwapping old w t number left q version → IsSwapping new v t number left q version
@@ -83,27 +89,33 @@ MergeHereLaw = (m : Moment) (w : Forest) → IsMoment m w → (t : Tree) (number
     → IsHere m w t number key look parent first unsplit → (c before : ℕ) (k low : Key) → look.node.merging ≡ false → look.node.merging_child ≡ Some c → In (k, c) (pointers look.node.content) → In (low, before) (pointers look.node.content) → Below low k
     → IsMergingOf m w t number look c before
 
+-- A page that stood on a level was read with a merging child of its own: that merge begins. So it does where the search for the
+-- page before a child, or the reading of the child, finds one
+abbrev pub StoodMergesLaw : Type 0
+StoodMergesLaw = (m : Moment) (w : Forest) (t : Tree) (number h c before : ℕ) (look : Look) (lo k low : Key) → IsMoment m w → m.numbers t ≡ Some number → Stood m w (place t h) number lo look.pid → m.state.pages look.pid ≡ Some (record { version = look.version; node = look.node })
+    → look.node.merging ≡ false → look.node.merging_child ≡ Some c → In (k, c) (pointers look.node.content) → In (low, before) (pointers look.node.content) → Below low k → IsMergingOf m w t number look c before
+
 -- The steps of a split: the right half is allocated,
 abbrev pub HalfLaw : Type 0
-HalfLaw = (m : Moment) (w : Forest) (t : Tree) (number : ℕ) (page : Look) (posts : Posts) (left right : Node) (q version : ℕ) → IsMoment m w → m.pids q ≡ false → m.versions version ≡ false → q < 2 ^ 64
+HalfLaw = (m : Moment) (w : Forest) (t : Tree) (number : ℕ) (page : Look) (posts : PostsAt) (left right : Node) (q version : ℕ) → IsMoment m w → m.pids q ≡ false → m.versions version ≡ false → q < 2 ^ 64
     → IsSplitting m w t number page posts → IsHalved page.node left right q
     → let new : Moment = allocated m q (record { version = version; node = right }) in Quiet [] (q ∷ []) m w new w (Unit {0}) × IsReplacing new w t number page posts left right.lo q version
 
 -- the page becomes the left half, where it has its version and the tree its number,
-pub record Halved (m : Moment) (w : Forest) (new : Moment) (t : Tree) (number : ℕ) (page : Look) (posts : Posts) (left right : Node) (at : Key) (q : ℕ) : Type 0 where
+pub record Halved (m : Moment) (w : Forest) (new : Moment) (t : Tree) (number : ℕ) (page : Look) (posts : PostsAt) (left right : Node) (at : Key) (q : ℕ) : Type 0 where
   pub after : Forest
-  pub quiet : Quiet (q ∷ []) [] m w new after ((count left.content ≤ 17) × (count right.content ≤ 33))
+  pub quiet : Quiet (q ∷ []) [] m w new after (Unit {0})
   pub posted : (parent : Look) → posts ≡ AtParent parent → IsPosting new after t number parent at q
   pub hoisted : posts ≡ AtRoot → IsHoisting new after t number page.pid at q
 
 abbrev pub LeftHalfLaw : Type 0
-LeftHalfLaw = (m : Moment) (w : Forest) (t : Tree) (number : ℕ) (page : Look) (posts : Posts) (left : Node) (at : Key) (q own version : ℕ) (node : Node) → IsMoment m w → (k : IsReplacing m w t number page posts left at q own) → IsCurrent m t number page node → m.versions version ≡ false
+LeftHalfLaw = (m : Moment) (w : Forest) (t : Tree) (number : ℕ) (page : Look) (posts : PostsAt) (left : Node) (at : Key) (q own version : ℕ) (node : Node) → IsMoment m w → (k : IsReplacing m w t number page posts left at q own) → IsCurrent m t number page node → m.versions version ≡ false
     → Halved m w (replaced m page.pid (record { version = version; node = left })) t number page posts left k.right at q
 
 -- and the pointer to it goes into the parent
 abbrev pub PointerLaw : Type 0
-PointerLaw = (m : Moment) (w : Forest) (t : Tree) (number : ℕ) (parent : Look) (at : Key) (pid version : ℕ) (node : Node) (es : List (Key × ℕ)) → IsMoment m w → IsPosting m w t number parent at pid → parent.node.content ≡ Index es → IsCurrent m t number parent node → m.versions version ≡ false
-    → (v : Forest) × Quiet [] [] m w (replaced m parent.pid (record { version = version; node = record (parent.node) { content = Index (put key_cmp at pid es) } })) v (IsFew parent)
+PointerLaw = (m : Moment) (w : Forest) (t : Tree) (number : ℕ) (parent : Look) (at : Key) (pid version : ℕ) (node : Node) → IsMoment m w → IsPosting m w t number parent at pid → IsCurrent m t number parent node → m.versions version ≡ false
+    → (v : Forest) × Quiet [] [] m w (replaced m parent.pid (record { version = version; node = record (parent.node) { content = with_pointer at pid parent.node.content } })) v (IsFew parent)
 
 -- the steps of a hoist: the new root is allocated, and becomes the root
 abbrev pub RaiseLaw : Type 0
@@ -119,10 +131,11 @@ SwapLaw = (m : Moment) (w : Forest) (t : Tree) (number left q version : ℕ) →
 abbrev pub FreesLaw : Type 0
 FreesLaw = (m : Moment) (w : Forest) (pid version : ℕ) → IsMoment m w → IsFreeing m w pid version → Quiet (pid ∷ []) [] m w (freed m pid) w (Unit {0})
 
--- The steps of a merge: the parent takes the child for its merging child,
+-- The steps of a merge: the parent takes the child for its merging child. `before` is the page whose pointer stands before one to
+-- the child
 abbrev pub IntendLaw : Type 0
-IntendLaw = (m : Moment) (w : Forest) (t : Tree) (number : ℕ) (parent : Look) (c before version : ℕ) (low : Key) (node : Node) → IsMoment m w → (k : IsIntending m w t number parent c) → IsCurrent m t number parent node → m.versions version ≡ false
-    → In (low, before) (pointers parent.node.content) → Below low k.key
+IntendLaw = (m : Moment) (w : Forest) (t : Tree) (number : ℕ) (parent : Look) (c before version : ℕ) (k low : Key) (node : Node) → IsMoment m w → IsIntending m w t number parent c → IsCurrent m t number parent node → m.versions version ≡ false
+    → In (k, c) (pointers parent.node.content) → In (low, before) (pointers parent.node.content) → Below low k
     → let next : Node = applied (ParentMergeIntention c) parent.node in let new : Moment = replaced m parent.pid (record { version = version; node = next }) in
     (v : Forest) × Quiet [] [] m w new v (IsSmallChild m t number parent c) × IsMergingOf new v t number (record { pid = parent.pid; version = version; node = next }) c before
 
@@ -167,3 +180,25 @@ abbrev pub ConfirmsLaw : Type 0
 ConfirmsLaw = (m : Moment) (w : Forest) (t : Tree) (number : ℕ) (parent : Look) (c old : ℕ) (d : Node) (version : ℕ) (node : Node) → IsMoment m w → IsConfirmingOf m w t number parent c old d → IsCurrent m t number parent node → m.versions version ≡ false
     → let new : Moment = replaced m parent.pid (record { version = version; node = applied ParentMergeConfirm parent.node }) in
     (v : Forest) × Quiet [] (c ∷ []) m w new v (Unit {0}) × IsFreeing new v c old
+
+-- The halves of a node of two entries or more are halves, the joined node is joined, and the pointer before one to a page stands
+-- below it
+abbrev pub HalvedLaw : Type 0
+HalvedLaw = (n : Node) (q : ℕ) → 2 ≤ count n.content → IsHalved n (record (left_half n) { next = Some q }) (right_half n) q
+
+abbrev pub JoinedLaw : Type 0
+JoinedLaw = (n d : Node) → IsJoined n d (received n d)
+
+abbrev pub BeforeLaw : Type 0
+BeforeLaw = (h : ℕ) (n : Node) (c b : ℕ) → IsNodeAt h n → (k : IsBefore c (pointers n.content) b) → In (k.key, c) (pointers n.content) × In (k.low, b) (pointers n.content) × Below k.low k.key
+
+-- A merging child has a pointer before its own. Where that leads stands in the chain, and begins at the pointer's key, which is
+-- lower
+abbrev pub BeforeChildLaw : Type 0
+BeforeChildLaw = (nodes : Nodes) (roots : Tree → Option ℕ) (w : Forest) → WellFormed nodes roots w → (t : Tree) (h p : ℕ) (n : Node) (c : ℕ) → In p (w.chain (place t (suc h))) → nodes p ≡ Some n → n.merging_child ≡ Some c
+    → ((b : ℕ) × IsBefore c (pointers n.content) b)
+    × ((b : ℕ) → (k : IsBefore c (pointers n.content) b) → (d : Node) × In b (w.chain (place t h)) × (nodes b ≡ Some d) × (d.lo ≡ k.low) × Below k.low k.key)
+
+-- an index whose lo is within an upper bound has a pointer within it
+abbrev pub LeadsDownLaw : Type 0
+LeadsDownLaw = (h : ℕ) (n : Node) (bound : Bound Key) (es : List (Key × ℕ)) → IsNodeAt (suc h) n → n.content ≡ Index es → is_up_to bound n.lo ≡ true → list_any (λ e. is_up_to bound e.0) es ≡ true

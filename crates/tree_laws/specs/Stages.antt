@@ -49,19 +49,19 @@ pub record IsHere (m : Moment) (w : Forest) (t : Tree) (number : ℕ) (key : Key
   pub below : IsBelow m w t number height key look parent first unsplit
 
 -- where the right half of a split is posted: at the parent, at the root, or, of a split that serves a merge, nowhere
-pub data Posts : Type 0 where
-  AtParent : (parent : Look) → Posts
-  AtRoot : Posts
-  Nowhere : Posts
+pub data PostsAt : Type 0 where
+  AtParent : (parent : Look) → PostsAt
+  AtRoot : PostsAt
+  Nowhere : PostsAt
 
 -- the page lies below the parent, or is the first of its level
-abbrev pub IsPlace : Moment → Forest → Tree → ℕ → ℕ → Look → Posts → Type 0
+abbrev pub IsPlace : Moment → Forest → Tree → ℕ → ℕ → Look → PostsAt → Type 0
 IsPlace m w t number h page (AtParent parent) = IsParent m w t number h parent × Covers parent.node page.node.lo
 IsPlace m w t number h page AtRoot = page.node.lo ≡ []
 IsPlace m w t number h page Nowhere = Unit {0}
 
 -- an open page is to be split
-pub record IsSplitting (m : Moment) (w : Forest) (t : Tree) (number : ℕ) (page : Look) (posts : Posts) : Type 0 where
+pub record IsSplitting (m : Moment) (w : Forest) (t : Tree) (number : ℕ) (page : Look) (posts : PostsAt) : Type 0 where
   pub height : ℕ
   pub seen : Seen m w (place t height) number page
   pub posted : IsPlace m w t number height page posts
@@ -72,7 +72,7 @@ pub record IsOwn (m : Moment) (w : Forest) (pid version : ℕ) (n : Node) : Type
   pub stray : IsStray w pid
 
 -- the right half is a new page, and the page is to become the left half
-pub record IsReplacing (m : Moment) (w : Forest) (t : Tree) (number : ℕ) (page : Look) (posts : Posts) (left : Node) (at : Key) (new version : ℕ) : Type 0 where
+pub record IsReplacing (m : Moment) (w : Forest) (t : Tree) (number : ℕ) (page : Look) (posts : PostsAt) (left : Node) (at : Key) (new version : ℕ) : Type 0 where
   pub height : ℕ
   pub seen : Seen m w (place t height) number page
   pub posted : IsPlace m w t number height page posts
@@ -144,7 +144,7 @@ pub record IsHalved (n left right : Node) (q : ℕ) : Type 0 where
 
 -- n with what the page behind it holds, whatever its height
 pub record IsJoined (n d both : Node) : Type 0 where
-  pub joined : (h : ℕ) → IsNodeAt h n → IsNodeAt h d → n.hi ≡ d.lo → Below n.lo d.lo → IsReceived h n d both
+  pub joined : (h : ℕ) → IsNodeAt h n → IsNodeAt h d → n.hi ≡ d.lo → Below n.lo d.lo → (d.hi ≡ []) ⊎ Below d.lo d.hi → IsReceived h n d both
 
 -- a leaf as it was read, of a scan or a read that goes on later: it covers the target, and nothing is said of the store
 pub record IsResting (key : Key) (look : Look) : Type 0 where

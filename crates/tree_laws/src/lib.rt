@@ -96,20 +96,44 @@
 //! - `law_now`: A page that stood in a chain, is live and not merging, and whose tree has its number, stands there now.
 //! - `law_acting`: A leaf that a call means to change stays so.
 //!
-//! `levels`: how the pages of a level lie under those of the level above.
+//! `levels`: how the pages of a level lie under those of the level above, and what a node's own functions make of it.
 //!
 //! - `law_inside`: A page lies within the bounds of the index above that covers where it begins.
 //! - `law_reached`: A merge that was done is seen at the page before.
+//! - `law_halved`: The halves of a node of two entries or more make a split, whatever its height.
+//! - `law_joined`: A node with what the node behind it holds is sound, whatever its height.
+//! - `law_before`: The pointer before one to a page has a lower key.
+//! - `law_before_child`: A merging child has a pointer before its own, which leads into the chain at a lower key.
+//! - `law_leads_down`: An index that begins within an upper bound has a pointer within it.
+//!
+//! `maps`: the contents of all trees, as a function of pages and roots.
+//!
+//! - `law_new`: A store with no page and no root is well formed.
+//! - `law_well`: The state at a well-formed moment has the shape of a forest, and its size if the forest has it.
+//! - `law_map`: The map of a name with a root is the contents of its tree.
+//! - `law_quiet`: Where no tree's contents change, no map does.
+//! - `law_changed`: Where one tree's contents change, its map changes so, and no other does.
+//! - `law_quiet_crash`: An action outside every group that no tree's contents show adds nothing to what a crash may leave.
+//! - `law_plants`: A new name over an empty leaf of the call's own has an empty map, and every other map is as it was.
+//! - `law_drops`: A name that is dropped has no map, every other map is as it was, and its chains are left to be freed.
 //!
 //! `meaning`: what the pages say of the trees.
 //!
 //! - `law_find`: What the leaf that covers a key has at it is what the tree has at it.
 //! - `law_range`: A leaf's pairs are the part of the tree's contents that lies within its bounds.
-//! - `law_clean`: A clean path has a page of each level.
 //! - `law_sorted`: The contents of a tree ascend.
 //! - `law_one`: The pages and the roots determine the forest.
-//! - `law_pages`: The number of a tree's pages as a function of pages and roots is the forest's.
 //! - `law_contents`: The contents as a function of pages and roots are the forest's.
+//!
+//! `paths`: reading walks and clean paths.
+//!
+//! - `law_pointer_in`: Where a pointer that is not to the merging child leads stands in the chain below, and begins at its key.
+//! - `law_next_in`: The next page stands in the chain, and begins where this one ends.
+//! - `law_ahead`: A reading walk has fewer pages ahead of it with each step, so that it looks at each page at most once.
+//! - `law_last_pointer`: The last pointer within a bound is one alone, and a later one if it is not the first.
+//! - `law_clean_step`: A walk at the first page of a clean path repairs nothing there, and goes one down the path.
+//! - `law_clean`: A clean path has a page of each level.
+//! - `law_pages`: The number of a tree's pages as a function of pages and roots is the forest's.
 //!
 //! `splits`: what the actions of splits and merges do to the shape, the size and the contents of trees.
 //!
@@ -128,6 +152,7 @@
 //! - `law_cursor_here`: What is known of the cursor of a walk as it is read.
 //! - `law_here`: What a walk knows after it read an open page, by what it goes on to.
 //! - `law_merge_here`: Where a walk read a page with a merging child, that merge begins.
+//! - `law_stood_merges`: Where a page of a level was read with a merging child of its own, that merge begins.
 //! - `law_half`: A split begins with its right half as a new page, and changes no tree.
 //! - `law_left_half`: The page that is split becomes its left half, which changes no tree, and its right half is to be posted or hoisted over.
 //! - `law_pointer`: The pointer to the right half goes into the parent, which changes no tree.
@@ -162,7 +187,9 @@ mod actions;
 mod crashes;
 mod kept;
 mod levels;
+mod maps;
 mod meaning;
+mod paths;
 mod splits;
 mod stages;
 mod steps;
@@ -173,13 +200,21 @@ pub use crashes::{
     law_whole,
 };
 pub use kept::{law_acting, law_now, law_stood, law_view};
-pub use levels::{law_inside, law_reached};
-pub use meaning::{law_clean, law_contents, law_find, law_one, law_pages, law_range, law_sorted};
+pub use levels::{
+    law_before, law_before_child, law_halved, law_inside, law_joined, law_leads_down, law_reached,
+};
+pub use maps::{
+    law_changed, law_drops, law_map, law_new, law_plants, law_quiet, law_quiet_crash, law_well,
+};
+pub use meaning::{law_contents, law_find, law_one, law_range, law_sorted};
+pub use paths::{
+    law_ahead, law_clean, law_clean_step, law_last_pointer, law_next_in, law_pages, law_pointer_in,
+};
 pub use splits::{law_cap, law_confirm, law_intention, law_post, law_receive, law_split};
 pub use stages::{
     law_apart, law_caps, law_child_caps, law_child_seeks, law_confirms, law_cursor_here, law_frees,
     law_half, law_here, law_intend, law_left_half, law_merge_here, law_pointer, law_raise,
-    law_receives, law_root_here, law_seek, law_seek_again, law_stages, law_swap,
+    law_receives, law_root_here, law_seek, law_seek_again, law_stages, law_stood_merges, law_swap,
 };
 pub use steps::{
     law_allocated, law_answer, law_dropped, law_erase, law_freed, law_frees_left, law_hoisted,

@@ -1,5 +1,5 @@
 //! What the pages say of the trees.
-ghost use Rattle.tree_laws.specs.Laws.{CleanLaw, ContentsLaw, FindLaw, OneLaw, PagesLaw, RangeLaw, SortedLaw};
+ghost use Rattle.tree_laws.specs.Laws.{ContentsLaw, FindLaw, OneLaw, RangeLaw, SortedLaw};
 
 /// What the leaf that covers a key has at it is what the tree has at it.
 pub fn law_find()
@@ -11,11 +11,6 @@ pub fn law_range()
     ensures { RangeLaw }
 {}
 
-/// A clean path has a page of each level.
-pub fn law_clean()
-    ensures { CleanLaw }
-{}
-
 /// The contents of a tree ascend.
 pub fn law_sorted()
     ensures { SortedLaw }
@@ -24,11 +19,6 @@ pub fn law_sorted()
 /// The pages and the roots determine the forest.
 pub fn law_one()
     ensures { OneLaw }
-{}
-
-/// The number of a tree's pages as a function of pages and roots is the forest's.
-pub fn law_pages()
-    ensures { PagesLaw }
 {}
 
 /// The contents as a function of pages and roots are the forest's.

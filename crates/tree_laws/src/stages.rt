@@ -1,5 +1,5 @@
 //! What a call in flight knows at its stages, and what its steps do.
-ghost use Rattle.tree_laws.specs.StageLaws.{ApartLaw, CapsLaw, ChildCapsLaw, ChildSeeksLaw, ConfirmsLaw, CursorHereLaw, FreesLaw, HalfLaw, HereLaw, IntendLaw, LeftHalfLaw, MergeHereLaw, PointerLaw, RaiseLaw, ReceivesLaw, RootHereLaw, SeekAgainLaw, SeekLaw, StagesLaw, SwapLaw};
+ghost use Rattle.tree_laws.specs.StageLaws.{ApartLaw, CapsLaw, ChildCapsLaw, ChildSeeksLaw, ConfirmsLaw, CursorHereLaw, FreesLaw, HalfLaw, HereLaw, IntendLaw, LeftHalfLaw, MergeHereLaw, PointerLaw, RaiseLaw, ReceivesLaw, RootHereLaw, SeekAgainLaw, SeekLaw, StagesLaw, StoodMergesLaw, SwapLaw};
 
 /// What a call knows at its stage it knows still after an action of another call.
 pub fn law_stages()
@@ -29,6 +29,11 @@ pub fn law_here()
 /// Where a walk read a page with a merging child, that merge begins.
 pub fn law_merge_here()
     ensures { MergeHereLaw }
+{}
+
+/// Where a page of a level was read with a merging child of its own, that merge begins.
+pub fn law_stood_merges()
+    ensures { StoodMergesLaw }
 {}
 
 /// A split begins with its right half as a new page, and changes no tree.

@@ -1,5 +1,5 @@
 use Rattle.tree_laws.proofs.Looking.{clean_law}
-use Rattle.tree_laws.proofs.meaning.law_clean.Goals as goal
+use Rattle.tree_laws.proofs.paths.law_clean.Goals as goal
 
 pub returns : goal.returns
 returns c = clean_law
