@@ -15,7 +15,8 @@ pub use sled_model::{
     Call, Event, MAX_LOOPS, MergeOperator, Outcome, Reply, Slot, Step, Tree, Whole,
 };
 pub use sled_pages::{
-    Data, Error, Fault, IVec, Index, Leaf, Link, MemPages, Node, Page, Pages, Pid, Result, Version, View,
+    Data, Error, Fault, IVec, Index, Leaf, Link, MemPages, Node, Page, Pages, Pid, Result, Version,
+    View,
 };
 pub use sled_tree::{Flight, Job, Stage, Went};
 
