@@ -3,3 +3,4 @@ pub mod Trees
 pub mod Flying
 pub mod Flushing
 pub mod Opening
+pub mod Reopening

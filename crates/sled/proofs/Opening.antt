@@ -33,7 +33,7 @@ use Rattle.tree_laws.proofs.Fuel.{contents_law}
 use Rattle.sled.specs.declared.TheConstants.{DEFAULT_TREE}
 use Rattle.sled.specs.Values.{DbValue, numbers_of, given_to, moment}
 use Rattle.sled.specs.Sound.{IsDb}
-use Rattle.sled.specs.Opens.{or_empty, with_default, planted, numbered, GrowsByDefault, GrowsAtMost, CanBeOpened, RefusesOpen, HasDefault, AreNumbered, Opens}
+use Rattle.sled.specs.Opens.{or_empty, with_tree, with_default, planted, numbered, GrowsByTree, GrowsAtMost, CanBeOpened, RefusesTree, HasTree, AreNumbered, Opens}
 
 none_some : {P X : Type 0} {x : X} → None ≡ Some x → P
 none_some e = cc
@@ -44,23 +44,7 @@ some_is e = cc
 false_true : {P : Type 0} → false ≡ true → P
 false_true e = cc
 
--- the maps with a default tree
-
--- where there is a default tree there is no other
-pub with_present : (maps : Maps) (m : Map) → maps DEFAULT_TREE.now ≡ Some m → with_default maps ≡ maps
-with_present maps m e = fun_ext (λ t. go t (bytes_eq t DEFAULT_TREE.now) refl)
-  where
-    go : (t : Key) (b : Bool) → bytes_eq t DEFAULT_TREE.now ≡ b → cond b (or_empty (maps t)) (maps t) ≡ maps t
-    go t true q = let f : maps t ≡ Some m = ap maps (same_name t DEFAULT_TREE.now q) ∙ e in ap or_empty f ∙ sym f
-    go t false q = refl
-
-pub planted_present : (maps : Maps) (m : Map) → maps DEFAULT_TREE.now ≡ Some m → planted maps ≡ []
-planted_present maps m e = ap (λ o. cond (is_some o) [] (with_default maps ∷ [])) e
-
-pub planted_absent : (maps : Maps) → maps DEFAULT_TREE.now ≡ None → planted maps ≡ with_default maps ∷ []
-planted_absent maps e = ap (λ o. cond (is_some o) [] (with_default maps ∷ [])) e
-
--- a new page without a home, and the root of the default tree
+-- a new page without a home
 
 module _ {node : Node} {pid version : ℕ} {a b : Store} (are : AreGiven a) (new : Allocates node pid version a b) (w : Forest) (f : WellFormed (nodes_of (now a)) (now a).roots w) where
   abbrev page : Page
@@ -96,199 +80,212 @@ module _ {node : Node} {pid version : ℕ} {a b : Store} (are : AreGiven a) (new
       ∙ ap (λ (r : Tree → Option ℕ). option_map (λ _. contents (nodes_of (now a)) w t) (r t)) roots
       ∙ sym (contents_law (now a) w f are.numbered t))
 
--- the default tree gets its root
-module _ (s : State) (w : Forest) (f : WellFormed (nodes_of s) s.roots w) (below : (p : ℕ) (g : Page) → s.pages p ≡ Some g → p < 2 ^ 64)
-    (r : ℕ) (n : Node) (root : s.roots DEFAULT_TREE.now ≡ None) (stray : IsStray w r) (alone : IsAlone (nodes_of s) r n (kind.Leaf [])) where
-  abbrev rooted : State
-  rooted = after (RootBecomes DEFAULT_TREE.now (Some r)) s
+-- a tree of a name
+module _ (name : Key) where
+  -- the maps with a default tree
 
-  pub planted_well : IsWell rooted
-  planted_well = let u = plant_law (nodes_of s) s.roots w f DEFAULT_TREE.now r n root stray alone in record { forest = u.0.after; formed = u.0.kept }
-
-  pub planted_trees : trees_of rooted ≡ with_default (trees_of s)
-  planted_trees =
-      let u = plant_law (nodes_of s) s.roots w f DEFAULT_TREE.now r n root stray alone in
-      fun_ext (λ t. contents_law rooted u.0.after u.0.kept below t ∙ go u.0.after u.0.others u.1 t (bytes_eq t DEFAULT_TREE.now) refl)
+  -- where there is a default tree there is no other
+  pub with_present : (maps : Maps) (m : Map) → maps name ≡ Some m → with_tree name maps ≡ maps
+  with_present maps m e = fun_ext (λ t. go t (bytes_eq t name) refl)
     where
-      go : (v : Forest) → ((u : Tree) → u ≢ DEFAULT_TREE.now → contents (nodes_of s) v u ≡ contents (nodes_of s) w u) → contents (nodes_of s) v DEFAULT_TREE.now ≡ [] → (t : Key) (b : Bool) → bytes_eq t DEFAULT_TREE.now ≡ b
-          → option_map (λ _. contents (nodes_of s) v t) (cond b (Some r) (s.roots t)) ≡ cond b (or_empty (trees_of s t)) (trees_of s t)
-      go v others empty t true q =
-          let e : t ≡ DEFAULT_TREE.now = same_name t DEFAULT_TREE.now q in
-          ap Some (ap (contents (nodes_of s) v) e ∙ empty) ∙ sym (ap or_empty (contents_law s w f below t ∙ ap (option_map (λ _. contents (nodes_of s) w t)) (ap s.roots e ∙ root)))
-      go v others empty t false q =
-          ap (λ c. option_map (λ _. c) (s.roots t)) (others t (λ e. false_true (sym q ∙ ap (λ z. bytes_eq z DEFAULT_TREE.now) e ∙ Rattle.sled_pages.specs.Facts.name_itself DEFAULT_TREE.now))) ∙ sym (contents_law s w f below t)
+      go : (t : Key) (b : Bool) → bytes_eq t name ≡ b → cond b (or_empty (maps t)) (maps t) ≡ maps t
+      go t true q = let f : maps t ≡ Some m = ap maps (same_name t name q) ∙ e in ap or_empty f ∙ sym f
+      go t false q = refl
 
--- what may be refused still
+  pub planted_present : (maps : Maps) (m : Map) → maps name ≡ Some m → planted name maps ≡ []
+  planted_present maps m e = ap (λ o. cond (is_some o) [] (with_tree name maps ∷ [])) e
 
--- a fault is counted, and nothing else changes
-faulted : {maps : List Maps} {a b : Store} (n : ℕ) → Extends maps a b → Extends maps a (record b { faults = n })
-faulted n x = record { base = x.base; added = x.added; recent = x.recent; actions = x.actions; grew = x.grew; safe = λ s. record { well = (x.safe s).well } }
+  pub planted_absent : (maps : Maps) → maps name ≡ None → planted name maps ≡ with_tree name maps ∷ []
+  planted_absent maps e = ap (λ o. cond (is_some o) [] (with_tree name maps ∷ [])) e
 
-faulted_again : {a b : Store} (n : ℕ) → CanBeOpened a b → CanBeOpened a (record b { faults = n })
-faulted_again n k = record {
-  grows = elim k.grows [ inl g ↦ inl (faulted n g.0, g.1) | inr g ↦ inr (faulted n g.0, g.1) ];
-  few = k.few;
-  well = k.well;
-  calm = k.calm;
-  mark = k.mark;
-  recovered = k.recovered;
-  readable = k.readable;
-}
+  -- the tree gets its root
+  module _ (s : State) (w : Forest) (f : WellFormed (nodes_of s) s.roots w) (below : (p : ℕ) (g : Page) → s.pages p ≡ Some g → p < 2 ^ 64)
+      (r : ℕ) (n : Node) (root : s.roots name ≡ None) (stray : IsStray w r) (alone : IsAlone (nodes_of s) r n (kind.Leaf [])) where
+    abbrev rooted : State
+    rooted = after (RootBecomes name (Some r)) s
 
--- the store refuses a call
-pub refused : (a b c : Store) (e : Error) → CanBeOpened a b → b.faults ≡ a.faults → Refused e b c → RefusesOpen a e c
-refused a b c error.NoMemory k f r = record {
-  cause = record { told = ap (λ (s : Store). s.faults) r.told ∙ f };
-  again = subst (λ (s : Store). CanBeOpened a s) (sym r.told) k;
-}
-refused a b c (error.Io fault) k f r = record {
-  cause = record { told = ap (λ (s : Store). s.faults) r.told ∙ ap (λ n. n + 1) f };
-  again = subst (λ (s : Store). CanBeOpened a s) (sym r.told) (faulted_again (b.faults + 1) k);
-}
-refused a b c (error.CollectionNotFound name) k f r = absurd r.told
-refused a b c (error.Unsupported text) k f r = absurd r.told
-refused a b c (error.ReportableBug text) k f r = absurd r.told
-refused a b c (error.Corruption fault) k f r = absurd r.told
-refused a b c error.FullQueue k f r = absurd r.told
-refused a b c error.Closed k f r = absurd r.told
+    pub planted_well : IsWell rooted
+    planted_well = let u = plant_law (nodes_of s) s.roots w f name r n root stray alone in record { forest = u.0.after; formed = u.0.kept }
 
--- there is no memory
-pub no_memory : (a b : Store) (e : Error) → e ≡ error.NoMemory → CanBeOpened a b → b.faults ≡ a.faults → RefusesOpen a e b
-no_memory a b e is k f = subst (λ z. RefusesOpen a z b) (sym is) (record { cause = record { told = f }; again = k })
+    pub planted_trees : trees_of rooted ≡ with_tree name (trees_of s)
+    planted_trees =
+        let u = plant_law (nodes_of s) s.roots w f name r n root stray alone in
+        fun_ext (λ t. contents_law rooted u.0.after u.0.kept below t ∙ go u.0.after u.0.others u.1 t (bytes_eq t name) refl)
+      where
+        go : (v : Forest) → ((u : Tree) → u ≢ name → contents (nodes_of s) v u ≡ contents (nodes_of s) w u) → contents (nodes_of s) v name ≡ [] → (t : Key) (b : Bool) → bytes_eq t name ≡ b
+            → option_map (λ _. contents (nodes_of s) v t) (cond b (Some r) (s.roots t)) ≡ cond b (or_empty (trees_of s t)) (trees_of s t)
+        go v others empty t true q =
+            let e : t ≡ name = same_name t name q in
+            ap Some (ap (contents (nodes_of s) v) e ∙ empty) ∙ sym (ap or_empty (contents_law s w f below t ∙ ap (option_map (λ _. contents (nodes_of s) w t)) (ap s.roots e ∙ root)))
+        go v others empty t false q =
+            ap (λ c. option_map (λ _. c) (s.roots t)) (others t (λ e. false_true (sym q ∙ ap (λ z. bytes_eq z name) e ∙ Rattle.sled_pages.specs.Facts.name_itself name))) ∙ sym (contents_law s w f below t)
 
-pub again_same : (a : Store) → IsWell (now a) → (now a).in_group ≡ false → CanBeOpened a a
-again_same a well calm = record { grows = inl (extends_same a, refl); few = omega arith; well = well; calm = calm; mark = refl; recovered = refl; readable = refl }
+  -- what may be refused still
 
--- the default tree is there
-pub has_present : (a : Store) → IsWell (now a) → (now a).in_group ≡ false → is_some ((now a).roots DEFAULT_TREE.now) ≡ true → HasDefault a a
-has_present a well calm there = go ((now a).roots DEFAULT_TREE.now) refl there
-  where
-    go : (o : Option ℕ) → (now a).roots DEFAULT_TREE.now ≡ o → is_some o ≡ true → HasDefault a a
-    go None e t = false_true t
-    go (Some r) e t =
-        let m : trees_of (now a) DEFAULT_TREE.now ≡ Some _ = ap (option_map (Rattle.tree_laws.specs.Contents.pairs_under (nodes_of (now a)))) e in
-        let none = planted_present (trees_of (now a)) _ m in
+  -- a fault is counted, and nothing else changes
+  faulted : {maps : List Maps} {a b : Store} (n : ℕ) → Extends maps a b → Extends maps a (record b { faults = n })
+  faulted n x = record { base = x.base; added = x.added; recent = x.recent; actions = x.actions; grew = x.grew; safe = λ s. record { well = (x.safe s).well } }
+
+  faulted_again : {a b : Store} (n : ℕ) → CanBeOpened name a b → CanBeOpened name a (record b { faults = n })
+  faulted_again n k = record {
+    grows = elim k.grows [ inl g ↦ inl (faulted n g.0, g.1) | inr g ↦ inr (faulted n g.0, g.1) ];
+    few = k.few;
+    well = k.well;
+    calm = k.calm;
+    mark = k.mark;
+    recovered = k.recovered;
+    readable = k.readable;
+  }
+
+  -- the store refuses a call
+  pub refused : (a b c : Store) (e : Error) → CanBeOpened name a b → b.faults ≡ a.faults → Refused e b c → RefusesTree name a e c
+  refused a b c error.NoMemory k f r = record {
+    cause = record { told = ap (λ (s : Store). s.faults) r.told ∙ f };
+    again = subst (λ (s : Store). CanBeOpened name a s) (sym r.told) k;
+  }
+  refused a b c (error.Io fault) k f r = record {
+    cause = record { told = ap (λ (s : Store). s.faults) r.told ∙ ap (λ n. n + 1) f };
+    again = subst (λ (s : Store). CanBeOpened name a s) (sym r.told) (faulted_again (b.faults + 1) k);
+  }
+  refused a b c (error.CollectionNotFound name) k f r = absurd r.told
+  refused a b c (error.Unsupported text) k f r = absurd r.told
+  refused a b c (error.ReportableBug text) k f r = absurd r.told
+  refused a b c (error.Corruption fault) k f r = absurd r.told
+  refused a b c error.FullQueue k f r = absurd r.told
+  refused a b c error.Closed k f r = absurd r.told
+
+  -- there is no memory
+  pub no_memory : (a b : Store) (e : Error) → e ≡ error.NoMemory → CanBeOpened name a b → b.faults ≡ a.faults → RefusesTree name a e b
+  no_memory a b e is k f = subst (λ z. RefusesTree name a z b) (sym is) (record { cause = record { told = f }; again = k })
+
+  pub again_same : (a : Store) → IsWell (now a) → (now a).in_group ≡ false → CanBeOpened name a a
+  again_same a well calm = record { grows = inl (extends_same a, refl); few = omega arith; well = well; calm = calm; mark = refl; recovered = refl; readable = refl }
+
+  -- the tree is there
+  pub has_present : (a : Store) → IsWell (now a) → (now a).in_group ≡ false → is_some ((now a).roots name) ≡ true → HasTree name a a
+  has_present a well calm there = go ((now a).roots name) refl there
+    where
+      go : (o : Option ℕ) → (now a).roots name ≡ o → is_some o ≡ true → HasTree name a a
+      go None e t = false_true t
+      go (Some r) e t =
+          let m : trees_of (now a) name ≡ Some _ = ap (option_map (Rattle.tree_laws.specs.Contents.pairs_under (nodes_of (now a)))) e in
+          let none = planted_present (trees_of (now a)) _ m in
+          record {
+            grows = record {
+              extends = subst (λ l. Extends l a a) (sym none) (extends_same a);
+              actions = more (length (planted name (trees_of (now a)))) (ap length none);
+            };
+            maps = sym (with_present (trees_of (now a)) _ m);
+            faults = refl;
+            again = again_same a well calm;
+          }
+        where
+          more : (n : ℕ) → n ≡ 0 → a.actions ≡ a.actions + 2 * n
+          more n e = omega arith
+
+  -- it is made
+  module _ {node : Node} {pid version : ℕ} {a b : Store} (well : IsWell (now a)) (calm : (now a).in_group ≡ false) (are : AreGiven a) (on : AreGiven b)
+      (none : (now a).roots name ≡ None) (new : Allocates node pid version a b) where
+    w : Forest
+    w = well.forest
+
+    unseen : trees_of (now b) ≡ trees_of (now a)
+    unfolding w
+    unseen = made_same are new w well.formed on
+
+    calm_then : (now b).in_group ≡ false
+    calm_then = ap (λ (s : State). s.in_group) (now_allocates node pid version a b new) ∙ calm
+
+    well_then : IsWell (now b)
+    unfolding w
+    well_then = record { forest = w; formed = made_formed are new w well.formed }
+
+    absent : trees_of (now a) name ≡ None
+    absent = ap (option_map (Rattle.tree_laws.specs.Contents.pairs_under (nodes_of (now a)))) none
+
+    one : length (planted name (trees_of (now a))) ≡ 1
+    one = ap length (planted_absent (trees_of (now a)) absent)
+
+    grown : Extends [] a b
+    grown = adds_unseen (adds_page new) calm calm_then well_then unseen
+
+    pub made_again : CanBeOpened name a b
+    made_again = record {
+      grows = inl (grown, unseen);
+      few = few a.actions b.actions (length (planted name (trees_of (now a)))) one (adds_page new).actions;
+      well = well_then;
+      calm = calm_then;
+      mark = ap (λ (s : Store). s.mark) new.is;
+      recovered = ap (λ (s : Store). s.recovered) new.is;
+      readable = ap (λ (s : Store). s.is_readable) new.is;
+    }
+      where
+        few : (x y n : ℕ) → n ≡ 1 → y ≡ x + 1 → y ≤ x + 2 * n
+        few x y n e f = omega arith
+
+    pub made_faults : b.faults ≡ a.faults
+    made_faults = ap (λ (s : Store). s.faults) new.is
+
+    pub made_root : (now b).roots name ≡ None
+    made_root = ap (λ (s : State). s.roots name) (now_allocates node pid version a b new) ∙ none
+
+    pub has_planted : node ≡ record { lo = []; hi = []; next = None; merging = false; merging_child = None; content = kind.Leaf [] } → (c : Store) → c ≡ acted (RootBecomes name (Some pid)) b → HasTree name a c
+    unfolding w
+    has_planted is c e =
+        let alone : IsAlone (nodes_of (now b)) pid node (kind.Leaf []) = record {
+          live = made_live are new w well.formed;
+          lo = ap (λ (n : Node). n.lo) is;
+          hi = ap (λ (n : Node). n.hi) is;
+          next = ap (λ (n : Node). n.next) is;
+          merging = ap (λ (n : Node). n.merging) is;
+          merging_child = ap (λ (n : Node). n.merging_child) is;
+          content = ap (λ (n : Node). n.content) is;
+        } in
+        let f = made_formed are new w well.formed in
+        let stray = made_stray are new w well.formed in
+        let at : now c ≡ after (RootBecomes name (Some pid)) (now b) = ap now e ∙ now_acted _ b in
+        let good : IsWell (now c) = subst IsWell (sym at) (planted_well (now b) w f on.numbered pid node made_root stray alone) in
+        let maps : trees_of (now c) ≡ with_tree name (trees_of (now a)) = ap trees_of at ∙ planted_trees (now b) w f on.numbered pid node made_root stray alone ∙ ap (with_tree name) unseen in
+        let out : (now c).in_group ≡ false = ap (λ (s : State). s.in_group) at ∙ calm_then in
+        let adds = adds_is e in
+        let all : Extends (planted name (trees_of (now a))) a c =
+        subst (λ l. Extends l a c) (ap (λ (m : Maps). m ∷ []) maps ∙ sym (planted_absent (trees_of (now a)) absent)) (extends_then grown (adds_extends adds out good)) in
+        let count : c.actions ≡ a.actions + 2 * length (planted name (trees_of (now a))) = two a.actions b.actions c.actions (length (planted name (trees_of (now a)))) one (adds_page new).actions adds.actions in
         record {
-          grows = record {
-            extends = subst (λ l. Extends l a a) (sym none) (extends_same a);
-            actions = more (length (planted (trees_of (now a)))) (ap length none);
+          grows = record { extends = all; actions = count };
+          maps = maps;
+          faults = ap (λ (s : Store). s.faults) e ∙ made_faults;
+          again = record {
+            grows = inr (all, maps);
+            few = at_most _ _ count;
+            well = good;
+            calm = out;
+            mark = ap (λ (s : Store). s.mark) e ∙ ap (λ (s : Store). s.mark) new.is;
+            recovered = ap (λ (s : Store). s.recovered) e ∙ ap (λ (s : Store). s.recovered) new.is;
+            readable = ap (λ (s : Store). s.is_readable) e ∙ ap (λ (s : Store). s.is_readable) new.is;
           };
-          maps = sym (with_present (trees_of (now a)) _ m);
-          faults = refl;
-          again = again_same a well calm;
         }
       where
-        more : (n : ℕ) → n ≡ 0 → a.actions ≡ a.actions + 2 * n
-        more n e = omega arith
+        two : (x y z n : ℕ) → n ≡ 1 → y ≡ x + 1 → z ≡ y + 1 → z ≡ x + 2 * n
+        two x y z n e f g = omega arith
 
--- it is made
-module _ {node : Node} {pid version : ℕ} {a b : Store} (well : IsWell (now a)) (calm : (now a).in_group ≡ false) (are : AreGiven a) (on : AreGiven b)
-    (none : (now a).roots DEFAULT_TREE.now ≡ None) (new : Allocates node pid version a b) where
-  w : Forest
-  w = well.forest
+        at_most : (x y : ℕ) → x ≡ y → x ≤ y
+        at_most x y e = omega arith
 
-  unseen : trees_of (now b) ≡ trees_of (now a)
-  unfolding w
-  unseen = made_same are new w well.formed on
+  -- what the root is found to be
 
-  calm_then : (now b).in_group ≡ false
-  calm_then = ap (λ (s : State). s.in_group) (now_allocates node pid version a b new) ∙ calm
+  pub root_none : (f : Key → Option ℕ) (o : Option ℕ) (b : Bool) → o ≡ f name → b ≡ is_some o → b ≡ false → f name ≡ None
+  root_none f None b is some missing = sym is
+  root_none f (Some r) b is some missing = false_true (sym missing ∙ some)
 
-  well_then : IsWell (now b)
-  unfolding w
-  well_then = record { forest = w; formed = made_formed are new w well.formed }
+  -- no other root can stand in the way
+  pub no_other : {p : Option ℕ} {b c : Store} {answer : Result (Unit {0}) (Option ℕ)} (present : Option ℕ) → (now b).roots name ≡ None → SwapsRoot name None p b c answer → answer ≡ Err present → ⊥
+  no_other {p} {b} {c} present none s is =
+      let t : SwapsRoot name None p b c (Err present) = subst (λ z. SwapsRoot name None p b c z) is s in
+      t.told.2 (t.told.1 ∙ none)
 
-  absent : trees_of (now a) DEFAULT_TREE.now ≡ None
-  absent = ap (option_map (Rattle.tree_laws.specs.Contents.pairs_under (nodes_of (now a)))) none
-
-  one : length (planted (trees_of (now a))) ≡ 1
-  one = ap length (planted_absent (trees_of (now a)) absent)
-
-  grown : Extends [] a b
-  grown = adds_unseen (adds_page new) calm calm_then well_then unseen
-
-  pub made_again : CanBeOpened a b
-  made_again = record {
-    grows = inl (grown, unseen);
-    few = few a.actions b.actions (length (planted (trees_of (now a)))) one (adds_page new).actions;
-    well = well_then;
-    calm = calm_then;
-    mark = ap (λ (s : Store). s.mark) new.is;
-    recovered = ap (λ (s : Store). s.recovered) new.is;
-    readable = ap (λ (s : Store). s.is_readable) new.is;
-  }
-    where
-      few : (x y n : ℕ) → n ≡ 1 → y ≡ x + 1 → y ≤ x + 2 * n
-      few x y n e f = omega arith
-
-  pub made_faults : b.faults ≡ a.faults
-  made_faults = ap (λ (s : Store). s.faults) new.is
-
-  pub made_root : (now b).roots DEFAULT_TREE.now ≡ None
-  made_root = ap (λ (s : State). s.roots DEFAULT_TREE.now) (now_allocates node pid version a b new) ∙ none
-
-  pub has_planted : node ≡ record { lo = []; hi = []; next = None; merging = false; merging_child = None; content = kind.Leaf [] } → (c : Store) → c ≡ acted (RootBecomes DEFAULT_TREE.now (Some pid)) b → HasDefault a c
-  unfolding w
-  has_planted is c e =
-      let alone : IsAlone (nodes_of (now b)) pid node (kind.Leaf []) = record {
-        live = made_live are new w well.formed;
-        lo = ap (λ (n : Node). n.lo) is;
-        hi = ap (λ (n : Node). n.hi) is;
-        next = ap (λ (n : Node). n.next) is;
-        merging = ap (λ (n : Node). n.merging) is;
-        merging_child = ap (λ (n : Node). n.merging_child) is;
-        content = ap (λ (n : Node). n.content) is;
-      } in
-      let f = made_formed are new w well.formed in
-      let stray = made_stray are new w well.formed in
-      let at : now c ≡ after (RootBecomes DEFAULT_TREE.now (Some pid)) (now b) = ap now e ∙ now_acted _ b in
-      let good : IsWell (now c) = subst IsWell (sym at) (planted_well (now b) w f on.numbered pid node made_root stray alone) in
-      let maps : trees_of (now c) ≡ with_default (trees_of (now a)) = ap trees_of at ∙ planted_trees (now b) w f on.numbered pid node made_root stray alone ∙ ap with_default unseen in
-      let out : (now c).in_group ≡ false = ap (λ (s : State). s.in_group) at ∙ calm_then in
-      let adds = adds_is e in
-      let all : Extends (planted (trees_of (now a))) a c =
-      subst (λ l. Extends l a c) (ap (λ (m : Maps). m ∷ []) maps ∙ sym (planted_absent (trees_of (now a)) absent)) (extends_then grown (adds_extends adds out good)) in
-      let count : c.actions ≡ a.actions + 2 * length (planted (trees_of (now a))) = two a.actions b.actions c.actions (length (planted (trees_of (now a)))) one (adds_page new).actions adds.actions in
-      record {
-        grows = record { extends = all; actions = count };
-        maps = maps;
-        faults = ap (λ (s : Store). s.faults) e ∙ made_faults;
-        again = record {
-          grows = inr (all, maps);
-          few = at_most _ _ count;
-          well = good;
-          calm = out;
-          mark = ap (λ (s : Store). s.mark) e ∙ ap (λ (s : Store). s.mark) new.is;
-          recovered = ap (λ (s : Store). s.recovered) e ∙ ap (λ (s : Store). s.recovered) new.is;
-          readable = ap (λ (s : Store). s.is_readable) e ∙ ap (λ (s : Store). s.is_readable) new.is;
-        };
-      }
-    where
-      two : (x y z n : ℕ) → n ≡ 1 → y ≡ x + 1 → z ≡ y + 1 → z ≡ x + 2 * n
-      two x y z n e f g = omega arith
-
-      at_most : (x y : ℕ) → x ≡ y → x ≤ y
-      at_most x y e = omega arith
-
--- what the root of the default tree is found to be
-
-pub root_there : (f : Key → Option ℕ) (k : Key) (o : Option ℕ) (b : Bool) → k ≡ DEFAULT_TREE.now → o ≡ f k → b ≡ is_some o → b ≡ true → is_some (f DEFAULT_TREE.now) ≡ true
-root_there f k o b at is some there = ap (λ z. is_some (f z)) (sym at) ∙ ap is_some (sym is) ∙ sym some ∙ there
-
-pub root_none : (f : Key → Option ℕ) (k : Key) (o : Option ℕ) (b : Bool) → k ≡ DEFAULT_TREE.now → o ≡ f k → b ≡ is_some o → b ≡ false → f DEFAULT_TREE.now ≡ None
-root_none f k None b at is some missing = sym (is ∙ ap f at)
-root_none f k (Some r) b at is some missing = false_true (sym missing ∙ some)
-
--- no other root can stand in the way
-pub no_other : {p : Option ℕ} {b c : Store} {answer : Result (Unit {0}) (Option ℕ)} (k : Key) (present : Option ℕ) → k ≡ DEFAULT_TREE.now → (now b).roots DEFAULT_TREE.now ≡ None → SwapsRoot k None p b c answer → answer ≡ Err present → ⊥
-no_other {p} {b} {c} k present at none s is =
-    let t : SwapsRoot k None p b c (Err present) = subst (λ z. SwapsRoot k None p b c z) is s in
-    t.told.2 (t.told.1 ∙ ap (now b).roots at ∙ none)
-
-pub swapped : {r : ℕ} {b c : Store} {answer : Result (Unit {0}) (Option ℕ)} (k : Key) (done : Unit {0}) → k ≡ DEFAULT_TREE.now → SwapsRoot k None (Some r) b c answer → answer ≡ Ok done → c ≡ acted (RootBecomes DEFAULT_TREE.now (Some r)) b
-swapped {r} {b} {c} k done at s is =
-    let t : SwapsRoot k None (Some r) b c (Ok done) = subst (λ z. SwapsRoot k None (Some r) b c z) is s in
-    t.told.1 ∙ ap (λ z. acted (RootBecomes z (Some r)) b) at
+  pub swapped : {r : ℕ} {b c : Store} {answer : Result (Unit {0}) (Option ℕ)} (done : Unit {0}) → SwapsRoot name None (Some r) b c answer → answer ≡ Ok done → c ≡ acted (RootBecomes name (Some r)) b
+  swapped {r} {b} {c} done s is = (subst (λ z. SwapsRoot name None (Some r) b c z) is s).told.1
 
 -- the numbers of the names
 
@@ -347,6 +344,10 @@ none_no : {X : Type 0} (o : Option X) → is_some o ≡ true → (x : X) × (o �
 none_no None e = false_true e
 none_no (Some x) e = (x, refl)
 
+-- the same, of the default tree
+pub has_default : {a b : Store} (k : Key) → k ≡ DEFAULT_TREE.now → HasTree k a b → HasTree DEFAULT_TREE.now a b
+has_default {a} {b} k e h = subst (λ z. HasTree z a b) e h
+
 -- the trees of a store are numbered
 module _ (s : Store) {trees : List (Key × ℕ)} (all : AreNumbered (now s) trees) where
   pub is_number : (t : Key) → is_some (numbers_of trees t) ≡ is_some ((now s).roots t)
@@ -369,7 +370,7 @@ module _ (s : Store) {trees : List (Key × ℕ)} (all : AreNumbered (now s) tree
       within : (n m given : ℕ) → 0 < n → n ≤ 0 + m → given ≡ m → given_to given n ≡ true
       within n m given p q e = grind (arith, nat_tests)
 
-  pub opened_db : (given : ℕ) → given ≡ length trees → AreGiven s → (a c : Store) → HasDefault a s → c ≡ flushed s → IsDb c trees given
+  pub opened_db : (given : ℕ) → given ≡ length trees → AreGiven s → (a c : Store) → HasTree DEFAULT_TREE.now a s → c ≡ flushed s → IsDb c trees given
   opened_db given count are a c h e =
       let well = h.again.well in
       subst (λ (z : Store). IsDb z trees given) (sym e) (record {
@@ -395,7 +396,7 @@ module _ (s : Store) {trees : List (Key × ℕ)} (all : AreNumbered (now s) tree
       there = sym (mapped ((now s).roots DEFAULT_TREE.now)) ∙ ap is_some maps ∙ full (trees_of (now a) DEFAULT_TREE.now)
 
 -- the database that is opened
-pub opens : {P M : Type 0} (store : P → Store) (a s : Store) (called : Key) (d : DbValue P M) → HasDefault a s → AreNumbered (now s) d.trees → store d.pages ≡ flushed s
+pub opens : {P M : Type 0} (store : P → Store) (a s : Store) (called : Key) (d : DbValue P M) → HasTree DEFAULT_TREE.now a s → AreNumbered (now s) d.trees → store d.pages ≡ flushed s
     → d.trees_given ≡ length d.trees → d.greatest_id ≡ (store d.pages).mark → d.operators ≡ [] → d.name ≡ called → Opens store a called d
 opens store a s called d h all e given ids operators name = record {
   middle = s;

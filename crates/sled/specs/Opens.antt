@@ -17,34 +17,37 @@ abbrev pub or_empty : Option Map → Option Map
 or_empty None = Some []
 or_empty (Some m) = Some m
 
--- these maps, and an empty default tree where there is no default tree
-abbrev pub with_default : Maps → Maps
-with_default maps t = if bytes_eq t DEFAULT_TREE.now then or_empty (maps t) else maps t
+-- these maps, and an empty tree of this name where there is none
+abbrev pub with_tree : Key → Maps → Maps
+with_tree name maps t = if bytes_eq t name then or_empty (maps t) else maps t
 
--- the maps that opening adds: none where there is a default tree, and else those with the empty one
-abbrev pub planted : Maps → List Maps
-planted maps = if is_some (maps DEFAULT_TREE.now) then [] else (with_default maps ∷ [])
+abbrev pub with_default : Maps → Maps
+with_default = with_tree DEFAULT_TREE.now
+
+-- the maps that are added: none where there is a tree of this name, and else those with the empty one
+abbrev pub planted : Key → Maps → List Maps
+planted name maps = if is_some (maps name) then [] else (with_tree name maps ∷ [])
 
 -- numbers from n + 1 on, in the order of the names
 abbrev pub numbered : ℕ → List Key → List (Key × ℕ)
 numbered n [] = []
 numbered n (name ∷ names) = (name, n + 1) ∷ numbered (n + 1) names
 
--- where there was no default tree an empty one was made, by two actions; and else no action was done
-pub record GrowsByDefault (old new : Store) : Type 0 where
-  pub extends : Extends (planted (trees_of (now old))) old new
-  pub actions : new.actions ≡ old.actions + 2 * length (planted (trees_of (now old)))
+-- where there was no tree of this name an empty one was made, by two actions; and else no action was done
+pub record GrowsByTree (name : Key) (old new : Store) : Type 0 where
+  pub extends : Extends (planted name (trees_of (now old))) old new
+  pub actions : new.actions ≡ old.actions + 2 * length (planted name (trees_of (now old)))
 
--- the maps are those of before and none was added, or the default tree is made
-abbrev pub GrowsAtMost : Store → Store → Type 0
-GrowsAtMost old new =
+-- the maps are those of before and none was added, or the tree is made
+abbrev pub GrowsAtMost : Key → Store → Store → Type 0
+GrowsAtMost name old new =
     (Extends [] old new × (trees_of (now new) ≡ trees_of (now old)))
-    ⊎ (Extends (planted (trees_of (now old))) old new × (trees_of (now new) ≡ with_default (trees_of (now old))))
+    ⊎ (Extends (planted name (trees_of (now old))) old new × (trees_of (now new) ≡ with_tree name (trees_of (now old))))
 
--- The store can be opened. It has the maps of before, with or without the empty default tree
-pub record CanBeOpened (old new : Store) : Type 0 where
-  pub grows : GrowsAtMost old new
-  pub few : new.actions ≤ old.actions + 2 * length (planted (trees_of (now old)))
+-- The store can be opened. It has the maps of before, with or without an empty tree of this name
+pub record CanBeOpened (name : Key) (old new : Store) : Type 0 where
+  pub grows : GrowsAtMost name old new
+  pub few : new.actions ≤ old.actions + 2 * length (planted name (trees_of (now old)))
   pub well : IsWell (now new)
   pub calm : (now new).in_group ≡ false
   pub mark : new.mark ≡ old.mark
@@ -52,16 +55,20 @@ pub record CanBeOpened (old new : Store) : Type 0 where
   pub readable : new.is_readable ≡ old.is_readable
 
 -- refused for a fault, which is counted, or for want of memory; and the store can be opened again
-pub record RefusesOpen (old : Store) (e : Error) (new : Store) : Type 0 where
+pub record RefusesTree (name : Key) (old : Store) (e : Error) (new : Store) : Type 0 where
   pub cause : IsFault old.faults new.faults e
-  pub again : CanBeOpened old new
+  pub again : CanBeOpened name old new
 
--- there is a default tree now, and no fault was met
-pub record HasDefault (old new : Store) : Type 0 where
-  pub grows : GrowsByDefault old new
-  pub maps : trees_of (now new) ≡ with_default (trees_of (now old))
+-- opening is refused, and at most the empty default tree is new
+abbrev pub RefusesOpen : Store → Error → Store → Type 0
+RefusesOpen = RefusesTree DEFAULT_TREE.now
+
+-- there is a tree of this name now, and no fault was met
+pub record HasTree (name : Key) (old new : Store) : Type 0 where
+  pub grows : GrowsByTree name old new
+  pub maps : trees_of (now new) ≡ with_tree name (trees_of (now old))
   pub faults : new.faults ≡ old.faults
-  pub again : CanBeOpened old new
+  pub again : CanBeOpened name old new
 
 -- the names that have roots are numbered from 1, in their order
 pub record AreNumbered (s : State) (trees : List (Key × ℕ)) : Type 0 where
@@ -73,7 +80,7 @@ pub record AreNumbered (s : State) (trees : List (Key × ℕ)) : Type 0 where
 pub record Opens {P M : Type 0} (store : P → Store) (before : Store) (called : Key) (d : DbValue P M) : Type 0 where
   -- the default tree is made where there is none, and then all is flushed
   pub middle : Store
-  pub grows : GrowsByDefault before middle
+  pub grows : GrowsByTree DEFAULT_TREE.now before middle
   pub flushes : Flushes middle (store d.pages)
   -- every tree has its map of before
   pub maps : trees_of (now (store d.pages)) ≡ with_default (trees_of (now before))

@@ -4,7 +4,7 @@ ghost use Rattle.sled_pages.specs.declared.error.Error.TheVariants.{NoMemory};
 ghost use Rattle.sled_pages.specs.declared.node.Data.TheVariants as kind;
 ghost use Rattle.sled_pages.specs.Store.{now};
 ghost use Rattle.tree_laws.specs.Crashes.{IsWell};
-ghost use Rattle.sled.specs.Opens.{Opens, RefusesOpen, HasDefault, AreNumbered, numbered};
+ghost use Rattle.sled.specs.Opens.{Opens, RefusesOpen, RefusesTree, HasTree, AreNumbered, numbered};
 
 use crate::DEFAULT_TREE;
 use crate::db::Db;
@@ -26,14 +26,14 @@ fn empty_leaf(alloc: Global) -> Result<Node>
     })
 }
 
-// Makes an empty default tree where there is none.
-fn plant_default<P: Pages>(alloc: Global, pages: &mut P) -> Result<()>
+// Makes an empty tree of this name where there is none.
+pub(crate) fn plant<P: Pages>(alloc: Global, pages: &mut P, name: &[u8]) -> Result<()>
     requires well { IsWell (now (P.store pages.old)) }
     requires calm { (now (P.store pages.old)).in_group ≡ false }
-    ensures ok { OnOk result (HasDefault (P.store pages.old) (P.store pages.new)) }
-    ensures err { IfErr result (λ e. RefusesOpen (P.store pages.old) e (P.store pages.new)) }
+    ensures ok { OnOk result (HasTree name.now (P.store pages.old) (P.store pages.new)) }
+    ensures err { IfErr result (λ e. RefusesTree name.now (P.store pages.old) e (P.store pages.new)) }
 {
-    if pages.root(DEFAULT_TREE.as_bytes()).is_some() {
+    if pages.root(name).is_some() {
         return Ok(());
     }
     let node = match empty_leaf(alloc) {
@@ -46,7 +46,7 @@ fn plant_default<P: Pages>(alloc: Global, pages: &mut P) -> Result<()>
         Err(e) => return Err(e),
     };
     law_given(pages);
-    match pages.cas_root(DEFAULT_TREE.as_bytes(), None, Some(pid)) {
+    match pages.cas_root(name, None, Some(pid)) {
         Ok(Ok(())) => Ok(()),
         Ok(Err(_)) => unreachable!(),
         Err(e) => Err(e),
@@ -88,7 +88,7 @@ impl<P: Pages> Db<P> {
         ensures err { IfErr result (λ e. RefusesOpen (P.store pages) e.1 (P.store e.0)) }
     {
         let mut pages = pages;
-        if let Err(e) = plant_default(alloc, &mut pages) {
+        if let Err(e) = plant(alloc, &mut pages, DEFAULT_TREE.as_bytes()) {
             return Err((pages, e));
         }
         let trees = match number_trees(alloc, &pages) {
