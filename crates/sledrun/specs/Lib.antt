@@ -1,3 +1,4 @@
 pub mod Words
 pub mod Command
 pub mod Print
+pub mod Serve

@@ -1,5 +1,5 @@
 -- Words: how the byte strings, the numbers and the words themselves stand in a line.
-use Rattle.std.specs.Prelude.{◌≡◌, ℕ, ◌+◌, ◌-◌, ◌*◌, ◌/◌, ◌%◌, ◌^◌, ◌<◌, ◌==◌, ◌&&◌, ◌||◌, not, nat_lt, nat_le, Bool, List, [], ◌∷◌, length, decimal, Option, Some, None, MatchOption, if◌then◌else◌}
+use Rattle.std.specs.Prelude.{◌≡◌, ◌≤◌, ℕ, ◌+◌, ◌-◌, ◌*◌, ◌/◌, ◌%◌, ◌^◌, ◌<◌, ◌==◌, ◌&&◌, ◌||◌, not, nat_lt, nat_le, Bool, List, [], ◌∷◌, length, decimal, Option, Some, None, MatchOption, if◌then◌else◌}
 use Rattle.std.specs.Borrow.{Bor}
 use Rattle.std.specs.List.{flat_map, slice_split, AllByRecursion}
 use Rattle.std.specs.Str.{bytes_eq, all_ascii_digits}
@@ -100,3 +100,7 @@ ReadsPrinted = (bytes : Key) → AreBytes bytes → read_word (printed bytes) �
 -- a number is read from its digits, and from nothing else
 abbrev pub ReadsDecimals : Type 0
 ReadsDecimals = ((n : ℕ) → n < 2 ^ 64 → read_number (decimal n) ≡ Some n) × ((word : List ℕ) (n : ℕ) → read_number word ≡ Some n → word ≡ decimal n)
+
+-- no word of a byte string is shorter than the one that is printed, and no other is as short
+abbrev pub PrintsShortest : Type 0
+PrintsShortest = (word : List ℕ) (bytes : Key) → read_word word ≡ Some bytes → (length (printed bytes) ≤ length word) × (length (printed bytes) ≡ length word → printed bytes ≡ word)

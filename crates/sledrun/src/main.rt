@@ -3,10 +3,22 @@
 
 mod command;
 mod print;
+mod serve;
+mod session;
+#[cfg(test)]
+mod tests;
 mod words;
 
-use std::io;
+use std::io::{BufReader, BufWriter};
+use std::process::ExitCode;
 
-fn main(rt: HostRuntime) -> io::Result<()> {
-    println!(rt; "{}", command::parse(rt.alloc(), b"get a").is_ok())
+fn main(rt: HostRuntime) -> ExitCode {
+    let alloc = rt.alloc();
+    let (Ok(mut input), Ok(mut output)) = (
+        BufReader::new(alloc, rt.reader()),
+        BufWriter::new(alloc, std::io::writer(&rt)),
+    ) else {
+        return ExitCode::from(2);
+    };
+    ExitCode::from(serve::serve(alloc, &mut input, &mut output))
 }

@@ -9,7 +9,7 @@ ghost use Rattle.std.specs.Char.{digit_value};
 ghost use Rattle.std.specs.Int.{IsInRange};
 ghost use Rattle.std.specs.List.{flat_map};
 ghost use Rattle.sled_pages.specs.declared.error.Error.TheVariants.{NoMemory};
-ghost use Rattle.sledrun.specs.Words.{is_plain, hex_digit, hex_value, byte_of, escape, spelled, printed, bytes_of, read_word, number_of, read_number, words_of, words_after, AreBytes, BeginsWith, ReadsPrinted, ReadsDecimals};
+ghost use Rattle.sledrun.specs.Words.{is_plain, hex_digit, hex_value, byte_of, escape, spelled, printed, bytes_of, read_word, number_of, read_number, words_of, words_after, AreBytes, BeginsWith, ReadsPrinted, PrintsShortest, ReadsDecimals};
 
 use sled_pages::{IVec, Result};
 use std::alloc::Global;
@@ -203,6 +203,12 @@ pub fn read_number(word: &[u8]) -> Option<u64>
 #[allow(dead_code)]
 fn reads_printed()
     ensures { ReadsPrinted }
+{}
+
+// No word of a byte string is shorter than the one that is printed, and no other is as short.
+#[allow(dead_code)]
+fn prints_shortest()
+    ensures { PrintsShortest }
 {}
 
 // A number is read from its decimal digits, and from nothing else.
