@@ -14,9 +14,10 @@ use Rattle.tree_laws.specs.Forest.{Forest}
 use Rattle.tree_laws.specs.Contents.{trees_of}
 use Rattle.tree_laws.specs.Crashes.{Extends, Flushes, IsWell}
 use Rattle.tree_laws.specs.Moment.{Moment, moment_of, IsMoment}
-use Rattle.tree_laws.proofs.Crashing.{extends_nothing, extends_same, flushes_same, flushes_safe}
+use Rattle.tree_laws.proofs.Crashing.{extends_nothing, extends_same, flushes_same, flushes_safe, flushes_left, flushes_now}
 use Rattle.sled.specs.Values.{DbValue, named, numbers_of, state_of, db_state, moment}
 use Rattle.sled.specs.Sound.{IsDb}
+use Rattle.sled.proofs.Trees.{maps_are}
 use Rattle.sled.specs.Flush.{Stays, FlushesDb, RefusesFlush}
 
 -- two stores that show the same now
@@ -48,12 +49,20 @@ module _ {P M : Type 0} (store : P → Store) (meant : M → Merge) (old : DbVal
   open_now : (now (store old.pages)).in_group ≡ false → must_refuse (db_state store meant old) (ToCall Flush) ≡ None
   open_now e = ap (λ b. first_of (cond (not b) None (Some IsClosed)) None) e
 
-  pub flush_done : (q : P) → (now (store old.pages)).in_group ≡ false → store q ≡ flushed (store old.pages) → FlushesDb store meant old (record old { pages = q })
-  flush_done q calm e = record {
-    free = open_now calm;
-    flushes = subst (λ (s : Store). Flushes (store old.pages) s) (sym e) (flushes_same (store old.pages));
+  pub flush_done : IsDb (store old.pages) old.trees old.trees_given → (q : P) → store q ≡ flushed (store old.pages) → FlushesDb store meant old (record old { pages = q })
+  flush_done db q e = record {
+    free = open_now db.calm;
+    flushes = flushed_now;
+    left = flushes_left flushed_now db.calm ∙ ap (λ z. z ∷ []) (sym (flushes_now flushed_now));
+    maps = sym (maps_are store meant (record old { pages = q }) db.forest (subst (λ (m : Moment). IsMoment m db.forest) (sym same) db.is));
     stays = stays q (record { now_is = ap now e; mark = ap (λ (s : Store). s.mark) e; pids = ap (λ (s : Store). s.pids) e; versions = ap (λ (s : Store). s.versions) e });
   }
+    where
+      flushed_now : Flushes (store old.pages) (store q)
+      flushed_now = subst (λ (s : Store). Flushes (store old.pages) s) (sym e) (flushes_same (store old.pages))
+
+      same : moment (store q) old.trees old.trees_given ≡ moment (store old.pages) old.trees old.trees_given
+      same = (stays q (record { now_is = ap now e; mark = ap (λ (s : Store). s.mark) e; pids = ap (λ (s : Store). s.pids) e; versions = ap (λ (s : Store). s.versions) e })).moment
 
   pub flush_db : IsDb (store old.pages) old.trees old.trees_given → (q : P) → store q ≡ flushed (store old.pages) → IsDb (store q) old.trees old.trees_given
   flush_db db q e = subst (λ (s : Store). IsDb s old.trees old.trees_given) (sym e) (record {
@@ -122,3 +131,6 @@ module _ {P M : Type 0} (store : P → Store) (meant : M → Merge) (old : DbVal
 module _ {P M : Type 0} (store : P → Store) (meant : M → Merge) (inside old : DbValue P M) (e : inside ≡ old) where
   pub flush_refused_as : (q : P) (r : Error) → (now (store inside.pages)).in_group ≡ false → Refused r (store inside.pages) (store q) → RefusesFlush store meant old (record inside { pages = q }) r
   flush_refused_as q r calm t = subst (λ (z : DbValue P M). RefusesFlush store meant z (record inside { pages = q }) r) e (flush_refused store meant inside q r calm t)
+
+  pub flush_done_as : IsDb (store inside.pages) inside.trees inside.trees_given → (q : P) → store q ≡ flushed (store inside.pages) → FlushesDb store meant old (record inside { pages = q })
+  flush_done_as db q t = subst (λ (z : DbValue P M). FlushesDb store meant z (record inside { pages = q })) e (flush_done store meant inside db q t)

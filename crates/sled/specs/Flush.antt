@@ -1,11 +1,13 @@
 -- A flush of a database.
-use Rattle.std.specs.Prelude.{◌≡◌, ℕ, [], Option, None}
-use Rattle.sled_pages.specs.Store.{Store}
+use Rattle.std.specs.Prelude.{◌≡◌, ℕ, [], ◌∷◌, Option, None}
+use Rattle.sled_pages.specs.Store.{Store, now}
+use Rattle.sled_pages.specs.Crash.{states_left}
 use Rattle.sled_pages.specs.declared.error.Error.{Error}
 use Rattle.sled_model.specs.Maps.{Merge}
-use Rattle.sled_model.specs.State.{Flying}
+use Rattle.sled_model.specs.State.{Flying, maps_of}
 use Rattle.sled_model.specs.Refusal.{MayRefuse, must_refuse, ToCall}
 use Rattle.sled_model.specs.declared.call.Whole.TheVariants.{Flush}
+use Rattle.tree_laws.specs.Contents.{trees_of}
 use Rattle.tree_laws.specs.Crashes.{Extends, Flushes}
 use Rattle.sled.specs.Values.{DbValue, state_of, db_state, moment}
 
@@ -19,6 +21,9 @@ pub record Stays {P M : Type 0} (store : P → Store) (meant : M → Merge) (old
 pub record FlushesDb {P M : Type 0} (store : P → Store) (meant : M → Merge) (old new : DbValue P M) : Type 0 where
   pub free : must_refuse (db_state store meant old) (ToCall Flush) ≡ None
   pub flushes : Flushes (store old.pages) (store new.pages)
+  -- a crash can leave the state now alone, whose contents are the maps
+  pub left : states_left (store new.pages) ≡ now (store new.pages) ∷ []
+  pub maps : trees_of (now (store new.pages)) ≡ maps_of (db_state store meant new)
   pub stays : Stays store meant old new
 
 -- refused for a cause, and nothing is flushed

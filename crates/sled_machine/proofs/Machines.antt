@@ -1,5 +1,5 @@
 -- What the calls of a machine do, by its fields.
-use Rattle.std.proofs.Common.{◌≡◌, ◌≢◌, ℕ, suc, ◌+◌, ◌<◌, ◌≤◌, Bool, true, false, cond, nat_eq, List, [], ◌∷◌, ◌++◌, Option, Some, None, option_map, take, drop, length, slice_get, slice_set, sym, refl, ap, ◌∙◌, subst, inl, inr, ◌⊎◌, arith, add-one}
+use Rattle.std.proofs.Common.{◌≡◌, ◌≢◌, ℕ, suc, ◌+◌, ◌<◌, ◌≤◌, Bool, true, false, cond, nat_eq, List, [], ◌∷◌, ◌++◌, Option, Some, None, option_map, map, take, drop, length, slice_get, slice_set, sym, refl, ap, ◌∙◌, subst, inl, inr, ◌⊎◌, arith, add-one}
 use Rattle.std.proofs.Math.Path.{fun_ext}
 use Rattle.std.proofs.lemmas.Bool.{eq-eqb, ne_eqb, eqb-true}
 use Rattle.std.proofs.lemmas.Option.{slice_get_within}
@@ -19,9 +19,10 @@ use Rattle.sled_model.specs.declared.outcome.Outcome.{Outcome}
 use Rattle.sled_model.specs.declared.outcome.Outcome.TheVariants as outcome
 use Rattle.sled_model.specs.declared.outcome.Step.{Step}
 use Rattle.sled_model.specs.declared.outcome.Step.TheVariants as step
-use Rattle.tree_laws.specs.Crashes.{Extends, Flushes}
+use Rattle.tree_laws.specs.Crashes.{Extends, Flushes, Matches}
 use Rattle.tree_laws.specs.Moment.{Moment}
-use Rattle.tree_laws.proofs.Crashing.{extends_same}
+use Rattle.tree_laws.specs.Contents.{trees_of}
+use Rattle.tree_laws.proofs.Crashing.{extends_same, matches_same}
 use Rattle.sled_tree.specs.declared.flight.Flight.{Flight}
 use Rattle.sled_tree.specs.declared.flight.Stage.TheVariants.{Root}
 use Rattle.sled_tree.specs.declared.flight.Went.{Went}
@@ -65,16 +66,16 @@ slots_put fs gs slot x e = fun_ext (λ q. ap (option_map flying_of) (e q) ∙ pu
 -- whoever is in the list with one number less was in it before
 fewer : (fs gs : List (ℕ × Flight)) (slot : ℕ) → ((q : ℕ) → kept_at gs q ≡ put_at (kept_at fs) slot None q) → (j : ℕ) (f : Flight) → kept_at gs j ≡ Some f → (kept_at fs j ≡ Some f) × (j ≢ slot)
 fewer fs gs slot e j f there = elim (same_or_not j slot) [
-    | inl s ↦ none_some (sym (put_here (kept_at fs) slot None) ∙ ap (put_at (kept_at fs) slot None) (sym s) ∙ sym (e j) ∙ there)
-    | inr o ↦ (sym (put_there (kept_at fs) slot j None o) ∙ sym (e j) ∙ there, o)
-  ]
+  | inl s ↦ none_some (sym (put_here (kept_at fs) slot None) ∙ ap (put_at (kept_at fs) slot None) (sym s) ∙ sym (e j) ∙ there)
+  | inr o ↦ (sym (put_there (kept_at fs) slot j None o) ∙ sym (e j) ∙ there, o)
+]
 
 -- a call was put into the slot
 other_or_new : (fs gs : List (ℕ × Flight)) (slot : ℕ) (x : Flight) → ((q : ℕ) → kept_at gs q ≡ put_at (kept_at fs) slot (Some x) q) → (j : ℕ) (f : Flight) → kept_at gs j ≡ Some f → ((j ≡ slot) × (f ≡ x)) ⊎ ((j ≢ slot) × (kept_at fs j ≡ Some f))
 other_or_new fs gs slot x e j f there = elim (same_or_not j slot) [
-    | inl s ↦ inl (s, some_is (sym there ∙ e j ∙ ap (put_at (kept_at fs) slot (Some x)) s ∙ put_here (kept_at fs) slot (Some x)))
-    | inr o ↦ inr (o, sym (put_there (kept_at fs) slot j (Some x) o) ∙ sym (e j) ∙ there)
-  ]
+  | inl s ↦ inl (s, some_is (sym there ∙ e j ∙ ap (put_at (kept_at fs) slot (Some x)) s ∙ put_here (kept_at fs) slot (Some x)))
+  | inr o ↦ inr (o, sym (put_there (kept_at fs) slot j (Some x) o) ∙ sym (e j) ∙ there)
+]
 
 more : (i : ℕ) {X : Type 0} (fs : List X) → take i fs ++ drop (i + 1) fs ≡ take i fs ++ drop (suc i) fs
 more i fs = ap (λ k. take i fs ++ drop k fs) (add-one i)
@@ -106,14 +107,16 @@ module _ {P M : Type 0} (store : P → Store) (meant : M → Merge) (v : Machine
     abandoned = record {
       maps = [];
       is = record {
-        step = record { told = (
-          record {
-            flying = flying_of s.kept;
-            here = ap (option_map flying_of) (at_place slot i s.kept s.is);
-            is = ap (λ z. state_of store meant v.db z v.slots_given) (slots_put v.flights gs slot None gone);
-          },
-          refl,
-        ) };
+        step = record {
+          told = (
+            record {
+              flying = flying_of s.kept;
+              here = ap (option_map flying_of) (at_place slot i s.kept s.is);
+              is = ap (λ z. state_of store meant v.db z v.slots_given) (slots_put v.flights gs slot None gone);
+            },
+            refl,
+          );
+        };
         keeps = extends_same (store v.db.pages);
       };
     }
@@ -144,7 +147,7 @@ module _ {P M : Type 0} (store : P → Store) (meant : M → Merge) (v : Machine
       };
     }
       where
-        keeps_flying : (went : Went) → Flies store meant v.db f went db next → keeps_as (step.Step slot) (outcome_of went) (maps_added went (maps_of (db_state store meant db))) (store v.db.pages) (store db.pages)
+        keeps_flying : (went : Went) → Flies store meant v.db f went db next → keeps_as (step.Step slot) (outcome_of went) (maps_added went (maps_of (db_state store meant db))) (maps_of (db_state store meant db)) (store v.db.pages) (store db.pages)
         keeps_flying Moved k = k.extends
         keeps_flying (Decided reply) k = k.extends
         keeps_flying (Refused r) k = k.extends
@@ -233,14 +236,16 @@ module _ {P M : Type 0} (store : P → Store) (meant : M → Merge) (v : Machine
       begun_call = record {
         maps = [];
         is = record {
-          step = record { told = (
-            record {
-              free = must;
-              next = next;
-              is = ap (λ z. state_of store meant v.db z slot) (slots_put v.flights gs slot (Some f) added ∙ ap (λ z. put_at (slots_of v.flights) slot (Some (flying_of z))) is);
-            },
-            refl,
-          ) };
+          step = record {
+            told = (
+              record {
+                free = must;
+                next = next;
+                is = ap (λ z. state_of store meant v.db z slot) (slots_put v.flights gs slot (Some f) added ∙ ap (λ z. put_at (slots_of v.flights) slot (Some (flying_of z))) is);
+              },
+              refl,
+            );
+          };
           keeps = extends_same (store v.db.pages);
         };
       }
@@ -273,7 +278,7 @@ module _ {P M : Type 0} (store : P → Store) (meant : M → Merge) (v : Machine
   pub flushed_all : (db : DbValue P M) (n : ℕ) → FlushesDb store meant v.db db → Reaches store meant v (step.Whole Flush) (outcome.Decided (Number n)) (record v { db = db })
   flushed_all db n f = record {
     maps = [];
-    is = record { step = record { told = (f.free, f.stays.state (slots_of v.flights) v.slots_given, refl) }; keeps = f.flushes };
+    is = record { step = record { told = (f.free, f.stays.state (slots_of v.flights) v.slots_given, refl) }; keeps = record { flushes = f.flushes; leaves = record { is = subst (λ z. Matches z (maps_of (db_state store meant db) ∷ [])) (sym (ap (map trees_of) f.left ∙ ap (λ z. z ∷ []) f.maps)) (matches_same _) } } };
   }
 
   pub flush_refused : (db : DbValue P M) (e : Error) → RefusesFlush store meant v.db db e → Reaches store meant v (step.Whole Flush) (outcome.Refused e) (record v { db = db })

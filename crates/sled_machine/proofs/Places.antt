@@ -72,10 +72,12 @@ pub search_up : {X : Type 0} (es : List (ℕ × X)) (n from to middle : ℕ) (d 
 search_up es n from to middle d r s h g low = record {
   ordered = omega arith;
   within = s.within;
-  before = record { is = λ i m x j f. elim (cases i middle j) [
-    | inl e ↦ subst (λ k. k < n) (ap (λ p. p.0) (some_is (sym there ∙ ap (slice_get es) (sym e) ∙ f))) low
-    | inr b ↦ let u = rises 0 es i middle m (get_or es middle d).0 x (get_or es middle d).1 r.is f there b in omega arith
-  ] };
+  before = record {
+    is = λ i m x j f. elim (cases i middle j) [
+      | inl e ↦ subst (λ k. k < n) (ap (λ p. p.0) (some_is (sym there ∙ ap (slice_get es) (sym e) ∙ f))) low
+      | inr b ↦ let u = rises 0 es i middle m (get_or es middle d).0 x (get_or es middle d).1 r.is f there b in omega arith
+    ];
+  };
   after = s.after;
 }
   where
@@ -99,10 +101,12 @@ search_down es n from to middle d r s h g high = record {
   ordered = h;
   within = let w = s.within in omega arith;
   before = s.before;
-  after = record { is = λ i m x j f. elim (cases i middle j) [
-    | inl e ↦ subst (λ k. n ≤ k) (ap (λ p. p.0) (some_is (sym there ∙ ap (slice_get es) (sym e) ∙ f))) high
-    | inr b ↦ let u = rises 0 es middle i (get_or es middle d).0 m (get_or es middle d).1 x r.is there f b in omega arith
-  ] };
+  after = record {
+    is = λ i m x j f. elim (cases i middle j) [
+      | inl e ↦ subst (λ k. n ≤ k) (ap (λ p. p.0) (some_is (sym there ∙ ap (slice_get es) (sym e) ∙ f))) high
+      | inr b ↦ let u = rises 0 es middle i (get_or es middle d).0 m (get_or es middle d).1 x r.is there f b in omega arith
+    ];
+  };
 }
   where
     there : slice_get es middle ≡ Some ((get_or es middle d).0, (get_or es middle d).1)
@@ -233,9 +237,9 @@ module _ {X : Type 0} where
 
   pub push_kept : (es : List (ℕ × X)) (n : ℕ) (x : X) (q : ℕ) → kept_at es n ≡ None → kept_at (es ++ (n, x) ∷ []) q ≡ put_at (kept_at es) n (Some x) q
   push_kept [] n x q e = elim (nat_eq n q) as (λ b. nat_eq n q ≡ b → cond (nat_eq n q) (Some x) None ≡ cond (nat_eq q n) (Some x) None) [
-      | true ↦ λ t. ap (λ b. cond b (Some x) None) (t ∙ sym (eq-eqb q n (sym (eqb-true n q t))))
-      | false ↦ λ t. ap (λ b. cond b (Some x) None) (t ∙ sym (ne_eqb q n (λ h. apart (sym t ∙ eq-eqb n q (sym h)))))
-    ] refl
+    | true ↦ λ t. ap (λ b. cond b (Some x) None) (t ∙ sym (eq-eqb q n (sym (eqb-true n q t))))
+    | false ↦ λ t. ap (λ b. cond b (Some x) None) (t ∙ sym (ne_eqb q n (λ h. apart (sym t ∙ eq-eqb n q (sym h)))))
+  ] refl
     where
       apart : false ≡ true → ⊥
       apart e = cc

@@ -3,7 +3,10 @@ use Rattle.std.proofs.Common.{◌≡◌, ◌≢◌, ℕ, zero, suc, ◌+◌, ◌
 use Rattle.sled_pages.specs.Update.{put_at}
 use Rattle.sled_pages.specs.Store.{Store}
 use Rattle.sled_model.specs.Maps.{Maps, Merge}
-use Rattle.sled_model.specs.State.{State, Flying}
+use Rattle.sled_model.specs.State.{State, Flying, maps_of}
+use Rattle.sled_model.specs.declared.call.Whole.TheVariants.{Flush}
+use Rattle.tree_laws.specs.Crashes.{Extends}
+use Rattle.tree_laws.proofs.Crashing.{matches_same, matches_append, matches_then}
 use Rattle.sled_model.specs.Steps.{Instant, Steps, Moves}
 use Rattle.sled_model.specs.Runs.{RunsBy, NoSteps, OneMore}
 use Rattle.sled_model.specs.declared.outcome.Outcome.{Outcome}
@@ -12,8 +15,12 @@ use Rattle.sled_model.specs.declared.outcome.Step.{Step}
 use Rattle.sled_model.specs.declared.outcome.Step.TheVariants as step
 use Rattle.sled_model.specs.declared.TheConstants.{MAX_LOOPS}
 use Rattle.sled_machine.specs.Values.{MachineValue, instant_of, slots_of}
-use Rattle.sled_machine.specs.Crash.{StepsTo, Reaches, Performs, Finishes, steps_of, outcomes_of}
+use Rattle.sled_machine.specs.Crash.{StepsTo, Reaches, Performs, Finishes, steps_of, outcomes_of, Leaves, keeps_as, kept_after, RunsKeeping, KeepsAll, KeepsMore, Keeps}
 use Rattle.sled_machine.proofs.Machines.{put_here}
+
+-- what a crash may leave goes on by the maps that were added
+extended : (added : List Maps) (a b : Store) → Extends added a b → (kept : List Maps) → Leaves a kept → Leaves b (kept ++ added)
+extended added a b e kept l = record { is = matches_then e.grew (matches_append l.is (matches_same added)) }
 
 -- one more step at the end
 pub runs_more : {R : Instant → Step → Outcome → Instant → List Maps → Type 0} {a m b : Instant} {s : Step} {o : Outcome} {k : List Maps} (ss : List Step) (os : List Outcome) (ks : List Maps)
@@ -23,29 +30,70 @@ runs_more (t ∷ ss) (p ∷ os) ks (OneMore {added = added} {maps = maps} q run)
 runs_more [] (p ∷ os) ks run r = elim run [ ]
 runs_more (t ∷ ss) [] ks run r = elim run [ ]
 
+-- what a crash may leave, after one step
+leaves_step : (s : Step) (o : Outcome) (added : List Maps) (after : Maps) (a b : Store) → keeps_as s o added after a b → (kept : List Maps) → Leaves a kept → Leaves b (kept_after s o added after kept)
+leaves_step (step.Whole Flush) (outcome.Decided reply) added after a b k kept l = k.leaves
+leaves_step (step.Whole Flush) (outcome.Begun slot) added after a b k kept l = extended added a b k kept l
+leaves_step (step.Whole Flush) outcome.Moved added after a b k kept l = extended added a b k kept l
+leaves_step (step.Whole Flush) (outcome.Refused e) added after a b k kept l = extended added a b k kept l
+leaves_step (step.Whole Flush) outcome.Abandoned added after a b k kept l = extended added a b k kept l
+leaves_step (step.Whole Flush) outcome.NoSuchSlot added after a b k kept l = extended added a b k kept l
+leaves_step (step.Begin tree call) o added after a b k kept l = extended added a b k kept l
+leaves_step (step.Step slot) o added after a b k kept l = extended added a b k kept l
+leaves_step (step.Abandon slot) o added after a b k kept l = extended added a b k kept l
+
+-- a run that keeps, and one more step
+keeps_more : {a m b : Instant} {s : Step} {o : Outcome} {added : List Maps} (kept : List Maps) (ss : List Step) (os : List Outcome) (last : List Maps) → RunsKeeping a kept ss os m last → StepsTo m s o b added
+    → RunsKeeping a kept (ss ++ s ∷ []) (os ++ o ∷ []) b (kept_after s o added (maps_of b.state) last)
+keeps_more kept [] [] last KeepsAll r = KeepsMore r KeepsAll
+keeps_more kept (t ∷ ss) (p ∷ os) last (KeepsMore q run) r = KeepsMore q (keeps_more _ ss os last run r)
+keeps_more kept [] (p ∷ os) last run r = elim run [ ]
+keeps_more kept (t ∷ ss) [] last run r = elim run [ ]
+
 module _ {P M : Type 0} (store : P → Store) (meant : M → Merge) where
   pub performs_none : (a : MachineValue P M) → Performs store meant a [] [] a
-  performs_none a = record { maps = []; run = NoSteps }
+  performs_none a = record { maps = []; run = NoSteps; keeps = λ kept l. record { last = kept; run = KeepsAll; leaves = l } }
 
   pub performs_more : (a m b : MachineValue P M) (ss : List Step) (os : List Outcome) (s : Step) (o : Outcome) → Performs store meant a ss os m → Reaches store meant m s o b → Performs store meant a (ss ++ s ∷ []) (os ++ o ∷ []) b
-  performs_more a m b ss os s o p r = let k = runs_more ss os p.maps p.run r.is in record { maps = k.0; run = k.1 }
+  performs_more a m b ss os s o p r = let k = runs_more ss os p.maps p.run r.is in record {
+    maps = k.0;
+    run = k.1;
+    keeps = λ kept l.
+        let before = p.keeps kept l in record {
+          last = kept_after s o r.maps (maps_of (instant_of store meant b).state) before.last;
+          run = keeps_more kept ss os before.last before.run r.is;
+          leaves = leaves_step s o r.maps (maps_of (instant_of store meant b).state) (store m.db.pages) (store b.db.pages) r.is.keeps before.last before.leaves;
+        };
+  }
 
 -- the call in the slot went on so many times
-abbrev pub MovesOn : ℕ → ℕ → Instant → Instant → Type 0
-MovesOn slot zero a b = a ≡ b
-MovesOn slot (suc n) a b = (m : Instant) × (k : List Maps) × StepsTo a (step.Step slot) outcome.Moved m k × MovesOn slot n m b
+abbrev pub moved_of : ℕ → List Outcome
+moved_of zero = []
+moved_of (suc n) = outcome.Moved ∷ moved_of n
 
-moves_more : (slot n : ℕ) (a b c : Instant) (k : List Maps) → MovesOn slot n a b → StepsTo b (step.Step slot) outcome.Moved c k → MovesOn slot (suc n) a c
-moves_more slot zero a b c k e s = (c, k, subst (λ z. StepsTo z (step.Step slot) outcome.Moved c k) (sym e) s, refl)
-moves_more slot (suc n) a b c k (m, l, t, rest) s = (m, l, t, moves_more slot n m b c k rest s)
+abbrev pub stepped_of : ℕ → ℕ → List Step
+stepped_of slot zero = []
+stepped_of slot (suc n) = step.Step slot ∷ stepped_of slot n
 
-moves_end : (slot n : ℕ) (a b c : Instant) (o : Outcome) (k : List Maps) → MovesOn slot n a b → StepsTo b (step.Step slot) o c k → (l : List Maps) × RunsBy StepsTo a (steps_of slot n) (outcomes_of n o) c l
-moves_end slot zero a b c o k e s = (_, OneMore (subst (λ z. StepsTo z (step.Step slot) o c k) (sym e) s) NoSteps)
-moves_end slot (suc n) a b c o k (m, l, t, rest) s = let r = moves_end slot n m b c o k rest s in (_, OneMore t r.1)
+moved_more : (n : ℕ) (o : Outcome) → moved_of n ++ o ∷ [] ≡ outcomes_of n o
+moved_more zero o = refl
+moved_more (suc n) o = ap (λ z. outcome.Moved ∷ z) (moved_more n o)
+
+stepped_more : (slot n : ℕ) → stepped_of slot n ++ step.Step slot ∷ [] ≡ steps_of slot n
+stepped_more slot zero = refl
+stepped_more slot (suc n) = ap (λ z. step.Step slot ∷ z) (stepped_more slot n)
+
+moved_again : (n : ℕ) → moved_of n ++ outcome.Moved ∷ [] ≡ moved_of (suc n)
+moved_again zero = refl
+moved_again (suc n) = ap (λ z. outcome.Moved ∷ z) (moved_again n)
+
+stepped_again : (slot n : ℕ) → stepped_of slot n ++ step.Step slot ∷ [] ≡ stepped_of slot (suc n)
+stepped_again slot zero = refl
+stepped_again slot (suc n) = ap (λ z. step.Step slot ∷ z) (stepped_again slot n)
 
 pub record IsMoving {P M : Type 0} (store : P → Store) (meant : M → Merge) (slot : ℕ) (a b : MachineValue P M) : Type 0 where
   pub moves : ℕ
-  pub run : MovesOn slot moves (instant_of store meant a) (instant_of store meant b)
+  pub run : Performs store meant a (stepped_of slot moves) (moved_of moves) b
 
 -- the turns that a call has left
 abbrev pub turns_left : Option Flying → ℕ
@@ -54,15 +102,24 @@ turns_left (Some f) = MAX_LOOPS - f.turns
 
 module _ {P M : Type 0} (store : P → Store) (meant : M → Merge) (slot : ℕ) where
   pub moving_first : (a : MachineValue P M) → IsMoving store meant slot a a
-  moving_first a = record { moves = 0; run = refl }
+  moving_first a = record { moves = 0; run = performs_none store meant a }
 
   pub moving_more : (a b c : MachineValue P M) → IsMoving store meant slot a b → Reaches store meant b (step.Step slot) outcome.Moved c → IsMoving store meant slot a c
-  moving_more a b c m r = record { moves = suc m.moves; run = moves_more slot m.moves (instant_of store meant a) (instant_of store meant b) (instant_of store meant c) r.maps m.run r.is }
+  moving_more a b c m r = record {
+    moves = suc m.moves;
+    run = subst (λ z. Performs store meant a z (moved_of (suc m.moves)) c) (stepped_again slot m.moves)
+        (subst (λ z. Performs store meant a (stepped_of slot m.moves ++ step.Step slot ∷ []) z c) (moved_again m.moves)
+        (performs_more store meant a b c (stepped_of slot m.moves) (moved_of m.moves) (step.Step slot) outcome.Moved m.run r));
+  }
 
   pub moving_ends : (a b c : MachineValue P M) (o : Outcome) → o ≢ outcome.Moved → IsMoving store meant slot a b → Reaches store meant b (step.Step slot) o c → Finishes store meant a slot o c
-  moving_ends a b c o off m r =
-      let k = moves_end slot m.moves (instant_of store meant a) (instant_of store meant b) (instant_of store meant c) o r.maps m.run r.is in
-      record { moves = m.moves; ends = off; run = record { maps = k.0; run = k.1 } }
+  moving_ends a b c o off m r = record {
+    moves = m.moves;
+    ends = off;
+    run = subst (λ z. Performs store meant a z (outcomes_of m.moves o) c) (stepped_more slot m.moves)
+        (subst (λ z. Performs store meant a (stepped_of slot m.moves ++ step.Step slot ∷ []) z c) (moved_more m.moves o)
+        (performs_more store meant a b c (stepped_of slot m.moves) (moved_of m.moves) (step.Step slot) o m.run r));
+  }
 
   pub moving_less : (a b : MachineValue P M) → Reaches store meant a (step.Step slot) outcome.Moved b → turns_left (slots_of b.flights slot) < turns_left (slots_of a.flights slot)
   moving_less a b r =

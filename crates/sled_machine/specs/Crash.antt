@@ -1,8 +1,9 @@
 -- Steps of the machine, with what they add to what a crash may leave.
 use Rattle.std.specs.Prelude.{◌≡◌, ◌≢◌, ℕ, zero, suc, List, [], ◌∷◌, ◌++◌, map}
-use Rattle.sled_pages.specs.Store.{Store, now}
+use Rattle.sled_pages.specs.Store.{Store}
 use Rattle.sled_pages.specs.Crash.{states_left}
 use Rattle.sled_model.specs.Maps.{Maps, Merge}
+use Rattle.sled_model.specs.State.{maps_of}
 use Rattle.sled_model.specs.Steps.{Instant, Steps}
 use Rattle.sled_model.specs.Runs.{RunsBy}
 use Rattle.sled_model.specs.declared.outcome.Step.{Step}
@@ -14,25 +15,56 @@ use Rattle.tree_laws.specs.Contents.{trees_of}
 use Rattle.tree_laws.specs.Crashes.{Extends, Flushes, Matches}
 use Rattle.sled_machine.specs.Values.{MachineValue, instant_of}
 
--- What is kept grows by the maps that the step added. A flush that was decided makes all durable instead
-abbrev pub keeps_as : Step → Outcome → List Maps → Store → Store → Type 0
-keeps_as (step.Whole Flush) (Decided reply) maps a b = Flushes a b
-keeps_as s o maps a b = Extends maps a b
+-- these are the maps after each state that a crash may leave, the shortest beginning first, equal neighbours taken once
+pub record Leaves (s : Store) (maps : List Maps) : Type 0 where
+  pub is : Matches (map trees_of (states_left s)) maps
+
+-- all is durable, and a crash leaves these maps
+pub record FlushesTo (a b : Store) (maps : Maps) : Type 0 where
+  pub flushes : Flushes a b
+  pub leaves : Leaves b (maps ∷ [])
+
+-- What a step does to what a crash may leave: the list of maps goes on by those that the step added, at its end.
+-- A flush that was decided makes all durable instead
+abbrev pub keeps_as : Step → Outcome → List Maps → Maps → Store → Store → Type 0
+keeps_as (step.Whole Flush) (Decided reply) added after a b = FlushesTo a b after
+keeps_as s o added after a b = Extends added a b
+
+-- the list of maps after a step
+abbrev pub kept_after : Step → Outcome → List Maps → Maps → List Maps → List Maps
+kept_after (step.Whole Flush) (Decided reply) added after kept = after ∷ []
+kept_after s o added after kept = kept ++ added
 
 -- one step, with its outcome and the maps that it added
 pub record StepsTo (old : Instant) (s : Step) (o : Outcome) (new : Instant) (maps : List Maps) : Type 0 where
   pub step : Steps old s o new maps
-  pub keeps : keeps_as s o maps old.store new.store
+  pub keeps : keeps_as s o maps (maps_of new.state) old.store new.store
 
 -- one call of a machine
 pub record Reaches {P M : Type 0} (store : P → Store) (meant : M → Merge) (old : MachineValue P M) (s : Step) (o : Outcome) (new : MachineValue P M) : Type 0 where
   pub maps : List Maps
   pub is : StepsTo (instant_of store meant old) s o (instant_of store meant new) maps
 
+-- A run, with the list of maps that a crash might leave before it and the list after it:
+-- the map at the last flush that was decided, if there was one, else the list before; and then the map after each call that was decided since
+pub data RunsKeeping : Instant → List Maps → List Step → List Outcome → Instant → List Maps → Type 0 where
+  KeepsAll : {s : Instant} {kept : List Maps} → RunsKeeping s kept [] [] s kept
+  KeepsMore : {a m b : Instant} {step : Step} {steps : List Step} {outcome : Outcome} {outcomes : List Outcome} {added kept last : List Maps}
+      → StepsTo a step outcome m added → RunsKeeping m (kept_after step outcome added (maps_of m.state) kept) steps outcomes b last → RunsKeeping a kept (step ∷ steps) (outcome ∷ outcomes) b last
+
+-- whatever a crash might leave before the run: a run that keeps it so, and what a crash may leave after it
+pub record Keeps (old new : Instant) (steps : List Step) (outcomes : List Outcome) (kept : List Maps) : Type 0 where
+  pub last : List Maps
+  pub run : RunsKeeping old kept steps outcomes new last
+  pub leaves : Leaves new.store last
+
 -- a list of steps, one after the other
 pub record Performs {P M : Type 0} (store : P → Store) (meant : M → Merge) (old : MachineValue P M) (steps : List Step) (outcomes : List Outcome) (new : MachineValue P M) : Type 0 where
+  -- each is a step of the model, and these are the maps after each call that was decided, in order
   pub maps : List Maps
   pub run : RunsBy StepsTo (instant_of store meant old) steps outcomes (instant_of store meant new) maps
+  -- and what a crash may leave goes on by them, but that a flush makes all durable
+  pub keeps : (kept : List Maps) → Leaves (store old.db.pages) kept → Keeps (instant_of store meant old) (instant_of store meant new) steps outcomes kept
 
 -- as many steps of the slot as there are moves, and one more
 abbrev pub steps_of : ℕ → ℕ → List Step

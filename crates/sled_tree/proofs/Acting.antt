@@ -98,12 +98,12 @@ module _ (j : Job) (old new : Store) (view : View) (k v : Key) (given : ℕ) (re
       let key : key_of j.call ≡ k = ap key_of call in
       let in_leaf : value_at view.node.content (key_of j.call) ≡ find key_cmp k (pairs view.node.content) = leaf_value view.node.content a.acting.es (key_of j.call) a.acting.content ∙ ap (λ q. find key_cmp q (pairs view.node.content)) key in
       let found : find key_cmp k pairs_now ≡ find key_cmp k (pairs view.node.content) =
-          ap (λ q. find key_cmp q pairs_now) (sym key) ∙ answers is j.tree.name j.tree.number (key_of j.call) view c.told.0 a.acting current ∙ in_leaf in
+      ap (λ q. find key_cmp q pairs_now) (sym key) ∙ answers is j.tree.name j.tree.number (key_of j.call) view c.told.0 a.acting current ∙ in_leaf in
       let changes : (inserted_over k v pairs_now (find key_cmp k pairs_now)).event ≢ None =
-          λ none. a.changes (ap (λ z. (answer_of z (pairs view.node.content)).event) call
-              ∙ sym (ap (λ f. (inserted_over k v (pairs view.node.content) f).event) found)
-              ∙ insert_event k v (pairs view.node.content) pairs_now (find key_cmp k pairs_now)
-              ∙ none) in (
+      λ none. a.changes (ap (λ z. (answer_of z (pairs view.node.content)).event) call
+      ∙ sym (ap (λ f. (inserted_over k v (pairs view.node.content) f).event) found)
+      ∙ insert_event k v (pairs view.node.content) pairs_now (find key_cmp k pairs_now)
+      ∙ none) in (
         w,
         subst (λ (z : Moment). Acts [] [] m w z w) (sym after) (record { is = written.steps.is; goes = written.steps.goes; fresh = λ q i. absurd i }),
         subst (λ (z : Moment). Decides j reply old new m w z w) (sym after) (record {
@@ -125,13 +125,16 @@ module _ (j : Job) (old new : Store) (view : View) (k v : Key) (given : ℕ) (re
       leaf d es e = subst IsLeaf (sym e) tt
 
   set_moves : Moves j old (Act view) (next.Decided reply) new
-  set_moves = record { touches = inr (record {
-    action = PageBecomes view.pid (Some (record { version = given; node = applied (Set (key_of j.call) v) c.told.0 }));
-    pids = old.pids;
-    versions = put_at old.versions given true;
-    is = c.told.2.is;
-    calm = ap (λ (s : State). s.in_group) (now_acts _ _ old new c.told.2);
-  }); told = set_told }
+  set_moves = record {
+    touches = inr (record {
+      action = PageBecomes view.pid (Some (record { version = given; node = applied (Set (key_of j.call) v) c.told.0 }));
+      pids = old.pids;
+      versions = put_at old.versions given true;
+      is = c.told.2.is;
+      calm = ap (λ (s : State). s.in_group) (now_acts _ _ old new c.told.2);
+    });
+    told = set_told;
+  }
 
 -- .. as the call's change of its leaf
 pub act_moves : (j : Job) (old new : Store) (view : View) (change : Change) (given : ℕ) → IsChangeOf j.call view.node.content (Some change) → Changes (applied change.link) view.pid view.version old new (Ok given) → Moves j old (Act view) (next.Decided change.reply) new

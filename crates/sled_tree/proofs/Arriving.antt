@@ -89,9 +89,9 @@ equal_arrives j v k new old l call e same = record {
   told = λ s numbers given w is named here.
       let m : Moment = moment_of s numbers given in
       let a : answer_of j.call (contents (nodes_at m) w j.tree.name) ≡ record { map = contents (nodes_at m) w j.tree.name; reply = Value (Some old); event = None } =
-          ap (λ c. answer_of c (contents (nodes_at m) w j.tree.name)) call
-          ∙ insert_equal k new (contents (nodes_at m) w j.tree.name) (find key_cmp k (contents (nodes_at m) w j.tree.name)) old
-              (ap (λ c. find key_cmp (key_of c) (contents (nodes_at m) w j.tree.name)) (sym call) ∙ found j v l m w is named here ∙ sym e) same in (
+      ap (λ c. answer_of c (contents (nodes_at m) w j.tree.name)) call
+      ∙ insert_equal k new (contents (nodes_at m) w j.tree.name) (find key_cmp k (contents (nodes_at m) w j.tree.name)) old
+      (ap (λ c. find key_cmp (key_of c) (contents (nodes_at m) w j.tree.name)) (sym call) ∙ found j v l m w is named here ∙ sym e) same in (
         refl,
         record {
           replies = ap (λ (z : Answer). z.reply) (sym a);
@@ -122,4 +122,4 @@ change_arrives j v k new value l call e apart = record {
     changes : (answer_of j.call (pairs v.node.content)).event ≢ None
     changes none =
         insert_changes k new (pairs v.node.content) value apart
-          (ap (λ f. (inserted_over k new (pairs v.node.content) f).event) (sym at_leaf) ∙ ap (λ c. (answer_of c (pairs v.node.content)).event) (sym call) ∙ none)
+        (ap (λ f. (inserted_over k new (pairs v.node.content) f).event) (sym at_leaf) ∙ ap (λ c. (answer_of c (pairs v.node.content)).event) (sym call) ∙ none)

@@ -24,9 +24,9 @@ pub invariant_of-self-2 : goal.invariant_of-self-2
 invariant_of-self-2 g c =
     let v : MachineValue g.row.P.Denot g.row.M.Denot = record { db = c.self.inside.db; flights = c.self.inside.flights.items; slots_given = c.self.inside.slots_given } in
     begun_machine_as g.P.Pages.store g.M.MergeOperator.meant v v refl c.self.invariant c.args.tree.now c.in-Ok.tree c.args.call c.in-Ok.ensures.ok c.in_default.ensures.ok c.new.result c.new.ensures _ refl _
-      (c.push_reserved.ensures ∙ ap (λ z. z ++ (c.self.inside.slots_given + 1, c.new.result) ∷ []) c.make_room.ensures.same)
+    (c.push_reserved.ensures ∙ ap (λ z. z ++ (c.self.inside.slots_given + 1, c.new.result) ∷ []) c.make_room.ensures.same)
 
 pub returns-clause-ok : goal.returns-clause-ok
 returns-clause-ok g c =
     begun_as g.P.Pages.store g.M.MergeOperator.meant _ _ c.self.view_is c.self.invariant c.args.tree.now c.in-Ok.tree c.args.call c.in-Ok.ensures.ok c.in_default.ensures.ok c.new.result c.new.ensures _ refl _
-      (c.push_reserved.ensures ∙ ap (λ z. z ++ (c.self.inside.slots_given + 1, c.new.result) ∷ []) c.make_room.ensures.same)
+    (c.push_reserved.ensures ∙ ap (λ z. z ++ (c.self.inside.slots_given + 1, c.new.result) ∷ []) c.make_room.ensures.same)

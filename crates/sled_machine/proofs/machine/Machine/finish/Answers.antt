@@ -1,4 +1,4 @@
-use Rattle.sled_machine.proofs.Runs.{moving_more, moving_less, moving_ends}
+use Rattle.sled_machine.proofs.Runs.{moving_first, moving_more, moving_less, moving_ends}
 use Rattle.sled_machine.proofs.machine.Machine.finish.Goals as goal
 
 pub loop-outcome-smaller : goal.loop-outcome-smaller
@@ -9,3 +9,6 @@ loop-outcome-preserved g c = moving_more g.P.Pages.store g.M.MergeOperator.meant
 
 pub returns-in_default : goal.returns-in_default
 returns-in_default g c = moving_ends g.P.Pages.store g.M.MergeOperator.meant c.args.slot _ _ _ _ c.in_default.not-Moved c.loop-outcome.invariant c.step.ensures
+
+pub loop-outcome-init : goal.loop-outcome-init
+loop-outcome-init g c = moving_first g.P.Pages.store g.M.MergeOperator.meant c.args.slot c.args.self.now

@@ -11,12 +11,11 @@ pub loop-step-preserved : goal.loop-step-preserved
 loop-step-preserved g c =
     let i = c.loop-step.step-index in
     let pushed : c.push.new.self.items ≡ c.loop-step.outcomes.items ++ c.perform-outcome.result ∷ [] = search rules in
-    let taken : take (i + 1) c.args.steps.now ≡ take i c.args.steps.now ++ c.step-item.result ∷ [] = take_more c.args.steps.now i c.step-item.result (omega arith) ∙ ap (λ z. take i c.args.steps.now ++ z ∷ []) (sym c.step-item.is) in
-    (
+    let taken : take (i + 1) c.args.steps.now ≡ take i c.args.steps.now ++ c.step-item.result ∷ [] = take_more c.args.steps.now i c.step-item.result (omega arith) ∙ ap (λ z. take i c.args.steps.now ++ z ∷ []) (sym c.step-item.is) in (
       subst (λ z. Performs g.P.Pages.store g.M.MergeOperator.meant c.args.self.now z c.push.new.self.items c.perform-outcome.new.self) (sym taken)
-        (subst (λ z. Performs g.P.Pages.store g.M.MergeOperator.meant c.args.self.now (take i c.args.steps.now ++ c.step-item.result ∷ []) z c.perform-outcome.new.self) (sym pushed)
+          (subst (λ z. Performs g.P.Pages.store g.M.MergeOperator.meant c.args.self.now (take i c.args.steps.now ++ c.step-item.result ∷ []) z c.perform-outcome.new.self) (sym pushed)
           (performs_more g.P.Pages.store g.M.MergeOperator.meant c.args.self.now c.loop-step.self c.perform-outcome.new.self (take i c.args.steps.now) c.loop-step.outcomes.items c.step-item.result c.perform-outcome.result
-            c.loop-step.invariant.0 c.perform-outcome.ensures)),
+          c.loop-step.invariant.0 c.perform-outcome.ensures)),
       search rules,
       search rules,
     )
