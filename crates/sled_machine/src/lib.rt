@@ -1,4 +1,8 @@
 //! The machine: a database and the calls in flight on it. One step does at most one page action of one call.
+//!
+//! Each call of a machine is one step of the model, in whatever order calls are stepped, and says what it adds to the maps
+//! that a crash may leave. Over a list of steps those are the maps at the last flush and after each decided call since
+//! (`specs/Crash`). Between two steps all that the calls in flight know of the pages is true (`specs/Sound`).
 #![tactic(auto)]
 
 mod flights;

@@ -1,4 +1,11 @@
-//! Byte strings, nodes and the store of pages.
+//! Byte strings, nodes, the contract of a store of pages, and a store in memory.
+//!
+//! `Pages` is what every store has to keep. Each call is one equation between what the store means before it and after it,
+//! so nothing else changes (`specs/Store`), and what a crash may leave is a function of that meaning (`specs/Crash`). A call
+//! that is refused changes nothing, but that a fault is counted. `MemPages` keeps the contract, in memory (`specs/Memory`).
+//!
+//! The calls of a node are stated by its bounds and entries: what it holds and what a link makes of it (`specs/Node`), its
+//! halves (`specs/Halves`), a pointer more (`specs/Posting`), what lies within a bound (`specs/Among`).
 #![tactic(auto)]
 
 mod among;
