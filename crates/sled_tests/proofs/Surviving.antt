@@ -52,11 +52,11 @@ single : (s : Store) → s.recent ≡ [] → (now s).in_group ≡ false → stat
 single s e calm =
     subst (λ (r : List Action). (after_all r s.base).in_group ≡ false → left_from s.base r ≡ after_all r s.base ∷ []) (sym e) (λ c. ap (λ b. cond b [] (s.base ∷ [])) c) calm
 
-pub survives : {M : Type 0} (meant : M → Merge) (before : Store) (name : Key) (steps : List Step) (outcomes : List Outcome) (keep : ℕ) (first last : MachineValue MemPages M) (opened : DbValue MemPages M) (pages left : MemPages) (found : DbValue MemPages M)
+pub survives : {M : Type 0} (meant : M → Merge) (before : Store) (name : Key) (steps : List Step) (outcomes : List Outcome) (keep : ℕ) (first last : MachineValue MemPages M) (opened : DbValue MemPages M) (pages left : MemPages) (found : DbValue MemPages M) (end : MemPages)
     → Opens store_of before name opened → IsDb (store_of opened.pages) opened.trees opened.trees_given → first.db ≡ opened → Performs store_of meant first steps outcomes last → pages ≡ last.db.pages
-    → MayLeave (store_of pages) (store_of left).base → Crashes keep (store_of pages) (store_of left) → Opens store_of (store_of left) name found
-    → Survives before name steps outcomes found
-survives meant before name steps outcomes keep first last opened pages left found o db same run p may crash again =
+    → MayLeave (store_of pages) (store_of left).base → Crashes keep (store_of pages) (store_of left) → Opens store_of (store_of left) name found → end ≡ found.pages
+    → Survives before steps outcomes (store_of end)
+survives meant before name steps outcomes keep first last opened pages left found end o db same run p may crash again out =
     let at : store_of first.db.pages ≡ store_of opened.pages = ap (λ (d : DbValue MemPages _). store_of d.pages) same in
     let alone : states_left (store_of first.db.pages) ≡ now (store_of first.db.pages) ∷ [] = subst (λ (s : Store). states_left s ≡ now s ∷ []) (sym at) (single (store_of opened.pages) o.flushes.recent db.calm) in
     let leaves : Leaves (store_of first.db.pages) (trees_of (now (store_of first.db.pages)) ∷ []) = record { is = subst (λ l. Matches (map trees_of l) (trees_of (now (store_of first.db.pages)) ∷ [])) (sym alone) (record { once = trees_of (now (store_of first.db.pages)) ∷ []; left = (refl, inl tt); right = (refl, inl tt) }) } in
@@ -71,5 +71,5 @@ survives meant before name steps outcomes keep first last opened pages left foun
       run = k.run;
       maps = trees_of (store_of left).base;
       one = matches_has (map trees_of (states_left (store_of last.db.pages))) k.last (trees_of (store_of left).base) k.leaves.is (map_has trees_of (states_left (store_of last.db.pages)) (store_of left).base here);
-      is = again.maps ∙ ap (λ (s : PageState). with_default (trees_of s)) base;
+      is = ap (λ (q : MemPages). trees_of (now (store_of q))) out ∙ again.maps ∙ ap (λ (s : PageState). with_default (trees_of s)) base;
     }

@@ -12,16 +12,17 @@ use sled_pages::{MemPages, Result};
 use std::alloc::Global;
 
 /// Opens a database, runs steps on it, crashes its store, of whose last actions so many are kept, and opens what is left.
+/// Answers the outcomes of the steps and the pages of the database that was opened last.
 pub fn survive(
     alloc: Global,
     pages: MemPages,
     name: &[u8],
     steps: &[Step],
     keep: usize,
-) -> Result<(Vec<Outcome>, Db<MemPages>)>
+) -> Result<(Vec<Outcome>, MemPages)>
     requires well { IsWell (now (store_of pages)) }
     requires calm { (now (store_of pages)).in_group ≡ false }
-    ensures { IfOk result (λ r. Survives (store_of pages) name.now steps.now r.0.items r.1) }
+    ensures { IfOk result (λ r. Survives (store_of pages) steps.now r.0.items (store_of r.1)) }
 {
     let db = match Db::open(alloc, pages, name) {
         Ok(db) => db,
@@ -33,7 +34,7 @@ pub fn survive(
     machine.audit();
     let left = machine.into_db().into_pages().crash(keep)?;
     match Db::open(alloc, left, name) {
-        Ok(db) => Ok((outcomes, db)),
+        Ok(db) => Ok((outcomes, db.into_pages())),
         Err((_, e)) => Err(e),
     }
 }
