@@ -1,4 +1,4 @@
--- Opening: the default tree is planted, the trees are numbered, and what may still be refused.
+-- Opening: a tree is planted, the trees are numbered, and what may still be refused.
 use Rattle.std.proofs.Common.{◌≡◌, ◌≢◌, ℕ, suc, ◌+◌, ◌*◌, ◌<◌, ◌≤◌, ◌^◌, Bool, true, false, cond, ◌&&◌, List, [], ◌∷◌, length, map, Option, Some, None, is_some, option_map, Less, Equal, Greater, is_eq, Result, Ok, Err, sym, refl, ap, ◌∙◌, subst, inl, inr, ◌⊎◌, arith}
 use Rattle.std.proofs.Math.Path.{fun_ext}
 use Rattle.std.specs.FinMap.Entries.{find, is_sorted, below_all}
@@ -82,9 +82,7 @@ module _ {node : Node} {pid version : ℕ} {a b : Store} (are : AreGiven a) (new
 
 -- a tree of a name
 module _ (name : Key) where
-  -- the maps with a default tree
-
-  -- where there is a default tree there is no other
+  -- where there is a tree of the name, no map changes and none is added
   pub with_present : (maps : Maps) (m : Map) → maps name ≡ Some m → with_tree name maps ≡ maps
   with_present maps m e = fun_ext (λ t. go t (bytes_eq t name) refl)
     where
@@ -344,7 +342,7 @@ none_no : {X : Type 0} (o : Option X) → is_some o ≡ true → (x : X) × (o �
 none_no None e = false_true e
 none_no (Some x) e = (x, refl)
 
--- the same, of the default tree
+-- the same of the default tree, whose name is known by its bytes
 pub has_default : {a b : Store} (k : Key) → k ≡ DEFAULT_TREE.now → HasTree k a b → HasTree DEFAULT_TREE.now a b
 has_default {a} {b} k e h = subst (λ z. HasTree z a b) e h
 

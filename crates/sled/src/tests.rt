@@ -40,18 +40,57 @@ fn flown(db: &mut Db<MemPages>, tree: Tree, call: Call, turns: u64) -> (u64, Wen
     }
 }
 
-// The value that a flight came out with, after so many moves.
-fn value_of(
+// A text, or no value where it is empty.
+fn value(alloc: Global, text: &str) -> std::result::Result<Option<IVec>, Fail> {
+    if text.len() == 0 {
+        return Ok(None);
+    }
+    Ok(Some(bytes(alloc, text)?))
+}
+
+// The call in flight was decided after so many moves, with this value; empty is none.
+fn decided(
     rt: &impl Abort,
+    alloc: Global,
     flown: (u64, Went),
     moves: u64,
-) -> std::result::Result<Option<IVec>, Fail> {
+    expected: &str,
+) -> std::result::Result<(), Fail> {
     assert_eq!(rt; flown.0, moves);
     match flown.1 {
-        Went::Decided(Reply::Value(value)) => Ok(value),
+        Went::Decided(Reply::Value(found)) => {
+            assert_eq!(rt; found, value(alloc, expected)?);
+            Ok(())
+        }
         Went::Refused(e) => Err(Fail::from(e)),
         _ => Err(Fail::new("not decided")),
     }
+}
+
+// Flies an insert in the default tree, which moves so often and finds this value; empty is none.
+fn put(
+    rt: &impl Abort,
+    alloc: Global,
+    db: &mut Db<MemPages>,
+    new: &str,
+    moves: u64,
+    old: &str,
+) -> std::result::Result<(), Fail> {
+    let tree = db.default_tree()?;
+    let call = Call::Insert(bytes(alloc, "key")?, bytes(alloc, new)?);
+    decided(rt, alloc, flown(db, tree, call, 0), moves, old)
+}
+
+// Flies a get in the default tree, which finds this value; empty is none.
+fn get(
+    rt: &impl Abort,
+    alloc: Global,
+    db: &mut Db<MemPages>,
+    expected: &str,
+) -> std::result::Result<(), Fail> {
+    let tree = db.default_tree()?;
+    let call = Call::Get(bytes(alloc, "key")?);
+    decided(rt, alloc, flown(db, tree, call, 0), 0, expected)
 }
 
 #[test]
@@ -108,40 +147,39 @@ fn trees_are_numbered_in_the_order_of_their_names(
     Ok(())
 }
 
+// The answer to a tree of these names and this number.
+fn checked(
+    alloc: Global,
+    db: &Db<MemPages>,
+    database: &str,
+    name: &str,
+    number: u64,
+) -> std::result::Result<Result<()>, Fail> {
+    let tree = Tree {
+        database: bytes(alloc, database)?,
+        name: bytes(alloc, name)?,
+        number,
+    };
+    Ok(db.check(&tree))
+}
+
 #[test]
 fn a_tree_of_another_database_or_of_another_number_is_refused(
     rt: HostRuntime,
 ) -> std::result::Result<(), Fail> {
     let alloc = rt.alloc();
     let db = opened(alloc, empty_pages(alloc))?;
-    let tree = db.default_tree()?;
-    let other = Tree {
-        database: bytes(alloc, "other")?,
-        name: tree.name.clone()?,
-        number: 7,
-    };
-    assert_eq!(rt;
-        db.check(&other),
-        Err(Error::Unsupported(texts::HANDLE_OF_ANOTHER_DATABASE))
-    );
-    let old = Tree {
-        database: tree.database.clone()?,
-        name: tree.name.clone()?,
-        number: 7,
-    };
-    assert_eq!(rt;
-        db.check(&old),
-        Err(Error::CollectionNotFound(tree.name.clone()?))
-    );
-    let none = Tree {
-        database: tree.database.clone()?,
-        name: bytes(alloc, "none")?,
-        number: 1,
-    };
-    assert_eq!(rt;
-        db.check(&none),
-        Err(Error::CollectionNotFound(bytes(alloc, "none")?))
-    );
+    assert_eq!(rt; checked(alloc, &db, "db", DEFAULT_TREE, 1)?, Ok(()));
+    for (name, number) in [(DEFAULT_TREE, 7), ("none", 1)] {
+        assert_eq!(rt;
+            checked(alloc, &db, "db", name, number)?,
+            Err(Error::CollectionNotFound(bytes(alloc, name)?))
+        );
+        assert_eq!(rt;
+            checked(alloc, &db, "other", name, number)?,
+            Err(Error::Unsupported(texts::HANDLE_OF_ANOTHER_DATABASE))
+        );
+    }
     Ok(())
 }
 
@@ -149,62 +187,61 @@ fn a_tree_of_another_database_or_of_another_number_is_refused(
 fn calls_in_flight_read_and_write(rt: HostRuntime) -> std::result::Result<(), Fail> {
     let alloc = rt.alloc();
     let mut db = opened(alloc, empty_pages(alloc))?;
-    let key = bytes(alloc, "key")?;
-    let tree = db.default_tree()?;
-    let get = flown(&mut db, tree.clone()?, Call::Get(key.clone()?), 0);
-    assert_eq!(rt; value_of(&rt, get, 0)?, None);
-    for (value, moves, old) in [("1", 1, ""), ("2", 1, "1"), ("2", 0, "2")] {
-        let call = Call::Insert(key.clone()?, bytes(alloc, value)?);
-        let set = flown(&mut db, tree.clone()?, call, 0);
-        let stood = value_of(&rt, set, moves)?;
-        let expected = if old.len() == 0 {
-            None
-        } else {
-            Some(bytes(alloc, old)?)
-        };
-        assert_eq!(rt; stood, expected);
-    }
-    let get = flown(&mut db, tree.clone()?, Call::Get(key.clone()?), 0);
-    assert_eq!(rt; value_of(&rt, get, 0)?, Some(bytes(alloc, "2")?));
+    get(&rt, alloc, &mut db, "")?;
+    put(&rt, alloc, &mut db, "1", 1, "")?;
+    put(&rt, alloc, &mut db, "2", 1, "1")?;
+    put(&rt, alloc, &mut db, "2", 0, "2")?;
+    get(&rt, alloc, &mut db, "2")?;
     assert_eq!(rt; db.flush()?, 2);
     assert_eq!(rt; db.flush()?, 0);
-    match flown(&mut db, tree.clone()?, Call::Get(key.clone()?), MAX_LOOPS) {
-        (0, Went::Refused(e)) => {
-            assert_eq!(rt; e, Error::ReportableBug(texts::WALK_PASSED_TURNS));
-        }
-        _ => assert!(rt; false),
-    }
     let exported = db.export()?;
     assert_eq!(rt; exported.len(), 1);
-    assert_eq!(rt; exported[0].2.len(), 1);
-    assert!(rt; exported[0].2[0].0 == key && exported[0].2[0].1 == bytes(alloc, "2")?);
+    for collection in exported.as_slice() {
+        assert_eq!(rt; collection.2.len(), 1);
+        for pair in collection.2.as_slice() {
+            assert_eq!(rt; pair.0, bytes(alloc, "key")?);
+            assert_eq!(rt; pair.1, bytes(alloc, "2")?);
+        }
+    }
     Ok(())
+}
+
+#[test]
+fn a_call_with_too_many_turns_is_refused(rt: HostRuntime) -> std::result::Result<(), Fail> {
+    let alloc = rt.alloc();
+    let mut db = opened(alloc, empty_pages(alloc))?;
+    let tree = db.default_tree()?;
+    let call = Call::Get(bytes(alloc, "key")?);
+    match flown(&mut db, tree, call, MAX_LOOPS).1 {
+        Went::Refused(e) => {
+            assert_eq!(rt; e, Error::ReportableBug(texts::WALK_PASSED_TURNS));
+            Ok(())
+        }
+        _ => Err(Fail::new("not refused")),
+    }
+}
+
+// What a crash leaves of a database with one value that was flushed and two that were not.
+fn crashed(rt: &impl Abort, alloc: Global, keep: usize) -> std::result::Result<Db<MemPages>, Fail> {
+    let mut db = opened(alloc, empty_pages(alloc))?;
+    assert!(rt; !db.was_recovered());
+    put(rt, alloc, &mut db, "1", 1, "")?;
+    assert_eq!(rt; db.flush()?, 1);
+    put(rt, alloc, &mut db, "2", 1, "1")?;
+    put(rt, alloc, &mut db, "3", 1, "2")?;
+    opened(alloc, crash_pages(db.into_pages(), keep)?)
 }
 
 #[test]
 fn a_database_is_opened_again(rt: HostRuntime) -> std::result::Result<(), Fail> {
     let alloc = rt.alloc();
-    for (keep, value) in [(0, "1"), (1, "2"), (9, "3")] {
-        let mut db = opened(alloc, empty_pages(alloc))?;
-        let key = bytes(alloc, "key")?;
-        let tree = db.default_tree()?;
-        for value in ["1", "2", "3"] {
-            let call = Call::Insert(key.clone()?, bytes(alloc, value)?);
-            flown(&mut db, tree.clone()?, call, 0);
-            if value == "1" {
-                assert_eq!(rt; db.flush()?, 1);
-            }
-        }
-        assert!(rt; !db.was_recovered());
-        let pages = crash_pages(db.into_pages(), keep)?;
-        let mut db = opened(alloc, pages)?;
+    for (keep, left) in [(0, "1"), (1, "2"), (9, "3")] {
+        let mut db = crashed(&rt, alloc, keep)?;
         assert!(rt; db.was_recovered());
-        let tree = db.default_tree()?;
-        let get = flown(&mut db, tree.clone()?, Call::Get(key.clone()?), 0);
-        assert_eq!(rt; value_of(&rt, get, 0)?, Some(bytes(alloc, value)?));
-        let db = opened(alloc, db.into_pages())?;
+        get(&rt, alloc, &mut db, left)?;
+        let mut db = opened(alloc, db.into_pages())?;
         assert!(rt; db.was_recovered());
-        assert_eq!(rt; db.export()?[0].2.len(), 1);
+        get(&rt, alloc, &mut db, left)?;
     }
     Ok(())
 }
