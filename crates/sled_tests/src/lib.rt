@@ -1,0 +1,6 @@
+//! Tests that cross crates, and callers of the machine that are proved against its contracts alone.
+#![tactic(auto)]
+
+mod callers;
+
+pub use callers::{insert_then_get, insert_then_get_in_new, race, reopen};
