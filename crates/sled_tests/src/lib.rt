@@ -3,4 +3,6 @@
 
 mod callers;
 
-pub use callers::{insert_then_get, insert_then_get_in_new, race, reopen};
+pub use callers::{
+    crash, empty, get, insert_then_get, insert_then_get_in_new, race, reopen, reopen_then_get,
+};
