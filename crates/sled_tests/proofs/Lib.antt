@@ -1,1 +1,4 @@
+pub mod Keys
+pub mod Calls
+pub mod Opened
 pub mod Surviving

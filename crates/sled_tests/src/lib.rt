@@ -1,6 +1,10 @@
-//! Tests that cross crates, and proved callers.
+//! Tests that cross crates, and callers of the machine that are proved against its contracts alone.
 #![tactic(auto)]
 
+mod callers;
 mod crash;
 
+pub use callers::{
+    crash, empty, get, insert_then_get, insert_then_get_in_new, race, reopen, reopen_then_get,
+};
 pub use crash::survive;

@@ -1,0 +1,57 @@
+-- An insert in a map.
+use Rattle.std.proofs.Common.{◌≡◌, ◌≢◌, Bool, true, false, cond, Option, Some, None, Less, Equal, Greater, is_eq, refl, ap, ◌∙◌}
+use Rattle.std.specs.Cmp.{IsTotalOrder}
+use Rattle.std.specs.FinMap.{slice_cmp-IsAntisymmetric, nat_cmp-IsAntisymmetric}
+use Rattle.std.specs.FinMap.Entries.{put, find, find-put}
+use Rattle.std.specs.Str.{bytes_eq}
+use Rattle.std.specs.declared.cmp.Ordering.{Ordering}
+use Rattle.std.proofs.lemmas.Cmp.{nat_list_cmp_total, tied_itself}
+use Rattle.sled_pages.specs.Order.{Key, key_cmp}
+use Rattle.sled_pages.specs.Facts.{same_name}
+use Rattle.sled_model.specs.Maps.{Map}
+use Rattle.sled_model.specs.Answer.{answer_of, inserted, unchanged, inserted_over}
+use Rattle.sled_model.specs.declared.call.Call.TheVariants.{Insert}
+use Rattle.sled_model.specs.declared.reply.Reply.TheVariants.{Value}
+
+key_total : IsTotalOrder key_cmp
+unfolding key_cmp
+key_total = nat_list_cmp_total
+
+key_same : (a b : Key) → key_cmp a b ≡ Equal → a ≡ b
+unfolding key_cmp
+key_same a b e = slice_cmp-IsAntisymmetric nat_cmp-IsAntisymmetric a b e
+
+put_here : (k v : Key) (m : Map) → find key_cmp k (put key_cmp k v m) ≡ Some v
+put_here k v m = find-put key_cmp key_total k k v m ∙ ap (λ o. cond (is_eq o) (Some v) (find key_cmp k m)) (tied_itself key_total k)
+
+put_there : (q k v : Key) (m : Map) → q ≢ k → find key_cmp q (put key_cmp k v m) ≡ find key_cmp q m
+put_there q k v m off = find-put key_cmp key_total q k v m ∙ go (key_cmp q k) refl
+  where
+    go : (o : Ordering) → key_cmp q k ≡ o → cond (is_eq o) (Some v) (find key_cmp q m) ≡ find key_cmp q m
+    go Less e = refl
+    go Equal e = absurd (off (key_same q k e))
+    go Greater e = refl
+
+-- after an insert the key has the value
+pub insert_here : (k v : Key) (m : Map) → find key_cmp k (answer_of (Insert k v) m).map ≡ Some v
+insert_here k v m = go (find key_cmp k m) refl
+  where
+    over : (old : Key) (b : Bool) → bytes_eq old v ≡ b → find key_cmp k m ≡ Some old → find key_cmp k (cond b (unchanged m (Value (Some old))) (inserted k v m (Value (Some old)))).map ≡ Some v
+    over old true same e = e ∙ ap Some (same_name old v same)
+    over old false other e = put_here k v m
+
+    go : (o : Option Key) → find key_cmp k m ≡ o → find key_cmp k (inserted_over k v m o).map ≡ Some v
+    go None e = put_here k v m
+    go (Some old) e = over old (bytes_eq old v) refl e
+
+-- .. and every other key what it had
+pub insert_there : (q k v : Key) (m : Map) → q ≢ k → find key_cmp q (answer_of (Insert k v) m).map ≡ find key_cmp q m
+insert_there q k v m off = go (find key_cmp k m)
+  where
+    over : (old : Key) (b : Bool) → find key_cmp q (cond b (unchanged m (Value (Some old))) (inserted k v m (Value (Some old)))).map ≡ find key_cmp q m
+    over old true = refl
+    over old false = put_there q k v m off
+
+    go : (o : Option Key) → find key_cmp q (inserted_over k v m o).map ≡ find key_cmp q m
+    go None = put_there q k v m off
+    go (Some old) = over old (bytes_eq old v)
