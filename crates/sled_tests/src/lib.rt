@@ -2,9 +2,9 @@
 #![tactic(auto)]
 
 mod callers;
-mod crash;
+mod recovery;
 
 pub use callers::{
     crash, empty, get, insert_then_get, insert_then_get_in_new, race, reopen, reopen_then_get,
 };
-pub use crash::survive;
+pub use recovery::survive;

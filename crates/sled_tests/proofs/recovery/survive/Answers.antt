@@ -2,7 +2,7 @@ use Rattle.std.proofs.Common.{◌≡◌, ◌∙◌, ap}
 use Rattle.sled_pages.specs.declared.memory.MemPages.{MemPages}
 use Rattle.sled.specs.Values.{DbValue}
 use Rattle.sled_tests.proofs.Surviving.{survives}
-use Rattle.sled_tests.proofs.crash.survive.Goals as goal
+use Rattle.sled_tests.proofs.recovery.survive.Goals as goal
 
 pub returns-in-Ok-open : goal.returns-in-Ok-open
 returns-in-Ok-open c =
