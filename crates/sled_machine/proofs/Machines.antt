@@ -7,7 +7,8 @@ use Rattle.sled_pages.specs.Update.{put_at}
 use Rattle.sled_pages.specs.Store.{Store}
 use Rattle.sled_pages.specs.declared.error.Error.{Error}
 use Rattle.sled_model.specs.Maps.{Maps, Merge}
-use Rattle.sled_model.specs.State.{State, Flying, begun, maps_of}
+use Rattle.sled_model.specs.Answer.{answer_of}
+use Rattle.sled_model.specs.State.{State, NamedTree, Flying, begun, maps_of}
 use Rattle.sled_model.specs.Refusal.{MustRefuse, MayRefuse, must_refuse_of, may_refuse_as, cause_of, ToBegin, ToCall}
 use Rattle.sled_model.specs.Steps.{Instant, Steps, Begins, Misses, Abandons}
 use Rattle.sled_model.specs.declared.call.Call.{Call}
@@ -33,7 +34,7 @@ use Rattle.sled.specs.Flights.{flying_of, IsKnown, AreApart, Flies, outcome_of, 
 use Rattle.sled.specs.Flush.{Stays, FlushesDb, RefusesFlush}
 use Rattle.sled_machine.specs.Slots.{kept_at, RiseAbove, Rise, StandsAt}
 use Rattle.sled_machine.specs.Values.{MachineValue, slots_of, instant_of}
-use Rattle.sled_machine.specs.Crash.{StepsTo, Reaches, keeps_as}
+use Rattle.sled_machine.specs.Crash.{StepsTo, Reaches, keeps_as, acts_as, IsSilent}
 use Rattle.sled_machine.specs.Sound.{IsMachine}
 use Rattle.sled_machine.specs.Fly.{StepsAt, flights_after}
 use Rattle.sled_machine.proofs.Places.{stands, set_kept, take_kept, set_rise, take_rise, push_kept, push_rise}
@@ -83,10 +84,10 @@ more i fs = ap (λ k. take i fs ++ drop k fs) (add-one i)
 module _ {P M : Type 0} (store : P → Store) (meant : M → Merge) (v : MachineValue P M) (im : IsMachine (moment (store v.db.pages) v.db.trees v.db.trees_given) v.flights v.slots_given) where
   -- no call has the slot
   pub missing_step : (slot : ℕ) → kept_at v.flights slot ≡ None → Reaches store meant v (step.Step slot) outcome.NoSuchSlot v
-  missing_step slot e = record { maps = []; is = record { step = record { told = (record { free = ap (option_map flying_of) e; is = refl }, refl) }; keeps = extends_same (store v.db.pages) } }
+  missing_step slot e = record { maps = []; is = record { step = record { told = (record { free = ap (option_map flying_of) e; is = refl }, refl) }; keeps = extends_same (store v.db.pages); acts = omega arith } }
 
   pub missing_abandon : (slot : ℕ) → kept_at v.flights slot ≡ None → Reaches store meant v (step.Abandon slot) outcome.NoSuchSlot v
-  missing_abandon slot e = record { maps = []; is = record { step = record { told = (record { free = ap (option_map flying_of) e; is = refl }, refl) }; keeps = extends_same (store v.db.pages) } }
+  missing_abandon slot e = record { maps = []; is = record { step = record { told = (record { free = ap (option_map flying_of) e; is = refl }, refl) }; keeps = extends_same (store v.db.pages); acts = refl } }
 
   pub in_range : (slot i : ℕ) → StandsAt v.flights slot i → i < length v.flights
   in_range slot i s = slice_get_within v.flights i (slot, s.kept) s.is
@@ -118,6 +119,7 @@ module _ {P M : Type 0} (store : P → Store) (meant : M → Merge) (v : Machine
           );
         };
         keeps = extends_same (store v.db.pages);
+        acts = refl;
       };
     }
 
@@ -144,6 +146,7 @@ module _ {P M : Type 0} (store : P → Store) (meant : M → Merge) (v : Machine
         step = subst (λ z. Steps (instant_of store meant v) (step.Step slot) (outcome_of went) (instant_of_db store meant db z v.slots_given) (maps_added went (maps_of (db_state store meant db)))) (sym slots)
             (flies.steps (slots_of v.flights) v.slots_given slot (ap (option_map flying_of) (at_place slot i f there)));
         keeps = keeps_flying went flies;
+        acts = acts_flying went flies;
       };
     }
       where
@@ -151,6 +154,14 @@ module _ {P M : Type 0} (store : P → Store) (meant : M → Merge) (v : Machine
         keeps_flying Moved k = k.extends
         keeps_flying (Decided reply) k = k.extends
         keeps_flying (Refused r) k = k.extends
+
+        here : slots_of v.flights slot ≡ Some (flying_of f)
+        here = ap (option_map flying_of) (at_place slot i f there)
+
+        acts_flying : (went : Went) → Flies store meant v.db f went db next → acts_as (instant_of store meant v) (step.Step slot) (outcome_of went) (instant_of store meant (record v { db = db; flights = gs }))
+        acts_flying Moved k = k.once
+        acts_flying (Decided reply) k = (k.once, λ q. k.quiet (record { reply = reply; decided = refl; tree = q.tree; there = subst (λ (z : Flying). (db_state store meant v.db).trees z.tree.name ≡ Some q.tree) (some_is (sym q.here ∙ here)) q.there; silent = subst (λ (z : Flying). (answer_of z.call q.tree.map).event ≡ None) (some_is (sym q.here ∙ here)) q.silent }))
+        acts_flying (Refused r) k = k.once
 
     ended : (f : Flight) → slice_get v.flights i ≡ Some (slot, f) → gs ≡ take i v.flights ++ drop (i + 1) v.flights → (q : ℕ) → kept_at gs q ≡ put_at (kept_at v.flights) slot None q
     ended f there e q = ap (λ z. kept_at z q) (e ∙ more i v.flights) ∙ take_kept 0 v.flights i slot f q im.rise.is there
@@ -208,7 +219,7 @@ module _ {P M : Type 0} (store : P → Store) (meant : M → Merge) (v : Machine
 
   -- a call begins, or is refused
   pub begin_refused : (tree : Tree) (call : Call) (e : Error) → MayRefuse (state_of store meant v.db (slots_of v.flights) v.slots_given) (store v.db.pages) (store v.db.pages) (ToBegin tree call) e → Reaches store meant v (step.Begin tree call) (outcome.Refused e) v
-  begin_refused tree call e may = record { maps = []; is = record { step = record { told = (may, refl, refl) }; keeps = extends_same (store v.db.pages) } }
+  begin_refused tree call e may = record { maps = []; is = record { step = record { told = (may, refl, refl) }; keeps = extends_same (store v.db.pages); acts = refl } }
 
   pub begin_untested : (tree : Tree) (call : Call) (e : Error) → MustBeRefused (must_refuse_of (db_state store meant v.db) (tree ∷ [])) e → Reaches store meant v (step.Begin tree call) (outcome.Refused e) v
   begin_untested tree call e tested = begin_refused tree call e (record { told = go (must_refuse_of (db_state store meant v.db) (tree ∷ [])) tested.told })
@@ -247,6 +258,7 @@ module _ {P M : Type 0} (store : P → Store) (meant : M → Merge) (v : Machine
             );
           };
           keeps = extends_same (store v.db.pages);
+          acts = refl;
         };
       }
 
@@ -278,13 +290,13 @@ module _ {P M : Type 0} (store : P → Store) (meant : M → Merge) (v : Machine
   pub flushed_all : (db : DbValue P M) (n : ℕ) → FlushesDb store meant v.db db → Reaches store meant v (step.Whole Flush) (outcome.Decided (Number n)) (record v { db = db })
   flushed_all db n f = record {
     maps = [];
-    is = record { step = record { told = (f.free, f.stays.state (slots_of v.flights) v.slots_given, refl) }; keeps = record { flushes = f.flushes; leaves = record { is = subst (λ z. Matches z (maps_of (db_state store meant db) ∷ [])) (sym (ap (map trees_of) f.left ∙ ap (λ z. z ∷ []) f.maps)) (matches_same _) } } };
+    is = record { step = record { told = (f.free, f.stays.state (slots_of v.flights) v.slots_given, refl) }; keeps = record { flushes = f.flushes; leaves = record { is = subst (λ z. Matches z (maps_of (db_state store meant db) ∷ [])) (sym (ap (map trees_of) f.left ∙ ap (λ z. z ∷ []) f.maps)) (matches_same _) } }; acts = tt };
   }
 
   pub flush_refused : (db : DbValue P M) (e : Error) → RefusesFlush store meant v.db db e → Reaches store meant v (step.Whole Flush) (outcome.Refused e) (record v { db = db })
   flush_refused db e f = record {
     maps = [];
-    is = record { step = record { told = (f.may (slots_of v.flights) v.slots_given, f.stays.state (slots_of v.flights) v.slots_given, refl) }; keeps = f.extends };
+    is = record { step = record { told = (f.may (slots_of v.flights) v.slots_given, f.stays.state (slots_of v.flights) v.slots_given, refl) }; keeps = f.extends; acts = tt };
   }
 
   pub stays_machine : (db : DbValue P M) → Stays store meant v.db db → IsMachine (moment (store db.pages) db.trees db.trees_given) v.flights v.slots_given

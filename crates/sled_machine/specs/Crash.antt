@@ -1,9 +1,10 @@
 -- Steps of the machine, with what they add to what a crash may leave.
-use Rattle.std.specs.Prelude.{◌≡◌, ◌≢◌, ℕ, zero, suc, List, [], ◌∷◌, ◌++◌, map}
+use Rattle.std.specs.Prelude.{◌≡◌, ◌≢◌, ℕ, zero, suc, ◌+◌, ◌≤◌, List, [], ◌∷◌, ◌++◌, map, Some, None}
 use Rattle.sled_pages.specs.Store.{Store}
 use Rattle.sled_pages.specs.Crash.{states_left}
 use Rattle.sled_model.specs.Maps.{Maps, Merge}
-use Rattle.sled_model.specs.State.{maps_of}
+use Rattle.sled_model.specs.Answer.{answer_of}
+use Rattle.sled_model.specs.State.{State, NamedTree, Flying, maps_of}
 use Rattle.sled_model.specs.Steps.{Instant, Steps}
 use Rattle.sled_model.specs.Runs.{RunsBy}
 use Rattle.sled_model.specs.declared.outcome.Step.{Step}
@@ -35,10 +36,28 @@ abbrev pub kept_after : Step → Outcome → List Maps → Maps → List Maps �
 kept_after (step.Whole Flush) (Decided reply) added after kept = after ∷ []
 kept_after s o added after kept = kept ++ added
 
+-- the call in the slot brings no event by the map now
+pub record IsSilent (s : State) (slot : ℕ) : Type 0 where
+  pub flying : Flying
+  pub here : s.slots slot ≡ Some flying
+  pub tree : NamedTree
+  pub there : s.trees flying.tree.name ≡ Some tree
+  pub silent : (answer_of flying.call tree.map).event ≡ None
+
+-- What a step does of page actions: a call that begins or is given up does none. A step of a slot does at most one changing
+-- action, and none where it decides a call without an event
+abbrev pub acts_as : Instant → Step → Outcome → Instant → Type 0
+acts_as old (step.Begin tree call) o new = new.store ≡ old.store
+acts_as old (step.Step slot) (Decided reply) new = (new.store.actions ≤ old.store.actions + 1) × (IsSilent old.state slot → new.store ≡ old.store)
+acts_as old (step.Step slot) o new = new.store.actions ≤ old.store.actions + 1
+acts_as old (step.Abandon slot) o new = new.store ≡ old.store
+acts_as old (step.Whole whole) o new = Unit {0}
+
 -- one step, with its outcome and the maps that it added
 pub record StepsTo (old : Instant) (s : Step) (o : Outcome) (new : Instant) (maps : List Maps) : Type 0 where
   pub step : Steps old s o new maps
   pub keeps : keeps_as s o maps (maps_of new.state) old.store new.store
+  pub acts : acts_as old s o new
 
 -- one call of a machine
 pub record Reaches {P M : Type 0} (store : P → Store) (meant : M → Merge) (old : MachineValue P M) (s : Step) (o : Outcome) (new : MachineValue P M) : Type 0 where
