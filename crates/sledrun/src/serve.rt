@@ -1,9 +1,10 @@
 //! The program as a function: from the lines that it reads to those that it prints.
-ghost use Rattle.std.specs.Prelude.{◌≡◌, ◌≤◌, false, IfOk};
+ghost use Rattle.std.specs.Prelude.{◌≡◌, ◌≤◌, false, IfOk, IfSome};
 ghost use Rattle.sled_pages.specs.Store.{now};
 ghost use Rattle.sled_pages.specs.Memory.{store_of};
 ghost use Rattle.tree_laws.specs.Crashes.{IsWell};
-ghost use Rattle.sledrun.specs.Serve.{GoesOn};
+ghost use Rattle.sledrun.specs.Serve.{GoesOn, Reads, Ends, Ran, IsStatus, bad_left};
+ghost use Rattle.std.specs.Io.BufRead.{strip_last};
 
 use crate::command::{Command, parse};
 use crate::print::{push_bad_line, push_recovered};
@@ -61,7 +62,9 @@ struct Buffers {
 }
 
 // A line without the byte that ends it.
-fn without_end(line: &[u8]) -> &[u8] {
+fn without_end(line: &[u8]) -> &[u8]
+    ensures { result.now ≡ strip_last 10 line.now }
+{
     match line {
         [text @ .., b'\n'] => text,
         _ => line,
@@ -73,7 +76,9 @@ fn next_line<R: BufRead>(
     alloc: Global,
     input: &mut R,
     buffers: &mut Buffers,
-) -> Result<Line, Stopped> {
+) -> Result<Line, Stopped>
+    ensures { IfOk result (Reads (bad_left buffers.old.number (R.remaining input.old)) (bad_left buffers.new.number (R.remaining input.new)) buffers.new.number) }
+{
     buffers.line.clear();
     if input.read_until(b'\n', &mut buffers.line)? == 0 {
         return Ok(Line::NoLine);
@@ -89,7 +94,9 @@ fn next_line<R: BufRead>(
 }
 
 // Writes what the line prints.
-fn write<W: Write>(output: &mut W, buffers: &mut Buffers) -> Result<(), Stopped> {
+fn write<W: Write>(output: &mut W, buffers: &mut Buffers) -> Result<(), Stopped>
+    ensures { buffers.new.number ≡ buffers.old.number }
+{
     output.write_all(buffers.out.as_slice())?;
     buffers.out.clear();
     Ok(())
@@ -105,7 +112,8 @@ fn live<R: BufRead, W: Write>(
 ) -> Result<End, Stopped>
     requires well { IsWell (now (store_of pages)) }
     requires calm { (now (store_of pages)).in_group ≡ false }
-    ensures { IfOk result GoesOn }
+    ensures goes_on { IfOk result GoesOn }
+    ensures bad { IfOk result (Ends (bad_left buffers.old.number (R.remaining input.old)) (bad_left buffers.new.number (R.remaining input.new)) buffers.new.number) }
 {
     let Ok(db) = Db::open(alloc, pages, DATABASE) else {
         return Err(Stopped);
@@ -138,11 +146,9 @@ fn live<R: BufRead, W: Write>(
 }
 
 // Whether every line could be read.
-fn run<R: BufRead, W: Write>(
-    alloc: Global,
-    input: &mut R,
-    output: &mut W,
-) -> Result<bool, Stopped> {
+fn run<R: BufRead, W: Write>(alloc: Global, input: &mut R, output: &mut W) -> Result<bool, Stopped>
+    ensures { IfOk result (Ran (bad_left 0 (R.remaining input.old))) }
+{
     let mut buffers = Buffers {
         line: Vec::new(alloc),
         out: Vec::new(alloc),
@@ -168,7 +174,8 @@ fn run<R: BufRead, W: Write>(
 /// Runs the lines of the input, and prints what each of them came to. Answers the exit status: 0 at the end, 1 at the first
 /// line that cannot be read, after `bad line N`, and 2 where a read or a write failed or there was no memory.
 pub fn serve<R: BufRead, W: Write>(alloc: Global, input: &mut R, output: &mut W) -> u8
-    ensures { result ≤ 2 }
+    ensures status { result ≤ 2 }
+    ensures bad { IfSome (bad_left 0 (R.remaining input.old)) (λ bad. IsStatus bad result) }
 {
     match run(alloc, input, output) {
         Ok(true) => 0,
