@@ -93,27 +93,64 @@ fn get(
     decided(rt, alloc, flown(db, tree, call, 0), 0, expected)
 }
 
+// The bytes, as text.
+fn push_text(text: &mut String, bytes: &[u8]) -> std::result::Result<(), Fail> {
+    for byte in bytes {
+        text.push(*byte as char)?;
+    }
+    Ok(text.push(' ')?)
+}
+
+// An export as text: of each collection its type, its name, and how many pairs it has; then each pair.
+fn listed(alloc: Global, db: &Db<MemPages>) -> std::result::Result<String, Fail> {
+    let mut text = String::new(alloc);
+    for collection in db.export()?.as_slice() {
+        push_text(&mut text, collection.0.as_slice())?;
+        push_text(&mut text, collection.1.as_slice())?;
+        let count = format!(in alloc; "{}", collection.2.len())?;
+        push_text(&mut text, count.as_bytes())?;
+        for pair in collection.2.as_slice() {
+            push_text(&mut text, pair.0.as_ref())?;
+            push_text(&mut text, pair.1.as_ref())?;
+        }
+    }
+    Ok(text)
+}
+
+// Opens a fresh store whose call of this number is refused, and then again what is given back: how often it was refused.
+fn refused_at(
+    rt: &impl Abort,
+    alloc: Global,
+    call: u64,
+) -> std::result::Result<(u64, Db<MemPages>), Fail> {
+    let mut pages = empty_pages(alloc);
+    pages.refuse_at(&[call])?;
+    match Db::open(alloc, pages, b"db") {
+        Ok(db) => Ok((0, db)),
+        Err((pages, e)) => {
+            assert_eq!(rt; e, Error::Io(Fault(1)));
+            Ok((1, opened(alloc, pages)?))
+        }
+    }
+}
+
 #[test]
 fn an_open_that_is_refused_gives_the_pages_back(rt: HostRuntime) -> std::result::Result<(), Fail> {
     let alloc = rt.alloc();
-    for call in 1..5u64 {
-        let mut pages = empty_pages(alloc);
-        pages.refuse_at(&[call])?;
-        match Db::open(alloc, pages, b"db") {
-            Ok(db) => {
-                assert_eq!(rt; call, 4);
-                assert!(rt; !db.was_recovered());
-            }
-            Err((pages, e)) => {
-                assert!(rt; call < 4);
-                assert_eq!(rt; e, Error::Io(Fault(1)));
-                let db = opened(alloc, pages)?;
-                assert_eq!(rt; db.default_tree()?.number, 1);
-                assert_eq!(rt; db.export()?.len(), 1);
-            }
-        }
+    for (call, times) in [(1, 1), (2, 1), (3, 1), (4, 0)] {
+        let (refused, db) = refused_at(&rt, alloc, call)?;
+        assert_eq!(rt; refused, times);
+        assert_eq!(rt; listed(alloc, &db)?.as_str(), "tree __sled__default 0 ");
     }
     Ok(())
+}
+
+// A database over a store that has the roots of two names.
+fn with_two_roots(alloc: Global) -> std::result::Result<Db<MemPages>, Fail> {
+    let mut pages = empty_pages(alloc);
+    plant(alloc, &mut pages, b"a")?;
+    plant(alloc, &mut pages, b"Z")?;
+    opened(alloc, pages)
 }
 
 #[test]
@@ -121,29 +158,16 @@ fn trees_are_numbered_in_the_order_of_their_names(
     rt: HostRuntime,
 ) -> std::result::Result<(), Fail> {
     let alloc = rt.alloc();
-    let mut pages = empty_pages(alloc);
-    plant(alloc, &mut pages, b"a")?;
-    plant(alloc, &mut pages, b"Z")?;
-    plant(alloc, &mut pages, b"a")?;
-    let db = opened(alloc, pages)?;
-    let tree = db.default_tree()?;
-    assert!(rt; tree.database == bytes(alloc, "db")?);
-    assert!(rt; tree.name == bytes(alloc, "__sled__default")?);
-    assert_eq!(rt; tree.number, 2);
+    let db = with_two_roots(alloc)?;
     db.audit();
-    assert!(rt; db.check(&tree).is_ok());
-    let exported = db.export()?;
-    assert_eq!(rt; exported.len(), 3);
-    let mut names = String::new(alloc);
-    for collection in exported.as_slice() {
-        assert_eq!(rt; collection.0.as_slice(), b"tree".as_slice());
-        assert_eq!(rt; collection.2.len(), 0);
-        for byte in collection.1.as_slice() {
-            names.push(*byte as char)?;
-        }
-        names.push(' ')?;
-    }
-    assert_eq!(rt; names.as_str(), "Z __sled__default a ");
+    let tree = db.default_tree()?;
+    assert_eq!(rt; tree.database, bytes(alloc, "db")?);
+    assert_eq!(rt; tree.name, bytes(alloc, DEFAULT_TREE)?);
+    assert_eq!(rt; tree.number, 2);
+    assert_eq!(rt;
+        listed(alloc, &db)?.as_str(),
+        "tree Z 0 tree __sled__default 0 tree a 0 "
+    );
     Ok(())
 }
 
@@ -194,15 +218,10 @@ fn calls_in_flight_read_and_write(rt: HostRuntime) -> std::result::Result<(), Fa
     get(&rt, alloc, &mut db, "2")?;
     assert_eq!(rt; db.flush()?, 2);
     assert_eq!(rt; db.flush()?, 0);
-    let exported = db.export()?;
-    assert_eq!(rt; exported.len(), 1);
-    for collection in exported.as_slice() {
-        assert_eq!(rt; collection.2.len(), 1);
-        for pair in collection.2.as_slice() {
-            assert_eq!(rt; pair.0, bytes(alloc, "key")?);
-            assert_eq!(rt; pair.1, bytes(alloc, "2")?);
-        }
-    }
+    assert_eq!(rt;
+        listed(alloc, &db)?.as_str(),
+        "tree __sled__default 1 key 2 "
+    );
     Ok(())
 }
 
