@@ -6,8 +6,8 @@ use lib.Dec.{eqb}
 use mathlib.Core.Bool.{true≢false}
 use Rattle.sled_pages.specs.declared.memory.MemPages.{MemPages}
 use Rattle.sled_pages.specs.declared.memory.slots.Slots.{Slots}
-use Rattle.sled_pages.specs.Slots.{slots_of, places_of}
-use Rattle.sled_pages.specs.Replay.{replay, back_name, slot_placed}
+use Rattle.sled_pages.specs.Slots.{slots_of, places_of, given_of}
+use Rattle.sled_pages.specs.Replay.{replay, back_name, slot_placed, placed_given}
 use mathlib.Core.List.{reverse}
 use Rattle.std.specs.Option.{option_map}
 use Rattle.std.proofs.lemmas.List.Folds.{list_all-append}
@@ -79,15 +79,15 @@ pub page_commits : (slots slots' : ℕ → Option Slot) (roots : Key → Option 
 page_commits slots slots' roots g log log' pid slot old n f un mk rc places places' nv s o l h =
     meaning_acted _ _ log log' (UndoSlot pid old) _ n f un mk rc places places' nv l (page_back slots slots' roots g pid slot old s o) (page_told slots slots' roots g pid slot old s) h
 
-first : (a b : Bool) → (a && b) ≡ true → a ≡ true
+pub first : (a b : Bool) → (a && b) ≡ true → a ≡ true
 first true b e = refl
 first false b e = cc
 
-second : (a b : Bool) → (a && b) ≡ true → b ≡ true
+pub second : (a b : Bool) → (a && b) ≡ true → b ≡ true
 second true b e = e
 second false b e = cc
 
-both : (a b : Bool) → a ≡ true → b ≡ true → (a && b) ≡ true
+pub both : (a b : Bool) → a ≡ true → b ≡ true → (a && b) ≡ true
 both a b e f = rw (e, f) refl
 
 pub all_push : {X : Type 0} (p : X → Bool) (xs : List X) (x : X) → list_all p xs ≡ true → p x ≡ true → list_all p (xs ++ x ∷ []) ≡ true
@@ -258,3 +258,10 @@ group_here m = ap (λ s. s.in_group) (now_is m)
 -- each slot has a place
 pub placed_here : (s : Slots) (p : ℕ) (slot : Slot) → slots_of s p ≡ Some slot → places_of s p ≡ true
 placed_here s p slot e = slot_placed s.last s.foreign s.own.items p slot e
+
+-- each slot has a number that was given, and one that was never given has no place
+pub given_here : (s : Slots) (p : ℕ) (slot : Slot) → slots_of s p ≡ Some slot → given_of s p ≡ true
+given_here s p slot e = placed_given s.from_image s.last s.foreign s.own.items p s.known (placed_here s p slot e)
+
+pub not_placed : (s : Slots) (p : ℕ) → given_of s p ≡ false → places_of s p ≡ false
+not_placed s p e = elim (places_of s p) as (λ b. places_of s p ≡ b → b ≡ false) [ true ↦ λ f. absurd (true≢false (sym (placed_given s.from_image s.last s.foreign s.own.items p s.known f) ∙ e)) | false ↦ λ f. refl ] refl

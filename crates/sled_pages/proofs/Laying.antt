@@ -1,7 +1,10 @@
 -- An image laid down page by page.
-use Rattle.std.proofs.Common.{◌≡◌, ℕ, ◌+◌, ◌^◌, ◌<◌, ◌≤◌, Bool, true, false, cond, nat_eq, nat_lt, is_some, List, [], ◌∷◌, ◌++◌, length, Option, Some, None, refl, sym, ap, ◌∙◌, arith, length-append}
+use Rattle.std.proofs.Common.{◌≡◌, ℕ, ◌+◌, ◌-◌, ◌^◌, ◌<◌, ◌≤◌, Bool, true, false, cond, ◌&&◌, nat_eq, nat_le, nat_lt, take, get_or, add-one, List, [], ◌∷◌, ◌++◌, length, Option, Some, None, refl, sym, ap, ◌∙◌, arith, length-append, slice_get}
 use Rattle.std.specs.Option.{option_map}
-use Rattle.std.specs.List.{find}
+use Rattle.std.specs.List.{find, list_all}
+use Rattle.std.proofs.Math.Seq.{take-suc}
+use Rattle.sled_pages.specs.Node.{pointers}
+use Rattle.sled_pages.proofs.Kept.{all_push, all_weaker, first, second, both}
 use Rattle.std.specs.Ordering.{nat_cmp}
 use Rattle.std.specs.Cmp.{unsigned_ties}
 use Rattle.std.specs.BTreeMap.{BTreeMap, get, is_at}
@@ -10,9 +13,14 @@ use Rattle.std.proofs.lemmas.List.{reverse-append}
 use mathlib.Core.List.{reverse}
 use Rattle.sled_pages.specs.declared.node.Node.{Node}
 use Rattle.sled_pages.specs.declared.memory.slots.Slot.{Slot}
-use Rattle.sled_pages.specs.Slots.{joined}
-use Rattle.sled_pages.specs.Table.{slot_given}
-use Rattle.sled_pages.specs.Image.{last_of, node_in, root_in}
+use Rattle.sled_pages.specs.Held.{Holds}
+use Rattle.sled_pages.specs.Slots.{slot_in, given_in}
+use Rattle.sled_pages.specs.Joined.{joined}
+use Rattle.sled_pages.specs.Table.{slot_given, page_of, roots_of, table}
+use Rattle.sled_pages.specs.Memory.{meaning}
+use Rattle.sled_pages.specs.declared.page.Page.{Page}
+use Rattle.sled_pages.specs.declared.memory.undo.Undo.{Undo}
+use Rattle.sled_pages.specs.Image.{IsImage, last_of, node_in, root_in, all_of, all_named, all_numbers}
 use Rattle.std.specs.Str.{bytes_eq}
 use Rattle.sled_pages.specs.Order.{Key}
 use Rattle.sled_pages.specs.Update.{put_name}
@@ -24,15 +32,6 @@ last_more passes es k x =
     ap (λ ys. option_map (λ e. e.1) (find (λ e. passes e.0) ys)) (reverse-append es ((k, x) ∷ []))
     ∙ elim (passes k) as (λ b. option_map (λ e. e.1) (cond b (Some (k, x)) (find (λ e. passes e.0) (reverse es))) ≡ cond b (Some x) (last_of passes es)) [ true ↦ refl | false ↦ refl ]
 
--- the pages so far
-pub record Holds (image : List (ℕ × Node)) (foreign : BTreeMap ℕ (Option Slot)) (last next : ℕ) : Type 0 where
-  pub nodes : (p : ℕ) → option_map (λ (x : Slot). x.node) (joined (get nat_cmp foreign p)) ≡ node_in image p
-  pub places : (p : ℕ) → is_some (get nat_cmp foreign p) ≡ is_some (node_in image p)
-  pub bounded : (p : ℕ) → last < p → node_in image p ≡ None
-  pub below : (p : ℕ) → slot_given next (joined (get nat_cmp foreign p)) ≡ true
-  pub counted : next ≡ length image
-  pub fits : last < 2 ^ 64
-
 slot_later : (n : ℕ) (o : Option Slot) → slot_given n o ≡ true → slot_given (n + 1) o ≡ true
 slot_later n None e = refl
 slot_later n (Some s) e = grind (arith, nat_tests)
@@ -43,29 +42,127 @@ at_next n v e = grind (arith, nat_tests)
 apart : (k p : ℕ) → k < p → nat_eq k p ≡ false
 apart k p h = grind (arith, nat_tests)
 
--- one page more
-pub holds_more : (image : List (ℕ × Node)) (m n : BTreeMap ℕ (Option Slot)) (last last' next k pid : ℕ) (slot : Slot) (node : Node) → k ≡ pid → slot.version ≡ next → slot.node ≡ node → last ≤ last' → k ≤ last' → last' < 2 ^ 64 →
-    ((q : ℕ) → get nat_cmp n q ≡ cond (is_at (nat_cmp k) q) (Some (Some slot)) (get nat_cmp m q)) → Holds image m last next → Holds (image ++ (pid, node) ∷ []) n last' (next + 1)
-holds_more image m n last last' next k pid slot node same v d a b f up h = rw (← same, ← d) (
-    let test : (p : ℕ) → get nat_cmp n p ≡ cond (nat_eq k p) (Some (Some slot)) (get nat_cmp m p) = λ p. up p ∙ ap (λ t. cond t (Some (Some slot)) (get nat_cmp m p)) (sym (unsigned_ties k p)) in
-    let more : (p : ℕ) → node_in (image ++ (k, slot.node) ∷ []) p ≡ cond (nat_eq k p) (Some slot.node) (node_in image p) = λ p. last_more (λ q. nat_eq q p) image k slot.node in
-    record {
-      nodes = λ p. ap (λ o. option_map (λ (x : Slot). x.node) (joined o)) (test p)
-          ∙ (elim (nat_eq k p) as (λ t. option_map (λ (x : Slot). x.node) (joined (cond t (Some (Some slot)) (get nat_cmp m p))) ≡ cond t (Some slot.node) (node_in image p)) [ true ↦ refl | false ↦ h.nodes p ]
-          ∙ sym (more p));
-      places = λ p. ap is_some (test p)
-          ∙ (elim (nat_eq k p) as (λ t. is_some (cond t (Some (Some slot)) (get nat_cmp m p)) ≡ is_some (cond t (Some slot.node) (node_in image p))) [ true ↦ refl | false ↦ h.places p ]
-          ∙ ap is_some (sym (more p)));
-      bounded = λ p l. more p ∙ (ap (λ t. cond t (Some slot.node) (node_in image p)) (apart k p (omega arith)) ∙ h.bounded p (omega arith));
-      below = λ p. ap (λ o. slot_given (next + 1) (joined o)) (test p)
-          ∙ elim (nat_eq k p) as (λ t. slot_given (next + 1) (joined (cond t (Some (Some slot)) (get nat_cmp m p))) ≡ true) [ true ↦ at_next next slot.version v | false ↦ slot_later next (joined (get nat_cmp m p)) (h.below p) ];
-      fits = f;
-      counted = ap (λ c. c + 1) h.counted ∙ sym (simp length-append);
-    })
-
 -- one root more
 pub root_more : (list : List (Key × ℕ)) (roots new : Key → Option ℕ) (name : Key) (pid : ℕ) → new ≡ put_name roots name (Some pid) → ((q : Key) → roots q ≡ root_in list q) → (q : Key) → new q ≡ root_in (list ++ (name, pid) ∷ []) q
 root_more list roots new name pid e h q =
     ap (λ f. f q) e
     ∙ (ap (λ t. cond t (Some pid) (roots q)) (same_test name q)
     ∙ (ap (λ o. cond (bytes_eq name q) (Some pid) o) (h q) ∙ sym (last_more (λ k. bytes_eq k q) list name pid)))
+
+-- numbers that stay below a bound
+le_is : (a b : ℕ) → a ≤ b → nat_le a b ≡ true
+le_is a b h = grind (arith, nat_tests)
+
+le_later : (p a b : ℕ) → a ≤ b → nat_le p a ≡ true → nat_le p b ≡ true
+le_later p a b h e = grind (arith, nat_tests)
+
+pub le_more : (es : List (Key × ℕ)) (i a b : ℕ) (d : Key × ℕ) → i < length es → a ≤ b → (get_or es i d).1 ≤ b → list_all (λ e. nat_le e.1 a) (take i es) ≡ true → list_all (λ e. nat_le e.1 b) (take (i + 1) es) ≡ true
+le_more es i a b d h l k e = rw add-one (ap (list_all (λ x. nat_le x.1 b)) (take-suc es i d h)
+    ∙ all_push (λ x. nat_le x.1 b) (take i es) (get_or es i d) (all_weaker (λ x. nat_le x.1 a) (λ x. nat_le x.1 b) (λ x. le_later x.1 a b l) (take i es) e) (le_is _ _ k))
+
+named_later : (a b : ℕ) (n : Node) → a ≤ b → all_named (λ p. nat_le p a) n ≡ true → all_named (λ p. nat_le p b) n ≡ true
+named_later a b n h e =
+    let r = second (all_of (λ p. nat_le p a) n.next) _ e in
+    both _ _ (of_later n.next (first _ _ e)) (both _ _ (of_later n.merging_child (first _ _ r)) (all_weaker (λ x. nat_le x.1 a) (λ x. nat_le x.1 b) (λ x. le_later x.1 a b h) (pointers n.content) (second (all_of (λ p. nat_le p a) n.merging_child) _ r)))
+  where
+    of_later : (o : Option ℕ) → all_of (λ p. nat_le p a) o ≡ true → all_of (λ p. nat_le p b) o ≡ true
+    of_later None f = refl
+    of_later (Some p) f = le_later p a b h f
+
+pub numbers_more : (image : List (ℕ × Node)) (a b pid : ℕ) (node : Node) → a ≤ b → pid ≤ b → all_named (λ p. nat_le p b) node ≡ true → all_numbers (λ p. nat_le p a) image ≡ true → all_numbers (λ p. nat_le p b) (image ++ (pid, node) ∷ []) ≡ true
+numbers_more image a b pid node h k n e = all_push (λ x. nat_le x.0 b && all_named (λ p. nat_le p b) x.1) image (pid, node)
+    (all_weaker (λ x. nat_le x.0 a && all_named (λ p. nat_le p a) x.1) (λ x. nat_le x.0 b && all_named (λ p. nat_le p b) x.1) (λ x f. both _ _ (le_later x.0 a b h (first _ _ f)) (named_later a b x.1 h (second (nat_le x.0 a) _ f))) image e)
+    (both _ _ (le_is pid b k) n)
+
+-- what a node names, from its parts
+pub node_names : (n : Node) (a b c : ℕ) (o : Option ℕ) → a ≤ b → b ≤ c → all_of (λ p. nat_le p a) n.next ≡ true → all_of (λ p. nat_le p b) n.merging_child ≡ true → list_all (λ e. nat_le e.1 c) (pointers n.content) ≡ true → all_named (λ p. nat_le p c) n ≡ true
+node_names n a b c o h k next child rest = both _ _ (of_later a c (omega arith) n.next next) (both _ _ (of_later b c k n.merging_child child) rest)
+  where
+    of_later : (a b : ℕ) → a ≤ b → (o : Option ℕ) → all_of (λ p. nat_le p a) o ≡ true → all_of (λ p. nat_le p b) o ≡ true
+    of_later a b h None f = refl
+    of_later a b h (Some p) f = le_later p a b h f
+
+-- numbers up to the last one of an image count as given
+up_to_given : (last p : ℕ) (own : List (Option Slot)) → nat_le p last ≡ true → given_in true last own p ≡ true
+up_to_given last p own e = ap (λ b. cond b true (nat_lt (p - last - 1) (length own))) e
+
+pub least_given : (last least p : ℕ) (own : List (Option Slot)) → least ≤ last → p ≤ least → given_in true last own p ≡ true
+least_given last least p own h k = up_to_given last p own (le_is p last (omega arith))
+
+pub numbers_given : (image : List (ℕ × Node)) (last : ℕ) (own : List (Option Slot)) → all_numbers (λ p. nat_le p last) image ≡ true → all_numbers (given_in true last own) image ≡ true
+numbers_given image last own e = all_weaker (λ x. nat_le x.0 last && all_named (λ p. nat_le p last) x.1) (λ x. given_in true last own x.0 && all_named (given_in true last own) x.1)
+    (λ x f. both _ _ (up_to_given last x.0 own (first _ _ f)) (named x.1 (second (nat_le x.0 last) _ f))) image e
+  where
+    of_given : (o : Option ℕ) → all_of (λ p. nat_le p last) o ≡ true → all_of (given_in true last own) o ≡ true
+    of_given None f = refl
+    of_given (Some p) f = up_to_given last p own f
+
+    named : (n : Node) → all_named (λ p. nat_le p last) n ≡ true → all_named (given_in true last own) n ≡ true
+    named n f =
+        let r = second (all_of (λ p. nat_le p last) n.next) _ f in
+        both _ _ (of_given n.next (first _ _ f)) (both _ _ (of_given n.merging_child (first _ _ r)) (all_weaker (λ x. nat_le x.1 last) (λ x. given_in true last own x.1) (λ x. up_to_given last x.1 own) (pointers n.content) (second (all_of (λ p. nat_le p last) n.merging_child) _ r)))
+
+pub roots_up_to : (roots : List (Key × ℕ)) (least : ℕ) (given : ℕ → Bool) → ((p : ℕ) → p ≤ least → given p ≡ true) → list_all (λ r. nat_le r.1 least) roots ≡ true → list_all (λ r. given r.1) roots ≡ true
+roots_up_to roots least given h e = all_weaker (λ r. nat_le r.1 least) (λ r. given r.1) (λ r f. h r.1 (le_of r.1 least f)) roots e
+  where
+    le_of : (a b : ℕ) → nat_le a b ≡ true → a ≤ b
+    le_of a b f = grind (arith, nat_tests)
+
+-- one page more
+pub holds_more : (image : List (ℕ × Node)) (m n : BTreeMap ℕ (Option Slot)) (least last last' next k pid : ℕ) (slot : Slot) (node : Node) → k ≡ pid → slot.version ≡ next → slot.node ≡ node → last ≤ last' → k ≤ last' → last' < 2 ^ 64 → all_named (λ p. nat_le p last') slot.node ≡ true →
+    ((q : ℕ) → get nat_cmp n q ≡ cond (is_at (nat_cmp k) q) (Some (Some slot)) (get nat_cmp m q)) → Holds image m least last next → Holds (image ++ (pid, node) ∷ []) n least last' (next + 1)
+holds_more image m n least last last' next k pid slot node same v d a b f names up h = rw (← same, ← d) (
+    let test : (p : ℕ) → get nat_cmp n p ≡ cond (nat_eq k p) (Some (Some slot)) (get nat_cmp m p) = λ p. up p ∙ ap (λ t. cond t (Some (Some slot)) (get nat_cmp m p)) (sym (unsigned_ties k p)) in
+    let more : (p : ℕ) → node_in (image ++ (k, slot.node) ∷ []) p ≡ cond (nat_eq k p) (Some slot.node) (node_in image p) = λ p. last_more (λ q. nat_eq q p) image k slot.node in
+    record {
+      nodes = λ p. ap (λ o. option_map (λ (x : Slot). x.node) (joined o)) (test p)
+          ∙ (elim (nat_eq k p) as (λ t. option_map (λ (x : Slot). x.node) (joined (cond t (Some (Some slot)) (get nat_cmp m p))) ≡ cond t (Some slot.node) (node_in image p)) [ true ↦ refl | false ↦ h.nodes p ]
+          ∙ sym (more p));
+      numbers = numbers_more image last last' k slot.node a b names h.numbers;
+      bounded = λ p l. more p ∙ (ap (λ t. cond t (Some slot.node) (node_in image p)) (apart k p (omega arith)) ∙ h.bounded p (omega arith));
+      below = λ p. ap (λ o. slot_given (next + 1) (joined o)) (test p)
+          ∙ elim (nat_eq k p) as (λ t. slot_given (next + 1) (joined (cond t (Some (Some slot)) (get nat_cmp m p))) ≡ true) [ true ↦ at_next next slot.version v | false ↦ slot_later next (joined (get nat_cmp m p)) (h.below p) ];
+      fits = f;
+      least_is = let l = h.least_is in omega arith;
+      counted = ap (λ c. c + 1) h.counted ∙ sym (simp length-append);
+    })
+
+not_above : (last p : ℕ) → nat_le p last ≡ false → last < p
+not_above last p e = grind (arith, nat_tests)
+
+-- all of it
+pub laid : (image : List (ℕ × Node)) (foreign : BTreeMap ℕ (Option Slot)) (own : List (Option Slot)) (least last next p : ℕ) → own ≡ [] → Holds image foreign least last next → option_map (λ (x : Slot). x.node) (slot_in last foreign own p) ≡ node_in image p
+laid image foreign own least last next p o h = rw o (
+    elim (nat_le p last) as (λ b. nat_le p last ≡ b → option_map (λ (x : Slot). x.node) (cond b (joined (get nat_cmp foreign p)) (joined (slice_get [] (p - last - 1)))) ≡ node_in image p) [
+      | true ↦ λ e. h.nodes p
+      | false ↦ λ e. sym (h.bounded p (not_above last p e))
+    ] refl)
+
+pub laid_below : (image : List (ℕ × Node)) (foreign : BTreeMap ℕ (Option Slot)) (own : List (Option Slot)) (least last next p : ℕ) → own ≡ [] → Holds image foreign least last next → slot_given next (slot_in last foreign own p) ≡ true
+laid_below image foreign own least last next p o h = rw o (
+    elim (nat_le p last) as (λ b. slot_given next (cond b (joined (get nat_cmp foreign p)) (joined (slice_get [] (p - last - 1)))) ≡ true) [
+      | true ↦ h.below p
+      | false ↦ refl
+    ])
+
+-- the store over it
+nodes_same : (o : Option Slot) → option_map (λ (g : Page). g.node) (option_map page_of o) ≡ option_map (λ (x : Slot). x.node) o
+nodes_same None = refl
+nodes_same (Some x) = refl
+
+pub image_is : (image : List (ℕ × Node)) (listed roots : List (Key × ℕ)) (slots : ℕ → Option Slot) (log : List Undo) (unreadable : List ℕ) (mark next : ℕ) (given : ℕ → Bool) → log ≡ [] → unreadable ≡ [] →
+    ((p : ℕ) → option_map (λ (x : Slot). x.node) (slots p) ≡ node_in image p) → ((name : Key) → roots_of roots name ≡ root_in listed name) → all_numbers given image ≡ true → list_all (λ r. given r.1) listed ≡ true →
+    IsImage image listed mark (meaning (table slots (roots_of roots) false) log 0 0 unreadable mark true given next)
+image_is image listed roots slots log unreadable mark next given l u nodes rooted g r = rw (l, u) (record {
+  pages = λ p. nodes_same (slots p) ∙ nodes p;
+  rooted = rooted;
+  in_group = refl;
+  recent = refl;
+  actions = refl;
+  faults = refl;
+  readable = λ p. refl;
+  marked = refl;
+  recovered = refl;
+  given = g;
+  roots_given = r;
+})

@@ -8,7 +8,8 @@ use Rattle.std.specs.BTreeMap.{BTreeMap, get}
 use Rattle.std.specs.Ordering.{nat_cmp}
 use Rattle.sled_pages.specs.declared.memory.slots.Slot.{Slot}
 use Rattle.sled_pages.specs.Update.{put_at}
-use Rattle.sled_pages.specs.Slots.{joined, slot_in}
+use Rattle.sled_pages.specs.Joined.{joined}
+use Rattle.sled_pages.specs.Slots.{slot_in}
 
 pub same_place : {X : Type 0} (xs : List X) (i : ℕ) (x : X) → i < length xs → slice_get (slice_set xs i x) i ≡ Some x
 same_place [] i x h = absurd (omega (arith, h))

@@ -1,11 +1,12 @@
 -- What a store that is made from an image means.
-use Rattle.std.specs.Prelude.{◌≡◌, ℕ, Bool, true, false, nat_eq, is_some, List, [], Option, option_map}
-use Rattle.std.specs.List.{find}
+use Rattle.std.specs.Prelude.{◌≡◌, ℕ, Bool, true, false, nat_eq, ◌&&◌, List, [], Option, Some, None, option_map}
+use Rattle.std.specs.List.{find, list_all}
 use Rattle.std.specs.Str.{bytes_eq}
 use mathlib.Core.List.{reverse}
 use Rattle.sled_pages.specs.Order.{Key}
 use Rattle.sled_pages.specs.declared.node.Node.{Node}
 use Rattle.sled_pages.specs.State.{nodes_of}
+use Rattle.sled_pages.specs.Node.{pointers}
 use Rattle.sled_pages.specs.Store.{Store}
 
 -- what the last entry has whose key passes
@@ -18,7 +19,20 @@ node_in image p = last_of (λ q. nat_eq q p) image
 abbrev pub root_in : List (Key × ℕ) → Key → Option ℕ
 root_in roots name = last_of (λ q. bytes_eq q name) roots
 
--- a recovered store with these pages, roots and mark, of which nothing is recent; of one number or name the last entry stands
+abbrev pub all_of : (ℕ → Bool) → Option ℕ → Bool
+all_of passes None = true
+all_of passes (Some p) = passes p
+
+-- every page that a node names passes
+abbrev pub all_named : (ℕ → Bool) → Node → Bool
+all_named passes n = all_of passes n.next && (all_of passes n.merging_child && list_all (λ e. passes e.1) (pointers n.content))
+
+-- every number that the pages of an image have or name passes
+abbrev pub all_numbers : (ℕ → Bool) → List (ℕ × Node) → Bool
+all_numbers passes image = list_all (λ e. passes e.0 && all_named passes e.1) image
+
+-- a recovered store with these pages, roots and mark, of which nothing is recent; of one number or name the last entry stands.
+-- The numbers that the image has or names count as given, so that no new page gets one of them
 pub record IsImage (image : List (ℕ × Node)) (roots : List (Key × ℕ)) (mark : ℕ) (s : Store) : Type 0 where
   pub pages : (p : ℕ) → nodes_of s.base p ≡ node_in image p
   pub rooted : (name : Key) → s.base.roots name ≡ root_in roots name
@@ -29,4 +43,5 @@ pub record IsImage (image : List (ℕ × Node)) (roots : List (Key × ℕ)) (mar
   pub readable : (p : ℕ) → s.is_readable p ≡ true
   pub marked : s.mark ≡ mark
   pub recovered : s.recovered ≡ true
-  pub pids : (p : ℕ) → s.pids p ≡ is_some (node_in image p)
+  pub given : all_numbers s.pids image ≡ true
+  pub roots_given : list_all (λ r. s.pids r.1) roots ≡ true

@@ -21,3 +21,6 @@ pub mod Among
 pub mod Places
 pub mod Image
 pub mod Laid
+pub mod Known
+pub mod Joined
+pub mod Held

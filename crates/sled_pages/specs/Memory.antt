@@ -5,7 +5,7 @@ use mathlib.Core.List.{reverse}
 use Rattle.sled_pages.specs.declared.memory.MemPages.{MemPages}
 use Rattle.sled_pages.specs.declared.memory.undo.Undo.{Undo}
 use Rattle.sled_pages.specs.Store.{Store, version_now}
-use Rattle.sled_pages.specs.Slots.{slots_of, places_of}
+use Rattle.sled_pages.specs.Slots.{slots_of, given_of}
 use Rattle.sled_pages.specs.Table.{Table, roots_of, state_of, base_of, recent_of}
 
 abbrev pub table_of : MemPages → Table
@@ -13,7 +13,7 @@ table_of m = record { slots = slots_of m.slots; roots = roots_of m.roots.items; 
 
 -- the state at the last flush is the one before all that the log has, and the versions that were given are those below the next one
 abbrev pub meaning : Table → List Undo → ℕ → ℕ → List ℕ → ℕ → Bool → (ℕ → Bool) → ℕ → Store
-meaning t log actions faults unreadable mark recovered places next_version = record {
+meaning t log actions faults unreadable mark recovered given next_version = record {
   base = state_of (base_of (reverse log) t);
   recent = recent_of (reverse log) t;
   actions = actions;
@@ -21,12 +21,12 @@ meaning t log actions faults unreadable mark recovered places next_version = rec
   is_readable = λ pid. not (list_any (λ p. nat_eq p pid) unreadable);
   mark = mark;
   recovered = recovered;
-  pids = places;
+  pids = given;
   versions = λ v. nat_lt v next_version;
 }
 
 abbrev pub store_of : MemPages → Store
-store_of m = meaning (table_of m) m.log.items m.actions m.faults m.unreadable.items m.mark m.recovered (places_of m.slots) m.next_version
+store_of m = meaning (table_of m) m.log.items m.actions m.faults m.unreadable.items m.mark m.recovered (given_of m.slots) m.next_version
 
 -- the calls that will be refused, by their numbers
 abbrev pub calls_refused : MemPages → List ℕ

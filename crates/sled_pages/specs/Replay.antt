@@ -1,5 +1,5 @@
 -- A log says what the state was, and how it came to what it is.
-use Rattle.std.proofs.Common.{◌≡◌, ℕ, ◌+◌, ◌-◌, ◌<◌, ◌^◌, nat_lt, nat_le, true, false, cond, List, [], ◌∷◌, length, Option, Some, None, refl, sym, ap, ◌∙◌, arith, slice_get, is_some, if◌then◌else◌}
+use Rattle.std.proofs.Common.{Bool, ◌≡◌, ℕ, ◌+◌, ◌-◌, ◌<◌, ◌^◌, nat_lt, nat_le, true, false, cond, List, [], ◌∷◌, length, Option, Some, None, refl, sym, ap, ◌∙◌, arith, slice_get, is_some, if◌then◌else◌}
 use Rattle.std.specs.Option.{option_map}
 use Rattle.std.proofs.Math.Path.{fun_ext}
 use Rattle.std.proofs.lemmas.Bool.{eqb-true}
@@ -16,7 +16,9 @@ use Rattle.sled_pages.specs.declared.memory.slots.Slot.{Slot}
 use Rattle.sled_pages.specs.declared.memory.undo.Undo.{Undo}
 use Rattle.sled_pages.specs.declared.memory.undo.Undo.TheVariants.{UndoSlot, UndoRoot, UndoGroup}
 use Rattle.sled_pages.specs.State.{GroupBegins, GroupEnds, after, after_all}
-use Rattle.sled_pages.specs.Slots.{joined, slot_in, place_in}
+use Rattle.sled_pages.specs.Joined.{joined}
+use Rattle.sled_pages.specs.Slots.{slot_in, place_in, given_in}
+use Rattle.sled_pages.specs.Known.{IsKnown}
 use Rattle.sled_pages.specs.Table.{Table, page_of, pages_of, state_of, undone, undoes, base_of, recent_of, slot_given}
 use Rattle.sled_pages.specs.Facts.{after_last, same_name}
 
@@ -99,3 +101,11 @@ pub version_below : (t : Table) (log : List Undo) (next p : ℕ) (page : Page) �
 version_below t log next p page below f =
     let k = slot_of (t.slots p) page (sym (page_here log t p) ∙ f) in
     ap (λ (g : Page). nat_lt g.version next) k.2 ∙ (ap (slot_given next) (sym k.1) ∙ below p)
+
+-- a number that has a place was given
+pub placed_given : (from_image : Bool) (last : ℕ) (foreign : BTreeMap ℕ (Option Slot)) (own : List (Option Slot)) (p : ℕ) → IsKnown from_image foreign → place_in last foreign own p ≡ true → given_in from_image last own p ≡ true
+placed_given from_image last foreign own p known =
+    elim (nat_le p last) as (λ b. cond b (is_some (get nat_cmp foreign p)) (nat_lt (p - last - 1) (length own)) ≡ true → cond b from_image (nat_lt (p - last - 1) (length own)) ≡ true) [
+      | true ↦ λ e. known.known p e
+      | false ↦ λ e. e
+    ]

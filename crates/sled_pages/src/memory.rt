@@ -22,7 +22,7 @@ use crate::error::Result;
 use crate::node::copy_pointers;
 use crate::pairs::value_at;
 use crate::{Error, Fault, IVec, Link, Node, Page, Pages, Pid, Version, View};
-use back::{forget, set_root, sorted_roots, take_all_back};
+use back::{forget, greatest_root, set_root, sorted_roots, take_all_back};
 use slots::{Slot, Slots, push_reserved};
 use std::alloc::Global;
 use undo::Undo;
@@ -108,7 +108,7 @@ impl MemPages {
     }
 
     /// A store of these pages, roots and mark, as if an earlier store had left them. Of one number or name the last entry
-    /// stands. Its next page number and version are greater than all of the image's. Refused with `NoMemory` alone.
+    /// stands. Its next page number is greater than all that the image has or names. Refused with `NoMemory` alone.
     pub fn from_image(
         alloc: Global,
         pages: Vec<(Pid, Node)>,
@@ -118,7 +118,8 @@ impl MemPages {
         ensures ok { IfOk result (λ made. IsImage pages.items roots.items mark (store_of made)) }
         ensures err { IfErr result (λ e. e ≡ NoMemory) }
     {
-        let (slots, next_version) = Slots::from_pages(alloc, pages)?;
+        let least = greatest_root(roots.as_slice());
+        let (slots, next_version) = Slots::from_pages(alloc, pages, least)?;
         let roots = sorted_roots(alloc, roots)?;
         Ok(MemPages {
             alloc,

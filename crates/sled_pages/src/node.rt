@@ -1,5 +1,5 @@
 //! One page of a tree: a leaf of pairs or an index of pointers.
-ghost use Rattle.std.specs.Prelude.{◌≡◌, ◌<◌, ◌≤◌, ◌++◌, ◌↔◌, IsTrue, if◌then◌else◌, is_none, length, IfOk, IfErr, OnOk, OnErr};
+ghost use Rattle.std.specs.Prelude.{◌≡◌, nat_le, true, ◌<◌, ◌≤◌, ◌++◌, ◌↔◌, IsTrue, if◌then◌else◌, is_none, length, IfOk, IfErr, OnOk, OnErr};
 ghost use Rattle.sled_pages.specs.declared.error.Error.TheVariants.{NoMemory};
 ghost use Rattle.std.specs.FinMap.Entries.{put, find};
 ghost use Rattle.std.specs.Option.{option_copied};
@@ -7,6 +7,8 @@ ghost use Rattle.sled_pages.specs.Order.{key_cmp};
 ghost use Rattle.sled_pages.specs.Node.{applied, count, pairs, pointers, value_at as value_in, without, unpointed};
 ghost use Rattle.sled_pages.specs.Halves.{first_half, second_half, first_half_of, second_half_of, first_key, first_key_of, left_half, right_half, appended, received};
 ghost use Rattle.sled_pages.specs.Among.{bound_of, IsSuccessor, IsPredecessor, IsPointerFor, IsPointerBefore};
+ghost use Rattle.std.specs.List.{list_all};
+ghost use Rattle.sled_pages.specs.Image.{all_of, all_named};
 ghost use Rattle.sled_pages.specs.Posting.{IsOpen, IsIndex, Posts};
 
 use crate::among::{first_place, last_place, place_of};
@@ -116,6 +118,17 @@ fn add_pointers(pointers: &mut Vec<(IVec, Pid)>, more: &[(IVec, Pid)]) -> Result
         pointers.push((key, pointer.1))?;
     }
     Ok(())
+}
+
+// The greater one of a number and a page number, if there is one.
+fn greater_of(least: u64, pid: Option<Pid>) -> u64
+    ensures least { least ≤ result }
+    ensures all { all_of (λ p. nat_le p result) pid ≡ true }
+{
+    match pid {
+        Some(pid) => pid.0.max(least),
+        None => least,
+    }
 }
 
 fn key_of_first<V>(alloc: Global, pairs: &[(IVec, V)]) -> Result<IVec>
@@ -339,6 +352,18 @@ impl Index {
             Some(i) => Some((self.pointers[i].1, i == 0)),
             None => None,
         }
+    }
+
+    // The greatest of this number and the page numbers of the pointers.
+    fn greatest(&self, least: u64) -> u64
+        ensures least { least ≤ result }
+        ensures all { list_all (λ e. nat_le e.1 result) self.now ≡ true }
+    {
+        let mut greatest = least;
+        for pointer in self.pointers.as_slice() {
+            greatest = pointer.1.0.max(greatest);
+        }
+        greatest
     }
 
     // The pointer before the one to a page.
@@ -624,6 +649,19 @@ impl Node {
         match &self.content {
             Data::Leaf(leaf) => leaf.last_up_to(bound),
             Data::Index(_) => Ok(None),
+        }
+    }
+
+    // The greatest of this number and the page numbers that the node names.
+    pub(crate) fn greatest(&self, least: u64) -> u64
+        ensures least { least ≤ result }
+        ensures all { all_named (λ p. nat_le p result) self.now ≡ true }
+    {
+        let next = greater_of(least, self.next);
+        let child = greater_of(next, self.merging_child);
+        match &self.content {
+            Data::Leaf(_) => child,
+            Data::Index(index) => index.greatest(child),
         }
     }
 }

@@ -524,11 +524,14 @@ fn pairs_are_found_by_bounds(rt: HostRuntime) -> std::result::Result<(), Fail> {
     Ok(())
 }
 
-// An image whose page 2^40 is listed twice, with a page of the number 0 and a root that is listed twice.
+// An image whose page 2^40 is listed twice, with a page of the number 0 that names page 2^41, which there is not, and a root
+// that is listed twice.
 fn image(alloc: Global) -> std::result::Result<MemPages, Fail> {
     let mut pages = Vec::new(alloc);
     pages.push((Pid(1 << 40), leaf_of(alloc, 3)?))?;
-    pages.push((Pid(0), leaf_of(alloc, 1)?))?;
+    let mut first = leaf_of(alloc, 1)?;
+    first.next = Some(Pid(1 << 41));
+    pages.push((Pid(0), first))?;
     pages.push((Pid(1 << 40), leaf_of(alloc, 2)?))?;
     let mut roots = Vec::new(alloc);
     roots.push((key(alloc, 7)?, Pid(5)))?;
@@ -557,7 +560,7 @@ fn pages_of_an_image_change_as_others(rt: HostRuntime) -> std::result::Result<()
     let alloc = rt.alloc();
     let mut pages = image(alloc)?;
     let (pid, _) = pages.allocate(leaf(alloc)?)?;
-    assert_eq!(rt; pid, Pid((1 << 40) + 1));
+    assert_eq!(rt; pid, Pid((1 << 41) + 1));
     let Some(view) = pages.read(alloc, Pid(0))? else {
         assert!(rt; false);
         return Ok(());

@@ -1,12 +1,13 @@
 //! Actions taken back, the last of them first.
-ghost use Rattle.std.specs.Prelude.{◌≡◌, ℕ, [], true, IfOk, IfErr, OnOk, OnErr};
+ghost use Rattle.std.specs.Prelude.{◌≡◌, ℕ, nat_le, [], true, IfOk, IfErr, OnOk, OnErr};
 ghost use Rattle.std.specs.FinMap.{is_sorted};
 ghost use Rattle.sled_pages.specs.declared.error.Error.TheVariants.{NoMemory};
 ghost use Rattle.sled_pages.specs.Order.{Key, key_cmp};
 ghost use Rattle.sled_pages.specs.Update.{put_name};
-ghost use Rattle.sled_pages.specs.Slots.{slots_of, places_of};
+ghost use Rattle.sled_pages.specs.Slots.{slots_of, places_of, given_of};
 ghost use Rattle.sled_pages.specs.Table.{roots_of, undone, has_place, slot_given, undo_given, IsKept, AreBelow, TakenBack, table};
 ghost use Rattle.sled_pages.specs.Image.{root_in};
+ghost use Rattle.std.specs.List.{list_all};
 
 use super::slots::Slots;
 use super::undo::Undo;
@@ -45,6 +46,17 @@ pub fn sorted_roots(alloc: Global, list: Vec<(IVec, Pid)>) -> Result<Vec<(IVec, 
     Ok(roots)
 }
 
+// The greatest page number among roots.
+pub fn greatest_root(roots: &[(IVec, Pid)]) -> u64
+    ensures { list_all (λ r. nat_le r.1 result) roots.now ≡ true }
+{
+    let mut greatest = 0;
+    for root in roots {
+        greatest = root.1.0.max(greatest);
+    }
+    greatest
+}
+
 // Takes one action back.
 fn take_back(
     slots: &mut Slots,
@@ -55,6 +67,7 @@ fn take_back(
     requires { has_place (places_of slots.old) undo ≡ true }
     ensures ok { OnOk result (table (slots_of slots.new) (roots_of roots.new.items) in_group.new ≡ undone undo (table (slots_of slots.old) (roots_of roots.old.items) in_group.old)) }
     ensures places { places_of slots.new ≡ places_of slots.old }
+    ensures given { given_of slots.new ≡ given_of slots.old }
     ensures ascends { is_sorted key_cmp roots.old.items ≡ true → is_sorted key_cmp roots.new.items ≡ true }
     ensures below { (next : ℕ) → ((p : ℕ) → slot_given next (slots_of slots.old p) ≡ true) → undo_given next undo ≡ true → (p : ℕ) → slot_given next (slots_of slots.new p) ≡ true }
     ensures cause { IfErr result (λ e. e ≡ NoMemory) }
@@ -83,6 +96,7 @@ pub fn take_all_back(
     requires { IsKept (places_of slots.old) (table (slots_of slots.old) (roots_of roots.old.items) in_group.old) log.old.items }
     ensures ok { OnOk result (TakenBack keep (table (slots_of slots.old) (roots_of roots.old.items) in_group.old) log.old.items (table (slots_of slots.new) (roots_of roots.new.items) in_group.new) log.new.items) }
     ensures places { places_of slots.new ≡ places_of slots.old }
+    ensures given { given_of slots.new ≡ given_of slots.old }
     ensures ascends { is_sorted key_cmp roots.old.items ≡ true → is_sorted key_cmp roots.new.items ≡ true }
     ensures below { OnOk result ((next : ℕ) → AreBelow next (slots_of slots.old) log.old.items → AreBelow next (slots_of slots.new) log.new.items) }
     ensures cause { IfErr result (λ e. e ≡ NoMemory) }

@@ -4,6 +4,7 @@ ghost use Rattle.std.specs.Option.{option_copied};
 ghost use Rattle.std.specs.Vec.{vec_len, vec_capacity};
 ghost use Rattle.sled_pages.specs.declared.error.Error.TheVariants.{NoMemory};
 ghost use Rattle.sled_pages.specs.Update.{put_at};
+ghost use Rattle.sled_pages.specs.Known.{IsKnown};
 
 use crate::error::Result;
 use crate::{Node, Pid, Version};
@@ -20,9 +21,11 @@ pub struct Slot {
 /// Slots by number. Those of an image have any numbers up to `last`; those that were added since lie in order behind.
 #[derive(Drop)]
 pub struct Slots {
+    from_image: bool,
     last: u64,
     foreign: BTreeMap<u64, Option<Slot>>,
     own: Vec<Option<Slot>>,
+    ghost known: { IsKnown from_image foreign },
     ghost numbered: { last + length own.items < 2 ^ 64 },
 }
 
@@ -38,14 +41,17 @@ pub fn push_reserved<T: Drop>(list: &mut Vec<T>, item: T)
 
 impl Slots {
     ghost use Rattle.sled_pages.specs.Laid.{IsLaid};
-    ghost use Rattle.sled_pages.specs.Slots.{slots_of, places_of, HasNumber, HasSlotRoom};
+    ghost use Rattle.sled_pages.specs.Held.{Holds};
+    ghost use Rattle.sled_pages.specs.Slots.{slots_of, places_of, given_of, HasNumber, HasSlotRoom};
 
     /// No slots.
     pub fn new(alloc: Global) -> Slots
         ensures slots { slots_of result ≡ λ _. None }
         ensures places { places_of result ≡ λ _. false }
+        ensures given { given_of result ≡ λ _. false }
     {
         Slots {
+            from_image: false,
             last: 0,
             foreign: BTreeMap::new(alloc),
             own: Vec::new(alloc),
@@ -53,25 +59,45 @@ impl Slots {
     }
 
     /// The slots of an image's pages, and the first version that none of them has. Of one number the last entry stands.
-    /// Refused with `NoMemory` alone.
-    pub fn from_pages(alloc: Global, pages: Vec<(Pid, Node)>) -> Result<(Slots, u64)>
-        ensures ok { IfOk result (λ laid. IsLaid pages.items laid.0 laid.1) }
+    /// New slots get numbers above `least` and above all that the pages have or name. Refused with `NoMemory` alone.
+    pub fn from_pages(alloc: Global, pages: Vec<(Pid, Node)>, least: u64) -> Result<(Slots, u64)>
+        ensures ok { IfOk result (λ laid. IsLaid pages.items least laid.0 laid.1) }
+        ensures err { IfErr result (λ e. e ≡ NoMemory) }
+    {
+        let (foreign, last, next) = Slots::lay(alloc, pages, least)?;
+        Ok((
+            Slots {
+                from_image: true,
+                last,
+                foreign,
+                own: Vec::new(alloc),
+            },
+            next,
+        ))
+    }
+
+    // The pages of an image by number, the greatest number of all, and the first version that none has.
+    fn lay(
+        alloc: Global,
+        pages: Vec<(Pid, Node)>,
+        least: u64,
+    ) -> Result<(BTreeMap<u64, Option<Slot>>, u64, u64)>
+        ensures ok { IfOk result (λ held. Holds pages.items held.0 least held.1 held.2) }
         ensures err { IfErr result (λ e. e ≡ NoMemory) }
     {
         let mut foreign = BTreeMap::new(alloc);
-        let mut last = 0;
+        let mut last = least;
         let mut next = 0;
         for (pid, node) in pages {
+            last = node.greatest(last.max(pid.0));
             let slot = Slot {
                 version: Version(next),
                 node,
             };
             foreign.insert(pid.0, Some(slot))?;
             next += 1;
-            last = last.max(pid.0);
         }
-        let own = Vec::new(alloc);
-        Ok((Slots { last, foreign, own }, next))
+        Ok((foreign, last, next))
     }
 
     /// The slot of a number.
@@ -97,6 +123,7 @@ impl Slots {
         ensures was { result ≡ slots_of self.old pid }
         ensures slots { slots_of self.new ≡ put_at (slots_of self.old) pid slot }
         ensures places { places_of self.new ≡ places_of self.old }
+        ensures given { given_of self.new ≡ given_of self.old }
     {
         if pid.0 <= self.last {
             match self.foreign.insert(pid.0, slot) {
@@ -120,6 +147,7 @@ impl Slots {
     pub fn reserve(&mut self) -> Result<()>
         ensures slots { slots_of self.new ≡ slots_of self.old }
         ensures places { places_of self.new ≡ places_of self.old }
+        ensures given { given_of self.new ≡ given_of self.old }
         ensures number { HasNumber self.old → HasNumber self.new }
         ensures room { OnOk result (HasSlotRoom self.new) }
         ensures err { IfErr result (λ e. e ≡ NoMemory) }
@@ -133,9 +161,10 @@ impl Slots {
         requires room { HasSlotRoom self.old }
         requires number { HasNumber self.old }
         ensures positive { 0 < result }
-        ensures fresh { places_of self.old result ≡ false }
+        ensures fresh { given_of self.old result ≡ false }
         ensures slots { slots_of self.new ≡ put_at (slots_of self.old) result (Some slot) }
         ensures places { places_of self.new ≡ put_at (places_of self.old) result true }
+        ensures given { given_of self.new ≡ put_at (given_of self.old) result true }
     {
         let pid = Pid(self.last + self.own.len() as u64 + 1);
         push_reserved(&mut self.own, Some(slot));

@@ -1,12 +1,12 @@
-use Rattle.sled_pages.specs.Slots.{slots_of, places_of}
+use Rattle.sled_pages.specs.Slots.{slots_of, places_of, given_of}
 use Rattle.sled_pages.specs.Table.{roots_of}
 use Rattle.sled_pages.proofs.Kept.{page_commits, page_keeps, page_below}
 use Rattle.sled_pages.proofs.memory.MemPages.commit.Goals as goal
 
 pub returns : goal.returns
 returns c = let m = c.args.self.now in
-    page_commits (slots_of m.slots) _ (roots_of m.roots.items) m.in_group m.log.items _ c.args.pid c.args.slot _ m.actions m.faults m.unreadable.items m.mark m.recovered (places_of m.slots) _ m.next_version
-    c.put-old.ensures.slots c.put-old.ensures.was c.push_reserved.ensures c.put-old.ensures.places
+    page_commits (slots_of m.slots) _ (roots_of m.roots.items) m.in_group m.log.items _ c.args.pid c.args.slot _ m.actions m.faults m.unreadable.items m.mark m.recovered (given_of m.slots) _ m.next_version
+    c.put-old.ensures.slots c.put-old.ensures.was c.push_reserved.ensures c.put-old.ensures.given
 
 pub invariant_of-self-clause-kept : goal.invariant_of-self-clause-kept
 invariant_of-self-clause-kept c = let m = c.args.self.now in

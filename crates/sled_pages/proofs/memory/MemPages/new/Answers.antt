@@ -11,4 +11,4 @@ invariant_of-result c = record {
 }
 
 pub returns : goal.returns
-returns c = empty_is _ _ _ _ _ c.new.ensures.slots c.new-2.ensures.items c.new-3.ensures.items c.new-5.ensures.items c.new.ensures.places
+returns c = empty_is _ _ _ _ _ c.new.ensures.slots c.new-2.ensures.items c.new-3.ensures.items c.new-5.ensures.items c.new.ensures.given

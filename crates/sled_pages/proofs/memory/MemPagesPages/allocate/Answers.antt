@@ -1,21 +1,21 @@
 use Rattle.std.proofs.Common.{Some, true, ap, sym, ◌∙◌}
 use Rattle.sled_pages.specs.Update.{put_at}
-use Rattle.sled_pages.specs.Slots.{slots_of, places_of}
+use Rattle.sled_pages.specs.Slots.{slots_of, places_of, given_of}
 use Rattle.sled_pages.specs.Table.{roots_of}
-use Rattle.sled_pages.proofs.Kept.{allocates, allocate_keeps, allocate_below, placed_here}
+use Rattle.sled_pages.proofs.Kept.{allocates, allocate_keeps, allocate_below, placed_here, given_here, not_placed}
 use Rattle.sled_pages.proofs.memory.MemPagesPages.allocate.Goals as goal
 
 pub returns-clause-ok : goal.returns-clause-ok
 returns-clause-ok c = let m = c.start_version.new.self in
-    allocates (slots_of m.slots) _ (roots_of m.roots.items) m.in_group m.log.items _ c.add-pid.result c.args.node m.actions m.faults m.unreadable.items m.mark m.recovered (places_of m.slots) _ m.next_version _
-    c.in_default.ensures.same c.add-pid.ensures.positive (ap (λ f. f c.add-pid.result) (sym c.reserve.ensures.places) ∙ c.add-pid.ensures.fresh) (placed_here m.slots)
+    allocates (slots_of m.slots) _ (roots_of m.roots.items) m.in_group m.log.items _ c.add-pid.result c.args.node m.actions m.faults m.unreadable.items m.mark m.recovered (given_of m.slots) _ m.next_version _
+    c.in_default.ensures.same c.add-pid.ensures.positive (ap (λ f. f c.add-pid.result) (sym c.reserve.ensures.given) ∙ c.add-pid.ensures.fresh) (given_here m.slots)
     (c.add-pid.ensures.slots ∙ ap (λ f. put_at f c.add-pid.result (Some (record { version = m.next_version; node = c.args.node }))) c.reserve.ensures.slots)
-    (c.add-pid.ensures.places ∙ ap (λ f. put_at f c.add-pid.result true) c.reserve.ensures.places) c.push_reserved.ensures
+    (c.add-pid.ensures.given ∙ ap (λ f. put_at f c.add-pid.result true) c.reserve.ensures.given) c.push_reserved.ensures
 
 pub invariant_of-self-2-clause-kept : goal.invariant_of-self-2-clause-kept
 invariant_of-self-2-clause-kept c = let m = c.start_version.new.self in
     allocate_keeps (slots_of m.slots) _ (roots_of m.roots.items) m.in_group m.log.items _ c.add-pid.result (Some (record { version = m.next_version; node = c.args.node })) (places_of m.slots) _
-    (ap (λ f. f c.add-pid.result) (sym c.reserve.ensures.places) ∙ c.add-pid.ensures.fresh) (placed_here m.slots)
+    (not_placed m.slots c.add-pid.result (ap (λ f. f c.add-pid.result) (sym c.reserve.ensures.given) ∙ c.add-pid.ensures.fresh)) (placed_here m.slots)
     (c.add-pid.ensures.slots ∙ ap (λ f. put_at f c.add-pid.result (Some (record { version = m.next_version; node = c.args.node }))) c.reserve.ensures.slots)
     (c.add-pid.ensures.places ∙ ap (λ f. put_at f c.add-pid.result true) c.reserve.ensures.places) c.push_reserved.ensures m.kept
 

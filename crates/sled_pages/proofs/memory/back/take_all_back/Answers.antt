@@ -6,7 +6,7 @@ use Rattle.sled_pages.proofs.memory.back.take_all_back.Goals as goal
 use Rattle.sled_pages.proofs.memory.back.take_all_back.Goals.{then-len-keep, else-len-keep+then-in_group}
 
 pub loop-log-init : goal.loop-log-init
-loop-log-init c = record { kept = c.requires; places = refl; ascends = λ h. h; below = λ next h. h; so_far = back_none _ _ _ }
+loop-log-init c = record { kept = c.requires; places = refl; given = refl; ascends = λ h. h; below = λ next h. h; so_far = back_none _ _ _ }
 
 pub loop-log-preserved : goal.loop-log-preserved
 loop-log-preserved c =
@@ -16,6 +16,7 @@ loop-log-preserved c =
     record {
       kept = kept_back _ _ _ _ _ _ _ last c.in_ok-take_back-in-Some.ensures.places back c.loop-log.invariant.kept;
       places = c.in_ok-take_back-in-Some.ensures.places ∙ c.loop-log.invariant.places;
+      given = c.in_ok-take_back-in-Some.ensures.given ∙ c.loop-log.invariant.given;
       ascends = λ h. c.in_ok-take_back-in-Some.ensures.ascends (c.loop-log.invariant.ascends h);
       below = λ next h. let k = c.loop-log.invariant.below next h in let f = all_front (undo_given next) _ _ _ last k.in_log in record { here = c.in_ok-take_back-in-Some.ensures.below next k.here f.1; in_log = f.0 };
       so_far = back_one _ _ _ _ _ _ _ _ last back cause c.loop-log.invariant.so_far;

@@ -1,0 +1,5 @@
+use Rattle.sled_pages.specs.Held.{Holds}
+use Rattle.sled_pages.proofs.memory.slots.Slots.lay.Given as goal
+
+abbrev pub invariant-loop-pid : goal.invariant-loop-pid
+invariant-loop-pid l = Holds l.yielded l.foreign l.least l.last l.next
