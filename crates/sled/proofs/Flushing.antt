@@ -90,9 +90,19 @@ module _ {P M : Type 0} (store : P → Store) (meant : M → Merge) (old : DbVal
   same_refused q error.FullQueue t = absurd t
   same_refused q error.Closed t = absurd t
 
+  same_actions : (q : P) (e : Error) → refused_as e (store old.pages) (store q) → (store q).actions ≡ (store old.pages).actions
+  same_actions q error.NoMemory t = ap (λ (s : Store). s.actions) t
+  same_actions q (error.Io fault) t = ap (λ (s : Store). s.actions) t
+  same_actions q (error.CollectionNotFound name) t = absurd t
+  same_actions q (error.Unsupported text) t = absurd t
+  same_actions q (error.ReportableBug text) t = absurd t
+  same_actions q (error.Corruption fault) t = absurd t
+  same_actions q error.FullQueue t = absurd t
+  same_actions q error.Closed t = absurd t
+
   cause : (slots : ℕ → Option Flying) (given : ℕ) (q : P) (e : Error) → refused_as e (store old.pages) (store q) → cause_of (state_of store meant old slots given) (store old.pages) (store q) (ToCall Flush) e
   cause slots given q error.NoMemory t = tt
-  cause slots given q (error.Io fault) t = inl (more (ap (λ (s : Store). s.faults) t))
+  cause slots given q (error.Io fault) t = more (ap (λ (s : Store). s.faults) t)
     where
       more : (store q).faults ≡ (store old.pages).faults + 1 → (store old.pages).faults < (store q).faults
       more e = omega arith
@@ -107,6 +117,7 @@ module _ {P M : Type 0} (store : P → Store) (meant : M → Merge) (old : DbVal
   flush_refused q e calm r = let s = same_refused q e r.told in record {
     may = λ slots given. record { told = subst (λ o. may_refuse_as o (state_of store meant old slots given) (store old.pages) (store q) (ToCall Flush) e) (sym (open_now calm)) (cause slots given q e r.told) };
     extends = s.1;
+    actions = same_actions q e r.told;
     stays = stays q s.0;
   }
 
@@ -124,6 +135,7 @@ module _ {P M : Type 0} (store : P → Store) (meant : M → Merge) (old : DbVal
   flush_closed e = record {
     may = λ slots given. record { told = subst (λ o. may_refuse_as o (state_of store meant old slots given) (store old.pages) (store old.pages) (ToCall Flush) error.Closed) (sym (ap (λ b. first_of (cond (not b) None (Some IsClosed)) None) e)) refl };
     extends = extends_same (store old.pages);
+    actions = refl;
     stays = stays old.pages (record { now_is = refl; mark = refl; pids = refl; versions = refl });
   }
 

@@ -161,6 +161,7 @@ module _ {P M : Type 0} (store : P → Store) (meant : M → Merge) (old : DbVal
     steps = λ slots given slot here. record { told = (record { flying = flying_of f; here = here; may = may slots given; is = refl }, refl) };
     extends = extends_same (store old.pages);
     once = omega arith;
+    still = λ x e. refl;
     quiet = λ q. refl;
     goes_on = λ e. absurd (apart e);
     others = λ h off k. (k, λ e. absurd (apart e));
@@ -263,6 +264,7 @@ module _ {P M : Type 0} (store : P → Store) (meant : M → Merge) (old : DbVal
           };
           extends = moved_extends;
           once = moved_touches.once;
+          still = λ x e. absurd (unlike x e);
           quiet = λ k. absurd (apart k.reply k.decided);
           goes_on = λ e. (job, moved_known);
           others = λ h off k. (others_kept (owned f.stage) (owned g.stage) moved.0 moved.1 h k, λ e. record { off = λ p i j. owns_nothing g.stage p i });
@@ -271,6 +273,9 @@ module _ {P M : Type 0} (store : P → Store) (meant : M → Merge) (old : DbVal
           where
             apart : (r : Reply) → Moved ≡ Decided r → ⊥
             apart r e = cc
+
+            unlike : (x : Error) → Moved ≡ Refused x → ⊥
+            unlike x e = cc
 
       -- the call is refused by the store
       module _ (few : f.turns < MAX_LOOPS) (g : Flight) (e : Error) (moves : Moves f.job (store old.pages) f.stage (next.Refused e) (store q)) where
@@ -304,6 +309,7 @@ module _ {P M : Type 0} (store : P → Store) (meant : M → Merge) (old : DbVal
           };
           extends = refused_extends;
           once = same rests.actions;
+          still = λ x e. rests.actions;
           quiet = λ k. absurd (apart k.reply k.decided);
           goes_on = λ e. absurd (off e);
           others = λ h a k. (others_kept (owned f.stage) [] refused.0 refused.1 h k, λ e. absurd (off e));
@@ -395,6 +401,7 @@ module _ {P M : Type 0} (store : P → Store) (meant : M → Merge) (old : DbVal
           };
           extends = subst (λ m. Extends (m ∷ []) (store old.pages) (store q)) (sym same_maps) done_extends;
           once = done_touches.once;
+          still = λ x e. absurd (unlike x e);
           quiet = λ k. done.2.quiet (ap (λ (t : NamedTree). (answer_of f.job.call t.map).event) (some_is (sym there ∙ k.there)) ∙ k.silent);
           goes_on = λ e. absurd (off e);
           others = λ h a k. (others_kept (owned f.stage) [] done.0 done.1 h k, λ e. absurd (off e));
@@ -406,6 +413,9 @@ module _ {P M : Type 0} (store : P → Store) (meant : M → Merge) (old : DbVal
 
             off : Decided reply ≡ Moved → ⊥
             off e = cc
+
+            unlike : (x : Error) → Decided reply ≡ Refused x → ⊥
+            unlike x e = cc
 
       -- one step of the call, whatever comes of it
       pub flies_on : (few : f.turns < MAX_LOOPS) (went : Went) (g : Flight) → Advances (store old.pages) f went (store q) g → Flies store meant old f went new g

@@ -15,11 +15,11 @@ pub record IsHandle {P M : Type 0} (d : DbValue P M) (name : Key) (t : Tree) : T
   pub number : numbers_of d.trees name ≡ Some t.number
 
 abbrev pub refuses_handle_as : Store → Error → Type 0
-refuses_handle_as s NoMemory = Unit {0}
+refuses_handle_as s NoMemory = (now s).in_group ≡ false
 refuses_handle_as s Closed = (now s).in_group ≡ true
 refuses_handle_as s e = ⊥
 
--- refused where the database is closed, or for want of memory
+-- refused where the database is closed, and else for want of memory alone
 pub record RefusesHandle (s : Store) (e : Error) : Type 0 where
   pub told : refuses_handle_as s e
 

@@ -2,6 +2,7 @@
 use Rattle.std.specs.Prelude.{◌≡◌, ◌≢◌, ℕ, ◌+◌, ◌≤◌, List, [], ◌∷◌, Option, Some, None}
 use Rattle.sled_pages.specs.In.{In}
 use Rattle.sled_pages.specs.Store.{Store}
+use Rattle.sled_pages.specs.declared.error.Error.{Error}
 use Rattle.sled_pages.specs.Update.{put_at}
 use Rattle.sled_model.specs.Maps.{Maps, Merge}
 use Rattle.sled_model.specs.Answer.{answer_of}
@@ -66,8 +67,9 @@ pub record Flies {P M : Type 0} (store : P → Store) (meant : M → Merge) (old
       → Steps (instant_of store meant old slots slots_given) (step.Step slot) (outcome_of went) (instant_of store meant new (put_at slots slot (slot_after went g)) slots_given) (maps_added went (maps_of (db_state store meant new)))
   -- what a crash may leave grows by the map after the call, if it was decided
   pub extends : Extends (maps_added went (maps_of (db_state store meant new))) (store old.pages) (store new.pages)
-  -- at most one changing action is done, and none where the call was decided without an event
+  -- at most one changing action is done, and none where the call is refused or was decided without an event
   pub once : (store new.pages).actions ≤ (store old.pages).actions + 1
+  pub still : (e : Error) → went ≡ Refused e → (store new.pages).actions ≡ (store old.pages).actions
   pub quiet : IsQuiet store meant old f went → store new.pages ≡ store old.pages
   -- the call goes on, and knows what it needs
   pub goes_on : went ≡ Moved → (g.job ≡ f.job) × IsKnown (moment (store new.pages) new.trees new.trees_given) g

@@ -30,4 +30,5 @@ pub record FlushesDb {P M : Type 0} (store : P → Store) (meant : M → Merge) 
 pub record RefusesFlush {P M : Type 0} (store : P → Store) (meant : M → Merge) (old new : DbValue P M) (e : Error) : Type 0 where
   pub may : (slots : ℕ → Option Flying) (slots_given : ℕ) → MayRefuse (state_of store meant old slots slots_given) (store old.pages) (store new.pages) (ToCall Flush) e
   pub extends : Extends [] (store old.pages) (store new.pages)
+  pub actions : (store new.pages).actions ≡ (store old.pages).actions
   pub stays : Stays store meant old new

@@ -84,7 +84,7 @@ more i fs = ap (λ k. take i fs ++ drop k fs) (add-one i)
 module _ {P M : Type 0} (store : P → Store) (meant : M → Merge) (v : MachineValue P M) (im : IsMachine (moment (store v.db.pages) v.db.trees v.db.trees_given) v.flights v.slots_given) where
   -- no call has the slot
   pub missing_step : (slot : ℕ) → kept_at v.flights slot ≡ None → Reaches store meant v (step.Step slot) outcome.NoSuchSlot v
-  missing_step slot e = record { maps = []; is = record { step = record { told = (record { free = ap (option_map flying_of) e; is = refl }, refl) }; keeps = extends_same (store v.db.pages); acts = omega arith } }
+  missing_step slot e = record { maps = []; is = record { step = record { told = (record { free = ap (option_map flying_of) e; is = refl }, refl) }; keeps = extends_same (store v.db.pages); acts = refl } }
 
   pub missing_abandon : (slot : ℕ) → kept_at v.flights slot ≡ None → Reaches store meant v (step.Abandon slot) outcome.NoSuchSlot v
   missing_abandon slot e = record { maps = []; is = record { step = record { told = (record { free = ap (option_map flying_of) e; is = refl }, refl) }; keeps = extends_same (store v.db.pages); acts = refl } }
@@ -161,7 +161,7 @@ module _ {P M : Type 0} (store : P → Store) (meant : M → Merge) (v : Machine
         acts_flying : (went : Went) → Flies store meant v.db f went db next → acts_as (instant_of store meant v) (step.Step slot) (outcome_of went) (instant_of store meant (record v { db = db; flights = gs }))
         acts_flying Moved k = k.once
         acts_flying (Decided reply) k = (k.once, λ q. k.quiet (record { reply = reply; decided = refl; tree = q.tree; there = subst (λ (z : Flying). (db_state store meant v.db).trees z.tree.name ≡ Some q.tree) (some_is (sym q.here ∙ here)) q.there; silent = subst (λ (z : Flying). (answer_of z.call q.tree.map).event ≡ None) (some_is (sym q.here ∙ here)) q.silent }))
-        acts_flying (Refused r) k = k.once
+        acts_flying (Refused r) k = k.still r refl
 
     ended : (f : Flight) → slice_get v.flights i ≡ Some (slot, f) → gs ≡ take i v.flights ++ drop (i + 1) v.flights → (q : ℕ) → kept_at gs q ≡ put_at (kept_at v.flights) slot None q
     ended f there e q = ap (λ z. kept_at z q) (e ∙ more i v.flights) ∙ take_kept 0 v.flights i slot f q im.rise.is there
@@ -290,13 +290,13 @@ module _ {P M : Type 0} (store : P → Store) (meant : M → Merge) (v : Machine
   pub flushed_all : (db : DbValue P M) (n : ℕ) → FlushesDb store meant v.db db → Reaches store meant v (step.Whole Flush) (outcome.Decided (Number n)) (record v { db = db })
   flushed_all db n f = record {
     maps = [];
-    is = record { step = record { told = (f.free, f.stays.state (slots_of v.flights) v.slots_given, refl) }; keeps = record { flushes = f.flushes; leaves = record { is = subst (λ z. Matches z (maps_of (db_state store meant db) ∷ [])) (sym (ap (map trees_of) f.left ∙ ap (λ z. z ∷ []) f.maps)) (matches_same _) } }; acts = tt };
+    is = record { step = record { told = (f.free, f.stays.state (slots_of v.flights) v.slots_given, refl) }; keeps = record { flushes = f.flushes; leaves = record { is = subst (λ z. Matches z (maps_of (db_state store meant db) ∷ [])) (sym (ap (map trees_of) f.left ∙ ap (λ z. z ∷ []) f.maps)) (matches_same _) } }; acts = f.flushes.actions };
   }
 
   pub flush_refused : (db : DbValue P M) (e : Error) → RefusesFlush store meant v.db db e → Reaches store meant v (step.Whole Flush) (outcome.Refused e) (record v { db = db })
   flush_refused db e f = record {
     maps = [];
-    is = record { step = record { told = (f.may (slots_of v.flights) v.slots_given, f.stays.state (slots_of v.flights) v.slots_given, refl) }; keeps = f.extends; acts = tt };
+    is = record { step = record { told = (f.may (slots_of v.flights) v.slots_given, f.stays.state (slots_of v.flights) v.slots_given, refl) }; keeps = f.extends; acts = f.actions };
   }
 
   pub stays_machine : (db : DbValue P M) → Stays store meant v.db db → IsMachine (moment (store db.pages) db.trees db.trees_given) v.flights v.slots_given

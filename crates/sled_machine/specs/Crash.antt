@@ -10,7 +10,7 @@ use Rattle.sled_model.specs.Runs.{RunsBy}
 use Rattle.sled_model.specs.declared.outcome.Step.{Step}
 use Rattle.sled_model.specs.declared.outcome.Step.TheVariants as step
 use Rattle.sled_model.specs.declared.outcome.Outcome.{Outcome}
-use Rattle.sled_model.specs.declared.outcome.Outcome.TheVariants.{Moved, Decided}
+use Rattle.sled_model.specs.declared.outcome.Outcome.TheVariants.{Moved, Decided, Refused, NoSuchSlot}
 use Rattle.sled_model.specs.declared.call.Whole.TheVariants.{Flush}
 use Rattle.tree_laws.specs.Contents.{trees_of}
 use Rattle.tree_laws.specs.Crashes.{Extends, Flushes, Matches}
@@ -44,14 +44,16 @@ pub record IsSilent (s : State) (slot : ℕ) : Type 0 where
   pub there : s.trees flying.tree.name ≡ Some tree
   pub silent : (answer_of flying.call tree.map).event ≡ None
 
--- What a step does of page actions: a call that begins or is given up does none. A step of a slot does at most one changing
--- action, and none where it decides a call without an event
+-- What a step does of page actions: a call that begins or is given up, or that no slot has, does none, and nor does a flush. A
+-- step of a slot does at most one changing action, and none where the call is refused or decided without an event
 abbrev pub acts_as : Instant → Step → Outcome → Instant → Type 0
 acts_as old (step.Begin tree call) o new = new.store ≡ old.store
 acts_as old (step.Step slot) (Decided reply) new = (new.store.actions ≤ old.store.actions + 1) × (IsSilent old.state slot → new.store ≡ old.store)
+acts_as old (step.Step slot) (Refused e) new = new.store.actions ≡ old.store.actions
+acts_as old (step.Step slot) NoSuchSlot new = new.store ≡ old.store
 acts_as old (step.Step slot) o new = new.store.actions ≤ old.store.actions + 1
 acts_as old (step.Abandon slot) o new = new.store ≡ old.store
-acts_as old (step.Whole whole) o new = Unit {0}
+acts_as old (step.Whole Flush) o new = new.store.actions ≡ old.store.actions
 
 -- one step, with its outcome and the maps that it added
 pub record StepsTo (old : Instant) (s : Step) (o : Outcome) (new : Instant) (maps : List Maps) : Type 0 where

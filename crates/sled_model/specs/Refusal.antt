@@ -88,10 +88,11 @@ greatest_number = 18446744073709551615
 -- The causes of a refusal that is none of those tests. a is the store before, b the store after
 abbrev pub cause_of : State → Store → Store → Asked → Error → Type 0
 cause_of s a b asked NoMemory = Unit {0}
-cause_of s a b asked (Io fault) = MeetsFault a b
 cause_of s a b (ToBegin tree call) (Unsupported text) = s.slots_given ≡ greatest_number
+cause_of s a b (ToStep f) (Io fault) = MeetsFault a b
 cause_of s a b (ToStep f) (ReportableBug text) = f.turns ≡ MAX_LOOPS
 cause_of s a b (ToStep f) FullQueue = MeetsFullQueue s f
+cause_of s a b (ToCall Flush) (Io fault) = a.faults < b.faults
 cause_of s a b asked e = ⊥
 
 -- the call may be refused so: by the first of the tests that fails, or where none fails for one of the causes
