@@ -1,6 +1,5 @@
 -- One step of a call in flight.
-use Rattle.std.proofs.Common.{◌≡◌, ◌≢◌, ℕ, ◌+◌, ◌<◌, ◌≤◌, Bool, true, false, not, cond, List, [], ◌∷◌, ◌++◌, Option, Some, None, option_map, sym, refl, ap, ◌∙◌, subst, inl, inr, ◌⊎◌, arith, append-nil}
-use Rattle.std.proofs.Math.Path.{fun_ext}
+use Rattle.std.proofs.Common.{◌≡◌, ◌≢◌, ℕ, ◌+◌, ◌<◌, ◌≤◌, Bool, true, false, not, cond, List, [], ◌∷◌, Option, Some, None, option_map, sym, refl, ap, ◌∙◌, subst, inl, inr, arith}
 use Rattle.std.specs.FinMap.Entries.{find}
 use Rattle.std.specs.Ordering.{nat_cmp}
 use Rattle.std.specs.Str.{bytes_eq}
@@ -8,23 +7,20 @@ use Rattle.sled_pages.specs.Order.{Key}
 use Rattle.sled_pages.specs.In.{In}
 use Rattle.sled_pages.specs.Update.{put_at, put_name}
 use Rattle.sled_pages.specs.State.{nodes_of}
-use Rattle.sled_pages.specs.Store.{Store, now, acted}
+use Rattle.sled_pages.specs.Store.{Store, now}
 use Rattle.sled_pages.specs.declared.error.Error.{Error}
 use Rattle.sled_pages.specs.declared.error.Error.TheVariants as error
-use Rattle.sled_model.specs.Maps.{Map, Maps, Merge}
+use Rattle.sled_model.specs.Maps.{Map, Merge}
 use Rattle.sled_model.specs.Answer.{Answer, answer_of}
-use Rattle.sled_model.specs.State.{State, NamedTree, Flying, Queue, maps_of, delivered, decided}
-use Rattle.sled_model.specs.Refusal.{MustRefuse, must_refuse_of, MayRefuse, ToStep, cause_of, may_refuse_as, tells}
-use Rattle.sled_model.specs.Steps.{Steps, Moves as StepMoves, Decides as StepDecides, RefusesStep}
+use Rattle.sled_model.specs.State.{State, NamedTree, Flying, maps_of, delivered, decided}
+use Rattle.sled_model.specs.Refusal.{MustRefuse, must_refuse_of, MayRefuse, ToStep, cause_of, may_refuse_as}
 use Rattle.sled_model.specs.declared.event.Event.{Event}
 use Rattle.sled_model.specs.declared.reply.Reply.{Reply}
-use Rattle.sled_model.specs.declared.tree.Tree.{Tree}
-use Rattle.sled_model.specs.declared.outcome.Step.TheVariants as step
 use Rattle.sled_model.specs.declared.TheConstants.{MAX_LOOPS}
 use Rattle.tree_laws.specs.Forest.{Forest, contents}
 use Rattle.tree_laws.specs.Contents.{trees_of}
 use Rattle.tree_laws.specs.Crashes.{IsWell, IsCrashSafe, Extends, Adds}
-use Rattle.tree_laws.specs.Moment.{Moment, moment_of, nodes_at, IsMoment, Goes}
+use Rattle.tree_laws.specs.Moment.{Moment, nodes_at, IsMoment, Goes}
 use Rattle.tree_laws.proofs.Crashing.{adds_extends, adds_unseen, extends_nothing, extends_same, extends_again}
 use Rattle.tree_laws.proofs.Known.{acting_kept}
 use Rattle.tree_laws.proofs.Reading.{one_law}
@@ -32,16 +28,15 @@ use Rattle.sled_tree.specs.declared.flight.Job.{Job}
 use Rattle.sled_tree.specs.declared.flight.Flight.{Flight}
 use Rattle.sled_tree.specs.declared.flight.Stage.{Stage}
 use Rattle.sled_tree.specs.declared.flight.Stage.TheVariants.{Root, Act}
-use Rattle.sled_tree.specs.declared.flight.Next.{Next}
 use Rattle.sled_tree.specs.declared.flight.Next.TheVariants as next
 use Rattle.sled_tree.specs.declared.flight.Went.{Went}
 use Rattle.sled_tree.specs.declared.flight.Went.TheVariants.{Moved, Decided, Refused}
-use Rattle.sled_tree.specs.Stages.{IsStage, IsAct, owned}
-use Rattle.sled_tree.specs.Moves.{Moves, ActsOnce, ActsAtMostOnce, Acts, Same, Decides, refuses_as, owned_next, Comes, Advances}
-use Rattle.sled.specs.Values.{DbValue, numbers_of, given_to, named, state_of, db_state, instant_of, moment}
+use Rattle.sled_tree.specs.Stages.{IsStage, owned}
+use Rattle.sled_tree.specs.Moves.{Moves, ActsOnce, ActsAtMostOnce, Acts, Same, Decides, refuses_as, Advances}
+use Rattle.sled.specs.Values.{DbValue, numbers_of, given_to, named, state_of, db_state, moment}
 use Rattle.sled.specs.Sound.{IsDb}
 use Rattle.sled.specs.Calls.{MustBeRefused, must_be_refused_as}
-use Rattle.sled.specs.Flights.{flying_of, IsKnown, AreApart, Flies, IsQuiet, outcome_of, slot_after, maps_added}
+use Rattle.sled.specs.Flights.{flying_of, IsKnown, Flies}
 use Rattle.sled.proofs.Trees.{trees_at, trees_same, trees_put, maps_are, current, numbered}
 
 none_some : {P X : Type 0} {x : X} → None ≡ Some x → P

@@ -1,5 +1,5 @@
 -- Opening: a tree is planted, the trees are numbered, and what may still be refused.
-use Rattle.std.proofs.Common.{◌≡◌, ◌≢◌, ℕ, suc, ◌+◌, ◌*◌, ◌<◌, ◌≤◌, ◌^◌, Bool, true, false, cond, ◌&&◌, List, [], ◌∷◌, length, map, Option, Some, None, is_some, option_map, Less, Equal, Greater, is_eq, Result, Ok, Err, sym, refl, ap, ◌∙◌, subst, inl, inr, ◌⊎◌, arith}
+use Rattle.std.proofs.Common.{◌≡◌, ◌≢◌, ℕ, suc, ◌+◌, ◌*◌, ◌<◌, ◌≤◌, ◌^◌, Bool, true, false, cond, ◌&&◌, List, [], ◌∷◌, length, map, Option, Some, None, is_some, option_map, Less, Equal, Greater, is_eq, Result, Ok, Err, sym, refl, ap, ◌∙◌, subst, inl, inr, arith}
 use Rattle.std.proofs.Math.Path.{fun_ext}
 use Rattle.std.specs.FinMap.Entries.{find, is_sorted, below_all}
 use Rattle.std.specs.Ordering.{eq_by_cmp, nat_cmp}
@@ -7,24 +7,21 @@ use Rattle.std.specs.declared.cmp.Ordering.{Ordering}
 use Rattle.std.proofs.lemmas.Bool.Decides.{nat_tests}
 use Rattle.std.specs.Str.{bytes_eq}
 use Rattle.sled_pages.specs.Order.{Key, key_cmp}
-use Rattle.sled_pages.specs.In.{In}
-use Rattle.sled_pages.specs.Update.{put_at, put_name}
-use Rattle.sled_pages.specs.Faults.{IsFault, fault_as}
 use Rattle.sled_pages.specs.Facts.{same_name, put_elsewhere, put_here, now_allocates, now_acted, now_swaps, fresh_page}
-use Rattle.sled_pages.specs.State.{State, Nodes, RootBecomes, PageBecomes, nodes_of, after}
-use Rattle.sled_pages.specs.Store.{Store, now, acted, flushed, Allocates, SwapsRoot, Refused, refused_as, AreGiven, IsRoots}
+use Rattle.sled_pages.specs.State.{State, RootBecomes, PageBecomes, nodes_of, after}
+use Rattle.sled_pages.specs.Store.{Store, now, acted, flushed, Allocates, SwapsRoot, Refused, AreGiven}
 use Rattle.sled_pages.specs.declared.error.Error.{Error}
 use Rattle.sled_pages.specs.declared.error.Error.TheVariants as error
 use Rattle.sled_pages.specs.declared.node.Node.{Node}
 use Rattle.sled_pages.specs.declared.node.Data.TheVariants as kind
 use Rattle.sled_pages.specs.declared.page.Page.{Page}
 use Rattle.sled_model.specs.Maps.{Map, Maps}
-use Rattle.tree_laws.specs.Forest.{Tree, Forest, Place, place, WellFormed, contents}
+use Rattle.tree_laws.specs.Forest.{Tree, Forest, Place, WellFormed, contents}
 use Rattle.tree_laws.specs.Contents.{trees_of}
-use Rattle.tree_laws.specs.Crashes.{IsWell, IsCrashSafe, Extends, Flushes, Adds}
+use Rattle.tree_laws.specs.Crashes.{IsWell, Extends, Flushes}
 use Rattle.tree_laws.specs.Moment.{IsMoment, IsStray}
 use Rattle.tree_laws.specs.Laws.{IsAlone}
-use Rattle.tree_laws.proofs.Crashing.{adds_page, adds_is, adds_extends, adds_unseen, extends_nothing, extends_same, extends_then, flushes_same, flushes_safe, flushes_now}
+use Rattle.tree_laws.proofs.Crashing.{adds_page, adds_is, adds_extends, adds_unseen, extends_same, extends_then, flushes_same, flushes_safe}
 use Rattle.tree_laws.proofs.Known.{store_moment}
 use Rattle.tree_laws.proofs.Outside.{outside_kept, outside_contents}
 use Rattle.tree_laws.proofs.Order.{key_same}
@@ -33,7 +30,7 @@ use Rattle.tree_laws.proofs.Fuel.{contents_law}
 use Rattle.sled.specs.declared.TheConstants.{DEFAULT_TREE}
 use Rattle.sled.specs.Values.{DbValue, numbers_of, given_to, moment}
 use Rattle.sled.specs.Sound.{IsDb}
-use Rattle.sled.specs.Opens.{or_empty, with_tree, with_default, planted, numbered, GrowsByTree, GrowsAtMost, CanBeOpened, RefusesTree, HasTree, AreNumbered, Opens}
+use Rattle.sled.specs.Opens.{or_empty, with_tree, planted, numbered, CanBeOpened, RefusesTree, HasTree, AreNumbered, Opens}
 
 none_some : {P X : Type 0} {x : X} → None ≡ Some x → P
 none_some e = cc

@@ -1,5 +1,5 @@
 -- Stores that can be opened: an empty one, and what a crash leaves of a database's pages.
-use Rattle.std.proofs.Common.{◌≡◌, ℕ, true, false, refl, sym, ap, ◌∙◌, subst}
+use Rattle.std.proofs.Common.{◌≡◌, ℕ, false, sym, ap, ◌∙◌, subst}
 use Rattle.sled_pages.specs.Crash.{Crashes}
 use Rattle.sled_pages.specs.Facts.{may_leave_crashed}
 use Rattle.sled_pages.specs.Memory.{empty_store}

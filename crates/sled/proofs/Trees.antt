@@ -1,23 +1,22 @@
 -- The trees of a database's state are the contents of its pages.
-use Rattle.std.proofs.Common.{◌≡◌, ◌≢◌, ℕ, Bool, true, false, cond, List, [], ◌∷◌, Option, Some, None, option_map, sym, refl, ap, ◌∙◌, subst}
+use Rattle.std.proofs.Common.{◌≡◌, ◌≢◌, ℕ, Bool, true, false, cond, [], ◌∷◌, Option, Some, None, option_map, sym, refl, ap, ◌∙◌}
 use Rattle.std.proofs.Math.Path.{fun_ext}
 use Rattle.std.proofs.lemmas.Bool.{eqb-true}
-use lib.Dec.{eqb}
 use Rattle.std.specs.Str.{bytes_eq}
 use Rattle.sled_pages.specs.Order.{Key}
 use Rattle.sled_pages.specs.Update.{put_name}
 use Rattle.sled_pages.specs.Facts.{same_name, put_name_here, put_name_elsewhere}
 use Rattle.sled_pages.specs.State.{nodes_of}
 use Rattle.sled_pages.specs.Store.{Store, now}
-use Rattle.sled_model.specs.Maps.{Map, Maps, Merge}
+use Rattle.sled_model.specs.Maps.{Map, Merge}
 use Rattle.sled_model.specs.State.{State, NamedTree, maps_of}
-use Rattle.sled_model.specs.Refusal.{MustRefuse, IsClosed, IsDropped, first_of, foreign_test, dropped_test, is_number, must_refuse_of}
+use Rattle.sled_model.specs.Refusal.{MustRefuse, IsDropped, first_of, is_number, must_refuse_of}
 use Rattle.sled_model.specs.declared.tree.Tree.{Tree}
 use Rattle.tree_laws.specs.Forest.{Forest, contents}
 use Rattle.tree_laws.specs.Contents.{trees_of}
-use Rattle.tree_laws.specs.Moment.{Moment, moment_of, nodes_at, IsMoment}
+use Rattle.tree_laws.specs.Moment.{moment_of, IsMoment}
 use Rattle.tree_laws.proofs.Fuel.{contents_law}
-use Rattle.sled.specs.Values.{DbValue, numbers_of, given_to, named, state_of, db_state, moment}
+use Rattle.sled.specs.Values.{DbValue, numbers_of, given_to, named, db_state, moment}
 
 none_some : {P X : Type 0} {x : X} → None ≡ Some x → P
 none_some e = cc

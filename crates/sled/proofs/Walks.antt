@@ -1,5 +1,5 @@
 -- Walks over pages that are no longer than there are page numbers.
-use Rattle.std.proofs.Common.{◌≡◌, ℕ, zero, suc, ◌+◌, ◌-◌, ◌<◌, ◌≤◌, List, [], ◌∷◌, ◌++◌, Option, Some, None, refl, sym, ap, ◌∙◌, arith, append_assoc, append-nil}
+use Rattle.std.proofs.Common.{◌≡◌, ℕ, zero, suc, ◌+◌, ◌<◌, ◌≤◌, List, [], ◌++◌, Option, Some, None, refl, sym, ap, ◌∙◌, arith, append_assoc, append-nil}
 use Rattle.sled_pages.specs.Order.{Key}
 use Rattle.sled_pages.specs.State.{Nodes}
 use Rattle.tree_laws.specs.Forest.{node_pairs}

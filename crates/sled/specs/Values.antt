@@ -1,10 +1,10 @@
 -- What contracts see of a database, and the state of the model that it stands for.
-use Rattle.std.specs.Prelude.{ℕ, ◌≤◌, nat_le, nat_lt, ◌&&◌, Bool, not, List, Option, Some, None, option_map}
+use Rattle.std.specs.Prelude.{ℕ, nat_le, nat_lt, ◌&&◌, Bool, not, List, Option, Some, None, option_map}
 use Rattle.std.specs.FinMap.Entries.{find}
 use Rattle.std.specs.Ordering.{nat_cmp}
 use Rattle.sled_pages.specs.Order.{Key, key_cmp}
 use Rattle.sled_pages.specs.Store.{Store, now}
-use Rattle.sled_model.specs.Maps.{Map, Maps, Merge}
+use Rattle.sled_model.specs.Maps.{Map, Merge}
 use Rattle.sled_model.specs.State.{State, NamedTree, Flying}
 use Rattle.sled_model.specs.Steps.{Instant}
 use Rattle.tree_laws.specs.Contents.{trees_of}

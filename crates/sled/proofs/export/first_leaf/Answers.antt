@@ -1,4 +1,4 @@
-use Rattle.std.proofs.Common.{◌≡◌, ◌∙◌, sym, arith}
+use Rattle.std.proofs.Common.{◌∙◌, sym, arith}
 use Rattle.sled.proofs.Walks.{down_first, down_more, down_last}
 use Rattle.sled.proofs.export.first_leaf.Goals as goal
 

@@ -1,4 +1,4 @@
-use Rattle.std.proofs.Common.{◌≡◌, ◌∙◌, sym, arith}
+use Rattle.std.proofs.Common.{arith}
 use Rattle.sled.proofs.Walks.{along_first, along_more, along_ends, along_last}
 use Rattle.sled.proofs.export.pairs_along.Goals as goal
 

@@ -1,4 +1,4 @@
-use Rattle.std.proofs.Common.{◌≡◌, sym, ◌∙◌, ap, refl, is_some}
+use Rattle.std.proofs.Common.{sym, ◌∙◌, ap, refl, is_some}
 use Rattle.sled_pages.specs.Store.{now}
 use Rattle.sled.proofs.Opening.{refused, no_memory, again_same, has_present, made_again, made_faults, made_root, has_planted, root_none, no_other, swapped}
 use Rattle.sled.proofs.open.plant.Goals as goal

@@ -1,4 +1,3 @@
-use Rattle.std.proofs.Common.{◌≡◌, ◌≢◌, ◌<◌}
 use Rattle.sled.proofs.Flying.{flies_as, db_as, untested_as, limit_as, below_limit}
 use Rattle.sled.proofs.db.Db.fly.Goals as goal
 

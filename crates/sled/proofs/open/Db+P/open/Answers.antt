@@ -1,4 +1,4 @@
-use Rattle.std.proofs.Common.{◌≡◌, sym, ◌∙◌, ap, refl}
+use Rattle.std.proofs.Common.{◌∙◌}
 use Rattle.sled.proofs.Opening.{refused, has_default, opened_db, opens}
 use Rattle.sled.proofs.open.Db+P.open.Goals as goal
 
