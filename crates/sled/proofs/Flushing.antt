@@ -1,5 +1,5 @@
 -- A flush changes what a crash may leave, and nothing else.
-use Rattle.std.proofs.Common.{◌≡◌, ℕ, ◌+◌, ◌<◌, Bool, true, false, not, cond, [], ◌∷◌, Option, Some, None, sym, refl, ap, ◌∙◌, subst, inl, inr, arith, option_map}
+use Rattle.std.proofs.Common.{◌≡◌, ℕ, ◌+◌, ◌<◌, true, false, not, cond, [], ◌∷◌, Option, Some, None, sym, refl, ap, ◌∙◌, subst, arith, option_map}
 use Rattle.std.specs.FinMap.Entries.{find}
 use Rattle.std.specs.Ordering.{nat_cmp}
 use Rattle.sled_pages.specs.Store.{Store, now, flushed, Refused, refused_as}
@@ -8,12 +8,11 @@ use Rattle.sled_pages.specs.declared.error.Error.{Error}
 use Rattle.sled_pages.specs.declared.error.Error.TheVariants as error
 use Rattle.sled_model.specs.Maps.{Merge}
 use Rattle.sled_model.specs.State.{Flying}
-use Rattle.sled_model.specs.Refusal.{MustRefuse, IsClosed, MayRefuse, must_refuse, may_refuse_as, cause_of, ToCall, first_of}
+use Rattle.sled_model.specs.Refusal.{IsClosed, must_refuse, may_refuse_as, cause_of, ToCall, first_of}
 use Rattle.sled_model.specs.declared.call.Whole.TheVariants.{Flush}
-use Rattle.tree_laws.specs.Forest.{Forest}
 use Rattle.tree_laws.specs.Contents.{trees_of}
-use Rattle.tree_laws.specs.Crashes.{Extends, Flushes, IsWell}
-use Rattle.tree_laws.specs.Moment.{Moment, moment_of, IsMoment}
+use Rattle.tree_laws.specs.Crashes.{Extends, Flushes}
+use Rattle.tree_laws.specs.Moment.{Moment, IsMoment}
 use Rattle.tree_laws.proofs.Crashing.{extends_nothing, extends_same, flushes_same, flushes_safe, flushes_left, flushes_now}
 use Rattle.sled.specs.Values.{DbValue, named, numbers_of, state_of, db_state, moment}
 use Rattle.sled.specs.Sound.{IsDb}

@@ -1,5 +1,5 @@
 -- What single calls of a database answer.
-use Rattle.std.specs.Prelude.{◌≡◌, true, Option, Some, None}
+use Rattle.std.specs.Prelude.{◌≡◌, true, false, Option, Some, None}
 use Rattle.sled_pages.specs.Order.{Key}
 use Rattle.sled_pages.specs.Store.{Store, now}
 use Rattle.sled_pages.specs.declared.error.Error.{Error}

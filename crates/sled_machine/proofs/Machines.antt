@@ -1,16 +1,16 @@
 -- What the calls of a machine do, by its fields.
-use Rattle.std.proofs.Common.{◌≡◌, ◌≢◌, ℕ, suc, ◌+◌, ◌<◌, ◌≤◌, Bool, true, false, cond, nat_eq, List, [], ◌∷◌, ◌++◌, Option, Some, None, option_map, map, take, drop, length, slice_get, slice_set, sym, refl, ap, ◌∙◌, subst, inl, inr, ◌⊎◌, arith, add-one}
+use Rattle.std.proofs.Common.{◌≡◌, ◌≢◌, ℕ, suc, ◌+◌, ◌<◌, ◌≤◌, true, false, cond, nat_eq, List, [], ◌∷◌, ◌++◌, Option, Some, None, option_map, map, take, drop, length, slice_get, slice_set, sym, refl, ap, ◌∙◌, subst, inl, inr, ◌⊎◌, arith, add-one}
 use Rattle.std.proofs.Math.Path.{fun_ext}
 use Rattle.std.proofs.lemmas.Bool.{eq-eqb, ne_eqb, eqb-true}
 use Rattle.std.proofs.lemmas.Option.{slice_get_within}
 use Rattle.sled_pages.specs.Update.{put_at}
 use Rattle.sled_pages.specs.Store.{Store}
 use Rattle.sled_pages.specs.declared.error.Error.{Error}
-use Rattle.sled_model.specs.Maps.{Maps, Merge}
+use Rattle.sled_model.specs.Maps.{Merge}
 use Rattle.sled_model.specs.Answer.{answer_of}
-use Rattle.sled_model.specs.State.{State, NamedTree, Flying, begun, maps_of}
-use Rattle.sled_model.specs.Refusal.{MustRefuse, MayRefuse, must_refuse_of, may_refuse_as, cause_of, ToBegin, ToCall}
-use Rattle.sled_model.specs.Steps.{Instant, Steps, Begins, Misses, Abandons}
+use Rattle.sled_model.specs.State.{Flying, maps_of}
+use Rattle.sled_model.specs.Refusal.{MustRefuse, MayRefuse, must_refuse_of, may_refuse_as, cause_of, ToBegin}
+use Rattle.sled_model.specs.Steps.{Steps}
 use Rattle.sled_model.specs.declared.call.Call.{Call}
 use Rattle.sled_model.specs.declared.call.Whole.{Whole}
 use Rattle.sled_model.specs.declared.call.Whole.TheVariants.{Flush}
@@ -18,9 +18,8 @@ use Rattle.sled_model.specs.declared.tree.Tree.{Tree}
 use Rattle.sled_model.specs.declared.reply.Reply.TheVariants.{Number}
 use Rattle.sled_model.specs.declared.outcome.Outcome.{Outcome}
 use Rattle.sled_model.specs.declared.outcome.Outcome.TheVariants as outcome
-use Rattle.sled_model.specs.declared.outcome.Step.{Step}
 use Rattle.sled_model.specs.declared.outcome.Step.TheVariants as step
-use Rattle.tree_laws.specs.Crashes.{Extends, Flushes, Matches}
+use Rattle.tree_laws.specs.Crashes.{Matches}
 use Rattle.tree_laws.specs.Moment.{Moment}
 use Rattle.tree_laws.specs.Contents.{trees_of}
 use Rattle.tree_laws.proofs.Crashing.{extends_same, matches_same}
@@ -32,9 +31,9 @@ use Rattle.sled.specs.Values.{DbValue, state_of, db_state, instant_of as instant
 use Rattle.sled.specs.Calls.{MustBeRefused, must_be_refused_as}
 use Rattle.sled.specs.Flights.{flying_of, IsKnown, AreApart, Flies, outcome_of, slot_after, maps_added}
 use Rattle.sled.specs.Flush.{Stays, FlushesDb, RefusesFlush}
-use Rattle.sled_machine.specs.Slots.{kept_at, RiseAbove, Rise, StandsAt}
+use Rattle.sled_machine.specs.Slots.{kept_at, RiseAbove, StandsAt}
 use Rattle.sled_machine.specs.Values.{MachineValue, slots_of, instant_of}
-use Rattle.sled_machine.specs.Crash.{StepsTo, Reaches, keeps_as, acts_as, IsSilent}
+use Rattle.sled_machine.specs.Crash.{Reaches, keeps_as, acts_as}
 use Rattle.sled_machine.specs.Sound.{IsMachine}
 use Rattle.sled_machine.specs.Fly.{StepsAt, flights_after}
 use Rattle.sled_machine.proofs.Places.{stands, set_kept, take_kept, set_rise, take_rise, push_kept, push_rise}

@@ -1,13 +1,12 @@
 -- Steps one after the other.
-use Rattle.std.proofs.Common.{◌≡◌, ◌≢◌, ℕ, zero, suc, ◌+◌, ◌-◌, ◌<◌, ◌≤◌, List, [], ◌∷◌, ◌++◌, Option, Some, None, refl, sym, ap, ◌∙◌, subst, arith}
-use Rattle.sled_pages.specs.Update.{put_at}
+use Rattle.std.proofs.Common.{◌≡◌, ◌≢◌, ℕ, zero, suc, ◌+◌, ◌-◌, ◌<◌, List, [], ◌∷◌, ◌++◌, Option, Some, None, refl, sym, ap, ◌∙◌, subst, arith}
 use Rattle.sled_pages.specs.Store.{Store}
 use Rattle.sled_model.specs.Maps.{Maps, Merge}
 use Rattle.sled_model.specs.State.{State, Flying, maps_of}
 use Rattle.sled_model.specs.declared.call.Whole.TheVariants.{Flush}
 use Rattle.tree_laws.specs.Crashes.{Extends}
 use Rattle.tree_laws.proofs.Crashing.{matches_same, matches_append, matches_then}
-use Rattle.sled_model.specs.Steps.{Instant, Steps, Moves}
+use Rattle.sled_model.specs.Steps.{Instant}
 use Rattle.sled_model.specs.Runs.{RunsBy, NoSteps, OneMore}
 use Rattle.sled_model.specs.declared.outcome.Outcome.{Outcome}
 use Rattle.sled_model.specs.declared.outcome.Outcome.TheVariants as outcome
@@ -15,7 +14,7 @@ use Rattle.sled_model.specs.declared.outcome.Step.{Step}
 use Rattle.sled_model.specs.declared.outcome.Step.TheVariants as step
 use Rattle.sled_model.specs.declared.TheConstants.{MAX_LOOPS}
 use Rattle.sled_machine.specs.Values.{MachineValue, instant_of, slots_of}
-use Rattle.sled_machine.specs.Crash.{StepsTo, Reaches, Performs, Finishes, steps_of, outcomes_of, Leaves, keeps_as, kept_after, RunsKeeping, KeepsAll, KeepsMore, Keeps}
+use Rattle.sled_machine.specs.Crash.{StepsTo, Reaches, Performs, Finishes, steps_of, outcomes_of, Leaves, keeps_as, kept_after, RunsKeeping, KeepsAll, KeepsMore}
 use Rattle.sled_machine.proofs.Machines.{put_here}
 
 -- what a crash may leave goes on by the maps that were added

@@ -1,4 +1,4 @@
-use Rattle.std.proofs.Common.{◌≡◌, arith}
+use Rattle.std.proofs.Common.{arith}
 use Rattle.sled_machine.proofs.Places.{search_up, search_down, search_found, search_missing, search_past}
 use Rattle.sled_machine.proofs.place.place.Goals as goal
 

@@ -1,4 +1,4 @@
-use Rattle.std.proofs.Common.{◌≡◌, sym, ◌∙◌}
+use Rattle.std.proofs.Common.{sym, ◌∙◌}
 use Rattle.sled.proofs.Flushing.{flush_refused_as, flush_done_as}
 use Rattle.sled.proofs.db.Db.flush.Goals as goal
 

@@ -1,4 +1,4 @@
-use Rattle.std.proofs.Common.{◌≡◌, refl, ap, sym, ◌∙◌, subst, ◌+◌, ◌++◌, ◌∷◌, []}
+use Rattle.std.proofs.Common.{refl, ap, sym, ◌∙◌, subst, ◌+◌, ◌++◌, ◌∷◌, []}
 use Rattle.sled.specs.Values.{moment}
 use Rattle.sled_machine.specs.Values.{MachineValue}
 use Rattle.sled_machine.specs.Sound.{IsMachine}

@@ -1,4 +1,4 @@
-use Rattle.std.proofs.Common.{◌≡◌, subst}
+use Rattle.std.proofs.Common.{subst}
 use Rattle.sled_machine.specs.Slots.{StandsAt}
 use Rattle.sled_machine.proofs.Places.{at_index}
 use Rattle.sled_machine.proofs.Machines.{turns_as}
