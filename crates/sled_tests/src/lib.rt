@@ -4,5 +4,9 @@
 mod callers;
 
 pub use callers::{
-    crash, empty, get, insert_then_get, insert_then_get_in_new, race, reopen, reopen_then_get,
+    crash, empty, get, insert_then_get, insert_then_get_in_new, race, refusing, reopen,
+    reopen_then_get,
 };
+
+#[cfg(test)]
+mod tests;
