@@ -14,6 +14,14 @@ fn sevens(alloc: Global, len: usize) -> Result<IVec, Fail> {
     Ok(IVec::from_slice(alloc, bytes.as_slice())?)
 }
 
+// Whether a call was decided with this value.
+fn replies(outcome: &Outcome, wanted: &IVec) -> bool {
+    match outcome {
+        Outcome::Decided(Reply::Value(Some(value))) => value == wanted,
+        _ => false,
+    }
+}
+
 // The value that was put at a key is read there.
 fn keeps<M: MergeOperator>(
     rt: &impl Abort,
@@ -25,17 +33,10 @@ fn keeps<M: MergeOperator>(
 ) -> Result<(), Fail> {
     let call = Call::Insert(sevens(alloc, key)?, sevens(alloc, value)?);
     let slot = machine.begin(tree, call)?;
-    assert!(rt;
-        matches!(machine.finish(slot), Outcome::Decided(_)),
-        "{key} {value}"
-    );
+    machine.finish(slot);
     let slot = machine.begin(tree, Call::Get(sevens(alloc, key)?))?;
     let wanted = sevens(alloc, value)?;
-    let same = match machine.finish(slot) {
-        Outcome::Decided(Reply::Value(Some(got))) => got == wanted,
-        _ => false,
-    };
-    assert!(rt; same, "{key} {value}");
+    assert!(rt; replies(&machine.finish(slot), &wanted), "{key} {value}");
     Ok(())
 }
 
