@@ -17,7 +17,11 @@ use Rattle.sled.specs.Values.{DbValue, numbers_of, named}
 use Rattle.sled_pages.specs.Crash.{MayLeave, Crashes}
 use Rattle.tree_laws.specs.Crashes.{IsWell}
 use Rattle.sled_model.specs.declared.outcome.Outcome.{Outcome}
-use Rattle.sled_tests.specs.Reads.{HasMapsOf, ReadsAs, found_in, maps_now}
+use Rattle.sled_tests.specs.Reads.{ReadsAs, found_in, maps_now}
+
+-- the two databases have the same maps, whatever their merge operators mean
+pub record HasMapsOf {P M N : Type 0} (store : P → Store) (old : DbValue P M) (new : DbValue P N) : Type 0 where
+  pub same : (meant : M → Merge) (other : N → Merge) → maps_now store other new ≡ maps_now store meant old
 
 none_some : {P X : Type 0} {x : X} → None ≡ Some x → P
 none_some e = cc

@@ -34,7 +34,3 @@ pub record PutsOne (old new : Maps) (tree key value : Key) : Type 0 where
   pub here : found_in (new tree) key ≡ Some value
   pub keys : (other : Key) → other ≢ key → found_in (new tree) other ≡ found_in (old tree) other
   pub trees : (other : Key) → other ≢ tree → new other ≡ old other
-
--- the two databases have the same maps, whatever their merge operators mean
-pub record HasMapsOf {P M N : Type 0} (store : P → Store) (old : DbValue P M) (new : DbValue P N) : Type 0 where
-  pub same : (meant : M → Merge) (other : N → Merge) → maps_now store other new ≡ maps_now store meant old

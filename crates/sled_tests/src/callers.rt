@@ -150,3 +150,13 @@ pub fn empty(alloc: Global) -> MemPages
     law_empty();
     MemPages::new(alloc)
 }
+
+/// The same, but that the store's call of this number will be refused.
+pub fn refusing(alloc: Global, call: u64) -> Result<MemPages>
+    ensures well { IfOk result (λ pages. IsWell (now (store_of pages))) }
+    ensures calm { IfOk result (λ pages. (now (store_of pages)).in_group ≡ false) }
+{
+    let mut pages = empty(alloc);
+    pages.refuse_at(&[call])?;
+    Ok(pages)
+}

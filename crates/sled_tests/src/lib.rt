@@ -3,8 +3,11 @@
 
 mod callers;
 mod recovery;
+#[cfg(test)]
+mod tests;
 
 pub use callers::{
-    crash, empty, get, insert_then_get, insert_then_get_in_new, race, reopen, reopen_then_get,
+    crash, empty, get, insert_then_get, insert_then_get_in_new, race, refusing, reopen,
+    reopen_then_get,
 };
 pub use recovery::survive;

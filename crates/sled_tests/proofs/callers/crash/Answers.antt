@@ -1,4 +1,4 @@
-use Rattle.std.proofs.Common.{ap, subst, IfOk}
+use Rattle.std.proofs.Common.{subst, IfOk}
 use Rattle.sled_pages.specs.Crash.{Crashes}
 use Rattle.sled_pages.specs.Memory.{store_of}
 use Rattle.sled_tests.proofs.Opened.{crashed_well, crashed_calm}

@@ -1,4 +1,4 @@
-use Rattle.std.proofs.Common.{ap, subst}
+use Rattle.std.proofs.Common.{subst}
 use Rattle.sled_tests.specs.Reads.{ReadsAs, found_in, maps_now}
 use Rattle.sled_tests.proofs.Calls.{got}
 use Rattle.sled_tests.proofs.callers.get.Goals as goal

@@ -1,7 +1,6 @@
-use Rattle.std.proofs.Common.{◌≡◌, ap, ◌∙◌, subst}
+use Rattle.std.proofs.Common.{◌≡◌, ap, ◌∙◌}
 use Rattle.sled_pages.specs.Store.{now}
 use Rattle.tree_laws.specs.Contents.{trees_of}
-use Rattle.sled.specs.Sound.{IsDb}
 use Rattle.sled.specs.Values.{DbValue}
 use Rattle.sled_tests.proofs.Opened.{opened_maps, refused_again}
 use Rattle.sled_tests.proofs.callers.reopen.Goals as goal

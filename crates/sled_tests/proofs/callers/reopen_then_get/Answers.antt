@@ -1,8 +1,6 @@
 use Rattle.std.proofs.Common.{◌≡◌, ap, ◌∙◌, subst}
-use Rattle.std.proofs.lemmas.Result.{IfOk-weaker}
 use Rattle.sled.specs.Sound.{IsDb}
 use Rattle.sled.specs.Values.{DbValue}
-use Rattle.sled_tests.specs.Reads.{ReadsAs, found_in, maps_now}
 use Rattle.sled_tests.proofs.Opened.{opened_again, read_again}
 use Rattle.sled_tests.proofs.callers.reopen_then_get.Goals as goal
 

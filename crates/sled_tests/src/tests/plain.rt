@@ -1,0 +1,146 @@
+//! The machine beside the plain program, on one sequence of moves that looks random.
+use super::*;
+use crate::{crash, empty};
+use sled::Db;
+use sled_model::plain::Plain;
+
+const SEED: u64 = 88172645463325252;
+
+// The next number of a sequence that looks random.
+fn mixed(number: u64) -> u64 {
+    let number = number ^ (number << 13);
+    let number = number ^ (number >> 7);
+    number ^ (number << 17)
+}
+
+// One of as many texts.
+fn choice(number: u64, texts: &[&'static str]) -> &'static str {
+    let place = number % 1000;
+    for i in 0..texts.len() {
+        if place % 5 == i as u64 {
+            return texts[i];
+        }
+    }
+    match texts.first() {
+        Some(text) => text,
+        None => "",
+    }
+}
+
+// One move of both that is no crash: what was done, and how it came out on each side.
+fn moved<M: MergeOperator>(
+    rt: &impl Abort,
+    alloc: Global,
+    machine: &mut Machine<MemPages, M>,
+    tree: &Tree,
+    plain: &mut Plain,
+    number: u64,
+) -> Result<(), Fail> {
+    let key = choice(number >> 8, &["a", "b", "", "abc", "b0"]);
+    let value = choice(number >> 24, &["1", "2", "3", "1", "2"]);
+    // Mostly a slot in which a call may be.
+    let given = plain.slots_given;
+    let slot = Slot(
+        given
+            .wrapping_sub((number >> 40) % 4)
+            .wrapping_add((number >> 50) % 2),
+    );
+    let (one, other) = match number % 16 {
+        0 | 1 | 2 => {
+            let one = match machine.begin(tree, insert(alloc, key, value)?) {
+                Ok(slot) => Outcome::Begun(slot),
+                Err(e) => Outcome::Refused(e),
+            };
+            (one, plain.begin(tree.clone()?, insert(alloc, key, value)?))
+        }
+        3 | 4 => {
+            let one = match machine.begin(tree, read(alloc, key)?) {
+                Ok(slot) => Outcome::Begun(slot),
+                Err(e) => Outcome::Refused(e),
+            };
+            (one, plain.begin(tree.clone()?, read(alloc, key)?))
+        }
+        5 => (machine.abandon(slot), plain.abandoned(slot)),
+        6 => {
+            assert!(rt;
+                matches!(
+                    machine.whole(Whole::Flush),
+                    Outcome::Decided(Reply::Number(_))
+                )
+            );
+            return Ok(());
+        }
+        _ => {
+            let one = machine.step(slot);
+            let other = match &one {
+                Outcome::Decided(_) => plain.decided(slot),
+                _ => plain.moved(slot),
+            };
+            (one, other)
+        }
+    };
+    assert_eq!(rt; told(alloc, &one)?.as_str(), told(alloc, &other)?.as_str());
+    Ok(())
+}
+
+// The pairs of the plain program's tree.
+fn plain_pairs(rt: &impl Abort, alloc: Global, plain: &Plain) -> Result<String, Fail> {
+    assert_eq!(rt; plain.trees.len(), 1);
+    shown(alloc, plain.trees[0].pairs.as_slice())
+}
+
+// A plain program that was opened anew, with the pairs of the old one and no call in flight.
+fn reopened(rt: &impl Abort, alloc: Global, old: Plain) -> Result<Plain, Fail> {
+    let mut new = Plain::open(alloc, b"db")?;
+    let mut old = old;
+    assert_eq!(rt; old.trees.len(), 1);
+    assert_eq!(rt; new.trees.len(), 1);
+    std::mem::swap(&mut new.trees[0].pairs, &mut old.trees[0].pairs);
+    Ok(new)
+}
+
+// Fifty moves of both, after each of which both have the same pairs: the next number of the sequence.
+fn live<M: MergeOperator>(
+    rt: &impl Abort,
+    alloc: Global,
+    machine: &mut Machine<MemPages, M>,
+    tree: &Tree,
+    plain: &mut Plain,
+    first: u64,
+) -> Result<u64, Fail> {
+    let mut number = first;
+    for _ in 0..50 {
+        number = mixed(number);
+        moved(rt, alloc, machine, tree, plain, number)?;
+        let pairs = plain_pairs(rt, alloc, plain)?;
+        export_is(rt, alloc, machine, pairs.as_str())?;
+    }
+    Ok(number)
+}
+
+#[test]
+fn the_machine_replies_as_the_plain_program_does(rt: HostRuntime) -> Result<(), Fail> {
+    println!(rt; "seed {SEED}")?;
+    let mut number = SEED;
+    let mut plain = Plain::open(rt.alloc(), b"db")?;
+    let mut pages = empty(rt.alloc());
+    // Forty times a database is opened, and ended by a crash after fifty moves: it keeps all, or all that was flushed.
+    for life in 0..40u32 {
+        let db = match Db::open(rt.alloc(), pages, b"db") {
+            Ok(db) => db,
+            Err((_, e)) => return failed(e),
+        };
+        let tree = db.default_tree()?;
+        let mut machine = Machine::new(db);
+        number = live(&rt, rt.alloc(), &mut machine, &tree, &mut plain, number)?;
+        let keep = if life % 2 == 0 {
+            usize::MAX
+        } else {
+            machine.whole(Whole::Flush);
+            0
+        };
+        pages = crash(machine.into_db(), keep)?;
+        plain = reopened(&rt, rt.alloc(), plain)?;
+    }
+    Ok(())
+}
