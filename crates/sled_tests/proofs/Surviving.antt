@@ -1,5 +1,5 @@
 -- What is found after a crash is one of the maps that the run kept.
-use Rattle.std.proofs.Common.{◌≡◌, ℕ, Bool, true, false, cond, List, [], ◌∷◌, ◌++◌, map, sym, refl, ap, ◌∙◌, subst, inl, inr, ◌⊎◌}
+use Rattle.std.proofs.Common.{◌≡◌, ℕ, false, cond, List, [], ◌∷◌, map, sym, refl, ap, ◌∙◌, subst, inl, inr}
 use Rattle.sled_pages.specs.Order.{Key}
 use Rattle.sled_pages.specs.In.{In}
 use Rattle.sled_pages.specs.State.{State as PageState, Action, after_all}
@@ -7,7 +7,7 @@ use Rattle.sled_pages.specs.Store.{Store, now}
 use Rattle.sled_pages.specs.Crash.{left_from, states_left, MayLeave, Crashes}
 use Rattle.sled_pages.specs.Memory.{store_of}
 use Rattle.sled_pages.specs.declared.memory.MemPages.{MemPages}
-use Rattle.sled_model.specs.Maps.{Maps, Merge}
+use Rattle.sled_model.specs.Maps.{Merge}
 use Rattle.sled_model.specs.declared.outcome.Step.{Step}
 use Rattle.sled_model.specs.declared.outcome.Outcome.{Outcome}
 use Rattle.tree_laws.specs.Contents.{trees_of}
@@ -16,7 +16,7 @@ use Rattle.sled.specs.Values.{DbValue}
 use Rattle.sled.specs.Sound.{IsDb}
 use Rattle.sled.specs.Opens.{Opens, with_default}
 use Rattle.sled_machine.specs.Values.{MachineValue, instant_of}
-use Rattle.sled_machine.specs.Crash.{Leaves, Keeps, Performs}
+use Rattle.sled_machine.specs.Crash.{Leaves, Performs}
 use Rattle.sled_tests.specs.Survive.{Survives}
 
 -- an element of a list is one of the list once repetitions are taken out

@@ -123,13 +123,12 @@ fn the_machine_replies_as_the_plain_program_does(rt: HostRuntime) -> Result<(), 
     println!(rt; "seed {SEED}")?;
     let mut number = SEED;
     let mut plain = Plain::open(rt.alloc(), b"db")?;
-    let mut pages = empty(rt.alloc());
-    // Forty times a database is opened, and ended by a crash after fifty moves: it keeps all, or all that was flushed.
+    let mut db = match Db::open(rt.alloc(), empty(rt.alloc()), b"db") {
+        Ok(db) => db,
+        Err((_, e)) => return failed(e),
+    };
+    // Forty times a database is ended by a crash after fifty moves, and opened again: the crash keeps all, or all that was flushed.
     for life in 0..40u32 {
-        let db = match Db::open(rt.alloc(), pages, b"db") {
-            Ok(db) => db,
-            Err((_, e)) => return failed(e),
-        };
         let tree = db.default_tree()?;
         let mut machine = Machine::new(db);
         number = live(&rt, rt.alloc(), &mut machine, &tree, &mut plain, number)?;
@@ -139,7 +138,11 @@ fn the_machine_replies_as_the_plain_program_does(rt: HostRuntime) -> Result<(), 
             machine.whole(Whole::Flush);
             0
         };
-        pages = crash(machine.into_db(), keep)?;
+        let pages = crash(machine.into_db(), keep)?;
+        db = match Db::open(rt.alloc(), pages, b"db") {
+            Ok(db) => db,
+            Err((_, e)) => return failed(e),
+        };
         plain = reopened(&rt, rt.alloc(), plain)?;
     }
     Ok(())
