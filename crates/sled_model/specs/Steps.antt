@@ -1,12 +1,12 @@
 -- One step of the machine, by cases.
-use Rattle.std.specs.Prelude.{◌≡◌, ℕ, ◌+◌, ◌<◌, List, [], ◌∷◌, Option, Some, None}
+use Rattle.std.specs.Prelude.{◌≡◌, ℕ, ◌+◌, ◌<◌, List, [], ◌∷◌, Some, None}
 use Rattle.sled_pages.specs.Update.{put_at}
 use Rattle.sled_pages.specs.Store.{Store}
 use Rattle.sled_pages.specs.declared.error.Error.{Error}
 use Rattle.sled_model.specs.Maps.{Maps}
-use Rattle.sled_model.specs.Answer.{Answer, answer_of}
+use Rattle.sled_model.specs.Answer.{answer_of}
 use Rattle.sled_model.specs.State.{State, NamedTree, Flying, maps_of, begun, decided}
-use Rattle.sled_model.specs.Refusal.{Asked, ToBegin, ToStep, ToCall, must_refuse, MayRefuse}
+use Rattle.sled_model.specs.Refusal.{ToBegin, ToStep, ToCall, must_refuse, MayRefuse}
 use Rattle.sled_model.specs.declared.call.Call.{Call}
 use Rattle.sled_model.specs.declared.call.Whole.{Whole}
 use Rattle.sled_model.specs.declared.call.Whole.TheVariants.{Flush}

@@ -3,6 +3,7 @@ ghost use Rattle.std.specs.Prelude.{◌≡◌, IfOk, IfErr};
 ghost use Rattle.sled_pages.specs.declared.error.Error.TheVariants.{NoMemory};
 ghost use Rattle.sled_model.specs.Answer.{key_of};
 
+use crate::reply::clone_value;
 use sled_pages::{IVec, Result};
 
 /// A call on one key of a tree. It takes effect at one step, its deciding step.
@@ -12,6 +13,10 @@ pub enum Call {
     Get(IVec),
     /// Sets the value at a key. Replies with the value that stood there.
     Insert(IVec, IVec),
+    /// Takes a key out. Replies with the value that stood there.
+    Remove(IVec),
+    /// Where the first value stands at a key it becomes the second one; `None` is no value.
+    CompareAndSwap(IVec, Option<IVec>, Option<IVec>),
 }
 
 /// A call that is one step of the machine as a whole.
@@ -29,6 +34,8 @@ impl Call {
         match self {
             Call::Get(key) => key,
             Call::Insert(key, _) => key,
+            Call::Remove(key) => key,
+            Call::CompareAndSwap(key, _, _) => key,
         }
     }
 
@@ -40,6 +47,12 @@ impl Call {
         match self {
             Call::Get(key) => Ok(Call::Get(key.clone()?)),
             Call::Insert(key, value) => Ok(Call::Insert(key.clone()?, value.clone()?)),
+            Call::Remove(key) => Ok(Call::Remove(key.clone()?)),
+            Call::CompareAndSwap(key, old, new) => Ok(Call::CompareAndSwap(
+                key.clone()?,
+                clone_value(old)?,
+                clone_value(new)?,
+            )),
         }
     }
 }

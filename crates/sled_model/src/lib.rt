@@ -5,6 +5,7 @@
 #![tactic(auto)]
 
 mod call;
+mod decision;
 mod event;
 mod operator;
 mod outcome;
@@ -13,10 +14,11 @@ mod reply;
 mod tree;
 
 pub use call::{Call, Whole};
+pub use decision::{Decision, Effect};
 pub use event::Event;
 pub use operator::MergeOperator;
 pub use outcome::{Outcome, Slot, Step};
-pub use reply::Reply;
+pub use reply::{CompareAndSwapError, Reply};
 pub use tree::Tree;
 
 /// A call whose turns are this many is refused at its next step.

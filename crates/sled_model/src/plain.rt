@@ -2,6 +2,10 @@
 ghost use Rattle.std.specs.Prelude.{◌≡◌, IfOk, IfErr, OnOk, OnErr, IfSome, MatchOption, None, ◌∷◌, []};
 ghost use Rattle.std.specs.FinMap.Entries.{put, find};
 ghost use Rattle.sled_pages.specs.Order.{key_cmp};
+ghost use Rattle.std.specs.Cmp.Lexicographic.{slice_cmp};
+ghost use Rattle.std.specs.FinMap.Entries.{where_key};
+ghost use Rattle.std.specs.Ordering.{nat_cmp, eq_by_cmp};
+ghost use Rattle.std.specs.Prelude.{not};
 ghost use Rattle.sled_pages.specs.Pairs.{Stands, Goes};
 ghost use Rattle.sled_pages.specs.declared.error.Error.TheVariants.{NoMemory};
 ghost use Rattle.sled_model.specs.Answer.{answer_of};
@@ -11,7 +15,7 @@ ghost use Rattle.sled_pages.specs.Update.{put_at};
 
 mod flight;
 
-use crate::{Call, Event, MAX_LOOPS, Outcome, Reply, Slot, Step, Tree};
+use crate::{Call, Decision, Effect, Event, MAX_LOOPS, Outcome, Reply, Slot, Step, Tree};
 pub use flight::PlainFlight;
 use sled_pages::{Error, IVec, Result};
 use std::alloc::Global;
@@ -100,32 +104,40 @@ fn put(map: &mut Vec<(IVec, IVec)>, key: IVec, value: IVec) -> Result<()>
     Ok(())
 }
 
+// Takes the pair of a key out.
+fn take_out(map: &mut Vec<(IVec, IVec)>, key: &IVec)
+    ensures { map.new.items ≡ where_key (slice_cmp nat_cmp) (λ x. not (eq_by_cmp (slice_cmp nat_cmp) key.now x)) map.old.items }
+{
+    map.retain(|pair| !key.cmp(&pair.0).is_eq());
+}
+
 /// What a call makes of the pairs of a tree, which ascend by key: its reply, and the event that subscribers learn of.
 /// Refused with `NoMemory` alone, and the pairs are as before then.
+#[tactic(auto, unfolding(sled_pages::specs::Order::key_cmp))]
 pub fn answer(map: &mut Vec<(IVec, IVec)>, call: &Call) -> Result<(Reply, Option<Event>)>
     ensures ok { IfOk result (λ told. answer_of call.now map.old.items ≡ record { map = map.new.items; reply = told.0; event = told.1 }) }
     ensures err { OnErr result (map.new.items ≡ map.old.items) }
     ensures cause { IfErr result (λ e. e ≡ NoMemory) }
 {
-    match call {
-        Call::Get(key) => Ok((Reply::Value(value_at(map.as_slice(), key)?), None)),
-        Call::Insert(key, value) => {
-            let old = value_at(map.as_slice(), key)?;
-            let same = match &old {
-                Some(old) => old == value,
-                None => false,
-            };
-            if same {
-                return Ok((Reply::Value(old), None));
-            }
+    let key = call.key();
+    let Decision { effect, reply } = call.decide(value_at(map.as_slice(), key)?)?;
+    let event = match effect {
+        Effect::Nothing => None,
+        Effect::Set(value) => {
             let event = Event::Insert {
                 key: key.clone()?,
                 value: value.clone()?,
             };
-            put(map, key.clone()?, value.clone()?)?;
-            Ok((Reply::Value(old), Some(event)))
+            put(map, key.clone()?, value)?;
+            Some(event)
         }
-    }
+        Effect::Remove => {
+            let event = Event::Remove { key: key.clone()? };
+            take_out(map, key);
+            Some(event)
+        }
+    };
+    Ok((reply, event))
 }
 
 // The place of the first tree of a name.

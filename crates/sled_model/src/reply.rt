@@ -1,11 +1,56 @@
 //! What decided calls answer.
-use sled_pages::IVec;
+ghost use Rattle.std.specs.Prelude.{◌≡◌, IfOk, IfErr};
+ghost use Rattle.sled_pages.specs.declared.error.Error.TheVariants.{NoMemory};
+
+use sled_pages::{IVec, Result};
+use std::fmt::{self, Display, Formatter, Write};
+
+/// Why a value was not swapped: another one stood at the key. Nothing was written.
+#[derive(Debug, Drop, PartialEq, Eq, PartialOrd, Ord, Hash)]
+pub struct CompareAndSwapError {
+    /// The value that stands at the key.
+    pub current: Option<IVec>,
+    /// The value that was to be set.
+    pub proposed: Option<IVec>,
+}
+
+impl CompareAndSwapError {
+    /// The same value. Refused with `NoMemory` alone.
+    pub fn clone(&self) -> Result<CompareAndSwapError>
+        ensures ok { IfOk result (λ copy. copy ≡ self.now) }
+        ensures err { IfErr result (λ e. e ≡ NoMemory) }
+    {
+        Ok(CompareAndSwapError {
+            current: clone_value(&self.current)?,
+            proposed: clone_value(&self.proposed)?,
+        })
+    }
+}
+
+impl Display for CompareAndSwapError {
+    fn fmt<W: Write>(&self, f: &mut Formatter<W>) -> fmt::Result {
+        write!(f, "Compare and swap conflict")
+    }
+}
 
 /// What a decided call answers.
 #[derive(Debug, Drop, PartialEq, Eq)]
 pub enum Reply {
     /// The value that stands or stood at the key, if any.
     Value(Option<IVec>),
+    /// Whether the value was swapped.
+    Swapped(std::result::Result<(), CompareAndSwapError>),
     /// A number, as of a flush.
     Number(u64),
+}
+
+// The same value, if there is one.
+pub(crate) fn clone_value(value: &Option<IVec>) -> Result<Option<IVec>>
+    ensures ok { IfOk result (λ copy. copy ≡ value.now) }
+    ensures err { IfErr result (λ e. e ≡ NoMemory) }
+{
+    match value {
+        Some(value) => Ok(Some(value.clone()?)),
+        None => Ok(None),
+    }
 }

@@ -164,7 +164,7 @@ fn letter(outcome: &Outcome) -> u8 {
             [only] => *only,
             _ => b'?',
         },
-        Outcome::Decided(Reply::Number(_)) => b'?',
+        Outcome::Decided(_) => b'?',
         Outcome::Refused(Error::Unsupported(_)) => b'u',
         Outcome::Refused(Error::CollectionNotFound(_)) => b'c',
         Outcome::Refused(_) => b'?',
