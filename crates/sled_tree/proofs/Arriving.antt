@@ -1,125 +1,208 @@
--- What comes after the leaf of a key was read.
-use Rattle.std.proofs.Common.{◌≡◌, ◌≢◌, ℕ, zero, true, false, List, [], Option, Some, None, option_map, sym, refl, ap, ◌∙◌, subst, inl, inr, ◌⊎◌}
-use Rattle.std.specs.FinMap.Entries.{find, put}
-use Rattle.std.specs.Str.{bytes_eq}
-use Rattle.sled_pages.specs.Order.{Key, key_cmp}
+-- What comes after a page was read on the way to the leaf.
+use Rattle.std.proofs.Common.{◌≡◌, ◌≢◌, ℕ, ◌≤◌, true, false, Bool, List, [], Option, Some, None, sym, refl, ap, ◌∙◌, subst, inl, arith}
+use Rattle.std.specs.FinMap.Entries.{find}
+use Rattle.std.specs.declared.ops.Bound.TheVariants.{Included}
+use Rattle.sled_pages.specs.Order.{Key, key_cmp, UpTo}
 use Rattle.sled_pages.specs.In.{In}
-use Rattle.sled_pages.specs.Node.{Covers, pairs, value_at}
-use Rattle.sled_pages.specs.Store.{Store}
-use Rattle.sled_pages.specs.declared.node.Node.{Node}
+use Rattle.sled_pages.specs.Among.{IsBefore, IsPointer}
+use Rattle.sled_pages.specs.Node.{Covers, pointers, count, value_at}
+use Rattle.sled_pages.specs.Store.{Store, now, view_of}
 use Rattle.sled_pages.specs.declared.node.Data.{Data}
 use Rattle.sled_pages.specs.declared.node.Data.TheVariants.{Leaf, Index}
 use Rattle.sled_pages.specs.declared.page.View.{View}
-use Rattle.sled_pages.specs.declared.page.Page.{Page}
+use Rattle.sled_model.specs.Answer.{decision_of, map_after, key_of}
 use Rattle.sled_model.specs.declared.call.Call.{Call}
-use Rattle.sled_model.specs.declared.call.Call.TheVariants.{Get, Insert}
+use Rattle.sled_model.specs.declared.decision.Decision.{Decision}
+use Rattle.sled_model.specs.declared.decision.Effect.TheVariants as effect
 use Rattle.sled_model.specs.declared.reply.Reply.{Reply}
-use Rattle.sled_model.specs.declared.reply.Reply.TheVariants.{Value}
-use Rattle.sled_model.specs.Answer.{Answer, answer_of, key_of, inserted_over}
-use Rattle.tree_laws.specs.Forest.{Tree, Forest, place, contents}
-use Rattle.tree_laws.specs.Moment.{Moment, moment_of, nodes_at, IsMoment, IsOpen, IsActing}
-use Rattle.tree_laws.specs.Laws.{IsCurrent}
-use Rattle.tree_laws.proofs.Known.{root_in, leaf_in, acting_here, answers}
+use Rattle.tree_laws.specs.Forest.{Tree, Forest, contents}
+use Rattle.tree_laws.specs.Moment.{Moment, moment_of, nodes_at, IsMoment, IsFew}
+use Rattle.tree_laws.specs.StageLaws.{Follows}
+use Rattle.tree_laws.proofs.Staged.{here_law, root_here_law, cursor_here_law}
+use Rattle.tree_laws.specs.Stages.{IsWalking}
+use Rattle.tree_laws.specs.Merging.{IsIntending, IsSmallChild}
+use Rattle.sled_tree.specs.declared.flight.Merge.{Merge}
+use Rattle.tree_laws.proofs.Looking.{last_in}
 use Rattle.sled_tree.specs.declared.flight.Job.{Job}
-use Rattle.sled_tree.specs.declared.flight.Stage.TheVariants.{Act}
+use Rattle.sled_tree.specs.declared.flight.Stage.{Stage}
+use Rattle.sled_tree.specs.declared.flight.Stage.TheVariants as stage
+use Rattle.sled_tree.specs.declared.flight.Posting.TheVariants as posting
 use Rattle.sled_tree.specs.declared.flight.Next.{Next}
 use Rattle.sled_tree.specs.declared.flight.Next.TheVariants.{Go, Decided, Refused}
-use Rattle.sled_tree.specs.Change.{IsLeaf}
-use Rattle.sled_tree.specs.Stages.{IsAct, owned}
-use Rattle.sled_tree.specs.Moves.{Arrives, IsHere, Same, Decides}
-use Rattle.sled_tree.proofs.Facts.{same_here, insert_equal, insert_reply, insert_event, insert_changes, leaf_value}
-
--- an open leaf that covers the key of the call
-pub record IsLeafOf (j : Job) (v : View) : Type 0 where
-  pub awake : v.node.merging ≡ false
-  pub free : v.node.merging_child ≡ None
-  pub covers : Covers v.node (key_of j.call)
-  pub leaf : IsLeaf v.node.content
+use Rattle.sled_tree.specs.declared.flight.Walk.{Walk}
+use Rattle.sled_tree.specs.declared.walk.Way.{Way}
+use Rattle.sled_tree.specs.Change.{IsLeaf, IsIndex, decision_at}
+use Rattle.sled_tree.specs.Stages.{IsStage, owned}
+use Rattle.sled_tree.specs.Moves.{Moves, Arrives, IsRead, Helps, helps_as, Begins, begins_as, owned_next}
+use Rattle.sled_tree.proofs.Facts.{same_here, rests, viewed, live_view}
+use Rattle.sled_tree.proofs.Helping.{helped}
 
 leaf_is : (d : Data) → IsLeaf d → (es : List (Key × Key)) × (d ≡ Leaf es)
 leaf_is (Leaf es) l = (es, refl)
 leaf_is (Index es) l = absurd l
 
-module _ (j : Job) (v : View) (l : IsLeafOf j v) (m : Moment) (w : Forest) (is : IsMoment m w) (named : m.numbers j.tree.name ≡ Some j.tree.number) (here : IsHere m w j v) where
-  t : Tree
-  t = j.tree.name
+index_is : (d : Data) → IsIndex d → (es : List (Key × ℕ)) × (d ≡ Index es)
+index_is (Leaf es) l = absurd l
+index_is (Index es) l = (es, refl)
 
-  live : nodes_at m v.pid ≡ Some v.node
-  live = ap (option_map (λ (z : Page). z.node)) here.live
+-- what the call comes to by the value that was read
+pub came : (call : Call) (content : Data) (k : Key) (value : Option Key) (d : Decision) → value ≡ value_at content k → k ≡ key_of call → d ≡ decision_of call value → decision_at call content ≡ d
+came call content k value d v e q = sym (q ∙ ap (decision_of call) (v ∙ ap (value_at content) e))
 
-  -- it stands in its chain
-  in_chain : In v.pid (w.chain (place j.tree.name 0))
-  in_chain =
-      let r = root_in is.formed j.tree.name v.pid here.root in
-      let b = leaf_is v.node.content l.leaf in
-      subst (λ h. In v.pid (w.chain (place j.tree.name h))) (leaf_in is.formed j.tree.name r.0 v.pid v.node b.0 r.2 live b.1) r.2
+-- the last pointer at or below the call's key
+pub at_bound : (k key : Key) (es : List (Key × ℕ)) (c : ℕ) (first : Bool) → k ≡ key → IsPointer (Included k) es c first → IsPointer (Included key) es c first
+at_bound k key es c first e p = subst (λ z. IsPointer (Included z) es c first) e p
 
-  pub acting : IsActing m w j.tree.name j.tree.number (key_of j.call) v
-  acting = acting_here is j.tree.name j.tree.number (key_of j.call) v named here.live in_chain (record { awake = l.awake; free = l.free }) l.covers
+module _ (j : Job) (view : View) (way : Way) where
+  -- the call goes on from a stage whose facts the read shows
+  pub goes : (a : Stage) → owned a ≡ [] → ((m : Moment) (w : Forest) → IsMoment m w → m.numbers j.tree.name ≡ Some j.tree.number → IsRead m w j view way → IsStage m w j a) → Arrives j view way (Go a)
+  goes a none known = record {
+    touches = λ s. inl refl;
+    told = λ s numbers given w is named here. (none, (known (moment_of s numbers given) w is named here, same_here (moment_of s numbers given) w));
+  }
 
-  -- what it has at the key is what the tree has
-  pub found : find key_cmp (key_of j.call) (contents (nodes_at m) w j.tree.name) ≡ value_at v.node.content (key_of j.call)
-  found = answers is j.tree.name j.tree.number (key_of j.call) v v.node acting (record { named = named; page = here.live })
+  module _ (awake : view.node.merging ≡ false) (free : view.node.merging_child ≡ None) where
+    follows : (m : Moment) (w : Forest) → IsMoment m w → IsRead m w j view way → Follows m w j.tree.name j.tree.number (key_of j.call) view way.parent way.first way.unsplit
+    follows m w is r = here_law m w is j.tree.name j.tree.number (key_of j.call) view way.parent way.first way.unsplit r.here (record { awake = awake; free = free })
 
--- a get answers what the leaf has
-pub get_arrives : (j : Job) (v : View) (k : Key) (value : Option Key) → IsLeafOf j v → j.call ≡ Get k → value ≡ value_at v.node.content (key_of j.call) → Arrives j v (Decided (Value value))
-get_arrives j v k value l call e = record {
-  touches = λ s. inl refl;
-  told = λ s numbers given w is named here. let m : Moment = moment_of s numbers given in (
-    refl,
-    record {
-      replies = ap Value (e ∙ sym (found j v l m w is named here)) ∙ reply m w;
-      here = sym (map m w);
-      others = λ u off. refl;
-      quiet = λ none. refl;
-    },
-  );
-}
+    pub splits_below : (p : View) → way.parent ≡ Some p → Arrives j view way (Go (stage.Split (record { page = view; posting = posting.Parent p })))
+    splits_below p e = goes _ refl (λ m w is named r. record { splitting = (follows m w is r).splits_below p e; room = r.room p e })
+
+    pub splits_root : way.parent ≡ None → Arrives j view way (Go (stage.Split (record { page = view; posting = posting.Root })))
+    splits_root e = goes _ refl (λ m w is named r. record { splitting = (follows m w is r).splits_root e; room = tt })
+
+    pub hoists : (q : ℕ) → way.parent ≡ None → view.node.hi ≢ [] → view.node.next ≡ Some q → Arrives j view way (Go (stage.Hoist (record { left = view.pid; at = view.node.hi; right = q })))
+    hoists q e bounded next = goes _ refl (λ m w is named r. (follows m w is r).hoists q e bounded next)
+
+    pub goes_on : (p : View) (q : ℕ) → way.parent ≡ Some p → view.node.hi ≢ [] → UpTo view.node.hi (key_of j.call) → view.node.next ≡ Some q
+        → Arrives j view way (Go (stage.Walk (record { cursor = q; parent = p; first = true; unsplit = true })))
+    goes_on p q e bounded behind next = goes _ refl (λ m w is named r. record { walking = (follows m w is r).goes_on p q true e bounded behind next; few = r.room p e })
+
+    pub posts : (p : View) → way.parent ≡ Some p → way.unsplit ≡ true → Arrives j view way (Go (stage.Post (record { parent = p; at = view.node.lo; pid = view.pid })))
+    posts p e unsplit = goes _ refl (λ m w is named r. record { posting = (follows m w is r).posts p e unsplit; few = r.room p e })
+
+    merges_at : (p : View) (a : Merge) → way.parent ≡ Some p → way.first ≡ false → way.unsplit ≡ false → count view.node.content ≤ 3 → (a.parent ≡ p) × (a.child ≡ view.pid) × IsBefore view.pid (pointers p.node.content) a.before
+        → Arrives j view way (Go (stage.Intend a))
+    merges_at p a e first unsplit few told = goes _ refl (λ m w is named r. record {
+      intending = subst (λ (z : View). IsIntending m w j.tree.name j.tree.number z a.child) (sym told.0) (subst (λ c. IsIntending m w j.tree.name j.tree.number p c) (sym told.1) ((follows m w is r).intends p e first unsplit));
+      small = subst (λ (z : View). IsSmallChild m j.tree.name j.tree.number z a.child) (sym told.0) (subst (λ c. IsSmallChild m j.tree.name j.tree.number p c) (sym told.1) ((follows m w is r).small p (more (count view.node.content) few)));
+      before = subst (λ (z : View). IsBefore a.child (pointers z.node.content) a.before) (sym told.0) (subst (λ c. IsBefore c (pointers p.node.content) a.before) (sym told.1) told.2);
+    })
+      where
+        more : (n : ℕ) → n ≤ 3 → n ≤ 17
+        more n h = omega arith
+
+    pub merges : (p : View) (next : Next) → way.parent ≡ Some p → way.first ≡ false → way.unsplit ≡ false → count view.node.content ≤ 3 → Begins p view.pid next → Arrives j view way next
+    merges p next e first unsplit few b = go next b.told
+      where
+        go : (next : Next) → begins_as p view.pid next → Arrives j view way next
+        go (Go stage.Root) t = goes stage.Root refl (λ m w is named r. tt)
+        go (Go (stage.Intend a)) t = merges_at p a e first unsplit few t
+        go (Go (stage.Walk a)) t = absurd t
+        go (Go (stage.Act a)) t = absurd t
+        go (Go (stage.Split a)) t = absurd t
+        go (Go (stage.Shorten a)) t = absurd t
+        go (Go (stage.Post a)) t = absurd t
+        go (Go (stage.Hoist a)) t = absurd t
+        go (Go (stage.Crown a)) t = absurd t
+        go (Go (stage.Free a)) t = absurd t
+        go (Go (stage.Child a)) t = absurd t
+        go (Go (stage.Cap a)) t = absurd t
+        go (Go (stage.Seek a)) t = absurd t
+        go (Go (stage.Receive a)) t = absurd t
+        go (Go (stage.Confirm a)) t = absurd t
+        go (Decided reply) t = absurd t
+        go (Refused e) t = absurd t
+
+    -- it covers the key and has room
+    module _ (covers : Covers view.node (key_of j.call)) (few : count view.node.content ≤ 16) where
+      pub descends : (c : ℕ) (first : Bool) → IsIndex view.node.content → IsPointer (Included (key_of j.call)) (pointers view.node.content) c first
+          → Arrives j view way (Go (stage.Walk (record { cursor = c; parent = view; first = first; unsplit = false })))
+      descends c first index k = goes _ refl (λ m w is named r. record {
+        walking =
+            let b = index_is view.node.content index in
+            let p : IsPointer (Included (key_of j.call)) b.0 c first = subst (λ d. IsPointer (Included (key_of j.call)) (pointers d) c first) b.1 k in
+            (follows m w is r).descends b.0 p.key c first b.1 covers (last_in p).0 (last_in p).1;
+        few = record { few = few };
+      })
+
+      module _ (leaf : IsLeaf view.node.content) where
+        pub acts : (decision_at j.call view.node.content).effect ≢ effect.Nothing → Arrives j view way (Go (stage.Act view))
+        acts changes = goes _ refl (λ m w is named r. record {
+          acting = let b = leaf_is view.node.content leaf in (follows m w is r).acts b.0 b.1 covers;
+          few = record { few = few };
+          changes = changes;
+        })
+
+        pub answers : (reply : Reply) → decision_at j.call view.node.content ≡ record { effect = effect.Nothing; reply = reply } → Arrives j view way (Decided reply)
+        answers reply e = record {
+          touches = λ s. inl refl;
+          told = λ s numbers given w is named r.
+              let m : Moment = moment_of s numbers given in
+              let b = leaf_is view.node.content leaf in
+              let all : List (Key × Key) = contents (nodes_at m) w j.tree.name in
+              let d : decision_of j.call (find key_cmp (key_of j.call) all) ≡ record { effect = effect.Nothing; reply = reply } = ap (decision_of j.call) ((follows m w is r).answers b.0 b.1 covers) ∙ e in (
+                refl,
+                record {
+                  replies = sym (ap (λ (z : Decision). z.reply) d);
+                  here = sym (ap (λ (z : Decision). map_after z.effect (key_of j.call) all) d);
+                  others = λ u off. refl;
+                  quiet = λ none. refl;
+                },
+              );
+        }
+
+-- where the page has a merging child, that merge goes on
+pub helps : (j : Job) (view : View) (way : Way) (child : ℕ) (next : Next) → view.node.merging ≡ false → view.node.merging_child ≡ Some child → Helps view child next → Arrives j view way next
+helps j view way child next awake is_child h = go next h.told
   where
-    reply : (m : Moment) (w : Forest) → Value (find key_cmp (key_of j.call) (contents (nodes_at m) w j.tree.name)) ≡ (answer_of j.call (contents (nodes_at m) w j.tree.name)).reply
-    reply m w = subst (λ c. Value (find key_cmp (key_of c) (contents (nodes_at m) w j.tree.name)) ≡ (answer_of c (contents (nodes_at m) w j.tree.name)).reply) (sym call) refl
+    go : (next : Next) → helps_as view child next → Arrives j view way next
+    go (Go stage.Root) t = goes j view way stage.Root refl (λ m w is named r. tt)
+    go (Go (stage.Child a)) t = goes j view way (stage.Child a) refl (λ m w is named r. helped is named r.here.height child a view awake is_child t r.here.stood r.here.live)
+    go (Go (stage.Walk a)) t = absurd t
+    go (Go (stage.Act a)) t = absurd t
+    go (Go (stage.Split a)) t = absurd t
+    go (Go (stage.Shorten a)) t = absurd t
+    go (Go (stage.Post a)) t = absurd t
+    go (Go (stage.Hoist a)) t = absurd t
+    go (Go (stage.Crown a)) t = absurd t
+    go (Go (stage.Free a)) t = absurd t
+    go (Go (stage.Intend a)) t = absurd t
+    go (Go (stage.Cap a)) t = absurd t
+    go (Go (stage.Seek a)) t = absurd t
+    go (Go (stage.Receive a)) t = absurd t
+    go (Go (stage.Confirm a)) t = absurd t
+    go (Decided reply) t = absurd t
+    go (Refused e) t = absurd t
 
-    map : (m : Moment) (w : Forest) → (answer_of j.call (contents (nodes_at m) w j.tree.name)).map ≡ contents (nodes_at m) w j.tree.name
-    map m w = subst (λ c. (answer_of c (contents (nodes_at m) w j.tree.name)).map ≡ contents (nodes_at m) w j.tree.name) (sym call) refl
-
--- an insert over an equal value is decided
-pub equal_arrives : (j : Job) (v : View) (k new old : Key) → IsLeafOf j v → j.call ≡ Insert k new → Some old ≡ value_at v.node.content (key_of j.call) → bytes_eq old new ≡ true → Arrives j v (Decided (Value (Some old)))
-equal_arrives j v k new old l call e same = record {
-  touches = λ s. inl refl;
-  told = λ s numbers given w is named here.
-      let m : Moment = moment_of s numbers given in
-      let a : answer_of j.call (contents (nodes_at m) w j.tree.name) ≡ record { map = contents (nodes_at m) w j.tree.name; reply = Value (Some old); event = None } =
-      ap (λ c. answer_of c (contents (nodes_at m) w j.tree.name)) call
-      ∙ insert_equal k new (contents (nodes_at m) w j.tree.name) (find key_cmp k (contents (nodes_at m) w j.tree.name)) old
-      (ap (λ c. find key_cmp (key_of c) (contents (nodes_at m) w j.tree.name)) (sym call) ∙ found j v l m w is named here ∙ sym e) same in (
-        refl,
-        record {
-          replies = ap (λ (z : Answer). z.reply) (sym a);
-          here = ap (λ (z : Answer). z.map) (sym a);
-          others = λ u off. refl;
-          quiet = λ none. refl;
-        },
-      );
+-- what a read comes to, as a step
+pub arrives_moves : (j : Job) (s : Store) (view : View) (way : Way) (next : Next) (a : Stage) → Arrives j view way next
+    → ((numbers : Tree → Option ℕ) (given : ℕ → Bool) (w : Forest) → IsMoment (moment_of s numbers given) w → numbers j.tree.name ≡ Some j.tree.number → IsStage (moment_of s numbers given) w j a → IsRead (moment_of s numbers given) w j view way)
+    → Moves j s a next s
+arrives_moves j s view way next a t known = record {
+  touches = t.touches s;
+  told = λ numbers given w is named k. let r = t.told s numbers given w is named (known numbers given w is named k) in (w, rests (owned a) (owned_next next) (moment_of s numbers given) w is (λ q i. absurd (subst (In q) r.0 i)), r.1);
 }
 
--- an insert over another value, or none, goes on to change the leaf
-pub change_arrives : (j : Job) (v : View) (k new : Key) (value : Option Key) → IsLeafOf j v → j.call ≡ Insert k new → value ≡ value_at v.node.content (key_of j.call)
-    → (value ≡ None) ⊎ ((old : Key) × (value ≡ Some old) × (bytes_eq old new ≡ false)) → Arrives j v (Go (Act v))
-change_arrives j v k new value l call e apart = record {
-  touches = λ s. inl refl;
-  told = λ s numbers given w is named here. let m : Moment = moment_of s numbers given in (
-    refl,
-    (
-      record { acting = acting j v l m w is named here; changes = changes },
-      same_here m w,
-    ),
-  );
-}
+-- the root was read,
+pub root_read : (j : Job) (s : Store) (name : Key) (found : Option ℕ) (root : ℕ) (view : View) (next : Next) → name ≡ j.tree.name → found ≡ (now s).roots name → found ≡ Some root → Some view ≡ view_of root ((now s).pages root) → Arrives j view (record { parent = None; first = true; unsplit = false }) next → Moves j s stage.Root next s
+root_read j s name found root view next called is_found is_some read t = arrives_moves j s view (record { parent = None; first = true; unsplit = false }) next stage.Root t
+    (λ numbers given w is named k. record {
+      here = root_here_law (moment_of s numbers given) w is j.tree.name j.tree.number (key_of j.call) view true named (ap (now s).roots (sym called) ∙ sym is_found ∙ is_some ∙ ap Some (sym (viewed root ((now s).pages root) view read).0)) (live_view s root view read);
+      room = λ p e. absurd (none_some e);
+    })
   where
-    at_leaf : find key_cmp k (pairs v.node.content) ≡ value
-    at_leaf = let b = leaf_is v.node.content l.leaf in sym (leaf_value v.node.content b.0 k b.1) ∙ ap (λ c. value_at v.node.content (key_of c)) (sym call) ∙ sym e
+    none_some : {p : View} → None ≡ Some p → ⊥
+    none_some e = cc
 
-    changes : (answer_of j.call (pairs v.node.content)).event ≢ None
-    changes none =
-        insert_changes k new (pairs v.node.content) value apart
-        (ap (λ f. (inserted_over k new (pairs v.node.content) f).event) (sym at_leaf) ∙ ap (λ c. (answer_of c (pairs v.node.content)).event) (sym call) ∙ none)
+-- or the cursor of a walk
+pub cursor_read : (j : Job) (s : Store) (a : Walk) (view : View) (next : Next) → Some view ≡ view_of a.cursor ((now s).pages a.cursor) → Arrives j view (record { parent = Some a.parent; first = a.first; unsplit = a.unsplit }) next → Moves j s (stage.Walk a) next s
+cursor_read j s a view next read t = arrives_moves j s view (record { parent = Some a.parent; first = a.first; unsplit = a.unsplit }) next (stage.Walk a) t
+    (λ numbers given w is named k. record {
+      here = cursor_here_law (moment_of s numbers given) w is j.tree.name j.tree.number (key_of j.call) a.parent view a.first a.unsplit named
+          (subst (λ c. IsWalking (moment_of s numbers given) w j.tree.name j.tree.number (key_of j.call) c a.parent a.first a.unsplit) (sym (viewed a.cursor ((now s).pages a.cursor) view read).0) k.walking) (live_view s a.cursor view read);
+      room = λ p e. subst IsFew (some_is e) k.few;
+    })
+  where
+    some_is : {p q : View} → Some p ≡ Some q → p ≡ q
+    some_is e = cc

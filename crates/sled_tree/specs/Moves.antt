@@ -1,19 +1,24 @@
 -- What one page action of a call in flight does.
 use Rattle.std.specs.Prelude.{◌≡◌, ◌≢◌, ℕ, ◌+◌, ◌⊎◌, Bool, false, List, [], ◌++◌, Option, Some, None}
-use Rattle.sled_pages.specs.Order.{Key}
 use Rattle.sled_pages.specs.In.{In}
-use Rattle.sled_pages.specs.State.{Action, State}
+use Rattle.sled_pages.specs.State.{Action}
 use Rattle.sled_pages.specs.Store.{Store, acted, now}
 use Rattle.sled_pages.specs.declared.page.View.{View}
-use Rattle.sled_pages.specs.declared.page.Page.{Page}
 use Rattle.sled_pages.specs.declared.error.Error.{Error}
 use Rattle.sled_pages.specs.declared.error.Error.TheVariants.{Io, NoMemory}
-use Rattle.sled_model.specs.Answer.{answer_of}
+use Rattle.sled_model.specs.Answer.{answer_of, key_of}
 use Rattle.sled_model.specs.declared.reply.Reply.{Reply}
-use Rattle.tree_laws.specs.Forest.{Tree, Forest, Place, place, contents}
-use Rattle.tree_laws.specs.Moment.{Moment, moment_of, nodes_at, IsMoment, Goes, Viewed, Stood, IsOpen}
+use Rattle.sled_pages.specs.Among.{IsBefore}
+use Rattle.sled_pages.specs.Node.{pointers}
+use Rattle.tree_laws.specs.Forest.{Tree, Forest, Place, IsSized, contents}
+use Rattle.tree_laws.specs.Moment.{Moment, moment_of, nodes_at, IsMoment, Goes, Grows, IsFew}
+use Rattle.tree_laws.specs.Stages.{IsHere}
 use Rattle.sled_tree.specs.declared.flight.Job.{Job}
 use Rattle.sled_tree.specs.declared.flight.Stage.{Stage}
+use Rattle.sled_tree.specs.declared.flight.Stage.TheVariants as stage
+use Rattle.sled_tree.specs.declared.flight.Merge.{Merge}
+use Rattle.sled_tree.specs.declared.flight.Seek.{Seek}
+use Rattle.sled_tree.specs.declared.walk.Way.{Way}
 use Rattle.sled_tree.specs.declared.flight.Next.{Next}
 use Rattle.sled_tree.specs.declared.flight.Next.TheVariants.{Go, Decided, Refused}
 use Rattle.sled_tree.specs.declared.flight.Flight.{Flight}
@@ -51,6 +56,9 @@ pub record Acts (mine own : List ℕ) (old : Moment) (w : Forest) (new : Moment)
   pub goes : Goes (mine ++ own) None old w new v
   -- what it came to own is new, or had a home until then
   pub fresh : (q : ℕ) → In q own → In q mine ⊎ ((old.pids q ≡ false) ⊎ ((x : Place) × (w.home q ≡ Some x)))
+  -- no page gets too many entries
+  pub sized : IsSized (nodes_at old) w → IsSized (nodes_at new) v
+  pub grows : Grows (nodes_at old) (nodes_at new) w
 
 -- no tree's contents change
 pub record Same (old : Moment) (w : Forest) (new : Moment) (v : Forest) : Type 0 where
@@ -91,14 +99,54 @@ advances_as old f (went.Refused e) new g = Moves f.job old f.stage (Refused e) n
 pub record Advances (old : Store) (f : Flight) (went : Went) (new : Store) (g : Flight) : Type 0 where
   pub told : advances_as old f went new g
 
--- the root of the call's tree was just read
-pub record IsHere (m : Moment) (w : Forest) (j : Job) (v : View) : Type 0 where
-  pub live : m.state.pages v.pid ≡ Some (record { version = v.version; node = v.node })
-  pub root : m.state.roots j.tree.name ≡ Some v.pid
+-- a page that was just read, and how the walk came to it
+pub record IsRead (m : Moment) (w : Forest) (j : Job) (v : View) (way : Way) : Type 0 where
+  pub here : IsHere m w j.tree.name j.tree.number (key_of j.call) v way.parent way.first way.unsplit
+  pub room : (parent : View) → way.parent ≡ Some parent → IsFew parent
+
+-- what comes of a read, which changes nothing
+abbrev pub Reads : Job → Store → Moment → Forest → Next → Type 0
+Reads j s m w next = (owned_next next ≡ []) × Comes j s s m w next m w
 
 -- What comes after a page was read, of every store where it was read
-pub record Arrives (j : Job) (view : View) (next : Next) : Type 0 where
+pub record Arrives (j : Job) (view : View) (way : Way) (next : Next) : Type 0 where
   pub touches : (s : Store) → touches_as next s s
   pub told : (s : Store) (numbers : Tree → Option ℕ) (given : ℕ → Bool) (w : Forest)
-      → IsMoment (moment_of s numbers given) w → numbers j.tree.name ≡ Some j.tree.number → IsHere (moment_of s numbers given) w j view
-      → (owned_next next ≡ []) × Comes j s s (moment_of s numbers given) w next (moment_of s numbers given) w
+      → IsMoment (moment_of s numbers given) w → numbers j.tree.name ≡ Some j.tree.number → IsRead (moment_of s numbers given) w j view way
+      → Reads j s (moment_of s numbers given) w next
+
+-- the page is live as it was read
+abbrev pub IsLive : Moment → View → Type 0
+IsLive m v = m.state.pages v.pid ≡ Some (record { version = v.version; node = v.node })
+
+-- a merge that is to go on from the reading of the child, or else the call begins again
+abbrev pub helps_as : View → ℕ → Next → Type 0
+helps_as view child (Go stage.Root) = Unit {0}
+helps_as view child (Go (stage.Child merge)) = (merge.parent ≡ view) × (merge.child ≡ child) × IsBefore child (pointers view.node.content) merge.before
+helps_as view child next = ⊥
+
+pub record Helps (view : View) (child : ℕ) (next : Next) : Type 0 where
+  pub told : helps_as view child next
+
+-- a merge that is to begin, or else the call begins again
+abbrev pub begins_as : View → ℕ → Next → Type 0
+begins_as parent child (Go stage.Root) = Unit {0}
+begins_as parent child (Go (stage.Intend merge)) = (merge.parent ≡ parent) × (merge.child ≡ child) × IsBefore child (pointers parent.node.content) merge.before
+begins_as parent child next = ⊥
+
+pub record Begins (parent : View) (child : ℕ) (next : Next) : Type 0 where
+  pub told : begins_as parent child next
+
+-- what comes after a merging child was read
+pub record ReadsChild (j : Job) (merge : Merge) (view : View) (next : Next) : Type 0 where
+  pub touches : (s : Store) → touches_as next s s
+  pub told : (s : Store) (numbers : Tree → Option ℕ) (given : ℕ → Bool) (w : Forest)
+      → IsMoment (moment_of s numbers given) w → numbers j.tree.name ≡ Some j.tree.number → view.pid ≡ merge.child → IsLive (moment_of s numbers given) view → IsStage (moment_of s numbers given) w j (stage.Child merge)
+      → Reads j s (moment_of s numbers given) w next
+
+-- what comes after the cursor of the search for the page before a merging child was read
+pub record Looks (j : Job) (seek : Seek) (view : View) (next : Next) : Type 0 where
+  pub touches : (s : Store) → touches_as next s s
+  pub told : (s : Store) (numbers : Tree → Option ℕ) (given : ℕ → Bool) (w : Forest)
+      → IsMoment (moment_of s numbers given) w → numbers j.tree.name ≡ Some j.tree.number → view.pid ≡ seek.cursor → IsLive (moment_of s numbers given) view → IsStage (moment_of s numbers given) w j (stage.Seek seek)
+      → Reads j s (moment_of s numbers given) w next

@@ -4,7 +4,10 @@ ghost use Rattle.sled_tree.specs.Moves.{Moves, Advances};
 
 use crate::act::act;
 use crate::flight::{Flight, Job, Next, Stage, Went};
-use crate::walk::read_root;
+use crate::hoist::{crown, hoist};
+use crate::merge::{cap, confirm, intend, read_child, receive, seek};
+use crate::split::{free, halve, post, shorten};
+use crate::walk::{read_cursor, read_root};
 use sled_model::MAX_LOOPS;
 use sled_pages::Pages;
 use std::alloc::Global;
@@ -15,7 +18,20 @@ fn step<P: Pages>(pages: &mut P, alloc: Global, job: &Job, stage: Stage) -> Next
 {
     match stage {
         Stage::Root => read_root(pages, alloc, job),
+        Stage::Walk(walk) => read_cursor(pages, alloc, job, walk),
         Stage::Act(view) => act(pages, job, view),
+        Stage::Split(split) => halve(pages, alloc, job, split),
+        Stage::Shorten(split) => shorten(pages, job, split),
+        Stage::Post(pointer) => post(pages, job, pointer),
+        Stage::Hoist(pair) => hoist(pages, alloc, job, pair),
+        Stage::Crown(root) => crown(pages, job, root),
+        Stage::Free(own) => free(pages, job, own),
+        Stage::Intend(merge) => intend(pages, job, merge),
+        Stage::Child(merge) => read_child(pages, alloc, job, merge),
+        Stage::Cap(child) => cap(pages, job, child),
+        Stage::Seek(search) => seek(pages, alloc, job, search),
+        Stage::Receive(child) => receive(pages, alloc, job, child),
+        Stage::Confirm(child) => confirm(pages, job, child),
     }
 }
 

@@ -8,7 +8,13 @@
 mod act;
 mod dispatch;
 mod flight;
+mod hoist;
+mod merge;
+mod split;
 mod walk;
 
 pub use dispatch::advance;
-pub use flight::{Flight, Job, Next, Stage, Went};
+pub use flight::{
+    Cap, Confirm, Crown, Flight, Hoist, Job, Merge, Next, Own, Post, Posting, Receive, Seek,
+    Shorten, Split, Stage, Walk, Went,
+};

@@ -1,15 +1,32 @@
 //! From the root to the call's leaf.
-ghost use Rattle.std.specs.Prelude.{◌≡◌, ◌↔◌, ℕ, Bool, IsTrue};
-ghost use Rattle.sled_pages.specs.Node.{Covers};
-ghost use Rattle.std.specs.Prelude.{None, false};
+//!
+//! Each step reads one page. What it finds there decides what comes next: the walk goes down or on to the right, it repairs a
+//! split or a merge that was left half done, or the call acts at its leaf.
+ghost use Rattle.std.specs.Prelude.{◌≡◌, ◌≢◌, ◌≤◌, ◌↔◌, IsTrue};
+ghost use Rattle.std.specs.Prelude.{None, true, false, []};
+ghost use Rattle.sled_pages.specs.Order.{UpTo};
+ghost use Rattle.sled_pages.specs.Node.{Covers, count};
 ghost use Rattle.sled_model.specs.Answer.{key_of};
-ghost use Rattle.sled_tree.specs.Change.{IsLeaf};
+ghost use Rattle.sled_tree.specs.Change.{IsLeaf, IsIndex};
 ghost use Rattle.sled_tree.specs.Moves.{Moves, Arrives};
 
-use crate::flight::{Job, Next, Stage};
-use sled_model::{Call, Reply};
+use crate::flight::{Hoist, Job, Next, Post, Posting, Split, Stage, Walk};
+use crate::merge::{begin, help};
+use sled_model::{Decision, Effect};
 use sled_pages::{Data, Node, Pages, View};
 use std::alloc::Global;
+use std::ops::Bound;
+
+// How a walk came to a page.
+#[derive(Debug, Drop)]
+pub(crate) struct Way {
+    // the index that it came through; none for the root
+    pub(crate) parent: Option<View>,
+    // by the parent's first pointer
+    pub(crate) first: bool,
+    // by the `next` of a page of the same level
+    pub(crate) unsplit: bool,
+}
 
 // Whether the key lies within the node's bounds.
 #[tactic(auto, unfolding(sled_pages::specs::Order::key_cmp))]
@@ -17,6 +34,14 @@ fn covers(node: &Node, key: &[u8]) -> bool
     ensures { IsTrue result ↔ Covers node.now key.now }
 {
     node.lo.as_ref().cmp(key).is_le() && (node.hi.len() == 0 || key.cmp(node.hi.as_ref()).is_lt())
+}
+
+// Whether the key lies behind the node's bounds.
+#[tactic(auto, unfolding(sled_pages::specs::Order::key_cmp))]
+fn ends_before(node: &Node, key: &[u8]) -> bool
+    ensures { IsTrue result ↔ ((node.now.hi ≢ []) × UpTo node.now.hi key.now) }
+{
+    node.hi.len() != 0 && node.hi.as_ref().cmp(key).is_le()
 }
 
 // Reads the root of the call's tree.
@@ -29,48 +54,201 @@ pub(crate) fn read_root<P: Pages>(pages: &P, alloc: Global, job: &Job) -> Next
     match pages.read(alloc, root) {
         Err(e) => Next::Refused(e),
         Ok(None) => Next::Go(Stage::Root),
-        Ok(Some(view)) => arrive(job, view),
+        Ok(Some(view)) => arrive(
+            job,
+            view,
+            Way {
+                parent: None,
+                first: true,
+                unsplit: false,
+            },
+        ),
     }
 }
 
-// What comes after the root was read.
-fn arrive(job: &Job, view: View) -> Next
-    ensures { Arrives job.now view result }
+// Reads the cursor of a walk.
+pub(crate) fn read_cursor<P: Pages>(pages: &P, alloc: Global, job: &Job, walk: Walk) -> Next
+    ensures { Moves job.now (P.store pages.now) (Stage.Walk walk) result (P.store pages.now) }
 {
-    if view.node.merging || view.node.merging_child.is_some() {
+    match pages.read(alloc, walk.cursor) {
+        Err(e) => Next::Refused(e),
+        Ok(None) => Next::Go(Stage::Root),
+        Ok(Some(view)) => arrive(
+            job,
+            view,
+            Way {
+                parent: Some(walk.parent),
+                first: walk.first,
+                unsplit: walk.unsplit,
+            },
+        ),
+    }
+}
+
+// What comes after a page was read.
+fn arrive(job: &Job, view: View, way: Way) -> Next
+    ensures { Arrives job.now view way result }
+{
+    if view.node.merging {
         return Next::Go(Stage::Root);
+    }
+    if let Some(child) = view.node.merging_child {
+        return help(view, child);
+    }
+    if view.node.should_split() {
+        return split(job, view, way);
+    }
+    if ends_before(&view.node, job.call.key().as_ref()) {
+        return go_on(job, view, way);
     }
     if !covers(&view.node, job.call.key().as_ref()) {
         return Next::Go(Stage::Root);
     }
-    match &view.node.content {
-        Data::Index(_) => Next::Go(Stage::Root),
-        Data::Leaf(_) => at_leaf(job, view),
+    at_key(job, view, way)
+}
+
+// A page that is too long.
+fn split(job: &Job, view: View, way: Way) -> Next
+    requires awake { view.node.merging ≡ false }
+    requires free { view.node.merging_child ≡ None }
+    ensures { Arrives job.now view way result }
+{
+    let Way { parent, .. } = way;
+    match parent {
+        Some(parent) => Next::Go(Stage::Split(Split {
+            page: view,
+            posting: Posting::Parent(parent),
+        })),
+        None => Next::Go(Stage::Split(Split {
+            page: view,
+            posting: Posting::Root,
+        })),
     }
 }
 
-// What comes after the leaf of the key was read. A call that changes nothing is decided.
-fn at_leaf(job: &Job, view: View) -> Next
+// The key lies behind the page: a root is hoisted, and below a parent the walk goes on to the next page.
+fn go_on(job: &Job, view: View, way: Way) -> Next
+    requires awake { view.node.merging ≡ false }
+    requires free { view.node.merging_child ≡ None }
+    requires bounded { view.node.hi ≢ [] }
+    requires behind { UpTo view.node.hi (key_of job.now.call) }
+    ensures { Arrives job.now view way result }
+{
+    let View { pid, node, .. } = view;
+    let Node { hi, next, .. } = node;
+    let Some(next) = next else {
+        return Next::Go(Stage::Root);
+    };
+    let Way { parent, .. } = way;
+    match parent {
+        None => Next::Go(Stage::Hoist(Hoist {
+            left: pid,
+            at: hi,
+            right: next,
+        })),
+        Some(parent) => Next::Go(Stage::Walk(Walk {
+            cursor: next,
+            parent,
+            first: true,
+            unsplit: true,
+        })),
+    }
+}
+
+// A page that covers the key.
+fn at_key(job: &Job, view: View, way: Way) -> Next
     requires awake { view.node.merging ≡ false }
     requires free { view.node.merging_child ≡ None }
     requires covers { Covers view.node (key_of job.now.call) }
+    requires few { count view.node.content ≤ 16 }
+    ensures { Arrives job.now view way result }
+{
+    if way.unsplit {
+        return post(job, view, way);
+    }
+    if !way.first && view.node.should_merge() {
+        return merge(job, view, way);
+    }
+    match &view.node.content {
+        Data::Index(_) => go_down(job, view, way),
+        Data::Leaf(_) => at_leaf(job, view, way),
+    }
+}
+
+// A page that was reached by `next`: its pointer is posted.
+fn post(job: &Job, view: View, way: Way) -> Next
+    requires awake { view.node.merging ≡ false }
+    requires free { view.node.merging_child ≡ None }
+    requires unsplit { way.unsplit ≡ true }
+    ensures { Arrives job.now view way result }
+{
+    let View { pid, node, .. } = view;
+    let Node { lo, .. } = node;
+    let Way { parent, .. } = way;
+    match parent {
+        None => Next::Go(Stage::Root),
+        Some(parent) => Next::Go(Stage::Post(Post {
+            parent,
+            at: lo,
+            pid,
+        })),
+    }
+}
+
+// A page of few entries that was reached by a later pointer: it merges into the page before it.
+fn merge(job: &Job, view: View, way: Way) -> Next
+    requires awake { view.node.merging ≡ false }
+    requires free { view.node.merging_child ≡ None }
+    requires few { count view.node.content ≤ 3 }
+    requires later { way.first ≡ false }
+    requires pointed { way.unsplit ≡ false }
+    ensures { Arrives job.now view way result }
+{
+    let Way { parent, .. } = way;
+    match parent {
+        None => Next::Go(Stage::Root),
+        Some(parent) => begin(parent, view.pid),
+    }
+}
+
+// An index that covers the key.
+fn go_down(job: &Job, view: View, way: Way) -> Next
+    requires awake { view.node.merging ≡ false }
+    requires free { view.node.merging_child ≡ None }
+    requires covers { Covers view.node (key_of job.now.call) }
+    requires few { count view.node.content ≤ 16 }
+    requires index { IsIndex view.node.content }
+    ensures { Arrives job.now view way result }
+{
+    match view.node.pointer(Bound::Included(job.call.key().as_ref())) {
+        None => Next::Go(Stage::Root),
+        Some((cursor, first)) => Next::Go(Stage::Walk(Walk {
+            cursor,
+            parent: view,
+            first,
+            unsplit: false,
+        })),
+    }
+}
+
+// The leaf of the key. A call that changes nothing is decided.
+fn at_leaf(job: &Job, view: View, way: Way) -> Next
+    requires awake { view.node.merging ≡ false }
+    requires free { view.node.merging_child ≡ None }
+    requires covers { Covers view.node (key_of job.now.call) }
+    requires few { count view.node.content ≤ 16 }
     requires leaf { IsLeaf view.node.content }
-    ensures { Arrives job.now view result }
+    ensures { Arrives job.now view way result }
 {
     let value = match view.node.get(job.call.key().as_ref()) {
         Err(e) => return Next::Refused(e),
         Ok(value) => value,
     };
-    match &job.call {
-        Call::Get(_) => Next::Decided(Reply::Value(value)),
-        Call::Insert(_, new) => match value {
-            None => Next::Go(Stage::Act(view)),
-            Some(old) => {
-                if old == *new {
-                    return Next::Decided(Reply::Value(Some(old)));
-                }
-                Next::Go(Stage::Act(view))
-            }
+    match job.call.decide(value) {
+        Err(e) => Next::Refused(e),
+        Ok(Decision { effect, reply }) => match effect {
+            Effect::Nothing => Next::Decided(reply),
+            _ => Next::Go(Stage::Act(view)),
         },
     }
 }

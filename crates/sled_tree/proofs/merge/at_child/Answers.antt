@@ -1,0 +1,8 @@
+use Rattle.sled_tree.proofs.Merges.{child_helps, child_caps}
+use Rattle.sled_tree.proofs.merge.at_child.Goals as goal
+
+pub returns-in-Some : goal.returns-in-Some
+returns-in-Some c = child_helps _ _ c.if-view.false c.in-Some.is _ _ _ c.help.ensures
+
+pub returns : goal.returns
+returns c = child_caps _ _ _ c.if-view.false c.in_default.is

@@ -1,0 +1,9 @@
+use Rattle.sled_tree.proofs.Facts.{refused, long_enough}
+use Rattle.sled_tree.proofs.Splits.{halves}
+use Rattle.sled_tree.proofs.split.halve.Goals as goal
+
+pub returns-in-Err-allocate : goal.returns-in-Err-allocate
+returns-in-Err-allocate g c = refused _ _ _ _ _ c.in-Err-allocate.ensures.err
+
+pub returns : goal.returns
+returns g c = halves _ _ _ _ _ _ _ _ _ (long_enough _ _ c.should_split.ensures c.if-not-should_split.false) c.in-Ok.ensures.ok.0 c.in-Ok.ensures.ok.1 c.in-Ok-clone.ensures.ok c.in-Ok-allocate.ensures.ok c.law_given.ensures

@@ -1,0 +1,269 @@
+//! A merge of a page into the one before it, in five changing actions: the parent takes the page for its merging child, the
+//! child is capped and does not change any more, the page before it receives what it holds, the pointer to it goes, and it is
+//! freed.
+//!
+//! Whoever meets a half-done merge goes on with it, from what the pages show.
+ghost use Rattle.std.specs.Prelude.{◌≡◌, ◌≢◌, ◌↔◌, ◌⊎◌, [], false, Some, None, IsTrue};
+ghost use Rattle.sled_pages.specs.Order.{UpTo};
+ghost use Rattle.sled_tree.specs.Moves.{Moves};
+ghost use Rattle.sled_tree.specs.Moves.{Begins, Helps, ReadsChild, Looks};
+
+use crate::flight::{Cap, Confirm, Job, Merge, Next, Own, Posting, Receive, Seek, Split, Stage};
+use sled_pages::{IVec, Link, Node, Pages, Pid, View};
+use std::alloc::Global;
+
+// A page merges into the one before it, where its parent can have it for its merging child.
+pub(crate) fn begin(parent: View, child: Pid) -> Next
+    ensures { Begins parent child result }
+{
+    if !parent.node.can_merge_child() {
+        return Next::Go(Stage::Root);
+    }
+    match parent.node.pointer_before(child) {
+        None => Next::Go(Stage::Root),
+        Some(before) => Next::Go(Stage::Intend(Merge {
+            parent,
+            child,
+            before,
+        })),
+    }
+}
+
+// The parent takes the page for its merging child.
+pub(crate) fn intend<P: Pages>(pages: &mut P, job: &Job, merge: Merge) -> Next
+    ensures { Moves job.now (P.store pages.old) (Stage.Intend merge) result (P.store pages.new) }
+{
+    let Merge {
+        parent,
+        child,
+        before,
+    } = merge;
+    let View { pid, version, node } = parent;
+    match pages.link(pid, version, Link::ParentMergeIntention(child)) {
+        Err(e) => Next::Refused(e),
+        Ok(Err(_)) => Next::Go(Stage::Root),
+        Ok(Ok(version)) => {
+            let mut node = node;
+            node.merging_child = Some(child);
+            Next::Go(Stage::Child(Merge {
+                parent: View { pid, version, node },
+                child,
+                before,
+            }))
+        }
+    }
+}
+
+// A page was read that has a merging child: that merge goes on first.
+pub(crate) fn help(view: View, child: Pid) -> Next
+    ensures { Helps view child result }
+{
+    match view.node.pointer_before(child) {
+        None => Next::Go(Stage::Root),
+        Some(before) => Next::Go(Stage::Child(Merge {
+            parent: view,
+            child,
+            before,
+        })),
+    }
+}
+
+// Reads the merging child.
+pub(crate) fn read_child<P: Pages>(pages: &P, alloc: Global, job: &Job, merge: Merge) -> Next
+    ensures { Moves job.now (P.store pages.now) (Stage.Child merge) result (P.store pages.now) }
+{
+    match pages.read(alloc, merge.child) {
+        Err(e) => Next::Refused(e),
+        Ok(None) => Next::Go(Stage::Root),
+        Ok(Some(view)) => at_child(job, merge, view),
+    }
+}
+
+// What comes after the merging child was read.
+fn at_child(job: &Job, merge: Merge, view: View) -> Next
+    ensures { ReadsChild job.now merge view result }
+{
+    if view.node.merging {
+        let View { version, node, .. } = view;
+        let cursor = merge.before;
+        return Next::Go(Stage::Seek(Seek {
+            merge,
+            version,
+            node,
+            cursor,
+        }));
+    }
+    if let Some(child) = view.node.merging_child {
+        return help(view, child);
+    }
+    let View { version, node, .. } = view;
+    Next::Go(Stage::Cap(Cap {
+        merge,
+        version,
+        node,
+    }))
+}
+
+// Caps the merging child.
+pub(crate) fn cap<P: Pages>(pages: &mut P, job: &Job, cap: Cap) -> Next
+    ensures { Moves job.now (P.store pages.old) (Stage.Cap cap) result (P.store pages.new) }
+{
+    let Cap {
+        merge,
+        version,
+        node,
+    } = cap;
+    match pages.link(merge.child, version, Link::ChildMergeCap) {
+        Err(e) => Next::Refused(e),
+        Ok(Err(None)) => Next::Go(Stage::Root),
+        Ok(Err(Some(_))) => Next::Go(Stage::Child(merge)),
+        Ok(Ok(version)) => {
+            let mut node = node;
+            node.merging = true;
+            let cursor = merge.before;
+            Next::Go(Stage::Seek(Seek {
+                merge,
+                version,
+                node,
+                cursor,
+            }))
+        }
+    }
+}
+
+// Whether the node goes on at the page.
+fn leads_to(node: &Node, pid: Pid) -> bool
+    ensures { IsTrue result ↔ (node.now.next ≡ Some pid) }
+{
+    node.next == Some(pid)
+}
+
+// Whether the node reaches to the key or beyond it.
+#[tactic(auto, unfolding(sled_pages::specs::Order::key_cmp))]
+fn reaches(node: &Node, key: &IVec) -> bool
+    ensures { IsTrue result ↔ ((node.now.hi ≡ []) ⊎ UpTo key.now node.now.hi) }
+{
+    node.hi.len() == 0 || key.as_ref().cmp(node.hi.as_ref()).is_le()
+}
+
+// Reads the cursor of the search for the page before the merging child.
+pub(crate) fn seek<P: Pages>(pages: &P, alloc: Global, job: &Job, seek: Seek) -> Next
+    ensures { Moves job.now (P.store pages.now) (Stage.Seek seek) result (P.store pages.now) }
+{
+    match pages.read(alloc, seek.cursor) {
+        Err(e) => Next::Refused(e),
+        Ok(None) => Next::Go(Stage::Root),
+        Ok(Some(view)) => at_cursor(job, seek, view),
+    }
+}
+
+// What comes after the cursor of the search was read.
+fn at_cursor(job: &Job, seek: Seek, view: View) -> Next
+    ensures { Looks job.now seek view result }
+{
+    if view.node.merging {
+        return Next::Go(Stage::Root);
+    }
+    if let Some(child) = view.node.merging_child {
+        return help(view, child);
+    }
+    compare(job, seek, view)
+}
+
+// An open page, before the merging child or at it.
+fn compare(job: &Job, seek: Seek, view: View) -> Next
+    requires awake { view.node.merging ≡ false }
+    requires free { view.node.merging_child ≡ None }
+    ensures { Looks job.now seek view result }
+{
+    let Seek {
+        merge,
+        version,
+        node,
+        ..
+    } = seek;
+    if leads_to(&view.node, merge.child) {
+        if view.node.should_split() {
+            return Next::Go(Stage::Split(Split {
+                page: view,
+                posting: Posting::Nowhere,
+            }));
+        }
+        return Next::Go(Stage::Receive(Receive {
+            merge,
+            version,
+            node,
+            left: view,
+        }));
+    }
+    if reaches(&view.node, &node.lo) {
+        let Merge { parent, child, .. } = merge;
+        return Next::Go(Stage::Confirm(Confirm {
+            parent,
+            child,
+            version,
+        }));
+    }
+    match view.node.next {
+        None => Next::Go(Stage::Root),
+        Some(cursor) => Next::Go(Stage::Seek(Seek {
+            merge,
+            version,
+            node,
+            cursor,
+        })),
+    }
+}
+
+// The page before the merging child receives it.
+pub(crate) fn receive<P: Pages>(pages: &mut P, alloc: Global, job: &Job, receive: Receive) -> Next
+    ensures { Moves job.now (P.store pages.old) (Stage.Receive receive) result (P.store pages.new) }
+{
+    let Receive {
+        merge,
+        version,
+        node,
+        left,
+    } = receive;
+    let both = match left.node.receive_merge(alloc, &node) {
+        Err(e) => return Next::Refused(e),
+        Ok(both) => both,
+    };
+    match pages.replace(left.pid, left.version, both) {
+        Err(e) => Next::Refused(e),
+        Ok(Err(None)) => Next::Go(Stage::Root),
+        Ok(Err(Some(_))) => Next::Go(Stage::Seek(Seek {
+            merge,
+            version,
+            node,
+            cursor: left.pid,
+        })),
+        Ok(Ok(_)) => {
+            let Merge { parent, child, .. } = merge;
+            Next::Go(Stage::Confirm(Confirm {
+                parent,
+                child,
+                version,
+            }))
+        }
+    }
+}
+
+// The pointer to the received child goes.
+pub(crate) fn confirm<P: Pages>(pages: &mut P, job: &Job, confirm: Confirm) -> Next
+    ensures { Moves job.now (P.store pages.old) (Stage.Confirm confirm) result (P.store pages.new) }
+{
+    let Confirm {
+        parent,
+        child,
+        version,
+    } = confirm;
+    match pages.link(parent.pid, parent.version, Link::ParentMergeConfirm) {
+        Err(e) => Next::Refused(e),
+        Ok(Err(_)) => Next::Go(Stage::Root),
+        Ok(Ok(_)) => Next::Go(Stage::Free(Own {
+            pid: child,
+            version,
+        })),
+    }
+}
