@@ -31,3 +31,6 @@ pub mod Staged
 pub mod Halving
 pub mod Mapped
 pub mod Before
+pub mod Accepted
+pub mod Pictures
+pub mod Faulty

@@ -89,6 +89,11 @@
 //! - `law_flushes`: After a flush a crash leaves the flushed state alone.
 //! - `law_whole`: The size is kept in each state that a crash may leave, as the shape is.
 //!
+//! `images`: pages and roots that are well formed, and such that are not.
+//!
+//! - `law_accepted_images`: What half-done work leaves is well formed, and has the pairs that the tree had.
+//! - `law_refused_images`: No forest has the shape and the size of an image that breaks one of the lines of well-formedness.
+//!
 //! `kept`: what a call in flight knows survives each action of others.
 //!
 //! - `law_view`: A kept view speaks of its page while the version is the same.
@@ -185,6 +190,7 @@
 
 mod actions;
 mod crashes;
+mod images;
 mod kept;
 mod levels;
 mod maps;
@@ -199,6 +205,7 @@ pub use crashes::{
     law_again, law_decides, law_extends, law_flushes, law_inside_group, law_rests, law_unseen,
     law_whole,
 };
+pub use images::{law_accepted_images, law_refused_images};
 pub use kept::{law_acting, law_now, law_stood, law_view};
 pub use levels::{
     law_before, law_before_child, law_halved, law_inside, law_joined, law_leads_down, law_reached,

@@ -1,0 +1,12 @@
+//! Images of pages and roots that are well formed, and images that are not.
+ghost use Rattle.tree_laws.specs.Images.{AcceptedImages, RefusedImages};
+
+/// What half-done work leaves is well formed, and has the pairs that the tree had.
+pub fn law_accepted_images()
+    ensures { AcceptedImages }
+{}
+
+/// No forest has the shape and the size of an image that breaks one of the lines of well-formedness.
+pub fn law_refused_images()
+    ensures { RefusedImages }
+{}
