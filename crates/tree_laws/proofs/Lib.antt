@@ -34,3 +34,4 @@ pub mod Before
 pub mod Accepted
 pub mod Pictures
 pub mod Faulty
+pub mod Ways

@@ -14,10 +14,12 @@ use Rattle.sled_pages.specs.State.{Nodes, nodes_of}
 use Rattle.sled_pages.specs.declared.node.Node.{Node}
 use Rattle.sled_pages.specs.declared.node.Data.TheVariants.{Leaf}
 use Rattle.sled_pages.specs.declared.page.Page.{Page}
-use Rattle.tree_laws.specs.Forest.{Tree, Forest, place, head, first_child, later, Run, IsNodeAt, IsPointer, contents}
+use Rattle.tree_laws.specs.Forest.{Tree, Forest, Place, place, head, first_child, later, Run, IsNodeAt, IsPointer, contents}
 use Rattle.tree_laws.specs.Images.{image, Accepts, selves, key, leaf, capped, merging, one_tree, root, left, right, over, first_only, both, all_in_one, fresh, not_hoisted, not_posted, intended, child_capped, child_received, confirmed, unnamed, AcceptedImages}
+use Rattle.tree_laws.specs.Paths.{tree_pages, pages_below}
 use Rattle.tree_laws.proofs.Fuel.{contents_law}
-use Rattle.tree_laws.proofs.Replace.{false_true, some_is}
+use Rattle.tree_laws.proofs.Looking.{pages_law}
+use Rattle.tree_laws.proofs.Replace.{false_true, some_is, head_in}
 use Rattle.tree_laws.proofs.Accepted.{forest_of, IsStanding, IsAtHome, IsForest, formed, sized}
 
 none_some : {P : Type 0} {A : Type 0} {x : A} → None ≡ Some x → P
@@ -70,11 +72,12 @@ rooted r u = go (bytes_eq one_tree u) (bytes_eq-Decides one_tree u)
         no : false ≡ true → ⊥
         no e = cc
 
-accepts : (pages : List (ℕ × Node)) (r : ℕ) (levels : List (List ℕ)) (homes : List (ℕ × ℕ)) (es : List (Key × Key)) → IsForest (nodes_of (image pages (root r))) (root_in (root r)) one_tree r levels homes
-    → AllByRecursion (λ e. e.0 < 2 ^ 64) (reverse pages) → contents (nodes_of (image pages (root r))) (forest_of one_tree levels homes) one_tree ≡ es → Accepts pages r es
-accepts pages r levels homes es f below is = record {
+accepts : (pages : List (ℕ × Node)) (r : ℕ) (levels : List (List ℕ)) (homes : List (ℕ × ℕ)) (es : List (Key × Key)) (count : ℕ) (f : IsForest (nodes_of (image pages (root r))) (root_in (root r)) one_tree r levels homes)
+    → AllByRecursion (λ e. e.0 < 2 ^ 64) (reverse pages) → contents (nodes_of (image pages (root r))) (forest_of one_tree levels homes) one_tree ≡ es → pages_below (forest_of one_tree levels homes) one_tree (suc f.top.0) ≡ count → Accepts pages r es count
+accepts pages r levels homes es count f below is counted = record {
   whole = record { forest = forest_of one_tree levels homes; formed = formed f; sized = sized f };
   pairs = contents_law (image pages (root r)) (forest_of one_tree levels homes) (formed f) small one_tree ∙ ap Some is;
+  counted = pages_are ∙ counted;
 }
   where
     small : (p : ℕ) (g : Page) → (image pages (root r)).pages p ≡ Some g → p < 2 ^ 64
@@ -82,6 +85,16 @@ accepts pages r levels homes es f below is = record {
       where
         same : (q : ℕ) → nat_eq q p ≡ true → q ≡ p
         same q h = grind (arith, nat_tests)
+
+    -- the root has one height
+    high : (h : ℕ) → In r ((forest_of one_tree levels homes).chain (place one_tree h)) → h ≡ f.top.0
+    high h i =
+        let g = formed f in
+        let e : place one_tree h ≡ place one_tree f.top.0 = some_is _ _ (sym (g.homed (place one_tree h) r i) ∙ g.homed (place one_tree f.top.0) r (head_in _ r f.top.1)) in
+        ap (λ (z : Place). z.height) e
+
+    pages_are : tree_pages (image pages (root r)) one_tree ≡ pages_below (forest_of one_tree levels homes) one_tree (suc f.top.0)
+    pages_are = let p = pages_law (image pages (root r)) (forest_of one_tree levels homes) (formed f) small one_tree r refl in p.2 ∙ ap (λ h. pages_below (forest_of one_tree levels homes) one_tree (suc h)) (high p.0 p.1)
 
 low : (1 < 2 ^ 64) × (2 < 2 ^ 64) × (3 < 2 ^ 64) × (9 < 2 ^ 64)
 low = (omega arith, omega arith, omega arith, omega arith)
@@ -140,25 +153,25 @@ three = omega arith
 eleven : 11 ≤ 33
 eleven = omega arith
 
-fresh_is : Accepts fresh 1 []
-fresh_is = accepts fresh 1 ((1 ∷ []) ∷ []) ((1, 0) ∷ []) [] (
+fresh_is : Accepts fresh 1 [] 1
+fresh_is = accepts fresh 1 ((1 ∷ []) ∷ []) ((1, 0) ∷ []) [] 1 (
     record {
       standing = ((leaf_stands _ _ _ 1 [] [] None false [] refl refl, tt), tt);
       at_home = (open_home _ _ _ 1 0 (leaf [] [] None []) refl (inl refl) refl empty_sound (omega arith), tt);
       runs = (alone _ 1 (leaf [] [] None []) refl refl refl refl, tt);
       top = (0, refl, refl);
       rooted = rooted 1;
-    }) (low.0, tt) refl
+    }) (low.0, tt) refl refl
 
-not_hoisted_is : Accepts not_hoisted 1 (selves 11 0)
-not_hoisted_is = accepts not_hoisted 1 ((1 ∷ 2 ∷ []) ∷ []) ((1, 0) ∷ (2, 0) ∷ []) (selves 11 0) (
+not_hoisted_is : Accepts not_hoisted 1 (selves 11 0) 2
+not_hoisted_is = accepts not_hoisted 1 ((1 ∷ 2 ∷ []) ∷ []) ((1, 0) ∷ (2, 0) ∷ []) (selves 11 0) 2 (
     record {
       standing = ((leaf_stands _ _ _ 1 [] (key 8) (Some 2) false (selves 8 0) refl refl, (leaf_stands _ _ _ 2 (key 8) [] None false (selves 3 8) refl refl, tt)), tt);
       at_home = (open_home _ _ _ 1 0 left.1 refl (inl refl) refl left_sound eight, (open_home _ _ _ 2 0 right refl (inr (inl refl)) refl right_sound three, tt));
       runs = (chained _ refl false refl, tt);
       top = (0, refl, refl);
       rooted = rooted 1;
-    }) (low.1, (low.0, tt)) refl
+    }) (low.1, (low.0, tt)) refl refl
 
 three_small : 3 ≤ 17
 three_small = omega arith
@@ -207,60 +220,60 @@ module _ (nodes : Nodes) (w : Forest) where
     few = three;
   }
 
-not_posted_is : Accepts not_posted 3 (selves 11 0)
-not_posted_is = accepts not_posted 3 ((1 ∷ 2 ∷ []) ∷ (3 ∷ []) ∷ []) ((1, 0) ∷ (2, 0) ∷ (3, 1) ∷ []) (selves 11 0) (
+not_posted_is : Accepts not_posted 3 (selves 11 0) 3
+not_posted_is = accepts not_posted 3 ((1 ∷ 2 ∷ []) ∷ (3 ∷ []) ∷ []) ((1, 0) ∷ (2, 0) ∷ (3, 1) ∷ []) (selves 11 0) 3 (
     record {
       standing = ((leaf_stands _ _ _ 1 [] (key 8) (Some 2) false (selves 8 0) refl refl, (leaf_stands _ _ _ 2 (key 8) [] None false (selves 3 8) refl refl, tt)), ((first_stands _ _ left.1 refl refl refl refl refl refl refl, tt), tt));
       at_home = (open_home _ _ _ 1 0 left.1 refl (inl refl) refl left_sound eight, (open_home _ _ _ 2 0 right refl (inr (inl refl)) refl right_sound three, (open_home _ _ _ 3 1 (over first_only) refl (inl refl) refl first_sound one_few, tt)));
       runs = (chained _ refl false refl, (alone _ 3 (over first_only) refl refl refl refl, tt));
       top = (1, refl, refl);
       rooted = rooted 3;
-    }) (low.2, (low.1, (low.0, tt))) refl
+    }) (low.2, (low.1, (low.0, tt))) refl refl
 
-intended_is : Accepts intended 3 (selves 11 0)
-intended_is = accepts intended 3 ((1 ∷ 2 ∷ []) ∷ (3 ∷ []) ∷ []) ((1, 0) ∷ (2, 0) ∷ (3, 1) ∷ []) (selves 11 0) (
+intended_is : Accepts intended 3 (selves 11 0) 3
+intended_is = accepts intended 3 ((1 ∷ 2 ∷ []) ∷ (3 ∷ []) ∷ []) ((1, 0) ∷ (2, 0) ∷ (3, 1) ∷ []) (selves 11 0) 3 (
     record {
       standing = ((leaf_stands _ _ _ 1 [] (key 8) (Some 2) false (selves 8 0) refl refl, (leaf_stands _ _ _ 2 (key 8) [] None false (selves 3 8) refl refl, tt)), ((merger_stands _ _ false refl refl left.1 refl refl refl refl refl refl refl, tt), tt));
       at_home = (open_home _ _ _ 1 0 left.1 refl (inl refl) refl left_sound eight, (open_home _ _ _ 2 0 right refl (inr (inl refl)) refl right_sound three, (open_home _ _ _ 3 1 (merging 2 (over both)) refl (inl refl) refl (record { holds = both_sound.holds }) two_few, tt)));
       runs = (chained _ refl false refl, (alone _ 3 (merging 2 (over both)) refl refl refl refl, tt));
       top = (1, refl, refl);
       rooted = rooted 3;
-    }) (low.2, (low.1, (low.0, tt))) refl
+    }) (low.2, (low.1, (low.0, tt))) refl refl
 
-child_capped_is : Accepts child_capped 3 (selves 11 0)
-child_capped_is = accepts child_capped 3 ((1 ∷ 2 ∷ []) ∷ (3 ∷ []) ∷ []) ((1, 0) ∷ (2, 0) ∷ (3, 1) ∷ []) (selves 11 0) (
+child_capped_is : Accepts child_capped 3 (selves 11 0) 3
+child_capped_is = accepts child_capped 3 ((1 ∷ 2 ∷ []) ∷ (3 ∷ []) ∷ []) ((1, 0) ∷ (2, 0) ∷ (3, 1) ∷ []) (selves 11 0) 3 (
     record {
       standing = ((leaf_stands _ _ _ 1 [] (key 8) (Some 2) false (selves 8 0) refl refl, (leaf_stands _ _ _ 2 (key 8) [] None true (selves 3 8) refl refl, tt)), ((merger_stands _ _ true refl refl left.1 refl refl refl refl refl refl refl, tt), tt));
       at_home = (open_home _ _ _ 1 0 left.1 refl (inl refl) refl left_sound eight, (capped_home _ _ refl refl (inl refl), (open_home _ _ _ 3 1 (merging 2 (over both)) refl (inl refl) refl (record { holds = both_sound.holds }) two_few, tt)));
       runs = (chained _ refl true refl, (alone _ 3 (merging 2 (over both)) refl refl refl refl, tt));
       top = (1, refl, refl);
       rooted = rooted 3;
-    }) (low.2, (low.1, (low.0, tt))) refl
+    }) (low.2, (low.1, (low.0, tt))) refl refl
 
 -- the leaf 2 was received: it is in no chain
-child_received_is : Accepts child_received 3 (selves 11 0)
-child_received_is = accepts child_received 3 ((1 ∷ []) ∷ (3 ∷ []) ∷ []) ((1, 0) ∷ (2, 0) ∷ (3, 1) ∷ []) (selves 11 0) (
+child_received_is : Accepts child_received 3 (selves 11 0) 2
+child_received_is = accepts child_received 3 ((1 ∷ []) ∷ (3 ∷ []) ∷ []) ((1, 0) ∷ (2, 0) ∷ (3, 1) ∷ []) (selves 11 0) 2 (
     record {
       standing = ((leaf_stands _ _ _ 1 [] [] None false (selves 11 0) refl refl, tt), ((merger_stands _ _ true refl refl all_in_one.1 refl refl refl refl refl refl refl, tt), tt));
       at_home = (open_home _ _ _ 1 0 all_in_one.1 refl (inl refl) refl whole_sound eleven, (capped_home _ _ refl refl (inl refl), (open_home _ _ _ 3 1 (merging 2 (over both)) refl (inl refl) refl (record { holds = both_sound.holds }) two_few, tt)));
       runs = (alone _ 1 all_in_one.1 refl refl refl refl, (alone _ 3 (merging 2 (over both)) refl refl refl refl, tt));
       top = (1, refl, refl);
       rooted = rooted 3;
-    }) (low.2, (low.1, (low.0, tt))) refl
+    }) (low.2, (low.1, (low.0, tt))) refl refl
 
 -- and has no home either
-confirmed_is : Accepts confirmed 3 (selves 11 0)
-confirmed_is = accepts confirmed 3 ((1 ∷ []) ∷ (3 ∷ []) ∷ []) ((1, 0) ∷ (3, 1) ∷ []) (selves 11 0) (
+confirmed_is : Accepts confirmed 3 (selves 11 0) 2
+confirmed_is = accepts confirmed 3 ((1 ∷ []) ∷ (3 ∷ []) ∷ []) ((1, 0) ∷ (3, 1) ∷ []) (selves 11 0) 2 (
     record {
       standing = ((leaf_stands _ _ _ 1 [] [] None false (selves 11 0) refl refl, tt), ((first_stands _ _ all_in_one.1 refl refl refl refl refl refl refl, tt), tt));
       at_home = (open_home _ _ _ 1 0 all_in_one.1 refl (inl refl) refl whole_sound eleven, (open_home _ _ _ 3 1 (over first_only) refl (inl refl) refl first_sound one_few, tt));
       runs = (alone _ 1 all_in_one.1 refl refl refl refl, (alone _ 3 (over first_only) refl refl refl refl, tt));
       top = (1, refl, refl);
       rooted = rooted 3;
-    }) (low.2, (low.1, (low.0, tt))) refl
+    }) (low.2, (low.1, (low.0, tt))) refl refl
 
-unnamed_is : Accepts unnamed 3 (selves 11 0)
-unnamed_is = accepts unnamed 3 ((1 ∷ 2 ∷ []) ∷ (3 ∷ []) ∷ []) ((1, 0) ∷ (2, 0) ∷ (3, 1) ∷ []) (selves 11 0) (
+unnamed_is : Accepts unnamed 3 (selves 11 0) 3
+unnamed_is = accepts unnamed 3 ((1 ∷ 2 ∷ []) ∷ (3 ∷ []) ∷ []) ((1, 0) ∷ (2, 0) ∷ (3, 1) ∷ []) (selves 11 0) 3 (
     record {
       standing = (
         (leaf_stands _ _ _ 1 [] (key 8) (Some 2) false (selves 8 0) refl refl, (leaf_stands _ _ _ 2 (key 8) [] None false (selves 3 8) refl refl, tt)),
@@ -270,7 +283,7 @@ unnamed_is = accepts unnamed 3 ((1 ∷ 2 ∷ []) ∷ (3 ∷ []) ∷ []) ((1, 0) 
       runs = (chained _ refl false refl, (alone _ 3 (over both) refl refl refl refl, tt));
       top = (1, refl, refl);
       rooted = rooted 3;
-    }) (low.3, (low.2, (low.1, (low.0, tt)))) refl
+    }) (low.3, (low.2, (low.1, (low.0, tt)))) refl refl
 
 pub accepted_images : AcceptedImages
 accepted_images = record {

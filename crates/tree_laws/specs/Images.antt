@@ -10,6 +10,7 @@ use Rattle.sled_pages.specs.declared.node.Data.TheVariants.{Leaf, Index}
 use Rattle.tree_laws.specs.Forest.{Tree, Forest, WellFormed, IsSized}
 use Rattle.tree_laws.specs.Contents.{trees_of}
 use Rattle.tree_laws.specs.Crashes.{IsWhole}
+use Rattle.tree_laws.specs.Paths.{IsClean, tree_pages}
 
 -- the pages of an image
 abbrev pub Pages : Type 0
@@ -54,10 +55,11 @@ other_tree = key 98
 abbrev pub root : ℕ → List (Key × ℕ)
 root r = (one_tree, r) ∷ []
 
--- with this root it is well formed, and its tree has these pairs
-pub record Accepts (pages : Pages) (r : ℕ) (es : List (Key × Key)) : Type 0 where
+-- with this root it is well formed, and its tree has these pairs, and so many pages in its chains
+pub record Accepts (pages : Pages) (r : ℕ) (es : List (Key × Key)) (count : ℕ) : Type 0 where
   pub whole : IsWhole (image pages (root r))
   pub pairs : trees_of (image pages (root r)) one_tree ≡ Some es
+  pub counted : tree_pages (image pages (root r)) one_tree ≡ count
 
 -- the two leaves, chained, and the index over them
 abbrev pub left : ℕ × Node
@@ -110,16 +112,16 @@ confirmed = all_in_one ∷ (2, capped right) ∷ (3, over first_only) ∷ []
 abbrev pub unnamed : Pages
 unnamed = left ∷ (2, right) ∷ (3, over both) ∷ (9, leaf [] [] None (selves 40 0)) ∷ []
 
--- each is well formed, and has these pairs
+-- each is well formed, and has these pairs and pages
 pub record AcceptedImages : Type 0 where
-  pub is_fresh : Accepts fresh 1 []
-  pub is_not_hoisted : Accepts not_hoisted 1 (selves 11 0)
-  pub is_not_posted : Accepts not_posted 3 (selves 11 0)
-  pub is_intended : Accepts intended 3 (selves 11 0)
-  pub is_capped : Accepts child_capped 3 (selves 11 0)
-  pub is_received : Accepts child_received 3 (selves 11 0)
-  pub is_confirmed : Accepts confirmed 3 (selves 11 0)
-  pub is_unnamed : Accepts unnamed 3 (selves 11 0)
+  pub is_fresh : Accepts fresh 1 [] 1
+  pub is_not_hoisted : Accepts not_hoisted 1 (selves 11 0) 2
+  pub is_not_posted : Accepts not_posted 3 (selves 11 0) 3
+  pub is_intended : Accepts intended 3 (selves 11 0) 3
+  pub is_capped : Accepts child_capped 3 (selves 11 0) 3
+  pub is_received : Accepts child_received 3 (selves 11 0) 2
+  pub is_confirmed : Accepts confirmed 3 (selves 11 0) 2
+  pub is_unnamed : Accepts unnamed 3 (selves 11 0) 3
 
 -- The refused images. The root names a page that is not there
 abbrev pub root_is_not_there : State
@@ -237,3 +239,36 @@ pub record RefusedImages : Type 0 where
   pub received_twice : Refuses received_by_two_trees
   pub of_two_trees : Refuses in_another_tree
   pub of_two_levels : Refuses in_another_level
+
+-- no way to the key is clean
+abbrev pub Unclean : Pages → ℕ → Key → Type 0
+Unclean pages r k = (path : List ℕ) → IsClean (image pages (root r)) one_tree k path → ⊥
+
+-- a first leaf of 3 entries, which are few
+abbrev pub few_in_the_first : Pages
+few_in_the_first = (1, leaf [] (key 8) (Some 2) (selves 3 0)) ∷ (2, right) ∷ (3, over both) ∷ []
+
+-- a root of 16 entries, and one of 17, which is to be split
+abbrev pub many_in_the_root : Pages
+many_in_the_root = (1, leaf [] [] None (selves 16 0)) ∷ []
+
+abbrev pub too_many_in_the_root : Pages
+too_many_in_the_root = (1, leaf [] [] None (selves 17 0)) ∷ []
+
+-- What a walk passes without a repair, and what it does not
+pub record CleanPaths : Type 0 where
+  -- an empty root, a long one, a leaf that is neither, and a short one that a first pointer leads to
+  pub empty_root : IsClean (image fresh (root 1)) one_tree (key 0) (1 ∷ [])
+  pub long_root : IsClean (image many_in_the_root (root 1)) one_tree (key 0) (1 ∷ [])
+  pub two_levels : IsClean (image unnamed (root 3)) one_tree (key 0) (3 ∷ 1 ∷ [])
+  pub first_pointer : IsClean (image few_in_the_first (root 3)) one_tree (key 0) (3 ∷ 1 ∷ [])
+  -- not a short leaf that a later pointer leads to, which is to merge
+  pub later_pointer : Unclean unnamed 3 (key 9)
+  -- nor a page that is to be split
+  pub too_long : Unclean too_many_in_the_root 1 (key 0)
+  -- nor one that is merging, or has a merging child
+  pub is_merging : Unclean ((1, capped (leaf [] [] None [])) ∷ []) 1 (key 0)
+  pub has_a_child : Unclean intended 3 (key 0)
+  -- nor one that does not cover the key, at the root or below a pointer
+  pub beyond_the_root : Unclean not_hoisted 1 (key 9)
+  pub beyond_the_leaf : Unclean not_posted 3 (key 9)

@@ -1,5 +1,5 @@
 //! Images of pages and roots that are well formed, and images that are not.
-ghost use Rattle.tree_laws.specs.Images.{AcceptedImages, RefusedImages};
+ghost use Rattle.tree_laws.specs.Images.{AcceptedImages, CleanPaths, RefusedImages};
 
 /// What half-done work leaves is well formed, and has the pairs that the tree had.
 pub fn law_accepted_images()
@@ -9,4 +9,9 @@ pub fn law_accepted_images()
 /// No forest has the shape and the size of an image that breaks one of the lines of well-formedness.
 pub fn law_refused_images()
     ensures { RefusedImages }
+{}
+
+/// A clean path is one over pages that a walk passes without a repair, and no path over another page is clean.
+pub fn law_clean_paths()
+    ensures { CleanPaths }
 {}
