@@ -36,3 +36,7 @@ FlushesLaw = (a b : Store) → Flushes a b → (now a).in_group ≡ false → Is
 -- the size is kept in each state that a crash may leave, as the shape is
 abbrev pub WholeLaw : Type 0
 WholeLaw = (act : Action) (a b : Store) → Adds act a b → IsCrashWhole a → ((now b).in_group ≡ false → IsWhole (now b)) → IsCrashWhole b
+
+-- and after a flush of a state that has it
+abbrev pub FlushesWholeLaw : Type 0
+FlushesWholeLaw = (a b : Store) → Flushes a b → (now a).in_group ≡ false → IsWhole (now a) → IsCrashWhole b
