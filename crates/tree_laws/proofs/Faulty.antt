@@ -2,14 +2,14 @@
 use Rattle.std.proofs.Common.{◌≡◌, ℕ, zero, suc, ◌≤◌, T, List, [], ◌∷◌, ◌++◌, Option, Some, None, sym, refl, ap, ◌∙◌, subst, inl, inr, ◌⊎◌, arith}
 use Rattle.std.specs.FinMap.{is_sorted}
 use Rattle.sled_pages.specs.In.{In}
-use Rattle.sled_pages.specs.Node.{pointers}
+use Rattle.sled_pages.specs.Node.{pointers, Within}
 use Rattle.sled_pages.specs.Order.{Key, key_cmp, Below}
 use Rattle.sled_pages.specs.State.{Nodes, nodes_of}
 use Rattle.sled_pages.specs.declared.node.Node.{Node}
 use Rattle.sled_pages.specs.declared.node.Data.{Data}
 use Rattle.sled_pages.specs.declared.node.Data.TheVariants.{Leaf, Index}
-use Rattle.tree_laws.specs.Forest.{Tree, Forest, Place, place, head, first_child, Holds, Run, IsHomed, WellFormed}
-use Rattle.tree_laws.specs.Images.{Refuses, selves, key, leaf, capped, merging, one_tree, other_tree, left, right, over, first_only, both, root_is_not_there, leads_to_itself, has_a_gap, ends_early, pointer_to_nothing, wrong_key, not_the_merging_child, first_is_the_merging_child, merging_with_a_merging_child, too_many, too_many_of_a_merging_child, not_ascending, begins_late, root_of_two_trees, ends_below_its_begin, leads_on_without_a_bound, merging_root, merging_without_a_pointer, two_pointers, received_by_two_trees, in_another_tree, in_another_level, RefusedImages}
+use Rattle.tree_laws.specs.Forest.{Tree, Forest, Place, place, head, first_child, first_key, Holds, Run, IsHomed, WellFormed}
+use Rattle.tree_laws.specs.Images.{Refuses, selves, key, leaf, index, capped, merging, one_tree, other_tree, left, right, over, first_only, both, root_is_not_there, leads_to_itself, has_a_gap, ends_early, pointer_to_nothing, wrong_key, not_the_merging_child, first_is_the_merging_child, merging_with_a_merging_child, too_many, too_many_of_a_merging_child, not_ascending, begins_late, root_of_two_trees, ends_below_its_begin, leads_on_without_a_bound, merging_root, merging_without_a_pointer, two_pointers, received_by_two_trees, in_another_tree, in_another_level, pointer_out_of_the_chain, index_beside_a_leaf, merging_child_without_a_pointer, beyond_the_bounds, without_pointers, first_key_above, received_not_ascending, RefusedImages}
 use Rattle.tree_laws.proofs.Replace.{some_is, head_in}
 use Rattle.tree_laws.proofs.Cover.{chain_run, holds_at}
 
@@ -276,6 +276,91 @@ of_two_levels w f z =
     no : (a b : ℕ) → a ≡ b → a ≡ suc b → ⊥
     no a b e g = omega arith
 
+out_of_the_chain : Refuses pointer_out_of_the_chain
+out_of_the_chain w f z =
+    let t = f.top one_tree in
+    let n : Node = over (both ++ (key 9, 7) ∷ []) in
+    let i = index_first f one_tree t.0 3 n (both ++ (key 9, 7) ∷ []) t.1 refl refl in
+    let c = f.pointer one_tree i.0 3 n i.2 refl (key 9) 7 (inr (inr (inl refl))) in
+    let r = run_on _ _ 1 left.1 [] refl (run_at f (place one_tree i.0) 1 i.3) in
+    let s = run_on _ r.0 2 right (key 8) refl r.4 in
+    let two : w.chain (place one_tree i.0) ≡ 1 ∷ 2 ∷ [] = r.1 ∙ ap (λ c. 1 ∷ c) (s.1 ∙ ap (λ c. 2 ∷ c) (run_ends _ s.0 [] s.4).0) in
+    elim (homed_is f (place one_tree i.0) 7 (leaf (key 9) [] None (selves 2 9)) c.homed refl).stands [
+      | inl a ↦ elim (subst (λ c. In 7 c) two a) [ inl e ↦ first e | inr e ↦ elim e [ inl e ↦ second e | inr e ↦ absurd e ] ]
+      | inr e ↦ cc
+    ]
+  where
+    first : ◌≡◌ {A = ℕ} 7 1 → ⊥
+    first e = omega arith
+
+    second : ◌≡◌ {A = ℕ} 7 2 → ⊥
+    second e = omega arith
+
+-- a level with a leaf has the height 0
+leaf_low : (h : ℕ) (lo hi : Key) (es : List (Key × Key)) → Holds h lo hi (Leaf es) → h ≡ 0
+leaf_low zero lo hi es k = refl
+leaf_low (suc h) lo hi es k = absurd k
+
+beside_a_leaf : Refuses index_beside_a_leaf
+beside_a_leaf w f z =
+    let t = f.top one_tree in
+    let r = run_on _ _ 1 left.1 [] refl (run_at f (place one_tree t.0) 1 t.1) in
+    let n : Node = index (key 8) [] None ((key 8, 1) ∷ []) in
+    let s = run_on _ r.0 2 n (key 8) refl r.4 in
+    let here : In 2 (w.chain (place one_tree t.0)) = subst (λ c. In 2 c) (sym r.1) (inr (subst (λ c. In 2 c) (sym s.1) (inl refl))) in
+    let low = leaf_low t.0 [] (key 8) (selves 8 0) (holds_at f (place one_tree t.0) 1 left.1 (head_in _ 1 t.1) refl) in
+    subst (λ h. Holds h (key 8) [] (Index ((key 8, 1) ∷ []))) low (holds_at f (place one_tree t.0) 2 n here refl)
+
+child_without_a_pointer : Refuses merging_child_without_a_pointer
+child_without_a_pointer w f z =
+    let t = f.top one_tree in
+    let n : Node = merging 9 (over both) in
+    let i = index_first f one_tree t.0 3 n both t.1 refl refl in
+    let c = f.child (place one_tree (suc i.0)) 3 n i.2 refl 9 refl in
+    elim c.1 [ inl e ↦ no (ap (λ (z : Key × ℕ). z.1) e) | inr e ↦ absurd e ]
+  where
+    no : ◌≡◌ {A = ℕ} 9 2 → ⊥
+    no e = omega arith
+
+first_within : (h : ℕ) (lo hi : Key) (e : Key × Key) (es : List (Key × Key)) → Holds h lo hi (Leaf (e ∷ es)) → Within lo hi e.0
+first_within zero lo hi e es k = k.1.0
+first_within (suc h) lo hi e es k = absurd k
+
+beyond : Refuses beyond_the_bounds
+unfolding key_cmp
+beyond w f z =
+    let t = f.top one_tree in
+    let k = first_within t.0 [] (key 8) (key 9, key 9) [] (holds_at f (place one_tree t.0) 1 (leaf [] (key 8) (Some 2) (selves 1 9)) (head_in _ 1 t.1) refl) in
+    elim k.1 [ inl e ↦ cc | inr e ↦ cc ]
+
+-- an index begins where its first pointer does
+first_is : (h : ℕ) (lo hi : Key) (es : List (Key × ℕ)) → Holds h lo hi (Index es) → first_key es ≡ Some lo
+first_is zero lo hi es k = absurd k
+first_is (suc h) lo hi es k = k.2
+
+no_pointers : Refuses without_pointers
+no_pointers w f z =
+    let t = f.top one_tree in
+    none_some (first_is t.0 [] [] [] (holds_at f (place one_tree t.0) 3 (over []) (head_in _ 3 t.1) refl))
+
+first_above : Refuses first_key_above
+first_above w f z =
+    let t = f.top one_tree in
+    no (some_is (key 4) [] (first_is t.0 [] [] ((key 4, 1) ∷ []) (holds_at f (place one_tree t.0) 3 (over ((key 4, 1) ∷ [])) (head_in _ 3 t.1) refl)))
+  where
+    no : key 4 ≡ [] → ⊥
+    no e = cc
+
+received_order : Refuses received_not_ascending
+unfolding key_cmp
+received_order w f z =
+    let t = f.top one_tree in
+    let n : Node = merging 2 (over both) in
+    let i = index_first f one_tree t.0 3 n both t.1 refl refl in
+    let c = f.pointer one_tree i.0 3 n i.2 refl (key 8) 2 (inr (inl refl)) in
+    let d : Node = capped (leaf (key 8) [] None ((key 9, key 9) ∷ (key 8, key 8) ∷ [])) in
+    leaf_sorted i.0 (key 8) [] ((key 9, key 9) ∷ (key 8, key 8) ∷ []) (homed_is f (place one_tree i.0) 2 d c.homed refl).sound.holds
+
 pub refused_images : RefusedImages
 refused_images = record {
   no_root = no_root;
@@ -292,6 +377,12 @@ refused_images = record {
   order = order;
   late = late;
   shared_root = shared_root;
+  out_of_the_chain = out_of_the_chain;
+  beside_a_leaf = beside_a_leaf;
+  child_without_a_pointer = child_without_a_pointer;
+  beyond = beyond;
+  no_pointers = no_pointers;
+  first_above = first_above;
   falls = falls;
   unbounded = unbounded;
   root_merges = root_merges;
@@ -300,4 +391,5 @@ refused_images = record {
   received_twice = received_twice;
   of_two_trees = of_two_trees;
   of_two_levels = of_two_levels;
+  received_order = received_order;
 }

@@ -179,6 +179,29 @@ begins_late = image ((1, leaf (key 5) [] None (selves 1 1)) ∷ []) (root 1)
 abbrev pub root_of_two_trees : State
 root_of_two_trees = image ((1, leaf [] [] None []) ∷ []) ((one_tree, 1) ∷ (other_tree, 1) ∷ [])
 
+-- a pointer names a page that is not in the chain, and not merging
+abbrev pub pointer_out_of_the_chain : State
+pointer_out_of_the_chain = image (left ∷ (2, right) ∷ (3, over (both ++ (key 9, 7) ∷ [])) ∷ (7, leaf (key 9) [] None (selves 2 9)) ∷ []) (root 3)
+
+-- a leaf leads to an index
+abbrev pub index_beside_a_leaf : State
+index_beside_a_leaf = image (left ∷ (2, index (key 8) [] None ((key 8, 1) ∷ [])) ∷ []) (root 1)
+
+-- the merging child is no pointer's
+abbrev pub merging_child_without_a_pointer : State
+merging_child_without_a_pointer = image (left ∷ (2, right) ∷ (3, merging 9 (over both)) ∷ (9, leaf (key 8) [] None []) ∷ []) (root 3)
+
+-- an entry beyond the bounds
+abbrev pub beyond_the_bounds : State
+beyond_the_bounds = image ((1, leaf [] (key 8) (Some 2) (selves 1 9)) ∷ (2, right) ∷ []) (root 1)
+
+-- an index without pointers, and one whose first pointer is not where it begins
+abbrev pub without_pointers : State
+without_pointers = image ((3, over []) ∷ []) (root 3)
+
+abbrev pub first_key_above : State
+first_key_above = image ((1, leaf [] [] None []) ∷ (3, over ((key 4, 1) ∷ [])) ∷ []) (root 3)
+
 -- The bounds of a chain's pages have to rise: an empty leaf that ends below where it begins, and a leaf without an upper bound
 -- that leads on
 abbrev pub ends_below_its_begin : State
@@ -215,6 +238,10 @@ in_another_level = image (
     ∷ (7, merging 2 (over (([], 6) ∷ (key 8, 2) ∷ []))) ∷ []
     ) (root 7)
 
+-- What a received page holds counts too: here its entries do not ascend
+abbrev pub received_not_ascending : State
+received_not_ascending = image (all_in_one ∷ (2, capped (leaf (key 8) [] None ((key 9, key 9) ∷ (key 8, key 8) ∷ []))) ∷ (3, merging 2 (over both)) ∷ []) (root 3)
+
 -- none is well formed
 pub record RefusedImages : Type 0 where
   pub no_root : Refuses root_is_not_there
@@ -231,6 +258,12 @@ pub record RefusedImages : Type 0 where
   pub order : Refuses not_ascending
   pub late : Refuses begins_late
   pub shared_root : Refuses root_of_two_trees
+  pub out_of_the_chain : Refuses pointer_out_of_the_chain
+  pub beside_a_leaf : Refuses index_beside_a_leaf
+  pub child_without_a_pointer : Refuses merging_child_without_a_pointer
+  pub beyond : Refuses beyond_the_bounds
+  pub no_pointers : Refuses without_pointers
+  pub first_above : Refuses first_key_above
   pub falls : Refuses ends_below_its_begin
   pub unbounded : Refuses leads_on_without_a_bound
   pub root_merges : Refuses merging_root
@@ -239,6 +272,7 @@ pub record RefusedImages : Type 0 where
   pub received_twice : Refuses received_by_two_trees
   pub of_two_trees : Refuses in_another_tree
   pub of_two_levels : Refuses in_another_level
+  pub received_order : Refuses received_not_ascending
 
 -- no way to the key is clean
 abbrev pub Unclean : Pages → ℕ → Key → Type 0

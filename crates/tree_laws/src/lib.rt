@@ -48,7 +48,7 @@
 //! *Of pages that no tree names nothing is asked*: they have no home. A home is no freedom of whoever says that there is a forest:
 //! a page has one exactly if it stands in a chain, or is the merging child of a page of a chain (`law_one`).
 //!
-//! `law_refused_images` has an image for each of these lines, which breaks it and no forest has; `law_accepted_images` has what a
+//! `law_refused_images` has images that break these lines, which no forest has; `law_accepted_images` has what a
 //! split, a hoist and each stage of a merge leave when they stop half done.
 //!
 //! # Contents
