@@ -25,7 +25,7 @@ byte [] = 0
 byte (b ∷ bs) = b
 
 -- a run goes on with the page that it leads to
-run_on : (nodes : Nodes) (ps : List ℕ) (p : ℕ) (n : Node) (lo : Key) → nodes p ≡ Some n → Run nodes ps (Some p) lo None [] → (rest : List ℕ) × (ps ≡ p ∷ rest) × (lo ≡ n.lo) × ((n.next ≡ None) ⊎ Below n.lo n.hi) × Run nodes rest n.next n.hi None []
+pub run_on : (nodes : Nodes) (ps : List ℕ) (p : ℕ) (n : Node) (lo : Key) → nodes p ≡ Some n → Run nodes ps (Some p) lo None [] → (rest : List ℕ) × (ps ≡ p ∷ rest) × (lo ≡ n.lo) × ((n.next ≡ None) ⊎ Below n.lo n.hi) × Run nodes rest n.next n.hi None []
 run_on nodes [] p n lo live r = some_none r.0
 run_on nodes (q ∷ ps) p n lo live r =
     let same : q ≡ p = sym (some_is p q r.1.here) in
@@ -47,15 +47,15 @@ index_above (suc h) lo hi c es e k = (h, refl)
 
 module _ {nodes : Nodes} {roots : Tree → Option ℕ} {w : Forest} (f : WellFormed nodes roots w) where
   -- the chain with this first page
-  run_at : (x : Place) (p : ℕ) → head (w.chain x) ≡ Some p → Run nodes (w.chain x) (Some p) [] None []
+  pub run_at : (x : Place) (p : ℕ) → head (w.chain x) ≡ Some p → Run nodes (w.chain x) (Some p) [] None []
   run_at x p e = subst (λ z. Run nodes (w.chain x) z [] None []) e (chain_run f x p (head_in _ p e))
 
   -- a page with a home, as it is
-  homed_is : (x : Place) (p : ℕ) (n : Node) → w.home p ≡ Some x → nodes p ≡ Some n → IsHomed nodes w p x n
+  pub homed_is : (x : Place) (p : ℕ) (n : Node) → w.home p ≡ Some x → nodes p ≡ Some n → IsHomed nodes w p x n
   homed_is x p n e live = let h = f.page x p e in subst (IsHomed nodes w p x) (some_is h.0 n (sym h.1.live ∙ live)) h.1
 
   -- of a level that begins with an index: the level below begins where its first pointer leads
-  index_first : (t : Tree) (h p : ℕ) (n : Node) (es : List (Key × ℕ)) → head (w.chain (place t h)) ≡ Some p → nodes p ≡ Some n → n.content ≡ Index es
+  pub index_first : (t : Tree) (h p : ℕ) (n : Node) (es : List (Key × ℕ)) → head (w.chain (place t h)) ≡ Some p → nodes p ≡ Some n → n.content ≡ Index es
       → (g : ℕ) × (h ≡ suc g) × In p (w.chain (place t (suc g))) × (head (w.chain (place t g)) ≡ first_child (pointers n.content))
   index_first t h p n es e live content =
       let i = head_in _ p e in

@@ -35,3 +35,4 @@ pub mod Accepted
 pub mod Pictures
 pub mod Faulty
 pub mod Ways
+pub mod Refuted

@@ -32,7 +32,7 @@ one_is : (g : ℕ) → 1 ≡ suc g → 0 ≡ g
 one_is g e = omega arith
 
 -- a leaf of a chain
-leaf_stands : (nodes : Nodes) (w : Forest) (t : Tree) (p : ℕ) (lo hi : Key) (next : Option ℕ) (m : Bool) (es : List (Key × Key))
+pub leaf_stands : (nodes : Nodes) (w : Forest) (t : Tree) (p : ℕ) (lo hi : Key) (next : Option ℕ) (m : Bool) (es : List (Key × Key))
     → nodes p ≡ Some (record { lo = lo; hi = hi; next = next; merging = m; merging_child = None; content = Leaf es }) → w.home p ≡ Some (place t 0) → IsStanding nodes w t 0 p
 leaf_stands nodes w t p lo hi next m es live home = record {
   node = _;
@@ -45,7 +45,7 @@ leaf_stands nodes w t p lo hi next m es live home = record {
 }
 
 -- a page of a chain that is not merging
-open_home : (nodes : Nodes) (w : Forest) (t : Tree) (p h : ℕ) (n : Node) → nodes p ≡ Some n → In p (w.chain (place t h)) → n.merging ≡ false → IsNodeAt h n → count n.content ≤ 33 → IsAtHome nodes w t p h
+pub open_home : (nodes : Nodes) (w : Forest) (t : Tree) (p h : ℕ) (n : Node) → nodes p ≡ Some n → In p (w.chain (place t h)) → n.merging ≡ false → IsNodeAt h n → count n.content ≤ 33 → IsAtHome nodes w t p h
 open_home nodes w t p h n live i awake sound few = record {
   node = n;
   is = record { live = live; sound = sound; stands = inl i; calm = λ e. false_true n.merging awake e; parent = λ e. false_true n.merging awake e };
@@ -62,7 +62,7 @@ found_below passes (d ∷ es) p g same a e = go (passes d.0) refl e (found_below
     go true h e more = subst (λ q. q < 2 ^ 64) (same d.0 h) a.0
     go false h e more = more e
 
-rooted : (r : ℕ) (u : Tree) → ((u ≡ one_tree) × (root_in (root r) u ≡ Some r)) ⊎ ((u ≢ one_tree) × (root_in (root r) u ≡ None))
+pub rooted : (r : ℕ) (u : Tree) → ((u ≡ one_tree) × (root_in (root r) u ≡ Some r)) ⊎ ((u ≢ one_tree) × (root_in (root r) u ≡ None))
 rooted r u = go (bytes_eq one_tree u) (bytes_eq-Decides one_tree u)
   where
     go : (o : Bool) → Decides o (one_tree ≡ u) → ((u ≡ one_tree) × (option_map (λ (e : Key × ℕ). e.1) (cond o (Some (one_tree, r)) None) ≡ Some r)) ⊎ ((u ≢ one_tree) × (option_map (λ (e : Key × ℕ). e.1) (cond o (Some (one_tree, r)) None) ≡ None))
@@ -103,15 +103,15 @@ low = (omega arith, omega arith, omega arith, omega arith)
 empty_sound : IsNodeAt 0 (leaf [] [] None [])
 empty_sound = record { holds = (tt, tt) }
 
-left_sound : IsNodeAt 0 left.1
+pub left_sound : IsNodeAt 0 left.1
 unfolding key_cmp
 left_sound = record { holds = (tt, ((refl, inr refl), ((refl, inr refl), ((refl, inr refl), ((refl, inr refl), ((refl, inr refl), ((refl, inr refl), ((refl, inr refl), ((refl, inr refl), tt))))))))) }
 
-right_sound : IsNodeAt 0 right
+pub right_sound : IsNodeAt 0 right
 unfolding key_cmp
 right_sound = record { holds = (tt, ((refl, inl refl), ((refl, inl refl), ((refl, inl refl), tt)))) }
 
-whole_sound : IsNodeAt 0 all_in_one.1
+pub whole_sound : IsNodeAt 0 all_in_one.1
 unfolding key_cmp
 whole_sound = record { holds = (tt, ((refl, inl refl), ((refl, inl refl), ((refl, inl refl), ((refl, inl refl), ((refl, inl refl), ((refl, inl refl), ((refl, inl refl), ((refl, inl refl), ((refl, inl refl), ((refl, inl refl), ((refl, inl refl), tt)))))))))))) }
 
@@ -119,11 +119,11 @@ first_sound : IsNodeAt 1 (over first_only)
 unfolding key_cmp
 first_sound = record { holds = (tt, ((refl, inl refl), tt), refl) }
 
-both_sound : IsNodeAt 1 (over both)
+pub both_sound : IsNodeAt 1 (over both)
 unfolding key_cmp
 both_sound = record { holds = (tt, ((refl, inl refl), ((refl, inl refl), tt)), refl) }
 
-left_below : Below [] (key 8)
+pub left_below : Below [] (key 8)
 unfolding key_cmp
 left_below = refl
 
@@ -141,13 +141,13 @@ module _ (nodes : Nodes) (live_left : nodes 1 ≡ Some left.1) where
   )
 
 -- a page alone on its level
-alone : (nodes : Nodes) (p : ℕ) (n : Node) → nodes p ≡ Some n → n.lo ≡ [] → n.hi ≡ [] → n.next ≡ None → Run nodes (p ∷ []) (Some p) [] None []
+pub alone : (nodes : Nodes) (p : ℕ) (n : Node) → nodes p ≡ Some n → n.lo ≡ [] → n.hi ≡ [] → n.next ≡ None → Run nodes (p ∷ []) (Some p) [] None []
 alone nodes p n live lo hi next = (n, record { live = live; here = refl; lo_is = sym lo; rises = inl next }, (next, hi))
 
-eight : 8 ≤ 33
+pub eight : 8 ≤ 33
 eight = omega arith
 
-three : 3 ≤ 33
+pub three : 3 ≤ 33
 three = omega arith
 
 eleven : 11 ≤ 33
@@ -176,15 +176,15 @@ not_hoisted_is = accepts not_hoisted 1 ((1 ∷ 2 ∷ []) ∷ []) ((1, 0) ∷ (2,
 three_small : 3 ≤ 17
 three_small = omega arith
 
-one_few : 1 ≤ 33
+pub one_few : 1 ≤ 33
 one_few = omega arith
 
-two_few : 2 ≤ 33
+pub two_few : 2 ≤ 33
 two_few = omega arith
 
 module _ (nodes : Nodes) (w : Forest) where
   -- an index over leaves
-  index_stands : (p : ℕ) (n : Node) → nodes p ≡ Some n → w.home p ≡ Some (place one_tree 1) → AllByRecursion (λ e. IsPointer nodes w n one_tree 0 e.0 e.1) (pointers n.content)
+  pub index_stands : (p : ℕ) (n : Node) → nodes p ≡ Some n → w.home p ≡ Some (place one_tree 1) → AllByRecursion (λ e. IsPointer nodes w n one_tree 0 e.0 e.1) (pointers n.content)
       → ((c : ℕ) → n.merging_child ≡ Some c → (k : Key) × In (k, c) (later (pointers n.content))) → head (w.chain (place one_tree 0)) ≡ first_child (pointers n.content)
       → ((c : ℕ) (d : Node) → n.merging_child ≡ Some c → nodes c ≡ Some d → count d.content ≤ 17) → IsStanding nodes w one_tree 1 p
   index_stands p n live home each child down small = record {
@@ -197,7 +197,7 @@ module _ (nodes : Nodes) (w : Forest) where
     small = small;
   }
 
-  pointer_open : (n d : Node) (k : Key) (c : ℕ) → nodes c ≡ Some d → w.home c ≡ Some (place one_tree 0) → d.lo ≡ k → d.merging ≡ false → IsPointer nodes w n one_tree 0 k c
+  pub pointer_open : (n d : Node) (k : Key) (c : ℕ) → nodes c ≡ Some d → w.home c ≡ Some (place one_tree 0) → d.lo ≡ k → d.merging ≡ false → IsPointer nodes w n one_tree 0 k c
   pointer_open n d k c live home lo awake = record { node = d; live = live; homed = home; key = lo; merged = λ e. false_true d.merging awake e }
 
   -- the index 3 with the pointer to the first leaf alone
@@ -230,15 +230,18 @@ not_posted_is = accepts not_posted 3 ((1 ∷ 2 ∷ []) ∷ (3 ∷ []) ∷ []) ((
       rooted = rooted 3;
     }) (low.2, (low.1, (low.0, tt))) refl refl
 
+pub intended_forest : IsForest (nodes_of (image intended (root 3))) (root_in (root 3)) one_tree 3 ((1 ∷ 2 ∷ []) ∷ (3 ∷ []) ∷ []) ((1, 0) ∷ (2, 0) ∷ (3, 1) ∷ [])
+intended_forest = record {
+  standing = ((leaf_stands _ _ _ 1 [] (key 8) (Some 2) false (selves 8 0) refl refl, (leaf_stands _ _ _ 2 (key 8) [] None false (selves 3 8) refl refl, tt)), ((merger_stands _ _ false refl refl left.1 refl refl refl refl refl refl refl, tt), tt));
+  at_home = (open_home _ _ _ 1 0 left.1 refl (inl refl) refl left_sound eight, (open_home _ _ _ 2 0 right refl (inr (inl refl)) refl right_sound three, (open_home _ _ _ 3 1 (merging 2 (over both)) refl (inl refl) refl (record { holds = both_sound.holds }) two_few, tt)));
+  runs = (chained _ refl false refl, (alone _ 3 (merging 2 (over both)) refl refl refl refl, tt));
+  top = (1, refl, refl);
+  rooted = rooted 3;
+}
+
 intended_is : Accepts intended 3 (selves 11 0) 3
-intended_is = accepts intended 3 ((1 ∷ 2 ∷ []) ∷ (3 ∷ []) ∷ []) ((1, 0) ∷ (2, 0) ∷ (3, 1) ∷ []) (selves 11 0) 3 (
-    record {
-      standing = ((leaf_stands _ _ _ 1 [] (key 8) (Some 2) false (selves 8 0) refl refl, (leaf_stands _ _ _ 2 (key 8) [] None false (selves 3 8) refl refl, tt)), ((merger_stands _ _ false refl refl left.1 refl refl refl refl refl refl refl, tt), tt));
-      at_home = (open_home _ _ _ 1 0 left.1 refl (inl refl) refl left_sound eight, (open_home _ _ _ 2 0 right refl (inr (inl refl)) refl right_sound three, (open_home _ _ _ 3 1 (merging 2 (over both)) refl (inl refl) refl (record { holds = both_sound.holds }) two_few, tt)));
-      runs = (chained _ refl false refl, (alone _ 3 (merging 2 (over both)) refl refl refl refl, tt));
-      top = (1, refl, refl);
-      rooted = rooted 3;
-    }) (low.2, (low.1, (low.0, tt))) refl refl
+unfolding intended_forest
+intended_is = accepts intended 3 ((1 ∷ 2 ∷ []) ∷ (3 ∷ []) ∷ []) ((1, 0) ∷ (2, 0) ∷ (3, 1) ∷ []) (selves 11 0) 3 intended_forest (low.2, (low.1, (low.0, tt))) refl refl
 
 child_capped_is : Accepts child_capped 3 (selves 11 0) 3
 child_capped_is = accepts child_capped 3 ((1 ∷ 2 ∷ []) ∷ (3 ∷ []) ∷ []) ((1, 0) ∷ (2, 0) ∷ (3, 1) ∷ []) (selves 11 0) 3 (

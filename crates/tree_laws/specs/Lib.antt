@@ -14,3 +14,4 @@ pub mod StageLaws
 pub mod MapLaws
 pub mod PathLaws
 pub mod Images
+pub mod FalseLaws

@@ -126,6 +126,7 @@
 //! - `law_accepted_images`: What half-done work leaves is well formed, and has the pairs that the tree had.
 //! - `law_refused_images`: No forest has the shape and the size of an image that breaks one of the lines of well-formedness.
 //! - `law_clean_paths`: A clean path is one over pages that a walk passes without a repair, and no path over another page is clean.
+//! - `law_false_laws`: Laws of the actions that ask for less are false: each would lead to a state that is not well formed, or change another call's page.
 //!
 //! `kept`: what a call in flight knows survives each action of others.
 //!
@@ -238,7 +239,7 @@ pub use crashes::{
     law_again, law_decides, law_extends, law_flushes, law_flushes_whole, law_inside_group,
     law_rests, law_unseen, law_whole,
 };
-pub use images::{law_accepted_images, law_clean_paths, law_refused_images};
+pub use images::{law_accepted_images, law_clean_paths, law_false_laws, law_refused_images};
 pub use kept::{law_acting, law_now, law_stood, law_view};
 pub use levels::{
     law_before, law_before_child, law_halved, law_inside, law_joined, law_leads_down, law_reached,
