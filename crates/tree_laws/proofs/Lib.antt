@@ -14,6 +14,7 @@ pub mod Roots
 pub mod Empty
 pub mod Fuel
 pub mod Crashing
+pub mod Matching
 pub mod Known
 pub mod Split
 pub mod Receive

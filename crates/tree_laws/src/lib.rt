@@ -120,6 +120,7 @@
 //! - `law_flushes`: After a flush a crash leaves the flushed state alone.
 //! - `law_whole`: The size is kept in each state that a crash may leave, as the shape is.
 //! - `law_flushes_whole`: After a flush of a state that has the size, each state that a crash may leave has it.
+//! - `law_matches`: Lists match exactly if they are the same once each run of equal neighbours is taken once.
 //!
 //! `images`: pages and roots that are well formed, and such that are not.
 //!
@@ -237,7 +238,7 @@ mod steps;
 pub use actions::{law_del, law_drop, law_empty, law_hoist, law_plant, law_set};
 pub use crashes::{
     law_again, law_decides, law_extends, law_flushes, law_flushes_whole, law_inside_group,
-    law_rests, law_unseen, law_whole,
+    law_matches, law_rests, law_unseen, law_whole,
 };
 pub use images::{law_accepted_images, law_clean_paths, law_false_laws, law_refused_images};
 pub use kept::{law_acting, law_now, law_stood, law_view};
