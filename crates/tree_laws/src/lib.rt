@@ -86,7 +86,7 @@
 //! - *The base stays, actions are only added at the end, and are counted*: `Extends.base`, `recent` and `actions`. The count
 //!   refuses what takes a root away, flushes, and puts it back and flushes again, after which all else is as it was.
 //! - *The contents after the states that a crash may leave go on by the contents after each call, in order, and by no others,
-//!   equal neighbours taken once*: `Extends.grew`, over `Matches`. *Those states stay well formed*: `safe`, of the shape;
+//!   equal neighbours taken once*: `Extends.grew`, over `Matches` (`law_matches`). *Those states stay well formed*: `safe`, of the shape;
 //!   `law_whole` and `law_flushes_whole` keep the size.
 //! - *A flush alone does otherwise: the base becomes the state before it, nothing is recent, the count stays*: `Flushes`.
 //!
