@@ -9,7 +9,7 @@ use Rattle.sled_pages.specs.Crash.{left_from, states_left}
 use Rattle.sled_pages.specs.Facts.{after_last}
 use Rattle.tree_laws.specs.Contents.{trees_of}
 use Rattle.tree_laws.specs.Crashes.{IsWell, IsWhole, IsCrashSafe, Repeats, Matches, Trees, Extends, Flushes, Adds}
-use Rattle.tree_laws.specs.CrashLaws.{ExtendsLaw, RestsLaw, DecidesLaw, UnseenLaw, InsideGroupLaw, AgainLaw, FlushesLaw, WholeLaw}
+use Rattle.tree_laws.specs.CrashLaws.{ExtendsLaw, RestsLaw, DecidesLaw, UnseenLaw, InsideGroupLaw, AgainLaw, FlushesLaw, WholeLaw, FlushesWholeLaw}
 use Rattle.tree_laws.proofs.Runs.{In_cases, In-right}
 
 -- the lists that are equal but for repeats
@@ -282,3 +282,6 @@ flushes_law a b d = flushes_safe d
 
 pub whole_law : WholeLaw
 whole_law act a b d old new = record { whole = adds_each d IsWhole old.whole new }
+
+pub flushes_whole_law : FlushesWholeLaw
+flushes_whole_law a b d out is = record { whole = λ x i. elim (subst (λ l. In x l) (flushes_left d out) i) [ inl e ↦ subst IsWhole (sym e) is | inr e ↦ absurd e ] }

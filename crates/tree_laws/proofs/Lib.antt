@@ -14,6 +14,7 @@ pub mod Roots
 pub mod Empty
 pub mod Fuel
 pub mod Crashing
+pub mod Matching
 pub mod Known
 pub mod Split
 pub mod Receive
@@ -31,3 +32,8 @@ pub mod Staged
 pub mod Halving
 pub mod Mapped
 pub mod Before
+pub mod Accepted
+pub mod Pictures
+pub mod Faulty
+pub mod Ways
+pub mod Refuted

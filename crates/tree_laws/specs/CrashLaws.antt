@@ -1,9 +1,9 @@
 -- The laws of what a crash may leave, as types.
-use Rattle.std.specs.Prelude.{◌≡◌, true, false, List, [], ◌∷◌, ◌++◌}
+use Rattle.std.specs.Prelude.{◌≡◌, ℕ, nat_eq, true, false, List, [], ◌∷◌, ◌++◌, if◌then◌else◌}
 use Rattle.sled_pages.specs.State.{Action}
 use Rattle.sled_pages.specs.Store.{Store, now}
 use Rattle.tree_laws.specs.Contents.{trees_of}
-use Rattle.tree_laws.specs.Crashes.{IsWell, IsWhole, IsCrashSafe, IsCrashWhole, Trees, Extends, Flushes, Adds}
+use Rattle.tree_laws.specs.Crashes.{IsWell, IsWhole, IsCrashSafe, IsCrashWhole, Trees, Matches, Extends, Flushes, Adds}
 
 -- growths follow one another, and their trees stand one behind the other
 abbrev pub ExtendsLaw : Type 0
@@ -36,3 +36,21 @@ FlushesLaw = (a b : Store) → Flushes a b → (now a).in_group ≡ false → Is
 -- the size is kept in each state that a crash may leave, as the shape is
 abbrev pub WholeLaw : Type 0
 WholeLaw = (act : Action) (a b : Store) → Adds act a b → IsCrashWhole a → ((now b).in_group ≡ false → IsWhole (now b)) → IsCrashWhole b
+
+-- and after a flush of a state that has it
+abbrev pub FlushesWholeLaw : Type 0
+FlushesWholeLaw = (a b : Store) → Flushes a b → (now a).in_group ≡ false → IsWhole (now a) → IsCrashWhole b
+
+-- a number comes before a list, unless the list begins with it
+abbrev pub ahead : ℕ → List ℕ → List ℕ
+ahead x [] = x ∷ []
+ahead x (y ∷ ys) = if nat_eq x y then (y ∷ ys) else (x ∷ y ∷ ys)
+
+-- the numbers, each run of equal neighbours taken once
+abbrev pub once_each : List ℕ → List ℕ
+once_each [] = []
+once_each (x ∷ xs) = ahead x (once_each xs)
+
+-- what it is that lists match, said of numbers, which can be compared
+abbrev pub MatchesLaw : Type 0
+MatchesLaw = (xs ys : List ℕ) → (Matches xs ys → once_each xs ≡ once_each ys) × (once_each xs ≡ once_each ys → Matches xs ys)

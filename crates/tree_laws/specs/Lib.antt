@@ -13,3 +13,5 @@ pub mod Drops
 pub mod StageLaws
 pub mod MapLaws
 pub mod PathLaws
+pub mod Images
+pub mod FalseLaws

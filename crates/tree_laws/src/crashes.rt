@@ -1,5 +1,5 @@
 //! What an action adds to the states that a crash may leave.
-ghost use Rattle.tree_laws.specs.CrashLaws.{AgainLaw, DecidesLaw, ExtendsLaw, FlushesLaw, InsideGroupLaw, RestsLaw, UnseenLaw, WholeLaw};
+ghost use Rattle.tree_laws.specs.CrashLaws.{AgainLaw, DecidesLaw, ExtendsLaw, FlushesLaw, FlushesWholeLaw, InsideGroupLaw, MatchesLaw, RestsLaw, UnseenLaw, WholeLaw};
 
 /// Growths follow one another.
 pub fn law_extends()
@@ -39,4 +39,14 @@ pub fn law_flushes()
 /// The size is kept in each state that a crash may leave, as the shape is.
 pub fn law_whole()
     ensures { WholeLaw }
+{}
+
+/// After a flush of a state that has the size, each state that a crash may leave has it.
+pub fn law_flushes_whole()
+    ensures { FlushesWholeLaw }
+{}
+
+/// Lists match exactly if they are the same once each run of equal neighbours is taken once.
+pub fn law_matches()
+    ensures { MatchesLaw }
 {}

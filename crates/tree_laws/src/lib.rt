@@ -15,49 +15,80 @@
 //!
 //! # Well-formedness in words, and where the definition says it
 //!
-//! - *Each level is a chain by `next` from the empty `lo` to an empty `hi`, each `hi` being the next page's `lo`*:
-//!   `WellFormed.run`, over `Run` and `IsLink`. *Its last page has no `next`, and every other has one*: `Run` ends at no
-//!   page. *No page twice* is not asked, since it follows (`run_different`).
-//! - *Bounds rise*: a page with a `next` has its `lo` below its `hi` (`IsLink.rises`). Without this line an empty leaf may end
-//!   below where it begins, and a key may then stand in a tree twice.
-//! - *All leaves or all indexes, the last level leaves*: the height of a place fixes the kind (`Holds`).
-//! - *The top level begins at the root, each other where the first pointer of the level above leads*: `top` and `down`. A name
-//!   without a root has no level.
-//! - *Entries ascend within the bounds; an index has a pointer, and its first key is its `lo`*: `Holds`.
-//! - *A pointer names a live page of the level below whose `lo` is the pointer's key*: `IsPointer`. *It stands in the chain, or
-//!   is merging and was received*: `IsHomed.stands`; that a page was received says just that it is not in the chain.
-//! - *Received pages are pages of their tree*: they have a home, as the pages of chains have, so none is in two trees or on two
-//!   levels, and one pointer at most leads to it. What is asked of a page by itself is asked of them too. Nothing is asked of
-//!   where their own pointers and `next` lead.
-//! - *A merging child is a pointer of its page, not the first*: `child`. *A merging page is the merging child of whoever points
-//!   to it* (`IsPointer.merged`), *and has such a parent in the chain above* (`IsHomed.parent`): so no root is merging, and no
-//!   page beside a root. *No page both is merging and has a merging child*: `IsHomed.calm`.
-//! - *No page stands in two trees*: a home is one place.
-//! - *A page of a chain needs no pointer*: nothing asks for one. *Of pages that no tree names nothing is asked*: they have no home.
-//! - *At most 33 entries, and 17 of a merging child*: `IsSized`.
+//! What is asked of the pages of a level's chain:
+//!
+//! - *The chain goes by `next`, from the empty `lo` to an empty `hi`, and each `hi` is the next page's `lo`*: `WellFormed.run`,
+//!   over `Run` and `IsLink`. *Its last page has no `next`, and every other has one*: `Run` ends where `next` is none and `hi`
+//!   is empty, and goes on where `next` is the page that follows.
+//! - *Bounds rise*: a page with a `next` has its `lo` below its `hi` (`IsLink.rises`), so that an empty `hi` has no `next`. Without
+//!   this line an empty leaf may end below where it begins, and a key may then stand in a tree twice.
+//! - *No page stands in a chain twice*: not asked, since the chain's pages begin at ascending keys (`run_different`).
+//! - *The top level begins at the root, each other where the first pointer of the level above leads*: `top` and `down`. No level
+//!   stands above the root's: `top` asks it of the next one, and `down` then gives it of all. A name without a root has no level.
+//! - *A pointer names a live page of the level below whose `lo` is the pointer's key*: `IsPointer.live`, `homed` and `key`. *It
+//!   stands in the chain, or is merging and was received*: `IsHomed.stands`. That a page was received says just that it is not
+//!   in the chain: some page of the chain then covers its `lo`, and reaches beyond it.
+//! - *A merging child is a pointer of its page, not the first*: `child`. *It has at most 17 entries*: `IsSized.child`.
+//! - *A page of a chain needs no pointer*: nothing asks for one.
+//!
+//! What is asked of received pages too, since they have a home as the pages of chains have:
+//!
+//! - *The page is live*: `IsHomed.live`.
+//! - *All pages of a level are leaves or all are indexes, and those of the last level leaves*: the height of a place fixes the
+//!   kind (`Holds`).
+//! - *Entries ascend within the bounds; an index has a pointer, and its first key is its `lo`*: `Holds`. *At most 33 entries*:
+//!   `IsSized.few`.
+//! - *A merging page is the merging child of whoever points to it*: `IsPointer.merged`. *It has such a parent in the chain above*:
+//!   `IsHomed.parent`. So no root is merging, and no page beside a root.
+//! - *No page both is merging and has a merging child*: `IsHomed.calm`.
+//! - *It belongs to one level of one tree*: a home is one place, and a page of a chain has its home there (`homed`). *One pointer
+//!   leads to it*: not asked, since that pointer's key is its `lo`, which one page of the level above covers (`one_parent`).
+//! - Nothing is asked of where a received page's own pointers and `next` lead, nor that its bounds rise.
+//!
+//! *Of pages that no tree names nothing is asked*: they have no home. A home is no freedom of whoever says that there is a forest:
+//! a page has one exactly if it stands in a chain, or is the merging child of a page of a chain (`law_one`).
+//!
+//! `law_refused_images` has images that break these lines, which no forest has; `law_accepted_images` has what a
+//! split, a hoist and each stage of a merge leave when they stop half done.
 //!
 //! # Contents
 //!
 //! The contents of a tree are the pairs along its leaves (`contents`). `trees_of` says the same without a forest, as a total
-//! function of pages and roots: down by first pointers to a leaf, then along `next`, and none for a name without a root. It has
-//! fuel for as many steps as there are page numbers, which is never used up (`law_contents`). What the leaf that covers a key
-//! has at it is what the tree has at it (`law_find`), and a leaf's pairs are the part of the contents within its bounds
-//! (`law_range`).
+//! function of pages and roots:
+//!
+//! - *The contents of all roots by name*: a name without a root has none, which is not the same as no pairs.
+//! - *From the root down by first pointers to a leaf*: `first_leaf`. *Then along `next` to the end*: `along`. *The pairs are
+//!   joined*: in the order of the pages.
+//! - It has fuel for as many steps as there are page numbers, which is never used up where the pages are well formed: there it is
+//!   what the forest says (`law_contents`). Elsewhere a page that is missing has no pairs, no pointer and no `next`.
+//!
+//! What the leaf that covers a key has at it is what the tree has at it (`law_find`), the pairs ascend (`law_sorted`), and a leaf's
+//! pairs are the part of the contents within its bounds (`law_range`).
 //!
 //! # Clean paths and reads
 //!
-//! A clean path of a key (`IsClean`) is a list of pages from the root on, one of each level, by the last pointers at or below
-//! the key. Each page covers the key, has at most 16 entries, is neither merging nor has a merging child, and has more than 3
-//! entries unless it is the root or was reached by a first pointer: so a walk repairs nothing on it, and goes one down the list
-//! with each step. A reading walk looks at each page of a tree at most once (`IsAhead`), and how many pages that are is a
-//! function of pages and roots (`tree_pages`).
+//! A clean path of a key (`IsClean`) is a list of pages that a walk to the key passes without a repair:
+//!
+//! - *It begins at the root*: `is_root`. *It goes down by the last pointer at or below the key, to a leaf*: `CleanFrom`. So it has
+//!   a page of each level (`law_clean`), and a walk goes one down the list with each step (`law_clean_step`).
+//! - *Each page covers the key*: `IsPassed.covers`. *None is merging or has a merging child*: `is_open`. *None should split*: an open
+//!   page should where it has more than 16 entries (`few`). *One that should merge is the root or was reached by a first
+//!   pointer*: an open page should where it has 3 or fewer (`many`).
+//!
+//! `law_clean_paths` has a path for each of these lines that breaks it. A reading walk looks at each page of a tree at most once
+//! (`IsAhead`), and how many pages stand in a tree's chains is a function of pages and roots (`tree_pages`).
 //!
 //! # Crashes
 //!
-//! A store is crash safe where each state that a crash may leave has the shape of a forest (`IsCrashSafe`; with the size too,
-//! `IsCrashWhole`). It extends another by a list of trees' contents (`Extends`) where its base is the same, actions were only
-//! added and are counted, and the contents after the states that a crash may leave go on by that list, equal neighbours taken
-//! once (`Matches`).
+//! - *Each state that a crash may leave is well formed*: `IsCrashSafe` says so of the shape, `IsCrashWhole` of the size too. Which
+//!   states a crash may leave is said where the pages are (`states_left`): the base after each beginning of the recent actions
+//!   that ends outside every group, the shortest first.
+//! - *The base stays, actions are only added at the end, and are counted*: `Extends.base`, `recent` and `actions`. The count
+//!   refuses what takes a root away, flushes, and puts it back and flushes again, after which all else is as it was.
+//! - *The contents after the states that a crash may leave go on by the contents after each call, in order, and by no others,
+//!   equal neighbours taken once*: `Extends.grew`, over `Matches` (`law_matches`). *Those states stay well formed*: `safe`, of the shape;
+//!   `law_whole` and `law_flushes_whole` keep the size.
+//! - *A flush alone does otherwise: the base becomes the state before it, nothing is recent, the count stays*: `Flushes`.
 //!
 //! # Calls in flight
 //!
@@ -88,6 +119,15 @@
 //! - `law_again`: A call that is decided without a change adds the trees as they are.
 //! - `law_flushes`: After a flush a crash leaves the flushed state alone.
 //! - `law_whole`: The size is kept in each state that a crash may leave, as the shape is.
+//! - `law_flushes_whole`: After a flush of a state that has the size, each state that a crash may leave has it.
+//! - `law_matches`: Lists match exactly if they are the same once each run of equal neighbours is taken once.
+//!
+//! `images`: pages and roots that are well formed, and such that are not.
+//!
+//! - `law_accepted_images`: What half-done work leaves is well formed, and has the pairs that the tree had.
+//! - `law_refused_images`: No forest has the shape and the size of an image that breaks one of the lines of well-formedness.
+//! - `law_clean_paths`: A clean path is one over pages that a walk passes without a repair, and no path over another page is clean.
+//! - `law_false_laws`: Laws of the actions that ask for less are false: each would lead to a state that is not well formed, or change another call's page.
 //!
 //! `kept`: what a call in flight knows survives each action of others.
 //!
@@ -185,6 +225,7 @@
 
 mod actions;
 mod crashes;
+mod images;
 mod kept;
 mod levels;
 mod maps;
@@ -196,9 +237,10 @@ mod steps;
 
 pub use actions::{law_del, law_drop, law_empty, law_hoist, law_plant, law_set};
 pub use crashes::{
-    law_again, law_decides, law_extends, law_flushes, law_inside_group, law_rests, law_unseen,
-    law_whole,
+    law_again, law_decides, law_extends, law_flushes, law_flushes_whole, law_inside_group,
+    law_matches, law_rests, law_unseen, law_whole,
 };
+pub use images::{law_accepted_images, law_clean_paths, law_false_laws, law_refused_images};
 pub use kept::{law_acting, law_now, law_stood, law_view};
 pub use levels::{
     law_before, law_before_child, law_halved, law_inside, law_joined, law_leads_down, law_reached,

@@ -1,0 +1,125 @@
+-- Clean paths of images, and ways that are not clean.
+use Rattle.std.proofs.Common.{◌≡◌, ℕ, ◌≤◌, true, false, List, [], ◌∷◌, Some, None, sym, refl, ◌∙◌, subst, inl, inr, arith}
+use Rattle.std.specs.declared.ops.Bound.TheVariants.{Included}
+use Rattle.sled_pages.specs.Among.{IsPointer}
+use Rattle.sled_pages.specs.Node.{count, Covers}
+use Rattle.sled_pages.specs.Order.{Key, key_cmp}
+use Rattle.sled_pages.specs.State.{State, Nodes, nodes_of}
+use Rattle.sled_pages.specs.declared.node.Node.{Node}
+use Rattle.tree_laws.specs.Forest.{Tree}
+use Rattle.tree_laws.specs.Images.{Pages, Unclean, image, selves, key, leaf, capped, merging, one_tree, root, left, right, over, first_only, both, not_hoisted, not_posted, intended, unnamed, too_many_in_the_root, CleanPaths}
+use Rattle.tree_laws.specs.Paths.{IsPassed, CleanFrom, IsClean}
+use Rattle.tree_laws.specs.PathLaws.{CleanStep}
+use Rattle.tree_laws.proofs.Looking.{clean_step_law}
+use Rattle.tree_laws.proofs.Replace.{some_is}
+
+-- the pointers that lead to a key
+to_first : IsPointer (Included (key 0)) both 1 true
+unfolding key_cmp
+to_first = record { key = []; last = record { before = []; after = (key 8, 2) ∷ []; is = refl; passed = refl; none = refl }; is_first = refl }
+
+to_second : IsPointer (Included (key 9)) both 2 false
+unfolding key_cmp
+to_second = record { key = key 8; last = record { before = ([], 1) ∷ []; after = []; is = refl; passed = refl; none = refl }; is_first = refl }
+
+to_only : IsPointer (Included (key 9)) first_only 1 true
+unfolding key_cmp
+to_only = record { key = []; last = record { before = []; after = []; is = refl; passed = refl; none = refl }; is_first = refl }
+
+-- an open page without bounds, and the left leaf
+wide : (nodes : Nodes) (k : Key) (p : ℕ) (n : Node) → nodes p ≡ Some n → Covers n k → n.merging ≡ false → n.merging_child ≡ None → count n.content ≤ 16 → IsPassed nodes k p true n
+wide nodes k p n live covers awake free few = record { live = live; covers = covers; is_open = record { awake = awake; free = free }; few = few; many = λ l. refl }
+
+covers_all : (hi : Key) → hi ≡ [] → Covers (leaf [] hi None []) (key 0)
+unfolding key_cmp
+covers_all hi e = (refl, inl e)
+
+covers_left : Covers left.1 (key 0)
+unfolding key_cmp
+covers_left = (refl, inr refl)
+
+few : (0 ≤ 16) × (2 ≤ 16) × (3 ≤ 16) × (8 ≤ 16) × (16 ≤ 16)
+few = (omega arith, omega arith, omega arith, omega arith, omega arith)
+
+clean_at : (s : State) (t : Tree) (k : Key) (path : List ℕ) (r : ℕ) → s.roots t ≡ Some r → IsClean s t k path → CleanFrom (nodes_of s) k r true path
+clean_at s t k path r e c = subst (λ p. CleanFrom (nodes_of s) k p true path) (some_is c.root r (sym c.is_root ∙ e)) c.clean
+
+-- the first step of a clean path of an image
+first_step : (pages : Pages) (r : ℕ) (k : Key) (path : List ℕ) (n : Node) → nodes_of (image pages (root r)) r ≡ Some n → IsClean (image pages (root r)) one_tree k path → CleanStep (nodes_of (image pages (root r))) k path r true n
+first_step pages r k path n live c = clean_step_law _ k path r true n (clean_at (image pages (root r)) one_tree k path r refl c) live
+
+true_false : {P : Type 0} → true ≡ false → P
+true_false e = cc
+
+false_true : {P : Type 0} → false ≡ true → P
+false_true e = cc
+
+some_none : {P : Type 0} {A : Type 0} {x : A} → Some x ≡ None → P
+some_none e = cc
+
+beyond_left : Covers left.1 (key 9) → ⊥
+unfolding key_cmp
+beyond_left c = elim c.1 [ inl e ↦ cc | inr e ↦ cc ]
+
+later_pointer : Unclean unnamed 3 (key 9)
+later_pointer path c =
+    let s = first_step unnamed 3 (key 9) path (over both) refl c in
+    let d = s.down both 2 false refl to_second in
+    let e = clean_step_law _ (key 9) d.0 2 false right d.2 refl in
+    false_true (e.passed.many few_enough)
+  where
+    few_enough : 3 ≤ 3
+    few_enough = omega arith
+
+too_long : Unclean too_many_in_the_root 1 (key 0)
+too_long path c = no (first_step too_many_in_the_root 1 (key 0) path (leaf [] [] None (selves 17 0)) refl c).passed.few
+  where
+    no : 17 ≤ 16 → ⊥
+    no l = omega arith
+
+is_merging : Unclean ((1, capped (leaf [] [] None [])) ∷ []) 1 (key 0)
+is_merging path c = true_false (first_step ((1, capped (leaf [] [] None [])) ∷ []) 1 (key 0) path (capped (leaf [] [] None [])) refl c).passed.is_open.awake
+
+has_a_child : Unclean intended 3 (key 0)
+has_a_child path c = some_none (first_step intended 3 (key 0) path (merging 2 (over both)) refl c).passed.is_open.free
+
+beyond_the_root : Unclean not_hoisted 1 (key 9)
+beyond_the_root path c = beyond_left (first_step not_hoisted 1 (key 9) path left.1 refl c).passed.covers
+
+beyond_the_leaf : Unclean not_posted 3 (key 9)
+beyond_the_leaf path c =
+    let s = first_step not_posted 3 (key 9) path (over first_only) refl c in
+    let d = s.down first_only 1 true refl to_only in
+    beyond_left (clean_step_law _ (key 9) d.0 1 true left.1 d.2 refl).passed.covers
+
+pub clean_paths : CleanPaths
+clean_paths = record {
+  empty_root = record { root = 1; is_root = refl; clean = (refl, leaf [] [] None [], wide _ (key 0) 1 (leaf [] [] None []) refl (covers_all [] refl) refl refl few.0, inl ([], refl, refl)) };
+  long_root = record { root = 1; is_root = refl; clean = (refl, leaf [] [] None (selves 16 0), wide _ (key 0) 1 (leaf [] [] None (selves 16 0)) refl (covers_all [] refl) refl refl few.4, inl (selves 16 0, refl, refl)) };
+  two_levels = record {
+    root = 3;
+    is_root = refl;
+    clean = (
+      refl,
+      over both,
+      wide _ (key 0) 3 (over both) refl (covers_all [] refl) refl refl few.1,
+      inr (both, refl, 1, true, to_first, (refl, left.1, wide _ (key 0) 1 left.1 refl covers_left refl refl few.3, inl (selves 8 0, refl, refl))),
+    );
+  };
+  first_pointer = record {
+    root = 3;
+    is_root = refl;
+    clean = (
+      refl,
+      over both,
+      wide _ (key 0) 3 (over both) refl (covers_all [] refl) refl refl few.1,
+      inr (both, refl, 1, true, to_first, (refl, leaf [] (key 8) (Some 2) (selves 3 0), wide _ (key 0) 1 (leaf [] (key 8) (Some 2) (selves 3 0)) refl covers_left refl refl few.2, inl (selves 3 0, refl, refl))),
+    );
+  };
+  later_pointer = later_pointer;
+  too_long = too_long;
+  is_merging = is_merging;
+  has_a_child = has_a_child;
+  beyond_the_root = beyond_the_root;
+  beyond_the_leaf = beyond_the_leaf;
+}
