@@ -31,3 +31,4 @@ pub mod Staged
 pub mod Halving
 pub mod Mapped
 pub mod Before
+pub mod Dividing

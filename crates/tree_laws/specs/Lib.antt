@@ -13,3 +13,4 @@ pub mod Drops
 pub mod StageLaws
 pub mod MapLaws
 pub mod PathLaws
+pub mod Dividing
