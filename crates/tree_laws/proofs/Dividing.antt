@@ -19,7 +19,7 @@ use Rattle.tree_laws.specs.Merging.{IsSmallChild}
 use Rattle.tree_laws.specs.StageLaws.{StagesKept}
 use Rattle.tree_laws.specs.Laws.{IsCurrent, allocated}
 use Rattle.tree_laws.specs.Crashes.{IsWhole, Extends, Adds}
-use Rattle.tree_laws.specs.Dividing.{IsUnshown, SplitsOff, TakesLeft, GivesBack, SplitsLeaf, right_made, left_made}
+use Rattle.tree_laws.specs.Dividing.{IsUnshown, IsQuietAction, SplitsOff, TakesLeft, GivesBack, SplitsLeaf, right_made, left_made}
 use Rattle.tree_laws.proofs.Known.{goes_same, store_allocated, store_replaced, store_freed}
 use Rattle.tree_laws.proofs.Reading.{one_law}
 use Rattle.tree_laws.proofs.Crashing.{adds_page, adds_at, adds_is, extends_law, rests_law, inside_group_law, whole_law}
@@ -52,6 +52,10 @@ unshown {a} {b} {numbers} {given} {w} {v} {mine} {own} act adds group is q =
     -- the forest of a state is one, so it has its size
     sized_now : IsWhole (now a) → IsSized (nodes_at (moment_of a numbers given)) w
     sized_now k = subst (λ z. IsSized (nodes_at (moment_of a numbers given)) z) (one_law (nodes_at (moment_of a numbers given)) (now a).roots k.forest w k.formed is.formed) k.sized
+
+action : {a b : Store} {numbers : Tree → Option ℕ} {given : ℕ → Bool} {w v : Forest} {mine own : List ℕ} (act : Action) → Adds act a b → (now b).in_group ≡ (now a).in_group
+    → IsMoment (moment_of a numbers given) w → Quiet mine own (moment_of a numbers given) w (moment_of b numbers given) v (Unit {0}) → IsQuietAction mine own a b numbers given w v
+action act adds group is q = record { quiet = q; unshown = unshown act adds group is q }
 
 -- one after the other
 unshown_then : {own : List ℕ} {a b c : Store} {numbers : Tree → Option ℕ} {given : ℕ → Bool} {w v u : Forest} → IsUnshown own a b numbers given w v → IsUnshown own b c numbers given v u → IsUnshown own a c numbers given w u
@@ -143,7 +147,7 @@ splits_off view left q version old new two are is a = record {
       let new_is : Moment = allocated (moment_of old numbers given) q (record { version = version; node = right_half view.node }) in
       let h = half_law (moment_of old numbers given) w t number view Nowhere (record (left_half view.node) { next = Some q }) (right_half view.node) q version here a.fresh_pid a.fresh small splitting (halved_law view.node q two) in
       let quiet = subst (λ (z : Moment). Quiet [] (q ∷ []) (moment_of old numbers given) w z w (Unit {0})) (sym at) h.0 in (
-        unshown _ (adds_page a) (ap (λ (s : State). s.in_group) (now_allocates _ q version old new a)) here quiet,
+        action _ (adds_page a) (ap (λ (s : State). s.in_group) (now_allocates _ q version old new a)) here quiet,
         subst (λ (z : Moment). IsReplacing z w t number view Nowhere (record left { next = Some q }) (right_half view.node).lo q version) (sym at) (subst (λ (n : Node). IsReplacing new_is w t number view Nowhere (record n { next = Some q }) (right_half view.node).lo q version) (sym is) h.1),
       );
 }
@@ -166,7 +170,7 @@ takes_left view left given old new c = record {
           let current : IsCurrent (moment_of old numbers gave) t number view c.told.0 = record { named = named; page = c.told.1 } in
           let h = left_half_law (moment_of old numbers gave) w t number view Nowhere left (right_half view.node).lo q version given c.told.0 is k current c.told.2.fresh in
           let quiet = subst (λ (z : Moment). Quiet (q ∷ []) [] (moment_of old numbers gave) w z h.after (Unit {0})) (sym (store_replaced numbers gave c.told.2)) h.quiet in
-          (h.after, unshown _ (adds_at c.told.2) (ap (λ (s : State). s.in_group) (now_acts _ given old new c.told.2)) is quiet);
+          (h.after, action _ (adds_at c.told.2) (ap (λ (s : State). s.in_group) (now_acts _ given old new c.told.2)) is quiet);
     },
   );
 }
@@ -181,7 +185,7 @@ gives_back q version old new a = record {
   acts = a;
   told = λ numbers given w is k.
       let quiet = subst (λ (z : Moment). Quiet (q ∷ []) [] (moment_of old numbers given) w z w (Unit {0})) (sym (store_freed numbers given q old new a)) (frees_law (moment_of old numbers given) w q version is k) in
-      unshown _ (adds_is a) (ap (λ (s : State). s.in_group) (ap now a ∙ now_acted (PageBecomes q None) old)) is quiet;
+      action _ (adds_is a) (ap (λ (s : State). s.in_group) (ap now a ∙ now_acted (PageBecomes q None) old)) is quiet;
 }
 
 pub given_back : (q version : ℕ) (done : Unit {0}) (old new : Store) → Frees q version old new (Ok done) → GivesBack q version old new
@@ -245,7 +249,7 @@ module _ {view : Look} {left : Node} {q version : ℕ} {old half : Store} (s : S
         acts = inr (q, version, s.allocates.fresh_pid, refl);
         told = λ numbers given w is t number named seen.
             let a = s.told numbers given w is t number (seen_splits seen) in
-            (tt, record { after = w; own = q ∷ []; fresh = one_new old q s.allocates.fresh_pid; unshown = unshown_then a.0 (rests (q ∷ []) k a.0.is) });
+            (tt, record { after = w; own = q ∷ []; fresh = one_new old q s.allocates.fresh_pid; unshown = unshown_then a.0.unshown (rests (q ∷ []) k a.0.unshown.is) });
       }
 
   pub split_made : (new : Store) → TakesLeft view left true half new → SplitsLeaf view old (Ok true) new
@@ -256,9 +260,9 @@ module _ {view : Look} {left : Node} {q version : ℕ} {old half : Store} (s : S
     acts = (q, version, l.told.0, s.allocates.fresh_pid, refl);
     told = λ numbers given w is t number named seen.
         let a = s.told numbers given w is t number (seen_splits seen) in
-        let b = l.told.1.told numbers given w a.0.is t number q version named a.1 in (
+        let b = l.told.1.told numbers given w a.0.unshown.is t number q version named a.1 in (
           sym (beside_new s.allocates view.pid (seen_old old seen s.allocates.fresh_pid)) ∙ l.told.1.present,
-          record { after = b.0; own = q ∷ []; fresh = one_new old q s.allocates.fresh_pid; unshown = unshown_then a.0 b.1 },
+          record { after = b.0; own = q ∷ []; fresh = one_new old q s.allocates.fresh_pid; unshown = unshown_then a.0.unshown b.1.unshown },
         );
   }
 
@@ -282,6 +286,6 @@ module _ {view : Look} {left : Node} {q version : ℕ} {old half : Store} (s : S
               let a = s.told numbers given w is t number (seen_splits seen) in
               let free : IsFreeing (moment_of half numbers given) w q version = record { node = a.1.right; own = a.1.own } in (
                 λ e. l.told.1 (beside_new s.allocates view.pid (seen_old old seen s.allocates.fresh_pid) ∙ e),
-                record { after = w; own = q ∷ []; fresh = one_new old q s.allocates.fresh_pid; unshown = unshown_then a.0 (b.told numbers given w a.0.is free) },
+                record { after = w; own = q ∷ []; fresh = one_new old q s.allocates.fresh_pid; unshown = unshown_then a.0.unshown (b.told numbers given w a.0.unshown.is free).unshown },
               );
         }

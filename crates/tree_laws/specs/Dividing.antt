@@ -9,7 +9,7 @@ use Rattle.sled_pages.specs.declared.node.Node.{Node}
 use Rattle.tree_laws.specs.Forest.{Tree, Forest, place, IsSized, contents}
 use Rattle.tree_laws.specs.Contents.{trees_of}
 use Rattle.tree_laws.specs.Moment.{moment_of, nodes_at, IsMoment, Look, Seen}
-use Rattle.tree_laws.specs.Stages.{Nowhere, IsSplitting, IsReplacing, IsFreeing}
+use Rattle.tree_laws.specs.Stages.{Nowhere, IsSplitting, IsReplacing, IsFreeing, Quiet}
 use Rattle.tree_laws.specs.Merging.{IsIntending, IsSmallChild}
 use Rattle.tree_laws.specs.StageLaws.{StagesKept}
 use Rattle.tree_laws.specs.Crashes.{IsCrashWhole, Extends}
@@ -31,20 +31,26 @@ pub record IsUnshown (own : List ℕ) (old new : Store) (numbers : Tree → Opti
   pub crash : Extends [] old new
   pub whole : IsCrashWhole old → IsCrashWhole new
 
+-- One page action of a call that owned the pages `mine` before it and owns `own` after it, which keeps what every action is to
+-- keep for the others
+pub record IsQuietAction (mine own : List ℕ) (old new : Store) (numbers : Tree → Option ℕ) (given : ℕ → Bool) (w v : Forest) : Type 0 where
+  pub quiet : Quiet mine own (moment_of old numbers given) w (moment_of new numbers given) v (Unit {0})
+  pub unshown : IsUnshown (mine ++ own) old new numbers given w v
+
 -- The right half of the page of a view becomes a new page, to which the left half leads
 pub record SplitsOff (view : Look) (left : Node) (q version : ℕ) (old new : Store) : Type 0 where
   pub allocates : Allocates (right_half view.node) q version old new
   pub leads : left ≡ record (left_half view.node) { next = Some q }
   -- where the page is to be split, it is to become the left half next
   pub told : (numbers : Tree → Option ℕ) (given : ℕ → Bool) (w : Forest) → IsMoment (moment_of old numbers given) w → (t : Tree) (number : ℕ) → IsSplitting (moment_of old numbers given) w t number view Nowhere
-      → IsUnshown (q ∷ []) old new numbers given w w × IsReplacing (moment_of new numbers given) w t number view Nowhere left (right_half view.node).lo q version
+      → IsQuietAction [] (q ∷ []) old new numbers given w w × IsReplacing (moment_of new numbers given) w t number view Nowhere left (right_half view.node).lo q version
 
 -- the page of a view becomes this left half
 pub record BecomesLeft (view : Look) (left : Node) (given : ℕ) (old new : Store) : Type 0 where
   pub present : version_now old view.pid ≡ Some view.version
   pub acts : ActsAt (PageBecomes view.pid (Some (record { version = given; node = left }))) given old new
   pub told : (numbers : Tree → Option ℕ) (gave : ℕ → Bool) (w : Forest) → IsMoment (moment_of old numbers gave) w → (t : Tree) (number q version : ℕ) → numbers t ≡ Some number
-      → IsReplacing (moment_of old numbers gave) w t number view Nowhere left (right_half view.node).lo q version → (v : Forest) × IsUnshown (q ∷ []) old new numbers gave w v
+      → IsReplacing (moment_of old numbers gave) w t number view Nowhere left (right_half view.node).lo q version → (v : Forest) × IsQuietAction (q ∷ []) [] old new numbers gave w v
 
 -- where the page has another version than the view's, nothing is done
 abbrev pub takes_as : Look → Node → Bool → Store → Store → Type 0
@@ -57,7 +63,7 @@ pub record TakesLeft (view : Look) (left : Node) (taken : Bool) (old new : Store
 -- a page that was made for a split goes again
 pub record GivesBack (q version : ℕ) (old new : Store) : Type 0 where
   pub acts : new ≡ acted (PageBecomes q None) old
-  pub told : (numbers : Tree → Option ℕ) (given : ℕ → Bool) (w : Forest) → IsMoment (moment_of old numbers given) w → IsFreeing (moment_of old numbers given) w q version → IsUnshown (q ∷ []) old new numbers given w w
+  pub told : (numbers : Tree → Option ℕ) (given : ℕ → Bool) (w : Forest) → IsMoment (moment_of old numbers given) w → IsFreeing (moment_of old numbers given) w q version → IsQuietAction (q ∷ []) [] old new numbers given w w
 
 -- the two actions of a split
 abbrev pub right_made : Look → ℕ → ℕ → Action
