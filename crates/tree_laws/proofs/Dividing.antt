@@ -1,10 +1,10 @@
 -- A leaf that is split in two page actions, by the laws of page actions, of stages and of what a crash may leave.
-use Rattle.std.proofs.Common.{◌≡◌, ◌≢◌, ℕ, ◌<◌, ◌≤◌, ◌^◌, Bool, true, false, List, [], ◌∷◌, ◌++◌, Option, Some, None, Ok, Err, option_map, sym, refl, ap, ◌∙◌, subst, inl, inr, append_assoc, append-nil}
+use Rattle.std.proofs.Common.{◌≡◌, ◌≢◌, ℕ, ◌<◌, ◌≤◌, ◌^◌, Bool, true, false, List, [], ◌∷◌, ◌++◌, Option, Some, None, Ok, Err, option_map, sym, refl, ap, ◌∙◌, subst, inl, inr}
 use Rattle.sled_pages.specs.In.{In}
 use Rattle.sled_pages.specs.Node.{count}
 use Rattle.sled_pages.specs.Halves.{left_half, right_half}
 use Rattle.sled_pages.specs.State.{State, Action, PageBecomes, after}
-use Rattle.sled_pages.specs.Store.{Store, now, acted, Allocates, Changes, Frees, Refused, refused_as, version_now, AreGiven}
+use Rattle.sled_pages.specs.Store.{Store, now, acted, ActsAt, Allocates, Changes, Frees, Refused, refused_as, version_now, AreGiven}
 use Rattle.sled_pages.specs.Crash.{left_from, states_left}
 use Rattle.sled_pages.specs.Facts.{now_acted, now_acts, now_allocates, put_here, put_elsewhere, may_leave_now}
 use Rattle.sled_pages.specs.declared.error.Error.{Error}
@@ -19,7 +19,7 @@ use Rattle.tree_laws.specs.Merging.{IsSmallChild}
 use Rattle.tree_laws.specs.StageLaws.{StagesKept}
 use Rattle.tree_laws.specs.Laws.{IsCurrent, allocated}
 use Rattle.tree_laws.specs.Crashes.{IsWhole, Extends, Adds}
-use Rattle.tree_laws.specs.Dividing.{IsUnshown, IsQuietAction, SplitsOff, TakesLeft, GivesBack, SplitsLeaf, right_made, left_made}
+use Rattle.tree_laws.specs.Dividing.{IsUnshown, IsQuietAction, SplitsOff, TakesLeft, GivesBack, SplitsLeaf}
 use Rattle.tree_laws.proofs.Known.{goes_same, store_allocated, store_replaced, store_freed}
 use Rattle.tree_laws.proofs.Reading.{one_law}
 use Rattle.tree_laws.proofs.Crashing.{adds_page, adds_at, adds_is, extends_law, rests_law, inside_group_law, whole_law}
@@ -221,32 +221,16 @@ pub refused_first : (view : Look) (e : Error) (old new : Store) → Refused e ol
 refused_first view e old new r =
     let k = left_by e r in
     record {
-      actions = [];
-      base = k.base;
-      recent = k.recent ∙ sym (append-nil old.recent);
-      acts = inl refl;
+      acts = inl r;
       told = λ numbers given w is t number named seen. (tt, record { after = w; own = []; fresh = none_new old; unshown = rests [] k is });
     }
 
 module _ {view : Look} {left : Node} {q version : ℕ} {old half : Store} (s : SplitsOff view left q version old half) where
-  base_half : half.base ≡ old.base
-  base_half = ap (λ (z : Store). z.base) s.allocates.is
-
-  recent_half : half.recent ≡ old.recent ++ right_made view q version ∷ []
-  recent_half = ap (λ (z : Store). z.recent) s.allocates.is
-
-  -- two actions
-  recent_two : (act : Action) (new : Store) → new.recent ≡ half.recent ++ act ∷ [] → new.recent ≡ old.recent ++ right_made view q version ∷ act ∷ []
-  recent_two act new e = e ∙ ap (λ l. l ++ act ∷ []) recent_half ∙ append_assoc old.recent (right_made view q version ∷ []) (act ∷ [])
-
   pub refused_half : (e : Error) (new : Store) → Refused e half new → SplitsLeaf view old (Err e) new
   refused_half e new r =
       let k = left_by e r in
       record {
-        actions = right_made view q version ∷ [];
-        base = k.base ∙ base_half;
-        recent = k.recent ∙ recent_half;
-        acts = inr (q, version, s.allocates.fresh_pid, refl);
+        acts = inr (half, q, version, s.allocates, r);
         told = λ numbers given w is t number named seen.
             let a = s.told numbers given w is t number (seen_splits seen) in
             (tt, record { after = w; own = q ∷ []; fresh = one_new old q s.allocates.fresh_pid; unshown = unshown_then a.0.unshown (rests (q ∷ []) k a.0.unshown.is) });
@@ -254,10 +238,7 @@ module _ {view : Look} {left : Node} {q version : ℕ} {old half : Store} (s : S
 
   pub split_made : (new : Store) → TakesLeft view left true half new → SplitsLeaf view old (Ok true) new
   split_made new l = record {
-    actions = right_made view q version ∷ left_made view q l.told.0 ∷ [];
-    base = ap (λ (z : Store). z.base) l.told.1.acts.is ∙ base_half;
-    recent = recent_two (left_made view q l.told.0) new (ap (λ (z : Store). z.recent) l.told.1.acts.is ∙ ap (λ n. half.recent ++ PageBecomes view.pid (Some (record { version = l.told.0; node = n })) ∷ []) s.leads);
-    acts = (q, version, l.told.0, s.allocates.fresh_pid, refl);
+    acts = (half, q, version, l.told.0, s.allocates, subst (λ n. ActsAt (PageBecomes view.pid (Some (record { version = l.told.0; node = n }))) l.told.0 half new) s.leads l.told.1.acts);
     told = λ numbers given w is t number named seen.
         let a = s.told numbers given w is t number (seen_splits seen) in
         let b = l.told.1.told numbers given w a.0.unshown.is t number q version named a.1 in (
@@ -278,10 +259,7 @@ module _ {view : Look} {left : Node} {q version : ℕ} {old half : Store} (s : S
       where
         made : GivesBack q version half new → SplitsLeaf view old (Ok false) new
         made b = record {
-          actions = right_made view q version ∷ PageBecomes q None ∷ [];
-          base = ap (λ (z : Store). z.base) b.acts ∙ base_half;
-          recent = recent_two (PageBecomes q None) new (ap (λ (z : Store). z.recent) b.acts);
-          acts = (q, version, s.allocates.fresh_pid, refl);
+          acts = (half, q, version, s.allocates, b.acts);
           told = λ numbers given w is t number named seen.
               let a = s.told numbers given w is t number (seen_splits seen) in
               let free : IsFreeing (moment_of half numbers given) w q version = record { node = a.1.right; own = a.1.own } in (

@@ -2,8 +2,8 @@
 use Rattle.std.specs.Prelude.{◌≡◌, ◌≢◌, ◌⊎◌, ℕ, Bool, true, false, List, [], ◌∷◌, ◌++◌, Option, Some, None, Result, Ok, Err}
 use Rattle.sled_pages.specs.In.{In}
 use Rattle.sled_pages.specs.Halves.{left_half, right_half}
-use Rattle.sled_pages.specs.State.{Action, PageBecomes}
-use Rattle.sled_pages.specs.Store.{Store, now, acted, ActsAt, Allocates, version_now}
+use Rattle.sled_pages.specs.State.{PageBecomes}
+use Rattle.sled_pages.specs.Store.{Store, now, acted, ActsAt, Allocates, Refused, version_now}
 use Rattle.sled_pages.specs.declared.error.Error.{Error}
 use Rattle.sled_pages.specs.declared.node.Node.{Node}
 use Rattle.tree_laws.specs.Forest.{Tree, Forest, place, IsSized, contents}
@@ -65,18 +65,13 @@ pub record GivesBack (q version : ℕ) (old new : Store) : Type 0 where
   pub acts : new ≡ acted (PageBecomes q None) old
   pub told : (numbers : Tree → Option ℕ) (given : ℕ → Bool) (w : Forest) → IsMoment (moment_of old numbers given) w → IsFreeing (moment_of old numbers given) w q version → IsQuietAction (q ∷ []) [] old new numbers given w w
 
--- the two actions of a split
-abbrev pub right_made : Look → ℕ → ℕ → Action
-right_made view q version = PageBecomes q (Some (record { version = version; node = right_half view.node }))
-
-abbrev pub left_made : Look → ℕ → ℕ → Action
-left_made view q given = PageBecomes view.pid (Some (record { version = given; node = record (left_half view.node) { next = Some q } }))
-
--- Those that were done, by the answer: both, or the new page went again, or, of a split that is refused, it stays in no tree
-abbrev pub acts_as : Look → Store → Result Bool Error → List Action → Type 0
-acts_as view old (Ok true) actions = (q version given : ℕ) × (old.pids q ≡ false) × (actions ≡ right_made view q version ∷ left_made view q given ∷ [])
-acts_as view old (Ok false) actions = (q version : ℕ) × (old.pids q ≡ false) × (actions ≡ right_made view q version ∷ PageBecomes q None ∷ [])
-acts_as view old (Err e) actions = (actions ≡ []) ⊎ ((q version : ℕ) × (old.pids q ≡ false) × (actions ≡ right_made view q version ∷ []))
+-- What was done, by the answer: the two actions, or the new page went again, or, of a split that is refused, nothing, or the new
+-- page stays and is in no tree
+abbrev pub acts_as : Look → Store → Result Bool Error → Store → Type 0
+acts_as view old (Ok true) new = (half : Store) × (q version given : ℕ) × Allocates (right_half view.node) q version old half
+    × ActsAt (PageBecomes view.pid (Some (record { version = given; node = record (left_half view.node) { next = Some q } }))) given half new
+acts_as view old (Ok false) new = (half : Store) × (q version : ℕ) × Allocates (right_half view.node) q version old half × (new ≡ acted (PageBecomes q None) half)
+acts_as view old (Err e) new = Refused e old new ⊎ ((half : Store) × (q version : ℕ) × Allocates (right_half view.node) q version old half × Refused e half new)
 
 -- a split is made where the page has the view's version
 abbrev pub found_as : Look → Store → Result Bool Error → Type 0
@@ -94,9 +89,6 @@ pub record LeavesTrees (old new : Store) (numbers : Tree → Option ℕ) (given 
 -- A split of a leaf in two page actions. Whatever it answers: at every forest that shows the pages well formed, where the view
 -- is of a leaf of a tree, there is a forest after, and no tree shows what was done
 pub record SplitsLeaf (view : Look) (old : Store) (answer : Result Bool Error) (new : Store) : Type 0 where
-  pub actions : List Action
-  pub base : new.base ≡ old.base
-  pub recent : new.recent ≡ old.recent ++ actions
-  pub acts : acts_as view old answer actions
+  pub acts : acts_as view old answer new
   pub told : (numbers : Tree → Option ℕ) (given : ℕ → Bool) (w : Forest) → IsMoment (moment_of old numbers given) w → (t : Tree) (number : ℕ) → numbers t ≡ Some number → Seen (moment_of old numbers given) w (place t 0) number view
       → found_as view old answer × LeavesTrees old new numbers given w
