@@ -1,5 +1,5 @@
 //! A store in memory. It keeps the pages as they are now, and how to take each action since the last flush back.
-ghost use Rattle.std.specs.Prelude.{◌≡◌, ◌+◌, ◌^◌, ◌<◌, Some, None, true, false, if◌then◌else◌, IfOk, IfErr, OnOk, OnErr, length};
+ghost use Rattle.std.specs.Prelude.{◌≡◌, ◌+◌, ◌^◌, ◌<◌, Some, None, true, false, if◌then◌else◌, IfOk, IfErr, OnOk, OnErr, length, []};
 ghost use Rattle.std.specs.FinMap.{is_sorted};
 ghost use Rattle.sled_pages.specs.declared.error.Error.TheVariants.{NoMemory, Io};
 ghost use Rattle.sled_pages.specs.Order.{key_cmp};
@@ -116,6 +116,7 @@ impl MemPages {
         mark: u64,
     ) -> Result<MemPages>
         ensures ok { IfOk result (λ made. IsImage pages.items roots.items mark (store_of made)) }
+        ensures named { IfOk result (λ made. calls_refused made ≡ []) }
         ensures err { IfErr result (λ e. e ≡ NoMemory) }
     {
         let least = greatest_root(roots.as_slice());
@@ -144,6 +145,7 @@ impl MemPages {
     pub fn crash(self, keep: usize) -> Result<MemPages>
         ensures ok { IfOk result (λ left. Crashes keep (store_of self) (store_of left)) }
         ensures left { IfOk result (λ left. MayLeave (store_of self) (store_of left).base) }
+        ensures named { IfOk result (λ left. calls_refused left ≡ []) }
         ensures err { IfErr result (λ e. e ≡ NoMemory) }
     {
         let MemPages {

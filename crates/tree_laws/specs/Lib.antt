@@ -15,3 +15,4 @@ pub mod MapLaws
 pub mod PathLaws
 pub mod Images
 pub mod FalseLaws
+pub mod Dividing
