@@ -1,16 +1,16 @@
 -- The change that a call makes of its leaf.
-use Rattle.std.specs.Prelude.{◌≡◌, List, Option, Some, None}
+use Rattle.std.specs.Prelude.{◌≡◌, Option, Some, None, option_map}
 use Rattle.sled_pages.specs.Order.{Key}
-use Rattle.sled_pages.specs.Node.{pairs, with_pair}
+use Rattle.sled_pages.specs.Node.{value_at}
 use Rattle.sled_pages.specs.declared.node.Data.{Data}
 use Rattle.sled_pages.specs.declared.node.Data.TheVariants.{Leaf, Index}
 use Rattle.sled_pages.specs.declared.link.Link.TheVariants.{Set, Del}
 use Rattle.sled_pages.specs.declared.link.Link.{Link}
 use Rattle.sled_model.specs.declared.call.Call.{Call}
-use Rattle.sled_model.specs.declared.call.Call.TheVariants.{Get, Insert}
-use Rattle.sled_model.specs.declared.event.Event.{Event}
-use Rattle.sled_model.specs.declared.event.Event.TheVariants as event
-use Rattle.sled_model.specs.Answer.{answer_of}
+use Rattle.sled_model.specs.declared.decision.Decision.{Decision}
+use Rattle.sled_model.specs.declared.decision.Effect.{Effect}
+use Rattle.sled_model.specs.declared.decision.Effect.TheVariants as effect
+use Rattle.sled_model.specs.Answer.{key_of, decision_of}
 use Rattle.sled_tree.specs.declared.act.Change.{Change}
 
 -- what is held is a leaf
@@ -18,8 +18,15 @@ abbrev pub IsLeaf : Data → Type 0
 IsLeaf (Leaf es) = Unit {0}
 IsLeaf (Index es) = ⊥
 
--- the call's change of a leaf of these pairs: its link sets the call's pair, and its reply is the call's
+-- the link that has the effect at the key
+abbrev pub link_of : Effect → Key → Option Link
+link_of effect.Nothing k = None
+link_of (effect.Set v) k = Some (Set k v)
+link_of effect.Remove k = Some (Del k)
+
+abbrev pub change_of : Decision → Key → Option Change
+change_of d k = option_map (λ l. record { link = l; reply = d.reply }) (link_of d.effect k)
+
+-- the call's change of a leaf: what it comes to by the value that stands at its key there
 abbrev pub IsChangeOf : Call → Data → Option Change → Type 0
-IsChangeOf (Get k) content change = change ≡ None
-IsChangeOf (Insert k v) content None = ⊥
-IsChangeOf (Insert k v) content (Some change) = (change.link ≡ Set k v) × (IsLeaf content → change.reply ≡ (answer_of (Insert k v) (pairs content)).reply)
+IsChangeOf call content change = change ≡ change_of (decision_of call (value_at content (key_of call))) (key_of call)

@@ -1,17 +1,15 @@
 -- What one page action of a call in flight does.
 use Rattle.std.specs.Prelude.{◌≡◌, ◌≢◌, ℕ, ◌+◌, ◌⊎◌, Bool, false, List, [], ◌++◌, Option, Some, None}
-use Rattle.sled_pages.specs.Order.{Key}
 use Rattle.sled_pages.specs.In.{In}
-use Rattle.sled_pages.specs.State.{Action, State}
+use Rattle.sled_pages.specs.State.{Action}
 use Rattle.sled_pages.specs.Store.{Store, acted, now}
 use Rattle.sled_pages.specs.declared.page.View.{View}
-use Rattle.sled_pages.specs.declared.page.Page.{Page}
 use Rattle.sled_pages.specs.declared.error.Error.{Error}
 use Rattle.sled_pages.specs.declared.error.Error.TheVariants.{Io, NoMemory}
 use Rattle.sled_model.specs.Answer.{answer_of}
 use Rattle.sled_model.specs.declared.reply.Reply.{Reply}
-use Rattle.tree_laws.specs.Forest.{Tree, Forest, Place, place, contents}
-use Rattle.tree_laws.specs.Moment.{Moment, moment_of, nodes_at, IsMoment, Goes, Viewed, Stood, IsOpen}
+use Rattle.tree_laws.specs.Forest.{Tree, Forest, Place, contents}
+use Rattle.tree_laws.specs.Moment.{Moment, moment_of, nodes_at, IsMoment, Goes}
 use Rattle.sled_tree.specs.declared.flight.Job.{Job}
 use Rattle.sled_tree.specs.declared.flight.Stage.{Stage}
 use Rattle.sled_tree.specs.declared.flight.Next.{Next}

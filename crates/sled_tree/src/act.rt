@@ -5,7 +5,7 @@ ghost use Rattle.sled_tree.specs.Moves.{Moves};
 ghost use Rattle.sled_tree.specs.Change.{IsChangeOf};
 
 use crate::flight::{Job, Next, Stage};
-use sled_model::{Call, Reply};
+use sled_model::{Decision, Effect, Reply};
 use sled_pages::{Link, Node, Pages, Result, View};
 
 // A link, and the reply of the call that makes it.
@@ -20,17 +20,14 @@ fn prepare(job: &Job, node: &Node) -> Result<Option<Change>>
     ensures ok { IfOk result (IsChangeOf job.now.call node.now.content) }
     ensures err { IfErr result (λ e. e ≡ NoMemory) }
 {
-    match &job.call {
-        Call::Get(_) => Ok(None),
-        Call::Insert(key, value) => {
-            let old = node.get(key.as_ref())?;
-            let link = Link::Set(key.clone()?, value.clone()?);
-            Ok(Some(Change {
-                link,
-                reply: Reply::Value(old),
-            }))
-        }
-    }
+    let key = job.call.key();
+    let Decision { effect, reply } = job.call.decide(node.get(key.as_ref())?)?;
+    let link = match effect {
+        Effect::Nothing => return Ok(None),
+        Effect::Set(value) => Link::Set(key.clone()?, value),
+        Effect::Remove => Link::Del(key.clone()?),
+    };
+    Ok(Some(Change { link, reply }))
 }
 
 // Links the call's change at the version of the leaf that it has read.

@@ -7,7 +7,7 @@ ghost use Rattle.sled_tree.specs.Change.{IsLeaf};
 ghost use Rattle.sled_tree.specs.Moves.{Moves, Arrives};
 
 use crate::flight::{Job, Next, Stage};
-use sled_model::{Call, Reply};
+use sled_model::{Decision, Effect};
 use sled_pages::{Data, Node, Pages, View};
 use std::alloc::Global;
 
@@ -61,16 +61,12 @@ fn at_leaf(job: &Job, view: View) -> Next
         Err(e) => return Next::Refused(e),
         Ok(value) => value,
     };
-    match &job.call {
-        Call::Get(_) => Next::Decided(Reply::Value(value)),
-        Call::Insert(_, new) => match value {
-            None => Next::Go(Stage::Act(view)),
-            Some(old) => {
-                if old == *new {
-                    return Next::Decided(Reply::Value(Some(old)));
-                }
-                Next::Go(Stage::Act(view))
-            }
-        },
+    let Decision { effect, reply } = match job.call.decide(value) {
+        Err(e) => return Next::Refused(e),
+        Ok(decision) => decision,
+    };
+    match effect {
+        Effect::Nothing => Next::Decided(reply),
+        _ => Next::Go(Stage::Act(view)),
     }
 }

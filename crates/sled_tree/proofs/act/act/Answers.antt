@@ -1,6 +1,3 @@
-use Rattle.std.proofs.Common.{◌≡◌, sym, ◌∙◌, subst}
-use Rattle.sled_pages.specs.Node.{applied}
-use Rattle.sled_pages.specs.Store.{Changes}
 use Rattle.sled_tree.proofs.Acting.{act_refused, act_moves}
 use Rattle.sled_tree.proofs.act.act.Goals as goal
 
