@@ -1,6 +1,8 @@
 //! Tests of what no contract says: that calls succeed, and answers from outside.
 use crate::plain::{Plain, answer};
-use crate::{Call, Event, Outcome, Reply, Slot, Tree, Whole};
+use crate::{
+    Call, CompareAndSwapError, Decision, Effect, Event, Outcome, Reply, Slot, Tree, Whole,
+};
 use sled_pages::{Error, IVec, Result};
 use std::alloc::Global;
 use std::test::Fail;
@@ -46,6 +48,29 @@ fn shown(alloc: Global, pairs: &[(IVec, IVec)]) -> Result<Vec<u8>> {
     Ok(text)
 }
 
+// A text, or no value.
+fn some(alloc: Global, text: Option<&str>) -> Result<Option<IVec>> {
+    match text {
+        Some(text) => Ok(Some(bytes(alloc, text)?)),
+        None => Ok(None),
+    }
+}
+
+fn swap(alloc: Global, old: Option<&str>, new: Option<&str>) -> Result<Call> {
+    Ok(Call::CompareAndSwap(bytes(alloc, "key")?, some(alloc, old)?, some(alloc, new)?))
+}
+
+fn conflict(
+    alloc: Global,
+    current: Option<&str>,
+    proposed: Option<&str>,
+) -> Result<CompareAndSwapError> {
+    Ok(CompareAndSwapError {
+        current: some(alloc, current)?,
+        proposed: some(alloc, proposed)?,
+    })
+}
+
 fn trees_clone(alloc: Global) -> Result<bool> {
     let tree = Tree {
         database: bytes(alloc, "database")?,
@@ -69,6 +94,27 @@ fn calls_clone(alloc: Global) -> Result<bool> {
     )
 }
 
+fn more_calls_clone(alloc: Global) -> Result<bool> {
+    let remove = Call::Remove(bytes(alloc, "key")?);
+    let write = swap(alloc, None, Some("new"))?;
+    let erase = swap(alloc, Some("new"), None)?;
+    Ok(
+        remove.clone()? == remove
+            && write.clone()? == write
+            && erase.clone()? == erase
+            && remove != write
+            && write != erase
+            && *remove.key() == bytes(alloc, "key")?
+            && *write.key() == bytes(alloc, "key")?,
+    )
+}
+
+fn conflicts_clone(alloc: Global) -> Result<bool> {
+    let one = conflict(alloc, Some("1"), None)?;
+    let other = conflict(alloc, None, Some("1"))?;
+    Ok(one.clone()? == one && other.clone()? == other && one != other)
+}
+
 fn events_clone(alloc: Global) -> Result<bool> {
     let event = inserted(alloc, "key", "value")?;
     let other = removed(alloc, "key")?;
@@ -87,6 +133,10 @@ fn values_equal_their_clones(rt: HostRuntime) -> std::result::Result<(), Fail> {
     assert!(rt; matches!(trees, Ok(true)));
     let calls = calls_clone(rt.alloc());
     assert!(rt; matches!(calls, Ok(true)));
+    let calls = more_calls_clone(rt.alloc());
+    assert!(rt; matches!(calls, Ok(true)));
+    let conflicts = conflicts_clone(rt.alloc());
+    assert!(rt; matches!(conflicts, Ok(true)));
     let events = events_clone(rt.alloc());
     assert!(rt; matches!(events, Ok(true)));
     Ok(())
@@ -118,6 +168,161 @@ fn events_go_by_kind_then_key_then_value(rt: HostRuntime) -> std::result::Result
     Ok(())
 }
 
+fn conflicts_ordered(alloc: Global) -> Result<bool> {
+    let ascending = [
+        conflict(alloc, None, None)?,
+        conflict(alloc, None, Some(""))?,
+        conflict(alloc, None, Some("b"))?,
+        conflict(alloc, Some(""), None)?,
+        conflict(alloc, Some("a"), Some("z"))?,
+        conflict(alloc, Some("b"), Some("a"))?,
+    ];
+    for i in 0..6usize {
+        for j in 0..6usize {
+            if ascending[i].cmp(&ascending[j]) != i.cmp(&j) {
+                return Ok(false);
+            }
+        }
+    }
+    Ok(true)
+}
+
+#[test]
+fn conflicts_go_by_what_stands_then_what_was_proposed(
+    rt: HostRuntime,
+) -> std::result::Result<(), Fail> {
+    let same = conflicts_ordered(rt.alloc());
+    assert!(rt; matches!(same, Ok(true)));
+    Ok(())
+}
+
+#[test]
+fn a_conflict_says_what_it_is(rt: HostRuntime) -> std::result::Result<(), Fail> {
+    let error = conflict(rt.alloc(), Some("1"), None)?;
+    let text = format!(in rt.alloc(); "{error}")?;
+    assert_eq!(rt; text.as_str(), "Compare and swap conflict");
+    Ok(())
+}
+
+// Whether a call comes to this, where this value stands at its key.
+fn comes_to(
+    alloc: Global,
+    call: &Call,
+    value: Option<&str>,
+    effect: Effect,
+    reply: Reply,
+) -> Result<bool> {
+    Ok(call.decide(some(alloc, value)?)? == Decision { effect, reply })
+}
+
+fn reads_and_inserts(alloc: Global) -> Result<bool> {
+    let get = get(alloc, "key")?;
+    let insert = insert(alloc, "key", "1")?;
+    let set = Effect::Set(bytes(alloc, "1")?);
+    let over = Effect::Set(bytes(alloc, "1")?);
+    Ok(
+        comes_to(alloc, &get, None, Effect::Nothing, Reply::Value(None))?
+            && comes_to(alloc, &get, Some("1"), Effect::Nothing, value(alloc, "1")?)?
+            && comes_to(
+                alloc,
+                &insert,
+                Some("1"),
+                Effect::Nothing,
+                value(alloc, "1")?,
+            )?
+            && comes_to(alloc, &insert, Some("2"), over, value(alloc, "2")?)?
+            && comes_to(alloc, &insert, None, set, Reply::Value(None))?,
+    )
+}
+
+fn removals(alloc: Global) -> Result<bool> {
+    let remove = Call::Remove(bytes(alloc, "key")?);
+    Ok(
+        comes_to(alloc, &remove, None, Effect::Nothing, Reply::Value(None))?
+            && comes_to(alloc, &remove, Some(""), Effect::Remove, value(alloc, "")?)?
+            && comes_to(
+                alloc,
+                &remove,
+                Some("1"),
+                Effect::Remove,
+                value(alloc, "1")?,
+            )?,
+    )
+}
+
+// Swaps of the value that is expected, which may be none, and of an equal one.
+fn swaps(alloc: Global) -> Result<bool> {
+    let set = Effect::Set(bytes(alloc, "2")?);
+    let made = Effect::Set(bytes(alloc, "1")?);
+    let kept = Effect::Set(bytes(alloc, "1")?);
+    let other = swap(alloc, Some("1"), Some("2"))?;
+    let equal = swap(alloc, Some("1"), Some("1"))?;
+    let new = swap(alloc, None, Some("1"))?;
+    let erase = swap(alloc, Some("1"), None)?;
+    let nothing = swap(alloc, None, None)?;
+    Ok(
+        comes_to(alloc, &other, Some("1"), set, Reply::Swapped(Ok(())))?
+            && comes_to(alloc, &equal, Some("1"), kept, Reply::Swapped(Ok(())))?
+            && comes_to(alloc, &new, None, made, Reply::Swapped(Ok(())))?
+            && comes_to(
+                alloc,
+                &erase,
+                Some("1"),
+                Effect::Remove,
+                Reply::Swapped(Ok(())),
+            )?
+            && comes_to(
+                alloc,
+                &nothing,
+                None,
+                Effect::Remove,
+                Reply::Swapped(Ok(())),
+            )?,
+    )
+}
+
+// Whether a swap conflicts, where this value stands.
+fn conflicts(
+    alloc: Global,
+    old: Option<&str>,
+    new: Option<&str>,
+    value: Option<&str>,
+) -> Result<bool> {
+    let reply = Reply::Swapped(Err(conflict(alloc, value, new)?));
+    comes_to(
+        alloc,
+        &swap(alloc, old, new)?,
+        value,
+        Effect::Nothing,
+        reply,
+    )
+}
+
+fn all_conflict(alloc: Global) -> Result<bool> {
+    Ok(
+        conflicts(alloc, Some("1"), Some("2"), Some("3"))?
+            && conflicts(alloc, Some("1"), Some("2"), None)?
+            && conflicts(alloc, None, Some("2"), Some("3"))?
+            && conflicts(alloc, None, None, Some(""))?
+            && conflicts(alloc, Some(""), None, None)?,
+    )
+}
+
+#[test]
+fn calls_come_to_what_the_value_at_their_key_says(
+    rt: HostRuntime,
+) -> std::result::Result<(), Fail> {
+    let same = reads_and_inserts(rt.alloc());
+    assert!(rt; matches!(same, Ok(true)));
+    let same = removals(rt.alloc());
+    assert!(rt; matches!(same, Ok(true)));
+    let same = swaps(rt.alloc());
+    assert!(rt; matches!(same, Ok(true)));
+    let same = all_conflict(rt.alloc());
+    assert!(rt; matches!(same, Ok(true)));
+    Ok(())
+}
+
 fn answers(alloc: Global) -> Result<bool> {
     let mut map = Vec::new(alloc);
     let first = answer(&mut map, &insert(alloc, "b", "1")?)?;
@@ -137,6 +342,41 @@ fn answers(alloc: Global) -> Result<bool> {
             && absent == (Reply::Value(None), None)
             && shown(alloc, map.as_slice())?.as_slice() == b"a=3;b=2;c=;".as_slice(),
     )
+}
+
+fn more_answers(alloc: Global) -> Result<bool> {
+    let mut map = Vec::new(alloc);
+    answer(&mut map, &insert(alloc, "a", "3")?)?;
+    let made = answer(&mut map, &swap(alloc, None, Some("1"))?)?;
+    let refused = answer(&mut map, &swap(alloc, None, Some("2"))?)?;
+    let equal = answer(&mut map, &swap(alloc, Some("1"), Some("1"))?)?;
+    let taken = answer(&mut map, &Call::Remove(bytes(alloc, "a")?))?;
+    let absent = answer(&mut map, &Call::Remove(bytes(alloc, "a")?))?;
+    let there = shown(alloc, map.as_slice())?;
+    let erased = answer(&mut map, &swap(alloc, Some("1"), None)?)?;
+    let nothing = answer(&mut map, &swap(alloc, None, None)?)?;
+    Ok(
+        made == (Reply::Swapped(Ok(())), Some(inserted(alloc, "key", "1")?))
+            && refused
+                == (
+                    Reply::Swapped(Err(conflict(alloc, Some("1"), Some("2"))?)),
+                    None,
+                )
+            && equal == (Reply::Swapped(Ok(())), Some(inserted(alloc, "key", "1")?))
+            && taken == (value(alloc, "3")?, Some(removed(alloc, "a")?))
+            && absent == (Reply::Value(None), None)
+            && there.as_slice() == b"key=1;".as_slice()
+            && erased == (Reply::Swapped(Ok(())), Some(removed(alloc, "key")?))
+            && nothing == (Reply::Swapped(Ok(())), Some(removed(alloc, "key")?))
+            && map.is_empty(),
+    )
+}
+
+#[test]
+fn removals_and_swaps_answer(rt: HostRuntime) -> std::result::Result<(), Fail> {
+    let same = more_answers(rt.alloc());
+    assert!(rt; matches!(same, Ok(true)));
+    Ok(())
 }
 
 #[test]

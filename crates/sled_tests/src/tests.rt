@@ -5,11 +5,13 @@ mod races;
 mod refusals;
 mod sizes;
 mod slots;
+mod values;
 
 use sled_machine::Machine;
 use sled_model::{Call, MergeOperator, Outcome, Reply, Slot, Tree, Whole};
 use sled_pages::{Error, IVec, MemPages};
 use std::alloc::Global;
+use std::fmt::Write;
 use std::process::Abort;
 use std::test::Fail;
 
@@ -25,6 +27,26 @@ fn read(alloc: Global, key: &str) -> Result<Call, Fail> {
     Ok(Call::Get(bytes(alloc, key)?))
 }
 
+fn removal(alloc: Global, key: &str) -> Result<Call, Fail> {
+    Ok(Call::Remove(bytes(alloc, key)?))
+}
+
+// A text, or no value.
+fn value(alloc: Global, text: Option<&str>) -> Result<Option<IVec>, Fail> {
+    match text {
+        Some(text) => Ok(Some(bytes(alloc, text)?)),
+        None => Ok(None),
+    }
+}
+
+fn swap(alloc: Global, key: &str, old: Option<&str>, new: Option<&str>) -> Result<Call, Fail> {
+    Ok(Call::CompareAndSwap(
+        bytes(alloc, key)?,
+        value(alloc, old)?,
+        value(alloc, new)?,
+    ))
+}
+
 // Adds the bytes to the text, each as a character.
 fn push_bytes(text: &mut String, bytes: &[u8]) -> Result<(), Fail> {
     for byte in bytes {
@@ -33,15 +55,37 @@ fn push_bytes(text: &mut String, bytes: &[u8]) -> Result<(), Fail> {
     Ok(())
 }
 
-// An outcome in words. A value is its own text.
+// Adds a value to the text, or `none`.
+fn push_value(text: &mut String, value: Option<&IVec>) -> Result<(), Fail> {
+    match value {
+        Some(value) => push_bytes(text, value.as_ref())?,
+        None => text.push_str("none")?,
+    }
+    Ok(())
+}
+
+// A reply in words. A value is its own text.
+fn push_reply(text: &mut String, reply: &Reply) -> Result<(), Fail> {
+    match reply {
+        Reply::Value(value) => push_value(text, value.as_ref())?,
+        Reply::Swapped(Ok(())) => text.push_str("swapped")?,
+        Reply::Swapped(Err(conflict)) => {
+            push_value(text, conflict.current.as_ref())?;
+            text.push_str(" in place of ")?;
+            push_value(text, conflict.proposed.as_ref())?;
+        }
+        Reply::Number(number) => write!(text, "number {number}")?,
+    }
+    Ok(())
+}
+
+// An outcome in words.
 fn told(alloc: Global, outcome: &Outcome) -> Result<String, Fail> {
     let mut text = String::new(alloc);
     match outcome {
         Outcome::Begun(slot) => text = format!(in alloc; "begun {}", slot.0)?,
         Outcome::Moved => text.push_str("moved")?,
-        Outcome::Decided(Reply::Value(None)) => text.push_str("none")?,
-        Outcome::Decided(Reply::Value(Some(value))) => push_bytes(&mut text, value.as_ref())?,
-        Outcome::Decided(Reply::Number(number)) => text = format!(in alloc; "number {number}")?,
+        Outcome::Decided(reply) => push_reply(&mut text, reply)?,
         Outcome::Refused(error) => text = format!(in alloc; "{error}")?,
         Outcome::Abandoned => text.push_str("abandoned")?,
         Outcome::NoSuchSlot => text.push_str("no such slot")?,

@@ -5,7 +5,7 @@ use Rattle.std.proofs.lemmas.Bool.Decides.{nat_tests}
 use Rattle.std.proofs.lemmas.Slice.Eq.{bytes_eq-Decides}
 use Rattle.std.specs.List.{flat_map}
 use Rattle.std.specs.Str.{bytes_eq}
-use Rattle.sledrun.specs.Words.{is_plain, hex_digit, hex_value, escape, spelled, printed, plain_byte, byte_of, and_then, bytes_of, read_word, AreBytes, ReadsPrinted}
+use Rattle.sledrun.specs.Words.{is_plain, hex_digit, hex_value, escape, spelled, printed, plain_byte, byte_of, and_then, bytes_of, read_word, AreBytes, ReadsPrinted, ReadsValues}
 
 -- a byte that is no `%` stands for itself, or for nothing
 pub bytes_of-cons : (b : ℕ) (rest : List ℕ) → (b == 37) ≡ false → bytes_of (b ∷ rest) ≡ and_then (plain_byte b) (bytes_of rest)
@@ -135,3 +135,12 @@ printed_by b bytes small false dash =
 pub read_word-printed : ReadsPrinted
 read_word-printed [] small = refl
 read_word-printed (b ∷ bytes) small = printed_by b bytes small (bytes_eq (b ∷ bytes) (45 ∷ [])) refl
+
+-- no byte string is printed as the word that means none
+pub read_value-word_of : ReadsValues
+read_value-word_of None small = refl
+read_value-word_of (Some bytes) small =
+    let read : read_word (printed bytes) ≡ Some bytes = read_word-printed bytes small in
+    let dash : read_word (45 ∷ []) ≡ None = refl in
+    let other : bytes_eq (printed bytes) (45 ∷ []) ≡ false = differs (printed bytes) (45 ∷ []) (λ e. absurd (some_not_none (sym read ∙ ap read_word e ∙ dash))) in
+    cond-false _ _ _ other ∙ ap (option_map (λ b. Some b)) read

@@ -4,7 +4,7 @@ use Rattle.std.specs.Str.{bytes_eq}
 use Rattle.sled_pages.specs.Order.{Key}
 use Rattle.sled_model.specs.declared.call.Call.{Call}
 use Rattle.sled_model.specs.declared.call.Call.TheVariants as call
-use Rattle.sledrun.specs.Words.{words_of, read_word, read_number}
+use Rattle.sledrun.specs.Words.{words_of, read_word, read_value, read_number}
 use Rattle.sledrun.specs.declared.command.Name.{Name}
 use Rattle.sledrun.specs.declared.command.Name.TheVariants as name
 use Rattle.sledrun.specs.declared.command.Command.{Command}
@@ -15,6 +15,8 @@ abbrev pub name_of : List ℕ → Option Name
 name_of word =
     if bytes_eq word (codes "insert") then Some name.Insert
     else if bytes_eq word (codes "get") then Some name.Get
+    else if bytes_eq word (codes "remove") then Some name.Remove
+    else if bytes_eq word (codes "cas") then Some name.Cas
     else if bytes_eq word (codes "begin") then Some name.Begin
     else if bytes_eq word (codes "step") then Some name.Step
     else if bytes_eq word (codes "finish") then Some name.Finish
@@ -34,6 +36,11 @@ abbrev pub two_of : List (List ℕ) → Option (List ℕ × List ℕ)
 two_of (first ∷ second ∷ []) = Some (first, second)
 two_of arguments = None
 
+-- the three words of the arguments
+abbrev pub three_of : List (List ℕ) → Option (List ℕ × List ℕ × List ℕ)
+three_of (first ∷ second ∷ third ∷ []) = Some (first, second, third)
+three_of arguments = None
+
 -- an insert of a key and a value, if there are both
 abbrev pub inserts : Option Key → Option Key → Option Call
 inserts (Some key) (Some value) = Some (call.Insert key value)
@@ -47,10 +54,25 @@ abbrev pub get_of : Option (List ℕ) → Option Call
 get_of (Some word) = option_map (λ key. call.Get key) (read_word word)
 get_of None = None
 
+abbrev pub remove_of : Option (List ℕ) → Option Call
+remove_of (Some word) = option_map (λ key. call.Remove key) (read_word word)
+remove_of None = None
+
+-- a swap at a key, if there are all three; the values may be none
+abbrev pub swaps : Option Key → Option (Option Key) → Option (Option Key) → Option Call
+swaps (Some key) (Some old) (Some new) = Some (call.CompareAndSwap key old new)
+swaps key old new = None
+
+abbrev pub swap_of : Option (List ℕ × List ℕ × List ℕ) → Option Call
+swap_of (Some words) = swaps (read_word words.0) (read_value words.1) (read_value words.2)
+swap_of None = None
+
 -- the call of a name and its arguments
 abbrev pub call_of : Option Name → List (List ℕ) → Option Call
 call_of (Some name.Insert) arguments = insert_of (two_of arguments)
 call_of (Some name.Get) arguments = get_of (one_of arguments)
+call_of (Some name.Remove) arguments = remove_of (one_of arguments)
+call_of (Some name.Cas) arguments = swap_of (three_of arguments)
 call_of name arguments = None
 
 -- the call of some words
@@ -80,6 +102,8 @@ abbrev pub command_from : Option Name → List (List ℕ) → Option Command
 command_from None arguments = None
 command_from (Some name.Insert) arguments = at_once (call_of (Some name.Insert) arguments)
 command_from (Some name.Get) arguments = at_once (call_of (Some name.Get) arguments)
+command_from (Some name.Remove) arguments = at_once (call_of (Some name.Remove) arguments)
+command_from (Some name.Cas) arguments = at_once (call_of (Some name.Cas) arguments)
 command_from (Some name.Begin) arguments = in_slot (call_of_words arguments)
 command_from (Some name.Step) arguments = numbered (λ n. Step n) (one_of arguments)
 command_from (Some name.Finish) arguments = numbered (λ n. Finish n) (one_of arguments)

@@ -1,15 +1,16 @@
 -- Lines: how outcomes are printed.
-use Rattle.std.specs.Prelude.{ℕ, List, [], ◌∷◌, ◌++◌, Option, Some, None, codes, decimal}
+use Rattle.std.specs.Prelude.{ℕ, List, [], ◌∷◌, ◌++◌, Ok, Err, codes, decimal}
 use Rattle.sled_pages.specs.Order.{Key}
 use Rattle.sled_pages.specs.declared.error.Error.{Error}
 use Rattle.sled_pages.specs.declared.error.Error.TheVariants.{CollectionNotFound, Unsupported, ReportableBug, Io, Corruption, NoMemory, FullQueue, Closed}
 use Rattle.sled_model.specs.declared.call.Call.{Call}
-use Rattle.sled_model.specs.declared.call.Call.TheVariants.{Get, Insert}
+use Rattle.sled_model.specs.declared.call.Call.TheVariants.{Get, Insert, Remove, CompareAndSwap}
 use Rattle.sled_model.specs.declared.reply.Reply.{Reply}
-use Rattle.sled_model.specs.declared.reply.Reply.TheVariants.{Value, Number}
+use Rattle.sled_model.specs.declared.reply.Reply.TheVariants.{Value, Swapped, Number}
+use Rattle.sled_model.specs.declared.reply.CompareAndSwapError.{CompareAndSwapError}
 use Rattle.sled_model.specs.declared.outcome.Outcome.{Outcome}
 use Rattle.sled_model.specs.declared.outcome.Outcome.TheVariants.{Begun, Moved, Decided, Refused, Abandoned, NoSuchSlot}
-use Rattle.sledrun.specs.Words.{printed}
+use Rattle.sledrun.specs.Words.{printed, word_of}
 use Rattle.sledrun.specs.declared.print.Shown.{Shown}
 use Rattle.sledrun.specs.declared.print.Shown.TheVariants as shown
 
@@ -17,22 +18,25 @@ use Rattle.sledrun.specs.declared.print.Shown.TheVariants as shown
 abbrev pub end : List ℕ
 end = 10 ∷ []
 
--- the word of a byte string, or - for none
-abbrev pub word_of : Option Key → List ℕ
-word_of None = 45 ∷ []
-word_of (Some bytes) = printed bytes
-
--- a get shows the value that stands, an insert the one that stood
+-- a get shows the value that stands, an insert and a removal the one that stood; a swap replies no such value
 abbrev pub shown_of : Call → Shown
 shown_of (Get key) = shown.Value
 shown_of (Insert key value) = shown.Old
+shown_of (Remove key) = shown.Old
+shown_of (CompareAndSwap key old new) = shown.Value
 
 abbrev pub name_of : Shown → List ℕ
 name_of shown.Value = codes "value "
 name_of shown.Old = codes "old "
 
+-- a value that was not swapped: the one that stands, and the one that was to be set
+abbrev pub conflict_line : CompareAndSwapError → List ℕ
+conflict_line conflict = codes "conflict " ++ word_of conflict.current ++ codes " " ++ word_of conflict.proposed ++ end
+
 abbrev pub reply_line : Shown → Reply → List ℕ
 reply_line show (Value bytes) = name_of show ++ word_of bytes ++ end
+reply_line show (Swapped (Ok done)) = codes "swapped" ++ end
+reply_line show (Swapped (Err conflict)) = conflict_line conflict
 reply_line show (Number n) = codes "flushed " ++ decimal n ++ end
 
 -- errors are numbered in the order of their variants

@@ -1,5 +1,5 @@
 -- Words: how the byte strings, the numbers and the words themselves stand in a line.
-use Rattle.std.specs.Prelude.{◌≡◌, ◌≤◌, ℕ, ◌+◌, ◌-◌, ◌*◌, ◌/◌, ◌%◌, ◌^◌, ◌<◌, ◌==◌, ◌&&◌, ◌||◌, not, nat_lt, nat_le, Bool, List, [], ◌∷◌, length, decimal, Option, Some, None, MatchOption, if◌then◌else◌}
+use Rattle.std.specs.Prelude.{◌≡◌, ◌≤◌, ℕ, ◌+◌, ◌-◌, ◌*◌, ◌/◌, ◌%◌, ◌^◌, ◌<◌, ◌==◌, ◌&&◌, ◌||◌, not, nat_lt, nat_le, Bool, List, [], ◌∷◌, length, decimal, Option, Some, None, IfSome, option_map, MatchOption, if◌then◌else◌}
 use Rattle.std.specs.Borrow.{Bor}
 use Rattle.std.specs.List.{flat_map, slice_split, AllByRecursion}
 use Rattle.std.specs.Str.{bytes_eq, all_ascii_digits}
@@ -70,6 +70,15 @@ read_word word =
     else if bytes_eq word (45 ∷ []) || bytes_eq word [] then None
     else bytes_of word
 
+-- the value of a word, if it is one: - is none
+abbrev pub read_value : List ℕ → Option (Option Key)
+read_value word = if bytes_eq word (45 ∷ []) then Some None else option_map (λ bytes. Some bytes) (read_word word)
+
+-- the word of a value: - for none
+abbrev pub word_of : Option Key → List ℕ
+word_of None = 45 ∷ []
+word_of (Some bytes) = printed bytes
+
 -- bytes, and no greater numbers
 abbrev pub AreBytes : List ℕ → Type 0
 AreBytes bytes = AllByRecursion (λ b. b < 256) bytes
@@ -96,6 +105,10 @@ words_after (Some rest) = words_of rest.now
 -- what is printed for a byte string is read as that byte string
 abbrev pub ReadsPrinted : Type 0
 ReadsPrinted = (bytes : Key) → AreBytes bytes → read_word (printed bytes) ≡ Some bytes
+
+-- what is printed for a value, or none, is read as that value, or none
+abbrev pub ReadsValues : Type 0
+ReadsValues = (value : Option Key) → IfSome value AreBytes → read_value (word_of value) ≡ Some value
 
 -- a number is read from its digits, and from nothing else
 abbrev pub ReadsDecimals : Type 0

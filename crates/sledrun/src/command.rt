@@ -3,9 +3,9 @@ ghost use Rattle.std.specs.Prelude.{◌≡◌, IfOk, IfErr, option_map};
 ghost use Rattle.std.specs.Option.{option_and_then};
 ghost use Rattle.sled_pages.specs.declared.error.Error.TheVariants.{NoMemory};
 ghost use Rattle.sledrun.specs.Words.{words_after, read_number};
-ghost use Rattle.sledrun.specs.Command.{name_of, one_of, two_of, insert_of, get_of, call_of, call_of_words, in_slot, alone, command_of};
+ghost use Rattle.sledrun.specs.Command.{name_of, one_of, two_of, three_of, insert_of, get_of, remove_of, swap_of, call_of, call_of_words, in_slot, alone, command_of};
 
-use crate::words::{first_word, read_number, read_word};
+use crate::words::{first_word, read_number, read_value, read_word};
 use sled_model::Call;
 use sled_pages::Result;
 use std::alloc::Global;
@@ -36,6 +36,8 @@ pub enum Command {
 enum Name {
     Insert,
     Get,
+    Remove,
+    Cas,
     Begin,
     Step,
     Finish,
@@ -52,6 +54,10 @@ fn name_of(word: &[u8]) -> Option<Name>
         Some(Name::Insert)
     } else if word == b"get".as_slice() {
         Some(Name::Get)
+    } else if word == b"remove".as_slice() {
+        Some(Name::Remove)
+    } else if word == b"cas".as_slice() {
+        Some(Name::Cas)
     } else if word == b"begin".as_slice() {
         Some(Name::Begin)
     } else if word == b"step".as_slice() {
@@ -98,6 +104,20 @@ fn two_of(arguments: Option<&[u8]>) -> Option<(&[u8], &[u8])>
     }
 }
 
+// The three words of the arguments.
+fn three_of(arguments: Option<&[u8]>) -> Option<(&[u8], &[u8], &[u8])>
+    ensures { option_map (λ words. (words.0.now, words.1.now, words.2.now)) result ≡ three_of (words_after arguments.entry) }
+{
+    let Some(arguments) = arguments else {
+        return None;
+    };
+    let (first, rest) = first_word(arguments);
+    match two_of(rest) {
+        Some((second, third)) => Some((first, second, third)),
+        None => None,
+    }
+}
+
 // The insert of a key and a value.
 fn insert_of(alloc: Global, arguments: Option<&[u8]>) -> Result<Option<Call>>
     ensures ok { IfOk result (λ call. call ≡ insert_of (two_of (words_after arguments.entry))) }
@@ -129,6 +149,40 @@ fn get_of(alloc: Global, arguments: Option<&[u8]>) -> Result<Option<Call>>
     Ok(Some(Call::Get(key)))
 }
 
+// The removal of a key.
+fn remove_of(alloc: Global, arguments: Option<&[u8]>) -> Result<Option<Call>>
+    ensures ok { IfOk result (λ call. call ≡ remove_of (one_of (words_after arguments.entry))) }
+    ensures err { IfErr result (λ e. e ≡ NoMemory) }
+{
+    let Some(key) = one_of(arguments) else {
+        return Ok(None);
+    };
+    let Some(key) = read_word(alloc, key)? else {
+        return Ok(None);
+    };
+    Ok(Some(Call::Remove(key)))
+}
+
+// The swap at a key of a value, or none, for another, or none.
+fn swap_of(alloc: Global, arguments: Option<&[u8]>) -> Result<Option<Call>>
+    ensures ok { IfOk result (λ call. call ≡ swap_of (three_of (words_after arguments.entry))) }
+    ensures err { IfErr result (λ e. e ≡ NoMemory) }
+{
+    let Some((key, old, new)) = three_of(arguments) else {
+        return Ok(None);
+    };
+    let Some(key) = read_word(alloc, key)? else {
+        return Ok(None);
+    };
+    let Some(old) = read_value(alloc, old)? else {
+        return Ok(None);
+    };
+    let Some(new) = read_value(alloc, new)? else {
+        return Ok(None);
+    };
+    Ok(Some(Call::CompareAndSwap(key, old, new)))
+}
+
 // The call of a name and its arguments.
 fn call_of(alloc: Global, name: Option<Name>, arguments: Option<&[u8]>) -> Result<Option<Call>>
     ensures ok { IfOk result (λ call. call ≡ call_of name (words_after arguments.entry)) }
@@ -137,6 +191,8 @@ fn call_of(alloc: Global, name: Option<Name>, arguments: Option<&[u8]>) -> Resul
     match name {
         Some(Name::Insert) => insert_of(alloc, arguments),
         Some(Name::Get) => get_of(alloc, arguments),
+        Some(Name::Remove) => remove_of(alloc, arguments),
+        Some(Name::Cas) => swap_of(alloc, arguments),
         _ => Ok(None),
     }
 }
@@ -183,7 +239,9 @@ pub fn parse(alloc: Global, line: &[u8]) -> Result<Option<Command>>
         return Ok(None);
     };
     match name {
-        Name::Insert | Name::Get => Ok(call_of(alloc, Some(name), arguments)?.map(Command::Point)),
+        Name::Insert | Name::Get | Name::Remove | Name::Cas => {
+            Ok(call_of(alloc, Some(name), arguments)?.map(Command::Point))
+        }
         Name::Begin => begin_of(alloc, arguments),
         Name::Step => Ok(number_of(arguments).map(Command::Step)),
         Name::Finish => Ok(number_of(arguments).map(Command::Finish)),

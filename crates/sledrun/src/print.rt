@@ -3,10 +3,11 @@
 ghost use Rattle.std.specs.Prelude.{◌≡◌, ◌++◌, OnOk, IfErr, decimal};
 ghost use Rattle.std.specs.Option.{option_copied};
 ghost use Rattle.sled_pages.specs.declared.error.Error.TheVariants.{NoMemory};
-ghost use Rattle.sledrun.specs.Print.{end, word_of, shown_of, name_of, reply_line, error_number, refused_line, slot_line, outcome_line, pair_line, end_line, recovered_line, bad_line};
+ghost use Rattle.sledrun.specs.Words.{word_of};
+ghost use Rattle.sledrun.specs.Print.{end, shown_of, name_of, conflict_line, reply_line, error_number, refused_line, slot_line, outcome_line, pair_line, end_line, recovered_line, bad_line};
 
 use crate::words::push_word;
-use sled_model::{Call, Outcome, Reply};
+use sled_model::{Call, CompareAndSwapError, Outcome, Reply};
 use sled_pages::{Error, IVec, Result};
 use std::io::Write;
 
@@ -25,8 +26,8 @@ impl Shown {
         ensures { result ≡ shown_of call.now }
     {
         match call {
-            Call::Get(_) => Shown::Value,
-            Call::Insert(_, _) => Shown::Old,
+            Call::Get(_) | Call::CompareAndSwap(_, _, _) => Shown::Value,
+            Call::Insert(_, _) | Call::Remove(_) => Shown::Old,
         }
     }
 }
@@ -72,6 +73,18 @@ fn push_value(out: &mut Vec<u8>, value: Option<&IVec>) -> Result<()>
     }
 }
 
+// Adds the line of a value that was not swapped.
+fn push_conflict(out: &mut Vec<u8>, conflict: &CompareAndSwapError) -> Result<()>
+    ensures ok { OnOk result (out.new.items ≡ out.old.items ++ conflict_line conflict.now) }
+    ensures err { IfErr result (λ e. e ≡ NoMemory) }
+{
+    push_text(out, b"conflict ")?;
+    push_value(out, conflict.current.as_ref())?;
+    push_text(out, b" ")?;
+    push_value(out, conflict.proposed.as_ref())?;
+    push_text(out, b"\n")
+}
+
 // Adds the line of a reply.
 fn push_reply(out: &mut Vec<u8>, shown: Shown, reply: &Reply) -> Result<()>
     ensures ok { OnOk result (out.new.items ≡ out.old.items ++ reply_line shown reply.now) }
@@ -86,6 +99,8 @@ fn push_reply(out: &mut Vec<u8>, shown: Shown, reply: &Reply) -> Result<()>
             push_value(out, value.as_ref())?;
             push_text(out, b"\n")
         }
+        Reply::Swapped(Ok(())) => push_text(out, b"swapped\n"),
+        Reply::Swapped(Err(conflict)) => push_conflict(out, conflict),
         Reply::Number(number) => push_numbered(out, b"flushed ", *number),
     }
 }

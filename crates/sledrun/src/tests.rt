@@ -43,6 +43,26 @@ fn runs(rt: HostRuntime) -> Result<(), Fail> {
             b"insert a 1\ninsert a 1\nflush\n",
             b"old -\nold 1\nflushed 1\n",
         ),
+        // A value that is taken out, and then there is none.
+        (
+            b"insert a 1\nremove a\nremove a\nget a\nflush\n",
+            b"old -\nold 1\nold -\nvalue -\nflushed 2\n",
+        ),
+        // A swap, where the value that was expected stands, and where it does not.
+        (
+            b"cas a - 10\ncas a 10 20\ncas a 30 40\nget a\ncas a 20 -\nget a\ncas a 20 -\ncas a - -\nflush\n",
+            b"swapped\nswapped\nconflict 20 40\nvalue 20\nswapped\nvalue -\nconflict - -\nswapped\nflushed 4\n",
+        ),
+        // The empty string is a value, and the string of one dash too.
+        (
+            b"cas a - %\ncas a - b\ncas a % %2d\ncas a - %2d\ncas a %2d %00\ndump\n",
+            b"swapped\nconflict % b\nswapped\nconflict %2d %2d\nswapped\npair __sled__default a %00\nend 1\n",
+        ),
+        // Both in flight.
+        (
+            b"insert a 1\nbegin remove a\nbegin cas a 1 2\nstep 1\nstep 2\nstep 2\nstep 1\nstep 1\nstep 1\nbegin cas a 2 3\nfinish 3\nbegin remove a\nfinish 4\n",
+            b"old -\nslot 1\nslot 2\nmoved\nmoved\nswapped\nmoved\nmoved\nold 2\nslot 3\nconflict - 3\nslot 4\nold -\n",
+        ),
         // Slots are counted by the lines that began one, and anew after a crash.
         (
             b"begin get a\nget a\nbegin insert a 1\nfinish 2\nfinish 1\nfinish 1\ncrash 0\nstep 1\nbegin get a\nfinish 1\n",
@@ -123,8 +143,23 @@ fn lines_that_cannot_be_read(rt: HostRuntime) -> Result<(), Fail> {
         b"dumps",
         b"tree a",
         b"batch",
-        b"remove a",
-        b"cas a - -",
+        b"remove",
+        b"remove -",
+        b"remove a b",
+        b"removed a",
+        b"cas",
+        b"cas a",
+        b"cas a -",
+        b"cas - a b",
+        b"cas a - %4",
+        b"cas a %4 -",
+        b"cas a - b -",
+        b"cas a  b",
+        b"cas a b ",
+        b"begin remove",
+        b"begin remove -",
+        b"begin cas a -",
+        b"begin cas - - -",
         b"merge a b",
     ] {
         assert!(rt; refuses(rt.alloc(), line), "{line:?}");

@@ -9,7 +9,7 @@ ghost use Rattle.std.specs.Char.{digit_value};
 ghost use Rattle.std.specs.Int.{IsInRange};
 ghost use Rattle.std.specs.List.{flat_map};
 ghost use Rattle.sled_pages.specs.declared.error.Error.TheVariants.{NoMemory};
-ghost use Rattle.sledrun.specs.Words.{is_plain, hex_digit, hex_value, byte_of, escape, spelled, printed, bytes_of, read_word, number_of, read_number, words_of, words_after, AreBytes, BeginsWith, ReadsPrinted, PrintsShortest, ReadsDecimals};
+ghost use Rattle.sledrun.specs.Words.{is_plain, hex_digit, hex_value, byte_of, escape, spelled, printed, bytes_of, read_word, read_value, number_of, read_number, words_of, words_after, AreBytes, BeginsWith, ReadsPrinted, ReadsValues, PrintsShortest, ReadsDecimals};
 
 use sled_pages::{IVec, Result};
 use std::alloc::Global;
@@ -161,6 +161,20 @@ pub fn read_word(alloc: Global, word: &[u8]) -> Result<Option<IVec>>
     }
 }
 
+/// The value of a word, where `-` is none; `None` where it is no value. Refused with `NoMemory` alone.
+pub fn read_value(alloc: Global, word: &[u8]) -> Result<Option<Option<IVec>>>
+    ensures ok { IfOk result (λ value. value ≡ read_value word.now) }
+    ensures err { IfErr result (λ e. e ≡ NoMemory) }
+{
+    if word == b"-".as_slice() {
+        return Ok(Some(None));
+    }
+    match read_word(alloc, word)? {
+        Some(bytes) => Ok(Some(Some(bytes))),
+        None => Ok(None),
+    }
+}
+
 // A number with one more digit, if it fits.
 fn with_digit(number: u64, digit: u8) -> Option<u64>
     requires { IsInRange 48 57 digit }
@@ -203,6 +217,12 @@ pub fn read_number(word: &[u8]) -> Option<u64>
 #[allow(dead_code)]
 fn reads_printed()
     ensures { ReadsPrinted }
+{}
+
+// What is printed for a value, or none, is read as that value, or none.
+#[allow(dead_code)]
+fn reads_values()
+    ensures { ReadsValues }
 {}
 
 // No word of a byte string is shorter than the one that is printed, and no other is as short.

@@ -27,6 +27,19 @@ fn choice(number: u64, texts: &[&'static str]) -> &'static str {
     }
 }
 
+// A call at the key.
+fn chosen(alloc: Global, number: u64, key: &str, value: &str) -> Result<Call, Fail> {
+    let other = choice(number >> 16, &["1", "2", "3", "1", "2"]);
+    match (number >> 34) % 8 {
+        0 | 1 | 2 => insert(alloc, key, value),
+        3 => read(alloc, key),
+        4 => removal(alloc, key),
+        5 => swap(alloc, key, None, Some(value)),
+        6 => swap(alloc, key, Some(other), None),
+        _ => swap(alloc, key, Some(other), Some(value)),
+    }
+}
+
 // One move of both that is no crash: what was done, and how it came out on each side.
 fn moved<M: MergeOperator>(
     rt: &impl Abort,
@@ -46,19 +59,13 @@ fn moved<M: MergeOperator>(
             .wrapping_add((number >> 50) % 2),
     );
     let (one, other) = match number % 16 {
-        0 | 1 | 2 => {
-            let one = match machine.begin(tree, insert(alloc, key, value)?) {
+        0..=4 => {
+            let one = match machine.begin(tree, chosen(alloc, number, key, value)?) {
                 Ok(slot) => Outcome::Begun(slot),
                 Err(e) => Outcome::Refused(e),
             };
-            (one, plain.begin(tree.clone()?, insert(alloc, key, value)?))
-        }
-        3 | 4 => {
-            let one = match machine.begin(tree, read(alloc, key)?) {
-                Ok(slot) => Outcome::Begun(slot),
-                Err(e) => Outcome::Refused(e),
-            };
-            (one, plain.begin(tree.clone()?, read(alloc, key)?))
+            let call = chosen(alloc, number, key, value)?;
+            (one, plain.begin(tree.clone()?, call))
         }
         5 => (machine.abandon(slot), plain.abandoned(slot)),
         6 => {
