@@ -12,8 +12,11 @@ use Rattle.sled_model.specs.Refusal.{IsClosed, must_refuse, may_refuse_as, cause
 use Rattle.sled_model.specs.declared.call.Whole.TheVariants.{Flush}
 use Rattle.tree_laws.specs.Contents.{trees_of}
 use Rattle.tree_laws.specs.Crashes.{Extends, Flushes}
-use Rattle.tree_laws.specs.Moment.{Moment, IsMoment}
-use Rattle.tree_laws.proofs.Crashing.{extends_nothing, extends_same, flushes_same, flushes_safe, flushes_left, flushes_now}
+use Rattle.tree_laws.specs.Moment.{Moment, IsMoment, nodes_at}
+use Rattle.tree_laws.specs.Forest.{IsSized}
+use Rattle.sled_pages.specs.In.{In}
+use Rattle.sled_pages.specs.Crash.{states_left}
+use Rattle.tree_laws.proofs.Crashing.{extends_nothing, extends_same, flushes_same, flushes_whole_law, same_left, flushes_left, flushes_now}
 use Rattle.sled.specs.Values.{DbValue, named, numbers_of, state_of, db_state, moment}
 use Rattle.sled.specs.Sound.{IsDb}
 use Rattle.sled.proofs.Trees.{maps_are}
@@ -67,8 +70,10 @@ module _ {P M : Type 0} (store : P → Store) (meant : M → Merge) (old : DbVal
   flush_db db q e = subst (λ (s : Store). IsDb s old.trees old.trees_given) (sym e) (record {
     forest = db.forest;
     is = db.is;
-    safe = flushes_safe (flushes_same (store old.pages)) db.calm (record { forest = db.forest; formed = db.is.formed });
+    sized = db.sized;
+    safe = flushes_whole_law (store old.pages) (flushed (store old.pages)) (flushes_same (store old.pages)) db.calm (record { forest = db.forest; formed = db.is.formed; sized = db.sized });
     calm = db.calm;
+    ascends = db.ascends;
     default = db.default;
   })
 
@@ -112,6 +117,16 @@ module _ {P M : Type 0} (store : P → Store) (meant : M → Merge) (old : DbVal
   cause slots given q error.FullQueue t = absurd t
   cause slots given q error.Closed t = absurd t
 
+  left_refused : (q : P) (e : Error) → refused_as e (store old.pages) (store q) → states_left (store q) ≡ states_left (store old.pages)
+  left_refused q error.NoMemory t = ap states_left t
+  left_refused q (error.Io fault) t = same_left (store old.pages) (store q) (ap (λ (s : Store). s.base) t) (ap (λ (s : Store). s.recent) t)
+  left_refused q (error.CollectionNotFound name) t = absurd t
+  left_refused q (error.Unsupported text) t = absurd t
+  left_refused q (error.ReportableBug text) t = absurd t
+  left_refused q (error.Corruption fault) t = absurd t
+  left_refused q error.FullQueue t = absurd t
+  left_refused q error.Closed t = absurd t
+
   pub flush_refused : (q : P) (e : Error) → (now (store old.pages)).in_group ≡ false → Refused e (store old.pages) (store q) → RefusesFlush store meant old (record old { pages = q }) e
   flush_refused q e calm r = let s = same_refused q e r.told in record {
     may = λ slots given. record { told = subst (λ o. may_refuse_as o (state_of store meant old slots given) (store old.pages) (store q) (ToCall Flush) e) (sym (open_now calm)) (cause slots given q e r.told) };
@@ -124,7 +139,9 @@ module _ {P M : Type 0} (store : P → Store) (meant : M → Merge) (old : DbVal
   refused_db db q e r = let s = same_refused q e r.told in record {
     forest = db.forest;
     is = subst (λ (m : Moment). IsMoment m db.forest) (sym ((stays q s.0).moment)) db.is;
-    safe = s.1.safe db.safe;
+    sized = subst (λ (m : Moment). IsSized (nodes_at m) db.forest) (sym ((stays q s.0).moment)) db.sized;
+    safe = record { whole = λ x i. db.safe.whole x (subst (In x) (left_refused q e r.told) i) };
+    ascends = db.ascends;
     calm = ap (λ (x : PageState). x.in_group) s.0.now_is ∙ db.calm;
     default = db.default;
   }

@@ -1,5 +1,5 @@
 -- One step of a call in flight.
-use Rattle.std.proofs.Common.{◌≡◌, ◌≢◌, ℕ, ◌+◌, ◌<◌, ◌≤◌, Bool, true, false, not, cond, List, [], ◌∷◌, Option, Some, None, option_map, sym, refl, ap, ◌∙◌, subst, inl, inr, arith}
+use Rattle.std.proofs.Common.{◌≡◌, ◌≢◌, ℕ, ◌+◌, ◌<◌, ◌≤◌, Bool, true, false, not, cond, List, [], ◌∷◌, Option, Some, None, option_map, sym, refl, ap, ◌∙◌, subst, inl, inr, ◌⊎◌, ◌++◌, arith}
 use Rattle.std.specs.FinMap.Entries.{find}
 use Rattle.std.specs.Ordering.{nat_cmp}
 use Rattle.std.specs.Str.{bytes_eq}
@@ -19,15 +19,17 @@ use Rattle.sled_model.specs.declared.reply.Reply.{Reply}
 use Rattle.sled_model.specs.declared.TheConstants.{MAX_LOOPS}
 use Rattle.tree_laws.specs.Forest.{Forest, contents}
 use Rattle.tree_laws.specs.Contents.{trees_of}
-use Rattle.tree_laws.specs.Crashes.{IsWell, IsCrashSafe, Extends, Adds}
-use Rattle.tree_laws.specs.Moment.{Moment, nodes_at, IsMoment, Goes}
-use Rattle.tree_laws.proofs.Crashing.{adds_extends, adds_unseen, extends_nothing, extends_same, extends_again}
-use Rattle.tree_laws.proofs.Known.{acting_kept}
+use Rattle.tree_laws.specs.Crashes.{IsWell, IsCrashWhole, Extends, Adds}
+use Rattle.tree_laws.specs.Moment.{Moment, nodes_at, IsMoment, Goes, Grows}
+use Rattle.tree_laws.specs.Stages.{IsFreeing}
+use Rattle.tree_laws.specs.StageLaws.{StagesKept}
+use Rattle.tree_laws.proofs.Crashing.{adds_extends, adds_unseen, extends_nothing, extends_same, extends_again, same_left, whole_law}
+use Rattle.tree_laws.proofs.Staged.{stages_law, apart_law}
 use Rattle.tree_laws.proofs.Reading.{one_law}
 use Rattle.sled_tree.specs.declared.flight.Job.{Job}
 use Rattle.sled_tree.specs.declared.flight.Flight.{Flight}
 use Rattle.sled_tree.specs.declared.flight.Stage.{Stage}
-use Rattle.sled_tree.specs.declared.flight.Stage.TheVariants.{Root, Act}
+use Rattle.sled_tree.specs.declared.flight.Stage.TheVariants as stage
 use Rattle.sled_tree.specs.declared.flight.Next.TheVariants as next
 use Rattle.sled_tree.specs.declared.flight.Went.{Went}
 use Rattle.sled_tree.specs.declared.flight.Went.TheVariants.{Moved, Decided, Refused}
@@ -42,19 +44,73 @@ use Rattle.sled.proofs.Trees.{trees_at, trees_same, trees_put, maps_are, current
 none_some : {P X : Type 0} {x : X} → None ≡ Some x → P
 none_some e = cc
 
--- no call owns a page yet
-owns_nothing : (s : Stage) (q : ℕ) → In q (owned s) → ⊥
-owns_nothing Root q i = i
-owns_nothing (Act v) q i = i
+-- a page that is a call's own at its stage is one to be freed
+own_of : (m : Moment) (w : Forest) (j : Job) (s : Stage) → IsStage m w j s → (q : ℕ) → In q (owned s) → (version : ℕ) × IsFreeing m w q version
+own_of m w j stage.Root k q i = absurd i
+own_of m w j (stage.Walk a) k q i = absurd i
+own_of m w j (stage.Act v) k q i = absurd i
+own_of m w j (stage.Split a) k q i = absurd i
+own_of m w j (stage.Shorten a) k q i = own_is a.right i (a.version, record { node = k.replacing.right; own = k.replacing.own })
+  where
+    own_is : (p : ℕ) → In q (p ∷ []) → (version : ℕ) × IsFreeing m w p version → (version : ℕ) × IsFreeing m w q version
+    own_is p (inl e) f = subst (λ z. (version : ℕ) × IsFreeing m w z version) (sym e) f
+    own_is p (inr e) f = absurd e
+own_of m w j (stage.Post a) k q i = absurd i
+own_of m w j (stage.Hoist a) k q i = absurd i
+own_of m w j (stage.Crown a) k q i = own_is a.new i (a.version, record { node = k.root; own = k.own })
+  where
+    own_is : (p : ℕ) → In q (p ∷ []) → (version : ℕ) × IsFreeing m w p version → (version : ℕ) × IsFreeing m w q version
+    own_is p (inl e) f = subst (λ z. (version : ℕ) × IsFreeing m w z version) (sym e) f
+    own_is p (inr e) f = absurd e
+own_of m w j (stage.Free a) k q i = own_is a.pid i (a.version, k)
+  where
+    own_is : (p : ℕ) → In q (p ∷ []) → (version : ℕ) × IsFreeing m w p version → (version : ℕ) × IsFreeing m w q version
+    own_is p (inl e) f = subst (λ z. (version : ℕ) × IsFreeing m w z version) (sym e) f
+    own_is p (inr e) f = absurd e
+own_of m w j (stage.Intend a) k q i = absurd i
+own_of m w j (stage.Child a) k q i = absurd i
+own_of m w j (stage.Cap a) k q i = absurd i
+own_of m w j (stage.Seek a) k q i = absurd i
+own_of m w j (stage.Receive a) k q i = absurd i
+own_of m w j (stage.Confirm a) k q i = absurd i
 
--- what an action of one call leaves of what another knows
-stage_kept : {mine : List ℕ} {lost : Option Key} {old new : Moment} {w v : Forest} → Goes mine lost old w new v → (j : Job) (s : Stage) → IsStage old w j s → IsStage new v j s
-stage_kept g j Root k = tt
-stage_kept g j (Act view) k = record { acting = acting_kept g j.tree.name j.tree.number _ view k.acting; changes = k.changes }
+-- what an action of one call leaves of what another knows, whose own pages are none of its
+module _ {mine : List ℕ} {old new : Moment} {w v : Forest} (is : IsMoment old w) (g : Goes mine None old w new v) (grows : Grows (nodes_at old) (nodes_at new) w) (j : Job) where
+  kept : StagesKept mine old w new v j.tree.name j.tree.number
+  kept = stages_law mine None old w new v (record { is = is; goes = g }) j.tree.name j.tree.number
 
-known_kept : {mine : List ℕ} {lost : Option Key} {old new : Moment} {w v : Forest} → IsMoment old w → IsMoment new v → Goes mine lost old w new v → (h : Flight) → IsKnown old h → IsKnown new h
-known_kept {old = old} {new = new} {w = w} {v = v} is on g h k = record {
-  told = λ u at. subst (λ (z : Forest). IsStage new z h.job h.stage) (one_law (nodes_at new) new.state.roots v u on.formed at.formed) (stage_kept g h.job h.stage (k.told w is));
+  stage_kept : (s : Stage) → ((q : ℕ) → In q (owned s) → In q mine → ⊥) → IsStage old w j s → IsStage new v j s
+  stage_kept stage.Root off k = tt
+  stage_kept (stage.Walk a) off k = record { walking = kept.walking _ _ _ _ _ k.walking; few = k.few }
+  stage_kept (stage.Act view) off k = record { acting = kept.acting _ _ k.acting; few = k.few; changes = k.changes }
+  stage_kept (stage.Split a) off k = record { splitting = kept.splitting _ _ k.splitting; room = k.room }
+  stage_kept (stage.Shorten a) off k = record { replacing = kept.replacing _ _ _ _ _ _ (off a.right (inl refl)) k.replacing; room = k.room }
+  stage_kept (stage.Post a) off k = record { posting = kept.posting _ _ _ k.posting; few = k.few }
+  stage_kept (stage.Hoist a) off k = kept.hoisting _ _ _ k
+  stage_kept (stage.Crown a) off k = kept.swapping _ _ _ (off a.new (inl refl)) k
+  stage_kept (stage.Free a) off k = kept.freeing _ _ (off a.pid (inl refl)) k
+  stage_kept (stage.Intend a) off k = record { intending = kept.intending _ _ k.intending; small = kept.small grows _ _ k.intending k.small; before = k.before }
+  stage_kept (stage.Child a) off k = kept.merging _ _ _ k
+  stage_kept (stage.Cap a) off k = kept.capping _ _ _ _ k
+  stage_kept (stage.Seek a) off k = kept.seeking _ _ _ _ _ _ k
+  stage_kept (stage.Receive a) off k = record { receiving = kept.receiving _ _ _ _ _ _ k.receiving; few = k.few }
+  stage_kept (stage.Confirm a) off k = record { node = k.node; confirming = kept.confirming _ _ _ _ k.confirming }
+
+in_either : (q : ℕ) (xs ys : List ℕ) → In q (xs ++ ys) → In q xs ⊎ In q ys
+in_either q [] ys i = inr i
+in_either q (x ∷ xs) ys (inl e) = inl (inl e)
+in_either q (x ∷ xs) ys (inr i) = elim (in_either q xs ys i) [ inl a ↦ inl (inr a) | inr b ↦ inr b ]
+
+-- no page that a call comes to own is another's
+not_own : {mine own : List ℕ} {old new : Moment} {w v : Forest} → IsMoment old w → Acts mine own old w new v → (h : Flight) → IsKnown old h → ((q : ℕ) → In q mine → In q (owned h.stage) → ⊥) → (q : ℕ) → In q (owned h.stage) → In q own → ⊥
+not_own {mine} {own} {old} {new} {w} is a h k off q i o =
+    let f = own_of old w h.job h.stage (k.told w is) q i in
+    apart_law mine own old w is a.fresh q f.0 f.1 (λ m. off q m i) o
+
+known_kept : {mine own : List ℕ} {old new : Moment} {w v : Forest} → IsMoment old w → Acts mine own old w new v → (h : Flight) → IsKnown old h → ((q : ℕ) → In q mine → In q (owned h.stage) → ⊥) → IsKnown new h
+known_kept {mine} {own} {old} {new} {w} {v} is a h k off = record {
+  told = λ u at. subst (λ (z : Forest). IsStage new z h.job h.stage) (one_law (nodes_at new) new.state.roots v u a.is.formed at.formed)
+      (stage_kept is a.goes a.grows h.job h.stage (λ q i m. elim (in_either q mine own m) [ inl x ↦ off q x i | inr y ↦ not_own is a h k off q i y ]) (k.told w is));
   few = k.few;
 }
 
@@ -204,11 +260,13 @@ module _ {P M : Type 0} (store : P → Store) (meant : M → Merge) (old : DbVal
       new = record old { pages = q }
 
       -- the database is as it should be
-      is_db : (v : Forest) → IsMoment after v → (now (store q)).in_group ≡ (now (store old.pages)).in_group → (IsCrashSafe (store old.pages) → IsCrashSafe (store q)) → IsDb (store q) old.trees old.trees_given
-      is_db v is calm safe = record { forest = v; is = is; safe = safe db.safe; calm = calm ∙ db.calm; default = db.default }
+      is_db : (v : Forest) {mine own : List ℕ} → Acts mine own at db.forest after v → (now (store q)).in_group ≡ (now (store old.pages)).in_group → IsCrashWhole (store q) → IsDb (store q) old.trees old.trees_given
+      is_db v a calm safe = record { forest = v; is = a.is; sized = a.sized db.sized; safe = safe; calm = calm ∙ db.calm; ascends = db.ascends; default = db.default }
 
-      others_kept : (mine own : List ℕ) (v : Forest) → Acts mine own at db.forest after v → (h : Flight) → IsKnown at h → IsKnown after h
-      others_kept mine own v a h k = known_kept db.is a.is a.goes h k
+      -- after an action every state that a crash may leave is as it should be
+      whole : (v : Forest) {mine own : List ℕ} → Acts mine own at db.forest after v → ActsAtMostOnce (store old.pages) (store q) → IsCrashWhole (store q)
+      whole v a (inl e) = subst IsCrashWhole (sym e) db.safe
+      whole v a (inr o) = whole_law o.action (store old.pages) (store q) (once_adds o) db.safe (λ calm. record { forest = v; formed = a.is.formed; sized = a.sized db.sized })
 
       well : (v : Forest) → IsMoment after v → IsWell (now (store q))
       well v is = record { forest = v; formed = is.formed }
@@ -228,7 +286,7 @@ module _ {P M : Type 0} (store : P → Store) (meant : M → Merge) (old : DbVal
         moved_extends = extends_unseen (store old.pages) (store q) moves.touches db.calm (moved_touches.calm ∙ db.calm) (well moved.0 moved.1.is) moved_trees
 
         pub moved_db : IsDb (store q) old.trees old.trees_given
-        moved_db = is_db moved.0 moved.1.is moved_touches.calm moved_extends.safe
+        moved_db = is_db moved.0 moved.1 moved_touches.calm (whole moved.0 moved.1 moves.touches)
 
         flying_more : flying_of g ≡ record (flying_of f) { turns = f.turns + 1 }
         flying_more = λ i. record { tree = (job i).tree; call = (job i).call; turns = turns i; waiting = []; rest = None }
@@ -262,7 +320,7 @@ module _ {P M : Type 0} (store : P → Store) (meant : M → Merge) (old : DbVal
           still = λ x e. absurd (unlike x e);
           quiet = λ k. absurd (apart k.reply k.decided);
           goes_on = λ e. (job, moved_known);
-          others = λ h off k. (others_kept (owned f.stage) (owned g.stage) moved.0 moved.1 h k, λ e. record { off = λ p i j. owns_nothing g.stage p i });
+          others = λ h apart k. (known_kept db.is moved.1 h k apart.off, λ e. record { off = λ p i j. not_own db.is moved.1 h k apart.off p j i });
           same = refl;
         }
           where
@@ -287,7 +345,7 @@ module _ {P M : Type 0} (store : P → Store) (meant : M → Merge) (old : DbVal
         refused_calm = ap (λ (s : Rattle.sled_pages.specs.State.State). s.in_group) (now_rests rests)
 
         pub refused_db : IsDb (store q) old.trees old.trees_given
-        refused_db = is_db refused.0 refused.1.is refused_calm refused_extends.safe
+        refused_db = is_db refused.0 refused.1 refused_calm (record { whole = λ x i. db.safe.whole x (subst (In x) (same_left (store old.pages) (store q) rests.base rests.recent) i) })
 
         pub flies_refused : Flies store meant old f (Refused e) new g
         flies_refused = record {
@@ -307,7 +365,7 @@ module _ {P M : Type 0} (store : P → Store) (meant : M → Merge) (old : DbVal
           still = λ x e. rests.actions;
           quiet = λ k. absurd (apart k.reply k.decided);
           goes_on = λ e. absurd (off e);
-          others = λ h a k. (others_kept (owned f.stage) [] refused.0 refused.1 h k, λ e. absurd (off e));
+          others = λ h a k. (known_kept db.is refused.1 h k a.off, λ e. absurd (off e));
           same = refl;
         }
           where
@@ -340,7 +398,7 @@ module _ {P M : Type 0} (store : P → Store) (meant : M → Merge) (old : DbVal
         done_extends = extends_seen (store old.pages) (store q) moves.touches (done_touches.calm ∙ db.calm) (well done.0 done.1.is)
 
         pub decided_db : IsDb (store q) old.trees old.trees_given
-        decided_db = is_db done.0 done.1.is done_touches.calm done_extends.safe
+        decided_db = is_db done.0 done.1 done_touches.calm (whole done.0 done.1 moves.touches)
 
         -- the trees of the state, where that of the call is another
         named_trees : (t : Key) → named (numbers_of old.trees t) (trees_of (now (store q)) t) (λ n. option_map meant (find nat_cmp n old.operators))
@@ -399,7 +457,7 @@ module _ {P M : Type 0} (store : P → Store) (meant : M → Merge) (old : DbVal
           still = λ x e. absurd (unlike x e);
           quiet = λ k. done.2.quiet (ap (λ (t : NamedTree). (answer_of f.job.call t.map).event) (some_is (sym there ∙ k.there)) ∙ k.silent);
           goes_on = λ e. absurd (off e);
-          others = λ h a k. (others_kept (owned f.stage) [] done.0 done.1 h k, λ e. absurd (off e));
+          others = λ h a k. (known_kept db.is done.1 h k a.off, λ e. absurd (off e));
           same = refl;
         }
           where

@@ -16,14 +16,14 @@ use Rattle.sled_pages.specs.declared.node.Node.{Node}
 use Rattle.sled_pages.specs.declared.node.Data.TheVariants as kind
 use Rattle.sled_pages.specs.declared.page.Page.{Page}
 use Rattle.sled_model.specs.Maps.{Map, Maps}
-use Rattle.tree_laws.specs.Forest.{Tree, Forest, Place, WellFormed, contents}
+use Rattle.tree_laws.specs.Forest.{Tree, Forest, Place, WellFormed, IsSized, contents}
 use Rattle.tree_laws.specs.Contents.{trees_of}
-use Rattle.tree_laws.specs.Crashes.{IsWell, Extends, Flushes}
+use Rattle.tree_laws.specs.Crashes.{IsWell, IsWhole, Extends, Flushes}
 use Rattle.tree_laws.specs.Moment.{IsMoment, IsStray}
 use Rattle.tree_laws.specs.Laws.{IsAlone}
-use Rattle.tree_laws.proofs.Crashing.{adds_page, adds_is, adds_extends, adds_unseen, extends_same, extends_then, flushes_same, flushes_safe}
+use Rattle.tree_laws.proofs.Crashing.{adds_page, adds_is, adds_extends, adds_unseen, extends_same, extends_then, flushes_same, flushes_whole_law}
 use Rattle.tree_laws.proofs.Known.{store_moment}
-use Rattle.tree_laws.proofs.Outside.{outside_kept, outside_contents}
+use Rattle.tree_laws.proofs.Outside.{outside_kept, outside_contents, outside_sized}
 use Rattle.tree_laws.proofs.Order.{key_same}
 use Rattle.tree_laws.proofs.Roots.{plant_law}
 use Rattle.tree_laws.proofs.Fuel.{contents_law}
@@ -40,6 +40,10 @@ some_is e = cc
 
 false_true : {P : Type 0} → false ≡ true → P
 false_true e = cc
+
+-- the shape alone
+well_of : {s : State} → IsWhole s → IsWell s
+well_of k = record { forest = k.forest; formed = k.formed }
 
 -- a new page without a home
 
@@ -66,6 +70,9 @@ module _ {node : Node} {pid version : ℕ} {a b : Store} (are : AreGiven a) (new
 
   pub made_formed : WellFormed (nodes_of (now b)) (now b).roots w
   made_formed = subst (λ r. WellFormed (nodes_of (now b)) r w) (sym roots) (outside_kept (nodes_of (now a)) (nodes_of (now b)) (now a).roots w same f)
+
+  pub made_sized : IsSized (nodes_of (now a)) w → IsSized (nodes_of (now b)) w
+  made_sized z = outside_sized (nodes_of (now a)) (nodes_of (now b)) (now a).roots w same f z
 
   pub made_live : nodes_of (now b) pid ≡ Some node
   made_live = ap (λ (s : State). nodes_of s pid) state ∙ ap (option_map (λ (g : Page). g.node)) (put_here (now a).pages pid (Some page))
@@ -94,13 +101,13 @@ module _ (name : Key) where
   planted_absent maps e = ap (λ o. cond (is_some o) [] (with_tree name maps ∷ [])) e
 
   -- the tree gets its root
-  module _ (s : State) (w : Forest) (f : WellFormed (nodes_of s) s.roots w) (below : (p : ℕ) (g : Page) → s.pages p ≡ Some g → p < 2 ^ 64)
+  module _ (s : State) (w : Forest) (f : WellFormed (nodes_of s) s.roots w) (sized : IsSized (nodes_of s) w) (below : (p : ℕ) (g : Page) → s.pages p ≡ Some g → p < 2 ^ 64)
       (r : ℕ) (n : Node) (root : s.roots name ≡ None) (stray : IsStray w r) (alone : IsAlone (nodes_of s) r n (kind.Leaf [])) where
     abbrev rooted : State
     rooted = after (RootBecomes name (Some r)) s
 
-    pub planted_well : IsWell rooted
-    planted_well = let u = plant_law (nodes_of s) s.roots w f name r n root stray alone in record { forest = u.0.after; formed = u.0.kept }
+    pub planted_well : IsWhole rooted
+    planted_well = let u = plant_law (nodes_of s) s.roots w f name r n root stray alone in record { forest = u.0.after; formed = u.0.kept; sized = u.0.sized sized }
 
     pub planted_trees : trees_of rooted ≡ with_tree name (trees_of s)
     planted_trees =
@@ -153,11 +160,11 @@ module _ (name : Key) where
   pub no_memory : (a b : Store) (e : Error) → e ≡ error.NoMemory → CanBeOpened name a b → b.faults ≡ a.faults → RefusesTree name a e b
   no_memory a b e is k f = subst (λ z. RefusesTree name a z b) (sym is) (record { cause = record { told = f }; again = k })
 
-  pub again_same : (a : Store) → IsWell (now a) → (now a).in_group ≡ false → CanBeOpened name a a
+  pub again_same : (a : Store) → IsWhole (now a) → (now a).in_group ≡ false → CanBeOpened name a a
   again_same a well calm = record { grows = inl (extends_same a, refl); few = omega arith; well = well; calm = calm; mark = refl; recovered = refl; readable = refl }
 
   -- the tree is there
-  pub has_present : (a : Store) → IsWell (now a) → (now a).in_group ≡ false → is_some ((now a).roots name) ≡ true → HasTree name a a
+  pub has_present : (a : Store) → IsWhole (now a) → (now a).in_group ≡ false → is_some ((now a).roots name) ≡ true → HasTree name a a
   has_present a well calm there = go ((now a).roots name) refl there
     where
       go : (o : Option ℕ) → (now a).roots name ≡ o → is_some o ≡ true → HasTree name a a
@@ -179,7 +186,7 @@ module _ (name : Key) where
           more n e = omega arith
 
   -- it is made
-  module _ {node : Node} {pid version : ℕ} {a b : Store} (well : IsWell (now a)) (calm : (now a).in_group ≡ false) (are : AreGiven a) (on : AreGiven b)
+  module _ {node : Node} {pid version : ℕ} {a b : Store} (well : IsWhole (now a)) (calm : (now a).in_group ≡ false) (are : AreGiven a) (on : AreGiven b)
       (none : (now a).roots name ≡ None) (new : Allocates node pid version a b) where
     w : Forest
     w = well.forest
@@ -191,9 +198,9 @@ module _ (name : Key) where
     calm_then : (now b).in_group ≡ false
     calm_then = ap (λ (s : State). s.in_group) (now_allocates node pid version a b new) ∙ calm
 
-    well_then : IsWell (now b)
+    well_then : IsWhole (now b)
     unfolding w
-    well_then = record { forest = w; formed = made_formed are new w well.formed }
+    well_then = record { forest = w; formed = made_formed are new w well.formed; sized = made_sized are new w well.formed well.sized }
 
     absent : trees_of (now a) name ≡ None
     absent = ap (option_map (Rattle.tree_laws.specs.Contents.pairs_under (nodes_of (now a)))) none
@@ -202,7 +209,7 @@ module _ (name : Key) where
     one = ap length (planted_absent (trees_of (now a)) absent)
 
     grown : Extends [] a b
-    grown = adds_unseen (adds_page new) calm calm_then well_then unseen
+    grown = adds_unseen (adds_page new) calm calm_then (well_of well_then) unseen
 
     pub made_again : CanBeOpened name a b
     made_again = record {
@@ -237,14 +244,15 @@ module _ (name : Key) where
           content = ap (λ (n : Node). n.content) is;
         } in
         let f = made_formed are new w well.formed in
+        let z = made_sized are new w well.formed well.sized in
         let stray = made_stray are new w well.formed in
         let at : now c ≡ after (RootBecomes name (Some pid)) (now b) = ap now e ∙ now_acted _ b in
-        let good : IsWell (now c) = subst IsWell (sym at) (planted_well (now b) w f on.numbered pid node made_root stray alone) in
-        let maps : trees_of (now c) ≡ with_tree name (trees_of (now a)) = ap trees_of at ∙ planted_trees (now b) w f on.numbered pid node made_root stray alone ∙ ap (with_tree name) unseen in
+        let good : IsWhole (now c) = subst IsWhole (sym at) (planted_well (now b) w f z on.numbered pid node made_root stray alone) in
+        let maps : trees_of (now c) ≡ with_tree name (trees_of (now a)) = ap trees_of at ∙ planted_trees (now b) w f z on.numbered pid node made_root stray alone ∙ ap (with_tree name) unseen in
         let out : (now c).in_group ≡ false = ap (λ (s : State). s.in_group) at ∙ calm_then in
         let adds = adds_is e in
         let all : Extends (planted name (trees_of (now a))) a c =
-        subst (λ l. Extends l a c) (ap (λ (m : Maps). m ∷ []) maps ∙ sym (planted_absent (trees_of (now a)) absent)) (extends_then grown (adds_extends adds out good)) in
+        subst (λ l. Extends l a c) (ap (λ (m : Maps). m ∷ []) maps ∙ sym (planted_absent (trees_of (now a)) absent)) (extends_then grown (adds_extends adds out (well_of good))) in
         let count : c.actions ≡ a.actions + 2 * length (planted name (trees_of (now a))) = two a.actions b.actions c.actions (length (planted name (trees_of (now a)))) one (adds_page new).actions adds.actions in
         record {
           grows = record { extends = all; actions = count };
@@ -371,8 +379,10 @@ module _ (s : Store) {trees : List (Key × ℕ)} (all : AreNumbered (now s) tree
       subst (λ (z : Store). IsDb z trees given) (sym e) (record {
         forest = well.forest;
         is = moment_here given count are well.forest well.formed;
-        safe = flushes_safe (flushes_same s) h.again.calm well;
+        sized = well.sized;
+        safe = flushes_whole_law s (flushed s) (flushes_same s) h.again.calm well;
         calm = h.again.calm;
+        ascends = ascends;
         default = none_no (numbers_of trees DEFAULT_TREE.now) (is_number DEFAULT_TREE.now ∙ there);
       })
     where

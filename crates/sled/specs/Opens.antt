@@ -9,7 +9,7 @@ use Rattle.sled_pages.specs.Faults.{IsFault}
 use Rattle.sled_pages.specs.declared.error.Error.{Error}
 use Rattle.sled_model.specs.Maps.{Map, Maps}
 use Rattle.tree_laws.specs.Contents.{trees_of}
-use Rattle.tree_laws.specs.Crashes.{IsWell, Extends, Flushes}
+use Rattle.tree_laws.specs.Crashes.{IsWhole, Extends, Flushes}
 use Rattle.sled.specs.Values.{DbValue, numbers_of}
 use Rattle.sled.specs.declared.TheConstants.{DEFAULT_TREE}
 
@@ -48,7 +48,7 @@ GrowsAtMost name old new =
 pub record CanBeOpened (name : Key) (old new : Store) : Type 0 where
   pub grows : GrowsAtMost name old new
   pub few : new.actions ≤ old.actions + 2 * length (planted name (trees_of (now old)))
-  pub well : IsWell (now new)
+  pub well : IsWhole (now new)
   pub calm : (now new).in_group ≡ false
   pub mark : new.mark ≡ old.mark
   pub recovered : new.recovered ≡ old.recovered

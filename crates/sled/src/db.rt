@@ -5,7 +5,7 @@ ghost use Rattle.std.specs.FinMap.Entries.{find};
 ghost use Rattle.sled_pages.specs.Order.{key_cmp};
 ghost use Rattle.sled_pages.specs.declared.error.Error.TheVariants.{NoMemory};
 ghost use Rattle.sled_pages.specs.Store.{now};
-ghost use Rattle.tree_laws.specs.Crashes.{IsWell};
+ghost use Rattle.tree_laws.specs.Crashes.{IsWhole};
 ghost use Rattle.sled_model.specs.Refusal.{must_refuse_of};
 ghost use Rattle.sled.specs.Calls.{IsHandle, RefusesHandle, MustBeRefused};
 
@@ -79,7 +79,7 @@ impl<P: Pages, M: MergeOperator> Db<P, M> {
     pub fn into_pages(self) -> P
         ensures pages { result ≡ self.pages }
         ensures sound { IsDb (P.store result) self.trees self.trees_given }
-        ensures well { IsWell (now (P.store result)) }
+        ensures well { IsWhole (now (P.store result)) }
         ensures calm { (now (P.store result)).in_group ≡ false }
     {
         let Db { pages, .. } = self;

@@ -1,7 +1,7 @@
 ghost use Rattle.std.specs.Prelude.{◌≡◌, ◌≤◌, false};
 ghost use Rattle.sled_pages.specs.Memory.{store_of};
 ghost use Rattle.sled_pages.specs.Store.{now};
-ghost use Rattle.tree_laws.specs.Crashes.{IsWell};
+ghost use Rattle.tree_laws.specs.Crashes.{IsWhole};
 
 use super::*;
 use crate::open::plant;
@@ -16,7 +16,7 @@ fn bytes(alloc: Global, text: &str) -> std::result::Result<IVec, Fail> {
 
 // A database over these pages, under the name `db`.
 fn opened(alloc: Global, pages: MemPages) -> std::result::Result<Db<MemPages>, Fail>
-    requires well { IsWell (now (store_of pages)) }
+    requires well { IsWhole (now (store_of pages)) }
     requires calm { (now (store_of pages)).in_group ≡ false }
 {
     match Db::open(alloc, pages, b"db") {

@@ -175,7 +175,7 @@ module _ {act : Action} {a b : Store} (d : Adds act a b) where
         safe = λ s. record { well = λ x i. s.well x (subst (λ l. In x l) same i) };
       }
 
-same_left : (a b : Store) → b.base ≡ a.base → b.recent ≡ a.recent → states_left b ≡ states_left a
+pub same_left : (a b : Store) → b.base ≡ a.base → b.recent ≡ a.recent → states_left b ≡ states_left a
 same_left a b base recent = ap (λ s. left_from s b.recent) base ∙ ap (λ l. left_from a.base l) recent
 
 -- no action: faults, the mark, and what can be read do not matter
