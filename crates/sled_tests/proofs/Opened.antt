@@ -15,7 +15,7 @@ use Rattle.sled.specs.Opens.{or_empty, with_default, RefusesOpen, Opens}
 use Rattle.sled.specs.Sound.{IsDb}
 use Rattle.sled.specs.Values.{DbValue, numbers_of, named}
 use Rattle.sled_pages.specs.Crash.{MayLeave, Crashes}
-use Rattle.tree_laws.specs.Crashes.{IsWell}
+use Rattle.tree_laws.specs.Crashes.{IsWhole}
 use Rattle.sled_model.specs.declared.outcome.Outcome.{Outcome}
 use Rattle.sled_tests.specs.Reads.{ReadsAs, found_in, maps_now}
 
@@ -81,14 +81,14 @@ now_left : (before left : Store) (keep : ℕ) → Crashes keep before left → n
 now_left before left keep c = ap now c.is ∙ sym (ap (λ (s : Store). s.base) c.is)
 
 -- what a crash leaves of a database's pages has the shape of a forest
-pub left_well : (before left : Store) (trees : List (Key × ℕ)) (given : ℕ) (keep : ℕ) → IsDb before trees given → MayLeave before left.base → Crashes keep before left → IsWell (now left)
-left_well before left trees given keep is may c = subst IsWell (sym (now_left before left keep c)) (is.safe.well left.base may.is)
+pub left_well : (before left : Store) (trees : List (Key × ℕ)) (given : ℕ) (keep : ℕ) → IsDb before trees given → MayLeave before left.base → Crashes keep before left → IsWhole (now left)
+left_well before left trees given keep is may c = subst IsWhole (sym (now_left before left keep c)) (is.safe.whole left.base may.is)
 
 -- .. and no open group
 pub left_calm : (before left : Store) (keep : ℕ) → Crashes keep before left → (now left).in_group ≡ false
 left_calm before left keep c = ap (λ s. (now s).in_group) c.is ∙ c.sealed
 
-pub crashed_well : {X E : Type 0} (store : X → Store) (before : Store) (trees : List (Key × ℕ)) (given keep : ℕ) (r : Result X E) → IsDb before trees given → IfOk r (λ left. Crashes keep before (store left)) → IfOk r (λ left. MayLeave before (store left).base) → IfOk r (λ left. IsWell (now (store left)))
+pub crashed_well : {X E : Type 0} (store : X → Store) (before : Store) (trees : List (Key × ℕ)) (given keep : ℕ) (r : Result X E) → IsDb before trees given → IfOk r (λ left. Crashes keep before (store left)) → IfOk r (λ left. MayLeave before (store left).base) → IfOk r (λ left. IsWhole (now (store left)))
 crashed_well store before trees given keep (Ok left) is c may = left_well before (store left) trees given keep is may c
 crashed_well store before trees given keep (Err e) is c may = tt
 

@@ -4,7 +4,7 @@ ghost use Rattle.sled_pages.specs.Store.{now};
 ghost use Rattle.sled_pages.specs.Crash.{Crashes};
 ghost use Rattle.sled_pages.specs.Memory.{store_of};
 ghost use Rattle.tree_laws.specs.Contents.{trees_of};
-ghost use Rattle.tree_laws.specs.Crashes.{IsWell};
+ghost use Rattle.tree_laws.specs.Crashes.{IsWhole};
 ghost use Rattle.sled.specs.declared.TheConstants.{DEFAULT_TREE};
 ghost use Rattle.sled_tests.specs.Reads.{ReadsAs, PutsOne, maps_now, later, found_in};
 
@@ -134,7 +134,7 @@ pub fn reopen_then_get<P: Pages, M: MergeOperator>(
 
 /// Ends a database, and crashes its pages so that they keep this many actions at most: what is left can be opened again.
 pub fn crash<M: MergeOperator>(db: Db<MemPages, M>, keep: usize) -> Result<MemPages>
-    ensures well { IfOk result (λ left. IsWell (now (store_of left))) }
+    ensures well { IfOk result (λ left. IsWhole (now (store_of left))) }
     ensures calm { IfOk result (λ left. (now (store_of left)).in_group ≡ false) }
     ensures crashes { IfOk result (λ left. Crashes keep (store_of db.pages) (store_of left)) }
 {
@@ -144,7 +144,7 @@ pub fn crash<M: MergeOperator>(db: Db<MemPages, M>, keep: usize) -> Result<MemPa
 
 /// An empty store in memory, which can be opened.
 pub fn empty(alloc: Global) -> MemPages
-    ensures well { IsWell (now (store_of result)) }
+    ensures well { IsWhole (now (store_of result)) }
     ensures calm { (now (store_of result)).in_group ≡ false }
 {
     law_empty();
@@ -153,7 +153,7 @@ pub fn empty(alloc: Global) -> MemPages
 
 /// The same, but that the store's call of this number will be refused.
 pub fn refusing(alloc: Global, call: u64) -> Result<MemPages>
-    ensures well { IfOk result (λ pages. IsWell (now (store_of pages))) }
+    ensures well { IfOk result (λ pages. IsWhole (now (store_of pages))) }
     ensures calm { IfOk result (λ pages. (now (store_of pages)).in_group ≡ false) }
 {
     let mut pages = empty(alloc);

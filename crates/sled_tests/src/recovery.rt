@@ -2,7 +2,7 @@
 ghost use Rattle.std.specs.Prelude.{◌≡◌, false, IfOk};
 ghost use Rattle.sled_pages.specs.Store.{now};
 ghost use Rattle.sled_pages.specs.Memory.{store_of};
-ghost use Rattle.tree_laws.specs.Crashes.{IsWell};
+ghost use Rattle.tree_laws.specs.Crashes.{IsWhole};
 ghost use Rattle.sled_tests.specs.Survive.{Survives};
 
 use sled::Db;
@@ -20,7 +20,7 @@ pub fn survive(
     steps: &[Step],
     keep: usize,
 ) -> Result<(Vec<Outcome>, MemPages)>
-    requires well { IsWell (now (store_of pages)) }
+    requires well { IsWhole (now (store_of pages)) }
     requires calm { (now (store_of pages)).in_group ≡ false }
     ensures { IfOk result (λ r. Survives (store_of pages) steps.now r.0.items (store_of r.1)) }
 {

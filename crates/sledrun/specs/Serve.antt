@@ -7,7 +7,7 @@ use Rattle.sledrun.specs.declared.serve.Line.{Line}
 use Rattle.sledrun.specs.declared.serve.Line.TheVariants as line
 use Rattle.sled_pages.specs.Store.{now}
 use Rattle.sled_pages.specs.Memory.{store_of}
-use Rattle.tree_laws.specs.Crashes.{IsWell}
+use Rattle.tree_laws.specs.Crashes.{IsWhole}
 use Rattle.sledrun.specs.declared.serve.End.{End}
 use Rattle.sledrun.specs.declared.serve.End.TheVariants.{NoLine, BadLine, Crashed}
 
@@ -15,7 +15,7 @@ use Rattle.sledrun.specs.declared.serve.End.TheVariants.{NoLine, BadLine, Crashe
 abbrev pub GoesOn : End → Type 0
 GoesOn NoLine = Unit {0}
 GoesOn BadLine = Unit {0}
-GoesOn (Crashed pages) = IsWell (now (store_of pages)) × ((now (store_of pages)).in_group ≡ false)
+GoesOn (Crashed pages) = IsWhole (now (store_of pages)) × ((now (store_of pages)).in_group ≡ false)
 
 -- parts, without the last of them if it is empty
 abbrev pub without_last : List (List ℕ) → List (List ℕ)

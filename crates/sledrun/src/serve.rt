@@ -2,7 +2,7 @@
 ghost use Rattle.std.specs.Prelude.{◌≡◌, ◌≤◌, false, IfOk, IfSome};
 ghost use Rattle.sled_pages.specs.Store.{now};
 ghost use Rattle.sled_pages.specs.Memory.{store_of};
-ghost use Rattle.tree_laws.specs.Crashes.{IsWell};
+ghost use Rattle.tree_laws.specs.Crashes.{IsWhole};
 ghost use Rattle.sledrun.specs.Serve.{GoesOn, Reads, Ends, Ran, IsStatus, bad_left};
 ghost use Rattle.std.specs.Io.BufRead.{strip_last};
 
@@ -110,7 +110,7 @@ fn live<R: BufRead, W: Write>(
     output: &mut W,
     buffers: &mut Buffers,
 ) -> Result<End, Stopped>
-    requires well { IsWell (now (store_of pages)) }
+    requires well { IsWhole (now (store_of pages)) }
     requires calm { (now (store_of pages)).in_group ≡ false }
     ensures goes_on { IfOk result GoesOn }
     ensures bad { IfOk result (Ends (bad_left buffers.old.number (R.remaining input.old)) (bad_left buffers.new.number (R.remaining input.new)) buffers.new.number) }

@@ -1,6 +1,6 @@
 //! A session: a database over pages in memory from its opening to a crash or the end.
 ghost use Rattle.sled_pages.specs.Memory.{store_of};
-ghost use Rattle.tree_laws.specs.Crashes.{IsCrashSafe};
+ghost use Rattle.tree_laws.specs.Crashes.{IsCrashWhole};
 
 use crate::command::Command;
 use crate::print::{Shown, push_end, push_outcome, push_pair, push_refused, push_slot};
@@ -31,7 +31,7 @@ impl Session {
 
     /// The pages. The calls in flight are given up.
     pub fn into_pages(self) -> MemPages
-        ensures { IsCrashSafe (store_of result) }
+        ensures { IsCrashWhole (store_of result) }
     {
         let Session { machine, .. } = self;
         machine.into_db().into_pages()

@@ -1,14 +1,14 @@
 use Rattle.std.proofs.Common.{◌≡◌, false, Some, IfSome}
 use Rattle.sled_pages.specs.Store.{now}
 use Rattle.sled_pages.specs.Memory.{store_of}
-use Rattle.tree_laws.specs.Crashes.{IsWell}
+use Rattle.tree_laws.specs.Crashes.{IsWhole}
 use Rattle.sledrun.specs.Serve.{bad_left}
 use Rattle.sledrun.proofs.serve.run.Given as goal
 
 -- the pages can be opened, and the first bad line is still to be read
 abbrev pub invariant-loop : goal.invariant-loop
 invariant-loop g l = record {
-  well : IsWell (now (store_of l.pages));
+  well : IsWhole (now (store_of l.pages));
   calm : (now (store_of l.pages)).in_group ≡ false;
   bad : IfSome (bad_left 0 (g.R.Read.remaining l.fn.input)) (λ bad. bad_left l.buffers.number (g.R.Read.remaining l.input) ≡ Some bad);
 }
