@@ -17,7 +17,7 @@ use Rattle.tree_laws.specs.Forest.{IsSized}
 use Rattle.sled_pages.specs.In.{In}
 use Rattle.sled_pages.specs.Crash.{states_left}
 use Rattle.tree_laws.proofs.Crashing.{extends_nothing, extends_same, flushes_same, flushes_whole_law, same_left, flushes_left, flushes_now}
-use Rattle.sled.specs.Values.{DbValue, named, numbers_of, state_of, db_state, moment}
+use Rattle.sled.specs.Values.{KeepsRest, DbValue, named, numbers_of, state_of, db_state, moment}
 use Rattle.sled.specs.Sound.{IsDb}
 use Rattle.sled.proofs.Trees.{maps_are}
 use Rattle.sled.specs.Flush.{Stays, FlushesDb, RefusesFlush}
@@ -25,7 +25,7 @@ use Rattle.sled.specs.Flush.{Stays, FlushesDb, RefusesFlush}
 -- two stores that show the same now
 pub record SameNow (a b : Store) : Type 0 where
   pub now_is : now b ≡ now a
-  pub mark : b.mark ≡ a.mark
+  pub rest : KeepsRest a b
   pub pids : b.pids ≡ a.pids
   pub versions : b.versions ≡ a.versions
 
@@ -39,12 +39,13 @@ module _ {P M : Type 0} (store : P → Store) (meant : M → Merge) (old : DbVal
       slots = slots;
       is_open = not (s.now_is i).in_group;
       greatest_id = old.greatest_id;
-      mark = s.mark i;
+      mark = s.rest.mark i;
       trees_given = old.trees_given;
       slots_given = given;
       subscribers_given = 0;
     };
     moment = λ i. record { state = s.now_is i; pids = s.pids i; versions = s.versions i; numbers = numbers_of old.trees; given = Rattle.sled.specs.Values.given_to old.trees_given };
+    rest = s.rest;
     same = refl;
   }
 
@@ -57,14 +58,14 @@ module _ {P M : Type 0} (store : P → Store) (meant : M → Merge) (old : DbVal
     flushes = flushed_now;
     left = flushes_left flushed_now db.calm ∙ ap (λ z. z ∷ []) (sym (flushes_now flushed_now));
     maps = sym (maps_are store meant (record old { pages = q }) db.forest (subst (λ (m : Moment). IsMoment m db.forest) (sym same) db.is));
-    stays = stays q (record { now_is = ap now e; mark = ap (λ (s : Store). s.mark) e; pids = ap (λ (s : Store). s.pids) e; versions = ap (λ (s : Store). s.versions) e });
+    stays = stays q (record { now_is = ap now e; rest = record { mark = ap (λ (s : Store). s.mark) e; recovered = ap (λ (s : Store). s.recovered) e; readable = ap (λ (s : Store). s.is_readable) e }; pids = ap (λ (s : Store). s.pids) e; versions = ap (λ (s : Store). s.versions) e });
   }
     where
       flushed_now : Flushes (store old.pages) (store q)
       flushed_now = subst (λ (s : Store). Flushes (store old.pages) s) (sym e) (flushes_same (store old.pages))
 
       same : moment (store q) old.trees old.trees_given ≡ moment (store old.pages) old.trees old.trees_given
-      same = (stays q (record { now_is = ap now e; mark = ap (λ (s : Store). s.mark) e; pids = ap (λ (s : Store). s.pids) e; versions = ap (λ (s : Store). s.versions) e })).moment
+      same = (stays q (record { now_is = ap now e; rest = record { mark = ap (λ (s : Store). s.mark) e; recovered = ap (λ (s : Store). s.recovered) e; readable = ap (λ (s : Store). s.is_readable) e }; pids = ap (λ (s : Store). s.pids) e; versions = ap (λ (s : Store). s.versions) e })).moment
 
   pub flush_db : IsDb (store old.pages) old.trees old.trees_given → (q : P) → store q ≡ flushed (store old.pages) → IsDb (store q) old.trees old.trees_given
   flush_db db q e = subst (λ (s : Store). IsDb s old.trees old.trees_given) (sym e) (record {
@@ -80,11 +81,11 @@ module _ {P M : Type 0} (store : P → Store) (meant : M → Merge) (old : DbVal
   -- refused by the store
   same_refused : (q : P) (e : Error) → refused_as e (store old.pages) (store q) → SameNow (store old.pages) (store q) × Extends [] (store old.pages) (store q)
   same_refused q error.NoMemory t = (
-    record { now_is = ap now t; mark = ap (λ (s : Store). s.mark) t; pids = ap (λ (s : Store). s.pids) t; versions = ap (λ (s : Store). s.versions) t },
+    record { now_is = ap now t; rest = record { mark = ap (λ (s : Store). s.mark) t; recovered = ap (λ (s : Store). s.recovered) t; readable = ap (λ (s : Store). s.is_readable) t }; pids = ap (λ (s : Store). s.pids) t; versions = ap (λ (s : Store). s.versions) t },
     extends_nothing (store old.pages) (store q) (ap (λ (s : Store). s.base) t) (ap (λ (s : Store). s.recent) t) (ap (λ (s : Store). s.actions) t),
   )
   same_refused q (error.Io fault) t = (
-    record { now_is = ap now t; mark = ap (λ (s : Store). s.mark) t; pids = ap (λ (s : Store). s.pids) t; versions = ap (λ (s : Store). s.versions) t },
+    record { now_is = ap now t; rest = record { mark = ap (λ (s : Store). s.mark) t; recovered = ap (λ (s : Store). s.recovered) t; readable = ap (λ (s : Store). s.is_readable) t }; pids = ap (λ (s : Store). s.pids) t; versions = ap (λ (s : Store). s.versions) t },
     extends_nothing (store old.pages) (store q) (ap (λ (s : Store). s.base) t) (ap (λ (s : Store). s.recent) t) (ap (λ (s : Store). s.actions) t),
   )
   same_refused q (error.CollectionNotFound name) t = absurd t
@@ -152,7 +153,7 @@ module _ {P M : Type 0} (store : P → Store) (meant : M → Merge) (old : DbVal
     may = λ slots given. record { told = subst (λ o. may_refuse_as o (state_of store meant old slots given) (store old.pages) (store old.pages) (ToCall Flush) error.Closed) (sym (ap (λ b. first_of (cond (not b) None (Some IsClosed)) None) e)) refl };
     extends = extends_same (store old.pages);
     actions = refl;
-    stays = stays old.pages (record { now_is = refl; mark = refl; pids = refl; versions = refl });
+    stays = stays old.pages (record { now_is = refl; rest = record { mark = refl; recovered = refl; readable = refl }; pids = refl; versions = refl });
   }
 
 -- the same, where the method knows the database by its fields

@@ -13,7 +13,7 @@ use Rattle.sled_pages.specs.declared.error.Error.TheVariants as error
 use Rattle.sled_model.specs.Maps.{Map, Merge}
 use Rattle.sled_model.specs.Answer.{Answer, answer_of}
 use Rattle.sled_model.specs.State.{State, NamedTree, Flying, maps_of, delivered, decided}
-use Rattle.sled_model.specs.Refusal.{MustRefuse, must_refuse_of, MayRefuse, ToStep, cause_of, may_refuse_as}
+use Rattle.sled_model.specs.Refusal.{MustRefuse, must_refuse_of, MayRefuse, ToStep, TellsTurns, cause_of, may_refuse_as}
 use Rattle.sled_model.specs.declared.event.Event.{Event}
 use Rattle.sled_model.specs.declared.reply.Reply.{Reply}
 use Rattle.sled_model.specs.declared.TheConstants.{MAX_LOOPS}
@@ -35,7 +35,7 @@ use Rattle.sled_tree.specs.declared.flight.Went.{Went}
 use Rattle.sled_tree.specs.declared.flight.Went.TheVariants.{Moved, Decided, Refused}
 use Rattle.sled_tree.specs.Stages.{IsStage, owned}
 use Rattle.sled_tree.specs.Moves.{Moves, ActsOnce, ActsAtMostOnce, Acts, Same, Decides, refuses_as, Advances}
-use Rattle.sled.specs.Values.{DbValue, numbers_of, given_to, named, state_of, db_state, moment}
+use Rattle.sled.specs.Values.{KeepsRest, DbValue, numbers_of, given_to, named, state_of, db_state, moment}
 use Rattle.sled.specs.Sound.{IsDb}
 use Rattle.sled.specs.Calls.{MustBeRefused, must_be_refused_as}
 use Rattle.sled.specs.Flights.{flying_of, IsKnown, Flies}
@@ -116,16 +116,16 @@ known_kept {mine} {own} {old} {new} {w} {v} is a h k off = record {
 
 -- what a step leaves of the store, whatever its action
 pub record Touches (a b : Store) : Type 0 where
-  pub mark : b.mark ≡ a.mark
+  pub rest : KeepsRest a b
   pub calm : (now b).in_group ≡ (now a).in_group
   pub once : b.actions ≤ a.actions + 1
 
 touches_acting : (a b : Store) → ActsAtMostOnce a b → Touches a b
-touches_acting a b (inl e) = record { mark = ap (λ (s : Store). s.mark) e; calm = ap (λ (s : Store). (now s).in_group) e; once = same (ap (λ (s : Store). s.actions) e) }
+touches_acting a b (inl e) = record { rest = record { mark = ap (λ (s : Store). s.mark) e; recovered = ap (λ (s : Store). s.recovered) e; readable = ap (λ (s : Store). s.is_readable) e }; calm = ap (λ (s : Store). (now s).in_group) e; once = same (ap (λ (s : Store). s.actions) e) }
   where
     same : b.actions ≡ a.actions → b.actions ≤ a.actions + 1
     same e = omega arith
-touches_acting a b (inr o) = record { mark = ap (λ (s : Store). s.mark) o.is; calm = o.calm; once = one (ap (λ (s : Store). s.actions) o.is) }
+touches_acting a b (inr o) = record { rest = record { mark = ap (λ (s : Store). s.mark) o.is; recovered = ap (λ (s : Store). s.recovered) o.is; readable = ap (λ (s : Store). s.is_readable) o.is }; calm = o.calm; once = one (ap (λ (s : Store). s.actions) o.is) }
   where
     one : b.actions ≡ a.actions + 1 → b.actions ≤ a.actions + 1
     one e = omega arith
@@ -135,12 +135,12 @@ pub record Rests (a b : Store) : Type 0 where
   pub base : b.base ≡ a.base
   pub recent : b.recent ≡ a.recent
   pub actions : b.actions ≡ a.actions
-  pub mark : b.mark ≡ a.mark
+  pub rest : KeepsRest a b
 
 rests_refused : (e : Error) (a b : Store) → refuses_as e a b → Rests a b
-rests_refused error.NoMemory a b t = record { base = ap (λ (s : Store). s.base) t; recent = ap (λ (s : Store). s.recent) t; actions = ap (λ (s : Store). s.actions) t; mark = ap (λ (s : Store). s.mark) t }
-rests_refused (error.Io fault) a b (inl t) = record { base = ap (λ (s : Store). s.base) t; recent = ap (λ (s : Store). s.recent) t; actions = ap (λ (s : Store). s.actions) t; mark = ap (λ (s : Store). s.mark) t }
-rests_refused (error.Io fault) a b (inr (t, p)) = record { base = ap (λ (s : Store). s.base) t; recent = ap (λ (s : Store). s.recent) t; actions = ap (λ (s : Store). s.actions) t; mark = ap (λ (s : Store). s.mark) t }
+rests_refused error.NoMemory a b t = record { base = ap (λ (s : Store). s.base) t; recent = ap (λ (s : Store). s.recent) t; actions = ap (λ (s : Store). s.actions) t; rest = record { mark = ap (λ (s : Store). s.mark) t; recovered = ap (λ (s : Store). s.recovered) t; readable = ap (λ (s : Store). s.is_readable) t } }
+rests_refused (error.Io fault) a b (inl t) = record { base = ap (λ (s : Store). s.base) t; recent = ap (λ (s : Store). s.recent) t; actions = ap (λ (s : Store). s.actions) t; rest = record { mark = ap (λ (s : Store). s.mark) t; recovered = ap (λ (s : Store). s.recovered) t; readable = ap (λ (s : Store). s.is_readable) t } }
+rests_refused (error.Io fault) a b (inr (t, p)) = record { base = ap (λ (s : Store). s.base) t; recent = ap (λ (s : Store). s.recent) t; actions = ap (λ (s : Store). s.actions) t; rest = record { mark = ap (λ (s : Store). s.mark) t; recovered = ap (λ (s : Store). s.recovered) t; readable = ap (λ (s : Store). s.is_readable) t } }
 rests_refused (error.CollectionNotFound name) a b t = absurd t
 rests_refused (error.Unsupported text) a b t = absurd t
 rests_refused (error.ReportableBug text) a b t = absurd t
@@ -207,13 +207,14 @@ module _ {P M : Type 0} (store : P → Store) (meant : M → Merge) (old : DbVal
   same_store slots after given = refl
 
   -- a refusal that touches no page
-  untouched : (f g : Flight) (e : Error) → ((slots : ℕ → Option Flying) (given : ℕ) → MayRefuse (state_of store meant old slots given) (store old.pages) (store old.pages) (ToStep (flying_of f)) e) → Flies store meant old f (Refused e) old g
-  untouched f g e may = record {
-    steps = λ slots given slot here. record { told = (record { flying = flying_of f; here = here; may = may slots given; is = refl }, refl) };
+  untouched : (f g : Flight) (e : Error) → (must_refuse_of (db_state store meant old) (f.job.tree ∷ []) ≡ None → f.turns ≡ MAX_LOOPS → TellsTurns e) → ((slots : ℕ → Option Flying) (given : ℕ) → MayRefuse (state_of store meant old slots given) (store old.pages) (store old.pages) (ToStep (flying_of f)) e) → Flies store meant old f (Refused e) old g
+  untouched f g e limit may = record {
+    steps = λ slots given slot here. record { told = (record { flying = flying_of f; here = here; may = may slots given; limit = limit; is = refl }, refl) };
     extends = extends_same (store old.pages);
     once = omega arith;
     still = λ x e. refl;
     quiet = λ q. refl;
+    rest = record { mark = refl; recovered = refl; readable = refl };
     goes_on = λ e. absurd (apart e);
     others = λ h off k. (k, λ e. absurd (apart e));
     same = refl;
@@ -224,7 +225,7 @@ module _ {P M : Type 0} (store : P → Store) (meant : M → Merge) (old : DbVal
 
   -- the tests refuse the call
   pub flies_untested : (f g : Flight) (e : Error) → MustBeRefused (must_refuse_of (db_state store meant old) (f.job.tree ∷ [])) e → Flies store meant old f (Refused e) old g
-  flies_untested f g e tested = untouched f g e (λ slots given. record { told = go slots given (must_refuse_of (db_state store meant old) (f.job.tree ∷ [])) tested.told })
+  flies_untested f g e tested = untouched f g e (λ none all. absurd (subst (λ o. must_be_refused_as o e) none tested.told)) (λ slots given. record { told = go slots given (must_refuse_of (db_state store meant old) (f.job.tree ∷ [])) tested.told })
     where
       go : (slots : ℕ → Option Flying) (given : ℕ) (o : Option MustRefuse) → must_be_refused_as o e → may_refuse_as o (state_of store meant old slots given) (store old.pages) (store old.pages) (ToStep (flying_of f)) e
       go slots given None t = absurd t
@@ -236,8 +237,8 @@ module _ {P M : Type 0} (store : P → Store) (meant : M → Merge) (old : DbVal
     may_refuse slots given a b e cause = record { told = subst (λ o. may_refuse_as o (state_of store meant old slots given) a b (ToStep (flying_of f)) e) (sym must) cause }
 
     -- its turns are the limit
-    pub flies_limit : (g : Flight) (e : Error) → ((slots : ℕ → Option Flying) (given : ℕ) → cause_of (state_of store meant old slots given) (store old.pages) (store old.pages) (ToStep (flying_of f)) e) → Flies store meant old f (Refused e) old g
-    flies_limit g e cause = untouched f g e (λ slots given. may_refuse slots given (store old.pages) (store old.pages) e (cause slots given))
+    pub flies_limit : (g : Flight) (e : Error) → TellsTurns e → ((slots : ℕ → Option Flying) (given : ℕ) → cause_of (state_of store meant old slots given) (store old.pages) (store old.pages) (ToStep (flying_of f)) e) → Flies store meant old f (Refused e) old g
+    flies_limit g e tells cause = untouched f g e (λ none all. tells) (λ slots given. may_refuse slots given (store old.pages) (store old.pages) e (cause slots given))
 
     named_now : numbers_of old.trees f.job.tree.name ≡ Some f.job.tree.number
     named_now = numbered f.job.tree.number (numbers_of old.trees f.job.tree.name) (trees_of (now (store old.pages)) f.job.tree.name) _ (current (db_state store meant old) f.job.tree must)
@@ -309,7 +310,7 @@ module _ {P M : Type 0} (store : P → Store) (meant : M → Merge) (old : DbVal
                 here = here;
                 free = must;
                 few = few;
-                is = state_over q slots (put_at slots slot (Some (flying_of g))) given (λ t i. moved_trees i t) moved_touches.calm moved_touches.mark
+                is = state_over q slots (put_at slots slot (Some (flying_of g))) given (λ t i. moved_trees i t) moved_touches.calm moved_touches.rest.mark
                     ∙ ap (λ (z : Flying). record (state_of store meant old slots given) { slots = put_at slots slot (Some z) }) flying_more;
               },
               refl,
@@ -319,6 +320,7 @@ module _ {P M : Type 0} (store : P → Store) (meant : M → Merge) (old : DbVal
           once = moved_touches.once;
           still = λ x e. absurd (unlike x e);
           quiet = λ k. absurd (apart k.reply k.decided);
+          rest = moved_touches.rest;
           goes_on = λ e. (job, moved_known);
           others = λ h apart k. (known_kept db.is moved.1 h k apart.off, λ e. record { off = λ p i j. not_own db.is moved.1 h k apart.off p j i });
           same = refl;
@@ -355,7 +357,8 @@ module _ {P M : Type 0} (store : P → Store) (meant : M → Merge) (old : DbVal
                 flying = flying_of f;
                 here = here;
                 may = may_refuse slots given (store old.pages) (store q) e (cause_is (state_of store meant old slots given) (flying_of f) e (store old.pages) (store q) moves.touches);
-                is = state_over q slots (put_at slots slot None) given (λ t. ap (λ (s : Rattle.sled_pages.specs.State.State). trees_of s t) (now_rests rests)) refused_calm rests.mark;
+                limit = λ none all. absurd (below f.turns few all);
+                is = state_over q slots (put_at slots slot None) given (λ t. ap (λ (s : Rattle.sled_pages.specs.State.State). trees_of s t) (now_rests rests)) refused_calm rests.rest.mark;
               },
               refl,
             );
@@ -364,6 +367,7 @@ module _ {P M : Type 0} (store : P → Store) (meant : M → Merge) (old : DbVal
           once = same rests.actions;
           still = λ x e. rests.actions;
           quiet = λ k. absurd (apart k.reply k.decided);
+          rest = rests.rest;
           goes_on = λ e. absurd (off e);
           others = λ h a k. (known_kept db.is refused.1 h k a.off, λ e. absurd (off e));
           same = refl;
@@ -377,6 +381,9 @@ module _ {P M : Type 0} (store : P → Store) (meant : M → Merge) (old : DbVal
 
             same : (store q).actions ≡ (store old.pages).actions → (store q).actions ≤ (store old.pages).actions + 1
             same e = omega arith
+
+            below : (n : ℕ) → n < MAX_LOOPS → n ≡ MAX_LOOPS → ⊥
+            below n h e = omega arith
 
       -- the call is decided
       module _ (few : f.turns < MAX_LOOPS) (g : Flight) (reply : Reply) (moves : Moves f.job (store old.pages) f.stage (next.Decided reply) (store q)) where
@@ -426,7 +433,7 @@ module _ {P M : Type 0} (store : P → Store) (meant : M → Merge) (old : DbVal
           slots = put_at slots slot None;
           is_open = not (done_touches.calm i);
           greatest_id = old.greatest_id;
-          mark = done_touches.mark i;
+          mark = done_touches.rest.mark i;
           trees_given = old.trees_given;
           slots_given = given;
           subscribers_given = 0;
@@ -456,6 +463,7 @@ module _ {P M : Type 0} (store : P → Store) (meant : M → Merge) (old : DbVal
           once = done_touches.once;
           still = λ x e. absurd (unlike x e);
           quiet = λ k. done.2.quiet (ap (λ (t : NamedTree). (answer_of f.job.call t.map).event) (some_is (sym there ∙ k.there)) ∙ k.silent);
+          rest = done_touches.rest;
           goes_on = λ e. absurd (off e);
           others = λ h a k. (known_kept db.is done.1 h k a.off, λ e. absurd (off e));
           same = refl;
@@ -498,9 +506,9 @@ module _ {P M : Type 0} (store : P → Store) (meant : M → Merge) (inside old 
   pub untested_as : (g : Flight) (r : Error) → MustBeRefused (must_refuse_of (db_state store meant old) (f.job.tree ∷ [])) r → Flies store meant old f (Refused r) old g
   untested_as g r tested = flies_untested store meant old (subst (λ (z : DbValue P M). IsDb (store z.pages) z.trees z.trees_given) e db) f g r tested
 
-  pub limit_as : (g : Flight) (r : Error) → must_refuse_of (db_state store meant old) (f.job.tree ∷ []) ≡ None
+  pub limit_as : (g : Flight) (r : Error) → must_refuse_of (db_state store meant old) (f.job.tree ∷ []) ≡ None → TellsTurns r
       → ((slots : ℕ → Option Flying) (given : ℕ) → cause_of (state_of store meant old slots given) (store old.pages) (store old.pages) (ToStep (flying_of f)) r) → Flies store meant old f (Refused r) old g
-  limit_as g r must cause = flies_limit store meant old (subst (λ (z : DbValue P M). IsDb (store z.pages) z.trees z.trees_given) e db) f must g r cause
+  limit_as g r must tells cause = flies_limit store meant old (subst (λ (z : DbValue P M). IsDb (store z.pages) z.trees z.trees_given) e db) f must g r tells cause
 
 -- below the limit
 pub below_limit : (f : Flight) → f.turns ≤ MAX_LOOPS → f.turns ≢ MAX_LOOPS → f.turns < MAX_LOOPS

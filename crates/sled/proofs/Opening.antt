@@ -8,6 +8,7 @@ use Rattle.std.proofs.lemmas.Bool.Decides.{nat_tests}
 use Rattle.std.specs.Str.{bytes_eq}
 use Rattle.sled_pages.specs.Order.{Key, key_cmp}
 use Rattle.sled_pages.specs.Facts.{same_name, put_elsewhere, put_here, now_allocates, now_acted, now_swaps, fresh_page}
+use Rattle.sled_pages.specs.Crash.{states_left}
 use Rattle.sled_pages.specs.State.{State, RootBecomes, PageBecomes, nodes_of, after}
 use Rattle.sled_pages.specs.Store.{Store, now, acted, flushed, Allocates, SwapsRoot, Refused, AreGiven}
 use Rattle.sled_pages.specs.declared.error.Error.{Error}
@@ -21,7 +22,7 @@ use Rattle.tree_laws.specs.Contents.{trees_of}
 use Rattle.tree_laws.specs.Crashes.{IsWell, IsWhole, Extends, Flushes}
 use Rattle.tree_laws.specs.Moment.{IsMoment, IsStray}
 use Rattle.tree_laws.specs.Laws.{IsAlone}
-use Rattle.tree_laws.proofs.Crashing.{adds_page, adds_is, adds_extends, adds_unseen, extends_same, extends_then, flushes_same, flushes_whole_law}
+use Rattle.tree_laws.proofs.Crashing.{adds_page, adds_is, adds_extends, adds_unseen, extends_same, extends_then, flushes_same, flushes_left, flushes_whole_law}
 use Rattle.tree_laws.proofs.Known.{store_moment}
 use Rattle.tree_laws.proofs.Outside.{outside_kept, outside_contents, outside_sized}
 use Rattle.tree_laws.proofs.Order.{key_same}
@@ -407,6 +408,7 @@ opens store a s called d h all e given ids operators name = record {
   middle = s;
   grows = h.grows;
   flushes = subst (λ (z : Store). Flushes s z) (sym e) (flushes_same s);
+  left = subst (λ (z : Store). states_left z ≡ now z ∷ []) (sym e) (flushes_left (flushes_same s) h.again.calm);
   maps = ap (λ (z : Store). trees_of (now z)) e ∙ h.maps;
   names = names_in all.roots;
   numbers = all.is;

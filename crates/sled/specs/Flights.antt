@@ -20,7 +20,7 @@ use Rattle.sled_tree.specs.Stages.{IsStage, owned}
 use Rattle.sled_tree.specs.declared.flight.Flight.{Flight}
 use Rattle.sled_tree.specs.declared.flight.Went.{Went}
 use Rattle.sled_tree.specs.declared.flight.Went.TheVariants.{Moved, Decided, Refused}
-use Rattle.sled.specs.Values.{DbValue, db_state, instant_of, moment}
+use Rattle.sled.specs.Values.{KeepsRest, DbValue, db_state, instant_of, moment}
 
 -- a call in flight, as the model has it
 abbrev pub flying_of : Flight → Flying
@@ -71,6 +71,7 @@ pub record Flies {P M : Type 0} (store : P → Store) (meant : M → Merge) (old
   pub once : (store new.pages).actions ≤ (store old.pages).actions + 1
   pub still : (e : Error) → went ≡ Refused e → (store new.pages).actions ≡ (store old.pages).actions
   pub quiet : IsQuiet store meant old f went → store new.pages ≡ store old.pages
+  pub rest : KeepsRest (store old.pages) (store new.pages)
   -- the call goes on, and knows what it needs
   pub goes_on : went ≡ Moved → (g.job ≡ f.job) × IsKnown (moment (store new.pages) new.trees new.trees_given) g
   -- what another call knows stays true, and no page becomes the two calls' own

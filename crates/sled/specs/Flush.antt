@@ -9,12 +9,13 @@ use Rattle.sled_model.specs.Refusal.{MayRefuse, must_refuse, ToCall}
 use Rattle.sled_model.specs.declared.call.Whole.TheVariants.{Flush}
 use Rattle.tree_laws.specs.Contents.{trees_of}
 use Rattle.tree_laws.specs.Crashes.{Extends, Flushes}
-use Rattle.sled.specs.Values.{DbValue, state_of, db_state, moment}
+use Rattle.sled.specs.Values.{KeepsRest, DbValue, state_of, db_state, moment}
 
 -- the state, what calls in flight know, and all but the pages are as they were
 pub record Stays {P M : Type 0} (store : P → Store) (meant : M → Merge) (old new : DbValue P M) : Type 0 where
   pub state : (slots : ℕ → Option Flying) (slots_given : ℕ) → state_of store meant new slots slots_given ≡ state_of store meant old slots slots_given
   pub moment : moment (store new.pages) new.trees new.trees_given ≡ moment (store old.pages) old.trees old.trees_given
+  pub rest : KeepsRest (store old.pages) (store new.pages)
   pub same : new ≡ record old { pages = new.pages }
 
 -- the database was open, and all that was decided is durable

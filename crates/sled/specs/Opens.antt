@@ -5,6 +5,7 @@ use Rattle.std.specs.Str.{bytes_eq}
 use Rattle.sled_pages.specs.Order.{Key, key_cmp}
 use Rattle.sled_pages.specs.Store.{Store, now, IsRoots}
 use Rattle.sled_pages.specs.State.{State}
+use Rattle.sled_pages.specs.Crash.{states_left}
 use Rattle.sled_pages.specs.Faults.{IsFault}
 use Rattle.sled_pages.specs.declared.error.Error.{Error}
 use Rattle.sled_model.specs.Maps.{Map, Maps}
@@ -82,6 +83,8 @@ pub record Opens {P M : Type 0} (store : P → Store) (before : Store) (called :
   pub middle : Store
   pub grows : GrowsByTree DEFAULT_TREE.now before middle
   pub flushes : Flushes middle (store d.pages)
+  -- a crash can leave the state now alone
+  pub left : states_left (store d.pages) ≡ now (store d.pages) ∷ []
   -- every tree has its map of before
   pub maps : trees_of (now (store d.pages)) ≡ with_default (trees_of (now before))
   -- the trees are numbered from 1 in the order of their names

@@ -1,5 +1,5 @@
 -- What contracts see of a database, and the state of the model that it stands for.
-use Rattle.std.specs.Prelude.{ℕ, nat_le, nat_lt, ◌&&◌, Bool, not, List, Option, Some, None, option_map}
+use Rattle.std.specs.Prelude.{◌≡◌, ℕ, nat_le, nat_lt, ◌&&◌, Bool, not, List, Option, Some, None, option_map}
 use Rattle.std.specs.FinMap.Entries.{find}
 use Rattle.std.specs.Ordering.{nat_cmp}
 use Rattle.sled_pages.specs.Order.{Key, key_cmp}
@@ -59,3 +59,9 @@ instant_of store meant d slots slots_given = record { state = state_of store mea
 -- the moment of the store, with the trees' numbers
 abbrev pub moment : Store → List (Key × ℕ) → ℕ → Moment
 moment s trees trees_given = moment_of s (numbers_of trees) (given_to trees_given)
+
+-- the mark, whether the store was recovered, and which pages can be read are as they were
+pub record KeepsRest (a b : Store) : Type 0 where
+  pub mark : b.mark ≡ a.mark
+  pub recovered : b.recovered ≡ a.recovered
+  pub readable : b.is_readable ≡ a.is_readable

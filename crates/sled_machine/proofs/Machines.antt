@@ -83,10 +83,10 @@ more i fs = ap (λ k. take i fs ++ drop k fs) (add-one i)
 module _ {P M : Type 0} (store : P → Store) (meant : M → Merge) (v : MachineValue P M) (im : IsMachine (moment (store v.db.pages) v.db.trees v.db.trees_given) v.flights v.slots_given) where
   -- no call has the slot
   pub missing_step : (slot : ℕ) → kept_at v.flights slot ≡ None → Reaches store meant v (step.Step slot) outcome.NoSuchSlot v
-  missing_step slot e = record { maps = []; is = record { step = record { told = (record { free = ap (option_map flying_of) e; is = refl }, refl) }; keeps = extends_same (store v.db.pages); acts = refl } }
+  missing_step slot e = record { maps = []; is = record { step = record { told = (record { free = ap (option_map flying_of) e; is = refl }, refl) }; keeps = extends_same (store v.db.pages); acts = refl; rest = record { mark = refl; recovered = refl; readable = refl } } }
 
   pub missing_abandon : (slot : ℕ) → kept_at v.flights slot ≡ None → Reaches store meant v (step.Abandon slot) outcome.NoSuchSlot v
-  missing_abandon slot e = record { maps = []; is = record { step = record { told = (record { free = ap (option_map flying_of) e; is = refl }, refl) }; keeps = extends_same (store v.db.pages); acts = refl } }
+  missing_abandon slot e = record { maps = []; is = record { step = record { told = (record { free = ap (option_map flying_of) e; is = refl }, refl) }; keeps = extends_same (store v.db.pages); acts = refl; rest = record { mark = refl; recovered = refl; readable = refl } } }
 
   pub in_range : (slot i : ℕ) → StandsAt v.flights slot i → i < length v.flights
   in_range slot i s = slice_get_within v.flights i (slot, s.kept) s.is
@@ -119,6 +119,7 @@ module _ {P M : Type 0} (store : P → Store) (meant : M → Merge) (v : Machine
         };
         keeps = extends_same (store v.db.pages);
         acts = refl;
+        rest = record { mark = refl; recovered = refl; readable = refl };
       };
     }
 
@@ -146,6 +147,7 @@ module _ {P M : Type 0} (store : P → Store) (meant : M → Merge) (v : Machine
             (flies.steps (slots_of v.flights) v.slots_given slot (ap (option_map flying_of) (at_place slot i f there)));
         keeps = keeps_flying went flies;
         acts = acts_flying went flies;
+        rest = flies.rest;
       };
     }
       where
@@ -218,7 +220,7 @@ module _ {P M : Type 0} (store : P → Store) (meant : M → Merge) (v : Machine
 
   -- a call begins, or is refused
   pub begin_refused : (tree : Tree) (call : Call) (e : Error) → MayRefuse (state_of store meant v.db (slots_of v.flights) v.slots_given) (store v.db.pages) (store v.db.pages) (ToBegin tree call) e → Reaches store meant v (step.Begin tree call) (outcome.Refused e) v
-  begin_refused tree call e may = record { maps = []; is = record { step = record { told = (may, refl, refl) }; keeps = extends_same (store v.db.pages); acts = refl } }
+  begin_refused tree call e may = record { maps = []; is = record { step = record { told = (may, refl, refl) }; keeps = extends_same (store v.db.pages); acts = refl; rest = record { mark = refl; recovered = refl; readable = refl } } }
 
   pub begin_untested : (tree : Tree) (call : Call) (e : Error) → MustBeRefused (must_refuse_of (db_state store meant v.db) (tree ∷ [])) e → Reaches store meant v (step.Begin tree call) (outcome.Refused e) v
   begin_untested tree call e tested = begin_refused tree call e (record { told = go (must_refuse_of (db_state store meant v.db) (tree ∷ [])) tested.told })
@@ -258,6 +260,7 @@ module _ {P M : Type 0} (store : P → Store) (meant : M → Merge) (v : Machine
           };
           keeps = extends_same (store v.db.pages);
           acts = refl;
+          rest = record { mark = refl; recovered = refl; readable = refl };
         };
       }
 
@@ -289,13 +292,13 @@ module _ {P M : Type 0} (store : P → Store) (meant : M → Merge) (v : Machine
   pub flushed_all : (db : DbValue P M) (n : ℕ) → FlushesDb store meant v.db db → Reaches store meant v (step.Whole Flush) (outcome.Decided (Number n)) (record v { db = db })
   flushed_all db n f = record {
     maps = [];
-    is = record { step = record { told = (f.free, f.stays.state (slots_of v.flights) v.slots_given, refl) }; keeps = record { flushes = f.flushes; leaves = record { is = subst (λ z. Matches z (maps_of (db_state store meant db) ∷ [])) (sym (ap (map trees_of) f.left ∙ ap (λ z. z ∷ []) f.maps)) (matches_same _) } }; acts = f.flushes.actions };
+    is = record { step = record { told = (f.free, f.stays.state (slots_of v.flights) v.slots_given, refl) }; keeps = record { flushes = f.flushes; leaves = record { is = subst (λ z. Matches z (maps_of (db_state store meant db) ∷ [])) (sym (ap (map trees_of) f.left ∙ ap (λ z. z ∷ []) f.maps)) (matches_same _) } }; acts = f.flushes.actions; rest = f.stays.rest };
   }
 
   pub flush_refused : (db : DbValue P M) (e : Error) → RefusesFlush store meant v.db db e → Reaches store meant v (step.Whole Flush) (outcome.Refused e) (record v { db = db })
   flush_refused db e f = record {
     maps = [];
-    is = record { step = record { told = (f.may (slots_of v.flights) v.slots_given, f.stays.state (slots_of v.flights) v.slots_given, refl) }; keeps = f.extends; acts = f.actions };
+    is = record { step = record { told = (f.may (slots_of v.flights) v.slots_given, f.stays.state (slots_of v.flights) v.slots_given, refl) }; keeps = f.extends; acts = f.actions; rest = f.stays.rest };
   }
 
   pub stays_machine : (db : DbValue P M) → Stays store meant v.db db → IsMachine (moment (store db.pages) db.trees db.trees_given) v.flights v.slots_given

@@ -14,6 +14,7 @@ use Rattle.sled_model.specs.declared.outcome.Outcome.TheVariants.{Moved, Decided
 use Rattle.sled_model.specs.declared.call.Whole.TheVariants.{Flush}
 use Rattle.tree_laws.specs.Contents.{trees_of}
 use Rattle.tree_laws.specs.Crashes.{Extends, Flushes, Matches}
+use Rattle.sled.specs.Values.{KeepsRest}
 use Rattle.sled_machine.specs.Values.{MachineValue, instant_of}
 
 -- these are the maps after each state that a crash may leave, the shortest beginning first, equal neighbours taken once
@@ -60,6 +61,7 @@ pub record StepsTo (old : Instant) (s : Step) (o : Outcome) (new : Instant) (map
   pub step : Steps old s o new maps
   pub keeps : keeps_as s o maps (maps_of new.state) old.store new.store
   pub acts : acts_as old s o new
+  pub rest : KeepsRest old.store new.store
 
 -- one call of a machine
 pub record Reaches {P M : Type 0} (store : P → Store) (meant : M → Merge) (old : MachineValue P M) (s : Step) (o : Outcome) (new : MachineValue P M) : Type 0 where

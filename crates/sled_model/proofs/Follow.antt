@@ -91,6 +91,7 @@ refuses_asked p slot place f e at is must = record {
   flying = flying f;
   here = here_at p slot place f at is;
   may = λ store. record { told = told_from (must_refuse_of (state_of p) (f.tree ∷ [])) (state_of p) store (flying f) e must };
+  limit = λ none all. absurd (subst (λ o. must_be_refused_as o e) none must);
 }
 
 bug_from : (must : Option MustRefuse) (s : State) (store : Store) (f : Flying) (text : Bor (List ℕ)) → must ≡ None → f.turns ≡ MAX_LOOPS → may_refuse_as must s store store (ToStep f) (ReportableBug text)
@@ -103,6 +104,7 @@ refuses_turns p slot place tree f text at is asked all few = record {
   flying = flying f;
   here = here_at p slot place f at is;
   may = λ store. record { told = bug_from (must_refuse_of (state_of p) (f.tree ∷ [])) (state_of p) store (flying f) text asked.free (omega arith) };
+  limit = λ none all. tt;
 }
 
 pub can_step : (p : Plain) (slot place tree : ℕ) (d : PlainFlight) (at : IsFlightPlace p.flights.items slot place) → d ≡ get_or p.flights.items place d
@@ -197,11 +199,15 @@ refuses_memory p q slot place tree new outcome e at key same refused memory is s
           flying = flying at.flight.entry;
           here = at.flight.found;
           may = record { told = memory_from (must_refuse_of (state_of p) (at.flight.entry.tree ∷ [])) (state_of p) store (flying at.flight.entry) at.asked.free };
+          limit = λ none all. absurd (below at.flight.entry.turns at.few all);
           is = is ∙ ap (λ ts. record (state_of p) { trees = ts; slots = put_at (slots_of p.flights.items) slot None }) trees;
         },
         refl,
       );
     })
+  where
+    below : (n : ℕ) → n < MAX_LOOPS → n ≡ MAX_LOOPS → ⊥
+    below n h e = omega arith
 
 -- ---- a database that was just opened
 

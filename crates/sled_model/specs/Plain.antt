@@ -7,7 +7,7 @@ use Rattle.sled_pages.specs.Store.{Store}
 use Rattle.sled_pages.specs.declared.error.Error.{Error}
 use Rattle.sled_model.specs.Maps.{Maps}
 use Rattle.sled_model.specs.State.{State, NamedTree, Flying, maps_of}
-use Rattle.sled_model.specs.Refusal.{MustRefuse, MayRefuse, ToStep, must_refuse_of, tells}
+use Rattle.sled_model.specs.Refusal.{MustRefuse, MayRefuse, ToStep, must_refuse_of, tells, TellsTurns}
 use Rattle.sled_model.specs.declared.tree.Tree.{Tree}
 use Rattle.sled_model.specs.Steps.{Steps}
 use Rattle.sled_model.specs.declared.plain.Plain.{Plain}
@@ -92,6 +92,7 @@ pub record RefusesSlot (p : Plain) (slot : ℕ) (e : Error) : Type 0 where
   pub flying : Flying
   pub here : slots_of p.flights.items slot ≡ Some flying
   pub may : (store : Store) → MayRefuse (state_of p) store store (ToStep flying) e
+  pub limit : must_refuse_of (state_of p) (flying.tree ∷ []) ≡ None → flying.turns ≡ MAX_LOOPS → TellsTurns e
 
 -- the maps that a step of this outcome adds
 abbrev pub maps_added : Outcome → Plain → List Maps

@@ -85,6 +85,11 @@ MeetsFault a b = (a.faults < b.faults) ⊎ ((pid : ℕ) × (a.is_readable pid �
 abbrev pub greatest_number : ℕ
 greatest_number = 18446744073709551615
 
+-- the error of a call that has no turns left
+abbrev pub TellsTurns : Error → Type 0
+TellsTurns (ReportableBug text) = Unit {0}
+TellsTurns e = ⊥
+
 -- The causes of a refusal that is none of those tests. a is the store before, b the store after
 abbrev pub cause_of : State → Store → Store → Asked → Error → Type 0
 cause_of s a b asked NoMemory = Unit {0}

@@ -6,7 +6,7 @@ use Rattle.sled_pages.specs.declared.error.Error.{Error}
 use Rattle.sled_model.specs.Maps.{Maps}
 use Rattle.sled_model.specs.Answer.{answer_of}
 use Rattle.sled_model.specs.State.{State, NamedTree, Flying, maps_of, begun, decided}
-use Rattle.sled_model.specs.Refusal.{ToBegin, ToStep, ToCall, must_refuse, MayRefuse}
+use Rattle.sled_model.specs.Refusal.{ToBegin, ToStep, ToCall, must_refuse, MayRefuse, TellsTurns}
 use Rattle.sled_model.specs.declared.call.Call.{Call}
 use Rattle.sled_model.specs.declared.call.Whole.{Whole}
 use Rattle.sled_model.specs.declared.call.Whole.TheVariants.{Flush}
@@ -54,6 +54,8 @@ pub record RefusesStep (old : State) (a b : Store) (slot : ℕ) (e : Error) (new
   pub flying : Flying
   pub here : old.slots slot ≡ Some flying
   pub may : MayRefuse old a b (ToStep flying) e
+  -- without turns left it is told so, and nothing else
+  pub limit : must_refuse old (ToStep flying) ≡ None → flying.turns ≡ MAX_LOOPS → TellsTurns e
   pub is : new ≡ record old { slots = put_at old.slots slot None }
 
 -- no call has the slot, and nothing changes

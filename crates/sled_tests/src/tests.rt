@@ -40,11 +40,7 @@ fn value(alloc: Global, text: Option<&str>) -> Result<Option<IVec>, Fail> {
 }
 
 fn swap(alloc: Global, key: &str, old: Option<&str>, new: Option<&str>) -> Result<Call, Fail> {
-    Ok(Call::CompareAndSwap(
-        bytes(alloc, key)?,
-        value(alloc, old)?,
-        value(alloc, new)?,
-    ))
+    Ok(Call::CompareAndSwap(bytes(alloc, key)?, value(alloc, old)?, value(alloc, new)?))
 }
 
 // Adds the bytes to the text, each as a character.

@@ -79,11 +79,7 @@ fn swapped_in_turn<M: MergeOperator>(
     swapped(rt, alloc, machine, tree, None, ten)?;
     let ten = Some(one(alloc, 10)?);
     swapped(rt, alloc, machine, tree, ten, twenty)?;
-    let other = Call::CompareAndSwap(
-        one(alloc, 1)?,
-        Some(one(alloc, 30)?),
-        Some(one(alloc, 40)?),
-    );
+    let other = Call::CompareAndSwap(one(alloc, 1)?, Some(one(alloc, 30)?), Some(one(alloc, 40)?));
     let conflict = CompareAndSwapError {
         current: Some(one(alloc, 20)?),
         proposed: Some(one(alloc, 40)?),
