@@ -1,10 +1,13 @@
 //! Tests at the store in memory. What they expect is what a reader of the contracts expects, and not what the program gave.
 mod crashes;
+mod merges;
 mod plain;
 mod races;
 mod refusals;
 mod sizes;
 mod slots;
+mod splits;
+mod steps;
 mod values;
 
 use sled_machine::Machine;
@@ -40,11 +43,7 @@ fn value(alloc: Global, text: Option<&str>) -> Result<Option<IVec>, Fail> {
 }
 
 fn swap(alloc: Global, key: &str, old: Option<&str>, new: Option<&str>) -> Result<Call, Fail> {
-    Ok(Call::CompareAndSwap(
-        bytes(alloc, key)?,
-        value(alloc, old)?,
-        value(alloc, new)?,
-    ))
+    Ok(Call::CompareAndSwap(bytes(alloc, key)?, value(alloc, old)?, value(alloc, new)?))
 }
 
 // Adds the bytes to the text, each as a character.
