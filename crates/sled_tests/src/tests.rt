@@ -1,10 +1,13 @@
 //! Tests at the store in memory. What they expect is what a reader of the contracts expects, and not what the program gave.
 mod crashes;
+mod merges;
 mod plain;
 mod races;
 mod refusals;
 mod sizes;
 mod slots;
+mod splits;
+mod steps;
 mod values;
 
 use sled_machine::Machine;
