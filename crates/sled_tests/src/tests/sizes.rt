@@ -99,7 +99,7 @@ fn two_hundred<M: MergeOperator>(
 }
 
 #[test]
-fn many_keys_in_one_leaf_are_exported_in_order(rt: HostRuntime) -> Result<(), Fail> {
+fn many_keys_are_exported_in_order(rt: HostRuntime) -> Result<(), Fail> {
     let db = match Db::open(rt.alloc(), empty(rt.alloc()), b"db") {
         Ok(db) => db,
         Err((_, e)) => return failed(e),
