@@ -47,28 +47,28 @@ fn holds_numbers<M: MergeOperator>(
     Ok(())
 }
 
-// The page under the first pointer of an index.
-fn first_child(alloc: Global, node: &Node) -> Result<Option<Pid>, Fail> {
+// The page behind a page on its level, and the page under its first pointer.
+fn next_and_first(alloc: Global, node: &Node) -> Result<(Option<Pid>, Option<Pid>), Fail> {
     match &node.content {
-        Data::Leaf(_) => Ok(None),
+        Data::Leaf(_) => Ok((node.next, None)),
         Data::Index(index) => {
             let pointers = index.pairs(alloc)?;
             match pointers.first() {
-                Some(pointer) => Ok(Some(pointer.1)),
-                None => Ok(None),
+                Some(pointer) => Ok((node.next, Some(pointer.1))),
+                None => Ok((node.next, None)),
             }
         }
     }
 }
 
-// The page behind this one on its level, and the page under its first pointer.
+// The same of the page of this number.
 fn behind_and_below(
     alloc: Global,
     pages: &MemPages,
     pid: Pid,
 ) -> Result<(Option<Pid>, Option<Pid>), Fail> {
     match pages.read(alloc, pid)? {
-        Some(view) => Ok((view.node.next, first_child(alloc, &view.node)?)),
+        Some(view) => next_and_first(alloc, &view.node),
         None => Ok((None, None)),
     }
 }
