@@ -1,5 +1,6 @@
 //! Tests at the store in memory. What they expect is what a reader of the contracts expects, and not what the program gave.
 mod crashes;
+mod crowds;
 mod levels;
 mod merges;
 mod plain;

@@ -47,39 +47,44 @@ fn holds_numbers<M: MergeOperator>(
     Ok(())
 }
 
-// The page under the first pointer of an index.
-fn first_child(alloc: Global, node: &Node) -> Result<Option<Pid>, Fail> {
+// The page behind a page on its level, and the page under its first pointer.
+fn next_and_first(alloc: Global, node: &Node) -> Result<(Option<Pid>, Option<Pid>), Fail> {
     match &node.content {
-        Data::Leaf(_) => Ok(None),
+        Data::Leaf(_) => Ok((node.next, None)),
         Data::Index(index) => {
             let pointers = index.pairs(alloc)?;
             match pointers.first() {
-                Some(pointer) => Ok(Some(pointer.1)),
-                None => Ok(None),
+                Some(pointer) => Ok((node.next, Some(pointer.1))),
+                None => Ok((node.next, None)),
             }
         }
     }
 }
 
-// How many pages there are from this one on, along `next`, and the page under the first pointer of the first.
-fn level(alloc: Global, pages: &MemPages, first: Pid) -> Result<(u64, Option<Pid>), Fail> {
+// The same of the page of this number.
+fn behind_and_below(
+    alloc: Global,
+    pages: &MemPages,
+    pid: Pid,
+) -> Result<(Option<Pid>, Option<Pid>), Fail> {
+    match pages.read(alloc, pid)? {
+        Some(view) => next_and_first(alloc, &view.node),
+        None => Ok((None, None)),
+    }
+}
+
+// How many pages there are from this one on, along `next`.
+fn pages_from(alloc: Global, pages: &MemPages, first: Pid) -> Result<u64, Fail> {
     let mut count = 0u64;
-    let mut below = None;
     let mut cursor = Some(first);
     for _ in 0..KEYS {
         let Some(pid) = cursor else {
-            return Ok((count, below));
+            return Ok(count);
         };
-        let Some(view) = pages.read(alloc, pid)? else {
-            return Ok((count, below));
-        };
-        if count == 0 {
-            below = first_child(alloc, &view.node)?;
-        }
+        cursor = behind_and_below(alloc, pages, pid)?.0;
         count = count.wrapping_add(1);
-        cursor = view.node.next;
     }
-    Ok((count, below))
+    Ok(count)
 }
 
 // How many pages each level of the default tree has, from the root down.
@@ -90,9 +95,8 @@ fn levels(alloc: Global, pages: &MemPages) -> Result<Vec<u64>, Fail> {
         let Some(pid) = first else {
             return Ok(counts);
         };
-        let (count, below) = level(alloc, pages, pid)?;
-        counts.push(count)?;
-        first = below;
+        counts.push(pages_from(alloc, pages, pid)?)?;
+        first = behind_and_below(alloc, pages, pid)?.1;
     }
     Ok(counts)
 }
@@ -106,10 +110,7 @@ pub(crate) fn levels_of(alloc: Global, pages: &MemPages) -> Result<u64, Fail> {
             return Ok(count);
         };
         count = count.wrapping_add(1);
-        first = match pages.read(alloc, pid)? {
-            Some(view) => first_child(alloc, &view.node)?,
-            None => None,
-        };
+        first = behind_and_below(alloc, pages, pid)?.1;
     }
     Ok(count)
 }
