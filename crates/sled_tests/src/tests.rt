@@ -1,11 +1,8 @@
 //! Tests at the store in memory. What they expect is what a reader of the contracts expects, and not what the program gave.
 mod crashes;
-mod crowds;
-mod levels;
 mod merges;
 mod plain;
 mod races;
-mod reads;
 mod refusals;
 mod sizes;
 mod slots;
