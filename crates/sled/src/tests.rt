@@ -56,14 +56,16 @@ fn decided(
     moves: u64,
     expected: &str,
 ) -> std::result::Result<(), Fail> {
-    assert_eq!(rt; flown.0, moves);
-    match flown.1 {
-        Went::Decided(Reply::Value(found)) => {
-            assert_eq!(rt; found, value(alloc, expected)?);
+    let (moved, went) = flown;
+    assert_eq!(rt; moved, moves);
+    match went {
+        Went::Decided(reply) => {
+            let wanted = Reply::Value(value(alloc, expected)?);
+            assert!(rt; reply == wanted);
             Ok(())
         }
         Went::Refused(e) => Err(Fail::from(e)),
-        _ => Err(Fail::new("not decided")),
+        Went::Moved => Err(Fail::new("not decided")),
     }
 }
 
