@@ -11,8 +11,6 @@ mod db;
 mod export;
 mod memory;
 mod open;
-#[cfg(test)]
-mod tests;
 
 pub use db::Db;
 pub use export::Collection;
