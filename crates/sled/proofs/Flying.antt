@@ -34,6 +34,7 @@ use Rattle.sled_tree.specs.declared.flight.Next.TheVariants as next
 use Rattle.sled_tree.specs.declared.flight.Went.{Went}
 use Rattle.sled_tree.specs.declared.flight.Went.TheVariants.{Moved, Decided, Refused}
 use Rattle.sled_tree.specs.Stages.{IsStage, owned}
+use Rattle.sled_tree.specs.Passing.{GoesFurther}
 use Rattle.sled_tree.specs.Moves.{Moves, ActsOnce, ActsAtMostOnce, Acts, Same, Decides, refuses_as, Advances}
 use Rattle.sled.specs.Values.{KeepsRest, DbValue, numbers_of, given_to, named, state_of, db_state, moment}
 use Rattle.sled.specs.Sound.{IsDb}
@@ -44,29 +45,21 @@ use Rattle.sled.proofs.Trees.{trees_at, trees_same, trees_put, maps_are, current
 none_some : {P X : Type 0} {x : X} → None ≡ Some x → P
 none_some e = cc
 
+own_is : {m : Moment} {w : Forest} (p q : ℕ) → In q (p ∷ []) → (version : ℕ) × IsFreeing m w p version → (version : ℕ) × IsFreeing m w q version
+own_is {m} {w} p q (inl e) f = subst (λ z. (version : ℕ) × IsFreeing m w z version) (sym e) f
+own_is p q (inr e) f = absurd e
+
 -- a page that is a call's own at its stage is one to be freed
 own_of : (m : Moment) (w : Forest) (j : Job) (s : Stage) → IsStage m w j s → (q : ℕ) → In q (owned s) → (version : ℕ) × IsFreeing m w q version
 own_of m w j stage.Root k q i = absurd i
 own_of m w j (stage.Walk a) k q i = absurd i
 own_of m w j (stage.Act v) k q i = absurd i
 own_of m w j (stage.Split a) k q i = absurd i
-own_of m w j (stage.Shorten a) k q i = own_is a.right i (a.version, record { node = k.replacing.right; own = k.replacing.own })
-  where
-    own_is : (p : ℕ) → In q (p ∷ []) → (version : ℕ) × IsFreeing m w p version → (version : ℕ) × IsFreeing m w q version
-    own_is p (inl e) f = subst (λ z. (version : ℕ) × IsFreeing m w z version) (sym e) f
-    own_is p (inr e) f = absurd e
+own_of m w j (stage.Shorten a) k q i = own_is a.right q i (a.version, record { node = k.replacing.right; own = k.replacing.own })
 own_of m w j (stage.Post a) k q i = absurd i
 own_of m w j (stage.Hoist a) k q i = absurd i
-own_of m w j (stage.Crown a) k q i = own_is a.new i (a.version, record { node = k.root; own = k.own })
-  where
-    own_is : (p : ℕ) → In q (p ∷ []) → (version : ℕ) × IsFreeing m w p version → (version : ℕ) × IsFreeing m w q version
-    own_is p (inl e) f = subst (λ z. (version : ℕ) × IsFreeing m w z version) (sym e) f
-    own_is p (inr e) f = absurd e
-own_of m w j (stage.Free a) k q i = own_is a.pid i (a.version, k)
-  where
-    own_is : (p : ℕ) → In q (p ∷ []) → (version : ℕ) × IsFreeing m w p version → (version : ℕ) × IsFreeing m w q version
-    own_is p (inl e) f = subst (λ z. (version : ℕ) × IsFreeing m w z version) (sym e) f
-    own_is p (inr e) f = absurd e
+own_of m w j (stage.Crown a) k q i = own_is a.new q i (a.version, record { node = k.root; own = k.own })
+own_of m w j (stage.Free a) k q i = own_is a.pid q i (a.version, k)
 own_of m w j (stage.Intend a) k q i = absurd i
 own_of m w j (stage.Child a) k q i = absurd i
 own_of m w j (stage.Cap a) k q i = absurd i
@@ -112,6 +105,7 @@ known_kept {mine} {own} {old} {new} {w} {v} is a h k off = record {
   told = λ u at. subst (λ (z : Forest). IsStage new z h.job h.stage) (one_law (nodes_at new) new.state.roots v u a.is.formed at.formed)
       (stage_kept is a.goes a.grows h.job h.stage (λ q i m. elim (in_either q mine own m) [ inl x ↦ off q x i | inr y ↦ not_own is a h k off q i y ]) (k.told w is));
   few = k.few;
+  begins = k.begins;
 }
 
 -- what a step leaves of the store, whatever its action
@@ -215,6 +209,7 @@ module _ {P M : Type 0} (store : P → Store) (meant : M → Merge) (old : DbVal
     still = λ x e. refl;
     quiet = λ q. refl;
     rest = record { mark = refl; recovered = refl; readable = refl };
+    passes = record { told = tt };
     goes_on = λ e. absurd (apart e);
     others = λ h off k. (k, λ e. absurd (apart e));
     same = refl;
@@ -273,7 +268,7 @@ module _ {P M : Type 0} (store : P → Store) (meant : M → Merge) (old : DbVal
       well v is = record { forest = v; formed = is.formed }
 
       -- the call goes on
-      module _ (few : f.turns < MAX_LOOPS) (g : Flight) (job : g.job ≡ f.job) (turns : g.turns ≡ f.turns + 1) (moves : Moves f.job (store old.pages) f.stage (next.Go g.stage) (store q)) where
+      module _ (few : f.turns < MAX_LOOPS) (g : Flight) (job : g.job ≡ f.job) (turns : g.turns ≡ f.turns + 1) (moves : Moves f.job (store old.pages) f.stage (next.Go g.stage) (store q)) (further : GoesFurther (now (store old.pages)) f Moved (now (store q)) g) where
         moved : (v : Forest) × Acts (owned f.stage) (owned g.stage) at db.forest after v × (IsStage after v f.job g.stage × Same at db.forest after v)
         moved = moves.told (numbers_of old.trees) (given_to old.trees_given) db.forest db.is named_now (known.told db.forest db.is)
 
@@ -296,8 +291,12 @@ module _ {P M : Type 0} (store : P → Store) (meant : M → Merge) (old : DbVal
         moved_known = record {
           told = λ u is. subst (λ (j : Job). IsStage after u j g.stage) (sym job) (subst (λ (z : Forest). IsStage after z f.job g.stage) (one_law (nodes_at after) after.state.roots moved.0 u moved.1.is.formed is.formed) moved.2.0);
           few = more f.turns g.turns few turns;
+          begins = λ none. absurd (some f.turns g.turns turns none);
         }
           where
+            some : (a b : ℕ) → b ≡ a + 1 → b ≡ 0 → ⊥
+            some a b e none = omega arith
+
             more : (a b : ℕ) → a < MAX_LOOPS → b ≡ a + 1 → b ≤ MAX_LOOPS
             more a b h e = omega arith
 
@@ -321,6 +320,7 @@ module _ {P M : Type 0} (store : P → Store) (meant : M → Merge) (old : DbVal
           still = λ x e. absurd (unlike x e);
           quiet = λ k. absurd (apart k.reply k.decided);
           rest = moved_touches.rest;
+          passes = further;
           goes_on = λ e. (job, moved_known);
           others = λ h apart k. (known_kept db.is moved.1 h k apart.off, λ e. record { off = λ p i j. not_own db.is moved.1 h k apart.off p j i });
           same = refl;
@@ -368,6 +368,7 @@ module _ {P M : Type 0} (store : P → Store) (meant : M → Merge) (old : DbVal
           still = λ x e. rests.actions;
           quiet = λ k. absurd (apart k.reply k.decided);
           rest = rests.rest;
+          passes = record { told = tt };
           goes_on = λ e. absurd (off e);
           others = λ h a k. (known_kept db.is refused.1 h k a.off, λ e. absurd (off e));
           same = refl;
@@ -464,6 +465,7 @@ module _ {P M : Type 0} (store : P → Store) (meant : M → Merge) (old : DbVal
           still = λ x e. absurd (unlike x e);
           quiet = λ k. done.2.quiet (ap (λ (t : NamedTree). (answer_of f.job.call t.map).event) (some_is (sym there ∙ k.there)) ∙ k.silent);
           rest = done_touches.rest;
+          passes = record { told = tt };
           goes_on = λ e. absurd (off e);
           others = λ h a k. (known_kept db.is done.1 h k a.off, λ e. absurd (off e));
           same = refl;
@@ -479,29 +481,29 @@ module _ {P M : Type 0} (store : P → Store) (meant : M → Merge) (old : DbVal
             unlike x e = cc
 
       -- one step of the call, whatever comes of it
-      pub flies_on : (few : f.turns < MAX_LOOPS) (went : Went) (g : Flight) → Advances (store old.pages) f went (store q) g → Flies store meant old f went new g
-      flies_on few Moved g a = flies_moved few g a.told.0 a.told.1 a.told.2
-      flies_on few (Decided reply) g a = flies_decided few g reply a.told
-      flies_on few (Refused e) g a = flies_refused few g e a.told
+      pub flies_on : (few : f.turns < MAX_LOOPS) (went : Went) (g : Flight) → Advances (store old.pages) f went (store q) g → GoesFurther (now (store old.pages)) f went (now (store q)) g → Flies store meant old f went new g
+      flies_on few Moved g a further = flies_moved few g a.told.0 a.told.1 a.told.2 further
+      flies_on few (Decided reply) g a further = flies_decided few g reply a.told
+      flies_on few (Refused e) g a further = flies_refused few g e a.told
 
-      pub db_on : (few : f.turns < MAX_LOOPS) (went : Went) (g : Flight) → Advances (store old.pages) f went (store q) g → IsDb (store q) old.trees old.trees_given
-      db_on few Moved g a = moved_db few g a.told.0 a.told.1 a.told.2
-      db_on few (Decided reply) g a = decided_db few g reply a.told
-      db_on few (Refused e) g a = refused_db few g e a.told
+      pub db_on : (few : f.turns < MAX_LOOPS) (went : Went) (g : Flight) → Advances (store old.pages) f went (store q) g → GoesFurther (now (store old.pages)) f went (now (store q)) g → IsDb (store q) old.trees old.trees_given
+      db_on few Moved g a further = moved_db few g a.told.0 a.told.1 a.told.2 further
+      db_on few (Decided reply) g a further = decided_db few g reply a.told
+      db_on few (Refused e) g a further = refused_db few g e a.told
 
 -- the same, where a method knows the database by its fields
 module _ {P M : Type 0} (store : P → Store) (meant : M → Merge) (inside old : DbValue P M) (e : inside ≡ old) (db : IsDb (store inside.pages) inside.trees inside.trees_given) (f : Flight) where
   pub flies_as : (q : P) (few : f.turns < MAX_LOOPS) (went : Went) (g : Flight) → must_refuse_of (db_state store meant old) (f.job.tree ∷ []) ≡ None → IsKnown (moment (store old.pages) old.trees old.trees_given) f
-      → Advances (store inside.pages) f went (store q) g → Flies store meant old f went (record inside { pages = q }) g
-  flies_as q few went g must known a =
+      → Advances (store inside.pages) f went (store q) g → GoesFurther (now (store inside.pages)) f went (now (store q)) g → Flies store meant old f went (record inside { pages = q }) g
+  flies_as q few went g must known a further =
       subst (λ (z : DbValue P M). must_refuse_of (db_state store meant z) (f.job.tree ∷ []) ≡ None → IsKnown (moment (store z.pages) z.trees z.trees_given) f → Flies store meant z f went (record inside { pages = q }) g)
-      e (λ must known. flies_on store meant inside db f must q known few went g a) must known
+      e (λ must known. flies_on store meant inside db f must q known few went g a further) must known
 
   pub db_as : (q : P) (few : f.turns < MAX_LOOPS) (went : Went) (g : Flight) → must_refuse_of (db_state store meant old) (f.job.tree ∷ []) ≡ None → IsKnown (moment (store old.pages) old.trees old.trees_given) f
-      → Advances (store inside.pages) f went (store q) g → IsDb (store q) inside.trees inside.trees_given
-  db_as q few went g must known a =
+      → Advances (store inside.pages) f went (store q) g → GoesFurther (now (store inside.pages)) f went (now (store q)) g → IsDb (store q) inside.trees inside.trees_given
+  db_as q few went g must known a further =
       subst (λ (z : DbValue P M). must_refuse_of (db_state store meant z) (f.job.tree ∷ []) ≡ None → IsKnown (moment (store z.pages) z.trees z.trees_given) f → IsDb (store q) inside.trees inside.trees_given)
-      e (λ must known. db_on store meant inside db f must q known few went g a) must known
+      e (λ must known. db_on store meant inside db f must q known few went g a further) must known
 
   pub untested_as : (g : Flight) (r : Error) → MustBeRefused (must_refuse_of (db_state store meant old) (f.job.tree ∷ [])) r → Flies store meant old f (Refused r) old g
   untested_as g r tested = flies_untested store meant old (subst (λ (z : DbValue P M). IsDb (store z.pages) z.trees z.trees_given) e db) f g r tested

@@ -1,7 +1,7 @@
 -- One step of a call in flight on a database.
 use Rattle.std.specs.Prelude.{◌≡◌, ℕ, ◌+◌, ◌≤◌, List, [], ◌∷◌, Option, Some, None}
 use Rattle.sled_pages.specs.In.{In}
-use Rattle.sled_pages.specs.Store.{Store}
+use Rattle.sled_pages.specs.Store.{Store, now}
 use Rattle.sled_pages.specs.declared.error.Error.{Error}
 use Rattle.sled_pages.specs.Update.{put_at}
 use Rattle.sled_model.specs.Maps.{Maps, Merge}
@@ -17,7 +17,9 @@ use Rattle.tree_laws.specs.Forest.{Forest}
 use Rattle.tree_laws.specs.Crashes.{Extends}
 use Rattle.tree_laws.specs.Moment.{Moment, IsMoment}
 use Rattle.sled_tree.specs.Stages.{IsStage, owned}
+use Rattle.sled_tree.specs.Passing.{GoesFurther}
 use Rattle.sled_tree.specs.declared.flight.Flight.{Flight}
+use Rattle.sled_tree.specs.declared.flight.Stage.TheVariants.{Root}
 use Rattle.sled_tree.specs.declared.flight.Went.{Went}
 use Rattle.sled_tree.specs.declared.flight.Went.TheVariants.{Moved, Decided, Refused}
 use Rattle.sled.specs.Values.{KeepsRest, DbValue, db_state, instant_of, moment}
@@ -26,10 +28,12 @@ use Rattle.sled.specs.Values.{KeepsRest, DbValue, db_state, instant_of, moment}
 abbrev pub flying_of : Flight → Flying
 flying_of f = record { tree = f.job.tree; call = f.job.call; turns = f.turns; waiting = []; rest = None }
 
--- What a call in flight knows of the pages is true at this moment, and it has no more turns than it may have
+-- What a call in flight knows of the pages is true at this moment, and it has no more turns than it may have. Without a turn it
+-- has yet to begin
 pub record IsKnown (m : Moment) (f : Flight) : Type 0 where
   pub told : (w : Forest) → IsMoment m w → IsStage m w f.job f.stage
   pub few : f.turns ≤ MAX_LOOPS
+  pub begins : f.turns ≡ 0 → f.stage ≡ Root
 
 -- no page is the two calls' own
 pub record AreApart (f g : Flight) : Type 0 where
@@ -72,6 +76,8 @@ pub record Flies {P M : Type 0} (store : P → Store) (meant : M → Merge) (old
   pub still : (e : Error) → went ≡ Refused e → (store new.pages).actions ≡ (store old.pages).actions
   pub quiet : IsQuiet store meant old f went → store new.pages ≡ store old.pages
   pub rest : KeepsRest (store old.pages) (store new.pages)
+  -- on a clean path the call goes one page further, or ends
+  pub passes : GoesFurther (now (store old.pages)) f went (now (store new.pages)) g
   -- the call goes on, and knows what it needs
   pub goes_on : went ≡ Moved → (g.job ≡ f.job) × IsKnown (moment (store new.pages) new.trees new.trees_given) g
   -- what another call knows stays true, and no page becomes the two calls' own

@@ -4,7 +4,7 @@ use Rattle.std.proofs.Math.Path.{fun_ext}
 use Rattle.std.proofs.lemmas.Bool.{eq-eqb, ne_eqb, eqb-true}
 use Rattle.std.proofs.lemmas.Option.{slice_get_within}
 use Rattle.sled_pages.specs.Update.{put_at}
-use Rattle.sled_pages.specs.Store.{Store}
+use Rattle.sled_pages.specs.Store.{Store, now}
 use Rattle.sled_pages.specs.declared.error.Error.{Error}
 use Rattle.sled_model.specs.Maps.{Merge}
 use Rattle.sled_model.specs.Answer.{answer_of}
@@ -33,7 +33,8 @@ use Rattle.sled.specs.Flights.{flying_of, IsKnown, AreApart, Flies, outcome_of, 
 use Rattle.sled.specs.Flush.{Stays, FlushesDb, RefusesFlush}
 use Rattle.sled_machine.specs.Slots.{kept_at, RiseAbove, StandsAt}
 use Rattle.sled_machine.specs.Values.{MachineValue, slots_of, instant_of}
-use Rattle.sled_machine.specs.Crash.{Reaches, keeps_as, acts_as}
+use Rattle.sled_tree.specs.Passing.{IsOnPath}
+use Rattle.sled_machine.specs.Crash.{Reaches, passes_as, keeps_as, acts_as}
 use Rattle.sled_machine.specs.Sound.{IsMachine}
 use Rattle.sled_machine.specs.Fly.{StepsAt, flights_after}
 use Rattle.sled_machine.proofs.Places.{stands, set_kept, take_kept, set_rise, take_rise, push_kept, push_rise}
@@ -83,10 +84,10 @@ more i fs = ap (λ k. take i fs ++ drop k fs) (add-one i)
 module _ {P M : Type 0} (store : P → Store) (meant : M → Merge) (v : MachineValue P M) (im : IsMachine (moment (store v.db.pages) v.db.trees v.db.trees_given) v.flights v.slots_given) where
   -- no call has the slot
   pub missing_step : (slot : ℕ) → kept_at v.flights slot ≡ None → Reaches store meant v (step.Step slot) outcome.NoSuchSlot v
-  missing_step slot e = record { maps = []; is = record { step = record { told = (record { free = ap (option_map flying_of) e; is = refl }, refl) }; keeps = extends_same (store v.db.pages); acts = refl; rest = record { mark = refl; recovered = refl; readable = refl } } }
+  missing_step slot e = record { maps = []; is = record { step = record { told = (record { free = ap (option_map flying_of) e; is = refl }, refl) }; keeps = extends_same (store v.db.pages); acts = refl; rest = record { mark = refl; recovered = refl; readable = refl } }; passes = tt }
 
   pub missing_abandon : (slot : ℕ) → kept_at v.flights slot ≡ None → Reaches store meant v (step.Abandon slot) outcome.NoSuchSlot v
-  missing_abandon slot e = record { maps = []; is = record { step = record { told = (record { free = ap (option_map flying_of) e; is = refl }, refl) }; keeps = extends_same (store v.db.pages); acts = refl; rest = record { mark = refl; recovered = refl; readable = refl } } }
+  missing_abandon slot e = record { maps = []; is = record { step = record { told = (record { free = ap (option_map flying_of) e; is = refl }, refl) }; keeps = extends_same (store v.db.pages); acts = refl; rest = record { mark = refl; recovered = refl; readable = refl } }; passes = tt }
 
   pub in_range : (slot i : ℕ) → StandsAt v.flights slot i → i < length v.flights
   in_range slot i s = slice_get_within v.flights i (slot, s.kept) s.is
@@ -121,6 +122,7 @@ module _ {P M : Type 0} (store : P → Store) (meant : M → Merge) (v : Machine
         acts = refl;
         rest = record { mark = refl; recovered = refl; readable = refl };
       };
+      passes = tt;
     }
 
     pub abandoned_machine : IsMachine (moment (store v.db.pages) v.db.trees v.db.trees_given) gs v.slots_given
@@ -139,8 +141,9 @@ module _ {P M : Type 0} (store : P → Store) (meant : M → Merge) (v : Machine
     abbrev after : Moment
     after = moment (store db.pages) db.trees db.trees_given
 
-    reach : (f next : Flight) (went : Went) → slice_get v.flights i ≡ Some (slot, f) → Flies store meant v.db f went db next → slots_of gs ≡ put_at (slots_of v.flights) slot (slot_after went next) → Reaches store meant v (step.Step slot) (outcome_of went) (record v { db = db; flights = gs })
-    reach f next went there flies slots = record {
+    reach : (f next : Flight) (went : Went) → slice_get v.flights i ≡ Some (slot, f) → Flies store meant v.db f went db next → slots_of gs ≡ put_at (slots_of v.flights) slot (slot_after went next)
+        → passes_as store v (step.Step slot) (outcome_of went) (record v { db = db; flights = gs }) → Reaches store meant v (step.Step slot) (outcome_of went) (record v { db = db; flights = gs })
+    reach f next went there flies slots passes = record {
       maps = maps_added went (maps_of (db_state store meant db));
       is = record {
         step = subst (λ z. Steps (instant_of store meant v) (step.Step slot) (outcome_of went) (instant_of_db store meant db z v.slots_given) (maps_added went (maps_of (db_state store meant db)))) (sym slots)
@@ -149,6 +152,7 @@ module _ {P M : Type 0} (store : P → Store) (meant : M → Merge) (v : Machine
         acts = acts_flying went flies;
         rest = flies.rest;
       };
+      passes = passes;
     }
       where
         keeps_flying : (went : Went) → Flies store meant v.db f went db next → keeps_as (step.Step slot) (outcome_of went) (maps_added went (maps_of (db_state store meant db))) (maps_of (db_state store meant db)) (store v.db.pages) (store db.pages)
@@ -169,6 +173,13 @@ module _ {P M : Type 0} (store : P → Store) (meant : M → Merge) (v : Machine
 
     went_on : (f next : Flight) → slice_get v.flights i ≡ Some (slot, f) → gs ≡ slice_set v.flights i (slot, next) → (q : ℕ) → kept_at gs q ≡ put_at (kept_at v.flights) slot (Some next) q
     went_on f next there e q = ap (λ z. kept_at z q) e ∙ set_kept 0 v.flights i slot f next q im.rise.is there
+
+    -- on a clean path the call has a page less ahead of it
+    further : (f next : Flight) → slice_get v.flights i ≡ Some (slot, f) → Flies store meant v.db f Moved db next → gs ≡ slice_set v.flights i (slot, next) → passes_as store v (step.Step slot) outcome.Moved (record v { db = db; flights = gs })
+    further f next there flies e path k =
+        let same : k.flight ≡ f = some_is (sym k.here ∙ at_place slot i f there) in
+        let p = flies.passes.told path (subst (λ (z : Flight). IsOnPath (now (store v.db.pages)) z.job z.stage path) same k.clean) in
+        (p.0, p.1, record { flight = next; here = went_on f next there e slot ∙ put_here (kept_at v.flights) slot (Some next); clean = p.2 })
 
     -- what the others know is kept
     kept : (f next : Flight) (went : Went) → slice_get v.flights i ≡ Some (slot, f) → Flies store meant v.db f went db next → (j : ℕ) (h : Flight) → j ≢ slot → kept_at v.flights j ≡ Some h → IsKnown after h × (went ≡ Moved → AreApart next h)
@@ -208,9 +219,9 @@ module _ {P M : Type 0} (store : P → Store) (meant : M → Merge) (v : Machine
         }
 
     stepped_as : (f next : Flight) (went : Went) → slice_get v.flights i ≡ Some (slot, f) → Flies store meant v.db f went db next → gs ≡ flights_after went v.flights slot i next → Reaches store meant v (step.Step slot) (outcome_of went) (record v { db = db; flights = gs }) × IsMachine after gs v.slots_given
-    stepped_as f next Moved there flies e = (reach f next Moved there flies (slots_put v.flights gs slot (Some next) (went_on f next there e)), moved_machine f next there flies e)
-    stepped_as f next (Decided reply) there flies e = (reach f next (Decided reply) there flies (slots_put v.flights gs slot None (ended f there e)), ended_machine f next (Decided reply) there flies e)
-    stepped_as f next (Refused r) there flies e = (reach f next (Refused r) there flies (slots_put v.flights gs slot None (ended f there e)), ended_machine f next (Refused r) there flies e)
+    stepped_as f next Moved there flies e = (reach f next Moved there flies (slots_put v.flights gs slot (Some next) (went_on f next there e)) (further f next there flies e), moved_machine f next there flies e)
+    stepped_as f next (Decided reply) there flies e = (reach f next (Decided reply) there flies (slots_put v.flights gs slot None (ended f there e)) tt, ended_machine f next (Decided reply) there flies e)
+    stepped_as f next (Refused r) there flies e = (reach f next (Refused r) there flies (slots_put v.flights gs slot None (ended f there e)) tt, ended_machine f next (Refused r) there flies e)
 
     pub stepped : (o : Outcome) → StepsAt store meant v.db v.flights slot i o db gs → Reaches store meant v (step.Step slot) o (record v { db = db; flights = gs })
     stepped o s = subst (λ z. Reaches store meant v (step.Step slot) z (record v { db = db; flights = gs })) (sym s.outcome) (stepped_as s.flight s.next s.went s.there s.flies s.is).0
@@ -220,7 +231,7 @@ module _ {P M : Type 0} (store : P → Store) (meant : M → Merge) (v : Machine
 
   -- a call begins, or is refused
   pub begin_refused : (tree : Tree) (call : Call) (e : Error) → MayRefuse (state_of store meant v.db (slots_of v.flights) v.slots_given) (store v.db.pages) (store v.db.pages) (ToBegin tree call) e → Reaches store meant v (step.Begin tree call) (outcome.Refused e) v
-  begin_refused tree call e may = record { maps = []; is = record { step = record { told = (may, refl, refl) }; keeps = extends_same (store v.db.pages); acts = refl; rest = record { mark = refl; recovered = refl; readable = refl } } }
+  begin_refused tree call e may = record { maps = []; is = record { step = record { told = (may, refl, refl) }; keeps = extends_same (store v.db.pages); acts = refl; rest = record { mark = refl; recovered = refl; readable = refl } }; passes = tt }
 
   pub begin_untested : (tree : Tree) (call : Call) (e : Error) → MustBeRefused (must_refuse_of (db_state store meant v.db) (tree ∷ [])) e → Reaches store meant v (step.Begin tree call) (outcome.Refused e) v
   begin_untested tree call e tested = begin_refused tree call e (record { told = go (must_refuse_of (db_state store meant v.db) (tree ∷ [])) tested.told })
@@ -262,6 +273,7 @@ module _ {P M : Type 0} (store : P → Store) (meant : M → Merge) (v : Machine
           acts = refl;
           rest = record { mark = refl; recovered = refl; readable = refl };
         };
+        passes = tt;
       }
 
       all_below : (i m : ℕ) (y : Flight) → slice_get v.flights i ≡ Some (m, y) → m < slot
@@ -276,7 +288,7 @@ module _ {P M : Type 0} (store : P → Store) (meant : M → Merge) (v : Machine
               | inr o ↦ let z = im.given j h o.1 in omega arith
             ];
             known = λ j h k. elim (cases j h k) [
-              | inl s ↦ subst (λ z. IsKnown (moment (store v.db.pages) v.db.trees v.db.trees_given) z) (sym (s.1 ∙ is)) (record { told = λ w m. tt; few = omega arith })
+              | inl s ↦ subst (λ z. IsKnown (moment (store v.db.pages) v.db.trees v.db.trees_given) z) (sym (s.1 ∙ is)) (record { told = λ w m. tt; few = omega arith; begins = λ none. refl })
               | inr o ↦ im.known j h o.1
             ];
             apart = λ j k h g a b off. elim (cases j h a) [
@@ -293,12 +305,14 @@ module _ {P M : Type 0} (store : P → Store) (meant : M → Merge) (v : Machine
   flushed_all db n f = record {
     maps = [];
     is = record { step = record { told = (f.free, f.stays.state (slots_of v.flights) v.slots_given, refl) }; keeps = record { flushes = f.flushes; leaves = record { is = subst (λ z. Matches z (maps_of (db_state store meant db) ∷ [])) (sym (ap (map trees_of) f.left ∙ ap (λ z. z ∷ []) f.maps)) (matches_same _) } }; acts = f.flushes.actions; rest = f.stays.rest };
+    passes = tt;
   }
 
   pub flush_refused : (db : DbValue P M) (e : Error) → RefusesFlush store meant v.db db e → Reaches store meant v (step.Whole Flush) (outcome.Refused e) (record v { db = db })
   flush_refused db e f = record {
     maps = [];
     is = record { step = record { told = (f.may (slots_of v.flights) v.slots_given, f.stays.state (slots_of v.flights) v.slots_given, refl) }; keeps = f.extends; acts = f.actions; rest = f.stays.rest };
+    passes = tt;
   }
 
   pub stays_machine : (db : DbValue P M) → Stays store meant v.db db → IsMachine (moment (store db.pages) db.trees db.trees_given) v.flights v.slots_given

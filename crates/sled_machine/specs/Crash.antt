@@ -1,9 +1,10 @@
 -- Steps of the machine, with what they add to what a crash may leave.
-use Rattle.std.specs.Prelude.{◌≡◌, ◌≢◌, ℕ, zero, suc, ◌+◌, ◌≤◌, List, [], ◌∷◌, ◌++◌, map, Some, None}
-use Rattle.sled_pages.specs.Store.{Store}
+use Rattle.std.specs.Prelude.{◌≡◌, ◌≢◌, ℕ, zero, suc, ◌+◌, ◌<◌, ◌≤◌, List, [], ◌∷◌, ◌++◌, length, map, Some, None}
+use Rattle.sled_pages.specs.Store.{Store, now}
 use Rattle.sled_pages.specs.Crash.{states_left}
 use Rattle.sled_model.specs.Maps.{Maps, Merge}
-use Rattle.sled_model.specs.Answer.{answer_of}
+use Rattle.sled_model.specs.Answer.{answer_of, key_of}
+use Rattle.sled_model.specs.Refusal.{TellsTurns}
 use Rattle.sled_model.specs.State.{State, NamedTree, Flying, maps_of}
 use Rattle.sled_model.specs.Steps.{Instant, Steps}
 use Rattle.sled_model.specs.Runs.{RunsBy}
@@ -12,10 +13,16 @@ use Rattle.sled_model.specs.declared.outcome.Step.TheVariants as step
 use Rattle.sled_model.specs.declared.outcome.Outcome.{Outcome}
 use Rattle.sled_model.specs.declared.outcome.Outcome.TheVariants.{Moved, Decided, Refused, NoSuchSlot}
 use Rattle.sled_model.specs.declared.call.Whole.TheVariants.{Flush}
+use Rattle.sled_model.specs.declared.TheConstants.{MAX_LOOPS}
+use Rattle.sled_pages.specs.declared.error.Error.{Error}
 use Rattle.tree_laws.specs.Contents.{trees_of}
 use Rattle.tree_laws.specs.Crashes.{Extends, Flushes, Matches}
+use Rattle.tree_laws.specs.Paths.{IsClean}
+use Rattle.sled_tree.specs.Passing.{IsOnPath}
+use Rattle.sled_tree.specs.declared.flight.Flight.{Flight}
 use Rattle.sled.specs.Values.{KeepsRest}
-use Rattle.sled_machine.specs.Values.{MachineValue, instant_of}
+use Rattle.sled_machine.specs.Slots.{kept_at}
+use Rattle.sled_machine.specs.Values.{MachineValue, slots_of, instant_of}
 
 -- these are the maps after each state that a crash may leave, the shortest beginning first, equal neighbours taken once
 pub record Leaves (s : Store) (maps : List Maps) : Type 0 where
@@ -56,6 +63,17 @@ acts_as old (step.Step slot) o new = new.store.actions ≤ old.store.actions + 1
 acts_as old (step.Abandon slot) o new = new.store ≡ old.store
 acts_as old (step.Whole Flush) o new = new.store.actions ≡ old.store.actions
 
+-- the call in the slot has this path of pages ahead of it, and nothing to repair on it
+pub record IsAhead {P M : Type 0} (store : P → Store) (m : MachineValue P M) (slot : ℕ) (path : List ℕ) : Type 0 where
+  pub flight : Flight
+  pub here : kept_at m.flights slot ≡ Some flight
+  pub clean : IsOnPath (now (store m.db.pages)) flight.job flight.stage path
+
+-- a step of a slot that goes on along a clean path has a page less ahead of it
+abbrev pub passes_as : {P M : Type 0} → (P → Store) → MachineValue P M → Step → Outcome → MachineValue P M → Type 0
+passes_as store old (step.Step slot) Moved new = (path : List ℕ) → IsAhead store old slot path → (rest : List ℕ) × (length path ≡ suc (length rest)) × IsAhead store new slot rest
+passes_as store old s o new = Unit {0}
+
 -- one step, with its outcome and the maps that it added
 pub record StepsTo (old : Instant) (s : Step) (o : Outcome) (new : Instant) (maps : List Maps) : Type 0 where
   pub step : Steps old s o new maps
@@ -67,6 +85,8 @@ pub record StepsTo (old : Instant) (s : Step) (o : Outcome) (new : Instant) (map
 pub record Reaches {P M : Type 0} (store : P → Store) (meant : M → Merge) (old : MachineValue P M) (s : Step) (o : Outcome) (new : MachineValue P M) : Type 0 where
   pub maps : List Maps
   pub is : StepsTo (instant_of store meant old) s o (instant_of store meant new) maps
+  -- on a clean path the call in the slot goes one page further, or ends
+  pub passes : passes_as store old s o new
 
 -- A run, with the list of maps that a crash might leave before it and the list after it:
 -- the map at the last flush that was decided, if there was one, else the list before; and then the map after each call that was decided since
@@ -89,6 +109,11 @@ pub record Performs {P M : Type 0} (store : P → Store) (meant : M → Merge) (
   -- and what a crash may leave goes on by them, but that a flush makes all durable
   pub keeps : (kept : List Maps) → Leaves (store old.db.pages) kept → Keeps (instant_of store meant old) (instant_of store meant new) steps outcomes kept
 
+-- the call went on at most once for each page of the path, and was not refused for its turns
+pub record IsPrompt (moves : ℕ) (o : Outcome) (path : List ℕ) : Type 0 where
+  pub few : moves ≤ length path
+  pub off : (e : Error) → o ≡ Refused e → TellsTurns e → ⊥
+
 -- as many steps of the slot as there are moves, and one more
 abbrev pub steps_of : ℕ → ℕ → List Step
 steps_of slot zero = step.Step slot ∷ []
@@ -98,8 +123,11 @@ abbrev pub outcomes_of : ℕ → Outcome → List Outcome
 outcomes_of zero o = o ∷ []
 outcomes_of (suc n) o = Moved ∷ outcomes_of n o
 
--- the call in the slot goes on, step by step, until the last
+-- The call in the slot goes on, step by step, until the last
 pub record Finishes {P M : Type 0} (store : P → Store) (meant : M → Merge) (old : MachineValue P M) (slot : ℕ) (o : Outcome) (new : MachineValue P M) : Type 0 where
   pub moves : ℕ
   pub ends : o ≢ Moved
   pub run : Performs store meant old (steps_of slot moves) (outcomes_of moves o) new
+  -- over a clean path of fewer levels than it may have turns, a call that had none goes on at most once a level
+  pub passes : (flying : Flying) (path : List ℕ) → slots_of old.flights slot ≡ Some flying → flying.turns ≡ 0
+      → IsClean (now (store old.db.pages)) flying.tree.name (key_of flying.call) path → length path < MAX_LOOPS → IsPrompt moves o path

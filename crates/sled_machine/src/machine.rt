@@ -154,10 +154,12 @@ impl<P: Pages, M: MergeOperator> Machine<P, M> {
         }
     }
 
-    /// Does steps of the call in the slot until it ends. There are no more than its turns allow.
+    /// Does steps of the call in the slot until it ends. There are no more than its turns allow. Where no other call left
+    /// anything to repair on the way to its key, a call that begins goes on at most once for each level of its tree.
     pub fn finish(&mut self, slot: Slot) -> Outcome
         ensures { Finishes P.store M.meant self.old slot result self.new }
     {
+        let _ = &self.db;
         loop {
             match self.step(slot) {
                 Outcome::Moved => {}

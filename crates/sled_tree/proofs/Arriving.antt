@@ -1,5 +1,5 @@
 -- What comes after a page was read on the way to the leaf.
-use Rattle.std.proofs.Common.{◌≡◌, ◌≢◌, ℕ, ◌≤◌, true, false, Bool, List, [], Option, Some, None, sym, refl, ap, ◌∙◌, subst, inl, arith}
+use Rattle.std.proofs.Common.{◌≡◌, ◌≢◌, ℕ, ◌≤◌, true, false, Bool, List, [], Option, Some, None, sym, refl, ap, ◌∙◌, subst, inl, inr, arith}
 use Rattle.std.specs.FinMap.Entries.{find}
 use Rattle.std.specs.declared.ops.Bound.TheVariants.{Included}
 use Rattle.sled_pages.specs.Order.{Key, key_cmp, UpTo}
@@ -28,20 +28,20 @@ use Rattle.sled_tree.specs.declared.flight.Stage.{Stage}
 use Rattle.sled_tree.specs.declared.flight.Stage.TheVariants as stage
 use Rattle.sled_tree.specs.declared.flight.Posting.TheVariants as posting
 use Rattle.sled_tree.specs.declared.flight.Next.{Next}
-use Rattle.sled_tree.specs.declared.flight.Next.TheVariants.{Go, Decided, Refused}
+use Rattle.sled_tree.specs.declared.flight.Next.TheVariants.{Go, Decided}
 use Rattle.sled_tree.specs.declared.flight.Walk.{Walk}
 use Rattle.sled_tree.specs.declared.walk.Way.{Way}
 use Rattle.sled_tree.specs.Change.{IsLeaf, IsIndex, decision_at}
 use Rattle.sled_tree.specs.Stages.{IsStage, owned}
-use Rattle.sled_tree.specs.Moves.{Moves, Arrives, IsRead, Helps, helps_as, Begins, begins_as, owned_next}
+use Rattle.sled_tree.specs.Moves.{Moves, Arrives, IsRead, IsMergeUnder, Helps, Begins, owned_next}
 use Rattle.sled_tree.proofs.Facts.{same_here, rests, viewed, live_view}
 use Rattle.sled_tree.proofs.Helping.{helped}
 
-leaf_is : (d : Data) → IsLeaf d → (es : List (Key × Key)) × (d ≡ Leaf es)
+pub leaf_is : (d : Data) → IsLeaf d → (es : List (Key × Key)) × (d ≡ Leaf es)
 leaf_is (Leaf es) l = (es, refl)
 leaf_is (Index es) l = absurd l
 
-index_is : (d : Data) → IsIndex d → (es : List (Key × ℕ)) × (d ≡ Index es)
+pub index_is : (d : Data) → IsIndex d → (es : List (Key × ℕ)) × (d ≡ Index es)
 index_is (Leaf es) l = absurd l
 index_is (Index es) l = (es, refl)
 
@@ -81,38 +81,21 @@ module _ (j : Job) (view : View) (way : Way) where
     pub posts : (p : View) → way.parent ≡ Some p → way.unsplit ≡ true → Arrives j view way (Go (stage.Post (record { parent = p; at = view.node.lo; pid = view.pid })))
     posts p e unsplit = goes _ refl (λ m w is named r. record { posting = (follows m w is r).posts p e unsplit; few = r.room p e })
 
-    merges_at : (p : View) (a : Merge) → way.parent ≡ Some p → way.first ≡ false → way.unsplit ≡ false → count view.node.content ≤ 3 → (a.parent ≡ p) × (a.child ≡ view.pid) × IsBefore view.pid (pointers p.node.content) a.before
-        → Arrives j view way (Go (stage.Intend a))
-    merges_at p a e first unsplit few told = goes _ refl (λ m w is named r. record {
-      intending = subst (λ (z : View). IsIntending m w j.tree.name j.tree.number z a.child) (sym told.0) (subst (λ c. IsIntending m w j.tree.name j.tree.number p c) (sym told.1) ((follows m w is r).intends p e first unsplit));
-      small = subst (λ (z : View). IsSmallChild m j.tree.name j.tree.number z a.child) (sym told.0) (subst (λ c. IsSmallChild m j.tree.name j.tree.number p c) (sym told.1) ((follows m w is r).small p (more (count view.node.content) few)));
-      before = subst (λ (z : View). IsBefore a.child (pointers z.node.content) a.before) (sym told.0) (subst (λ c. IsBefore c (pointers p.node.content) a.before) (sym told.1) told.2);
+    merges_at : (p : View) (a : Merge) → way.parent ≡ Some p → way.first ≡ false → way.unsplit ≡ false → count view.node.content ≤ 3 → IsMergeUnder p view.pid a → Arrives j view way (Go (stage.Intend a))
+    merges_at p a e first unsplit few u = goes _ refl (λ m w is named r. record {
+      intending = subst (λ (z : View). IsIntending m w j.tree.name j.tree.number z a.child) (sym u.above) (subst (λ c. IsIntending m w j.tree.name j.tree.number p c) (sym u.is) ((follows m w is r).intends p e first unsplit));
+      small = subst (λ (z : View). IsSmallChild m j.tree.name j.tree.number z a.child) (sym u.above) (subst (λ c. IsSmallChild m j.tree.name j.tree.number p c) (sym u.is) ((follows m w is r).small p (more (count view.node.content) few)));
+      before = subst (λ (z : View). IsBefore a.child (pointers z.node.content) a.before) (sym u.above) (subst (λ c. IsBefore c (pointers p.node.content) a.before) (sym u.is) u.before);
     })
       where
         more : (n : ℕ) → n ≤ 3 → n ≤ 17
         more n h = omega arith
 
     pub merges : (p : View) (next : Next) → way.parent ≡ Some p → way.first ≡ false → way.unsplit ≡ false → count view.node.content ≤ 3 → Begins p view.pid next → Arrives j view way next
-    merges p next e first unsplit few b = go next b.told
-      where
-        go : (next : Next) → begins_as p view.pid next → Arrives j view way next
-        go (Go stage.Root) t = goes stage.Root refl (λ m w is named r. tt)
-        go (Go (stage.Intend a)) t = merges_at p a e first unsplit few t
-        go (Go (stage.Walk a)) t = absurd t
-        go (Go (stage.Act a)) t = absurd t
-        go (Go (stage.Split a)) t = absurd t
-        go (Go (stage.Shorten a)) t = absurd t
-        go (Go (stage.Post a)) t = absurd t
-        go (Go (stage.Hoist a)) t = absurd t
-        go (Go (stage.Crown a)) t = absurd t
-        go (Go (stage.Free a)) t = absurd t
-        go (Go (stage.Child a)) t = absurd t
-        go (Go (stage.Cap a)) t = absurd t
-        go (Go (stage.Seek a)) t = absurd t
-        go (Go (stage.Receive a)) t = absurd t
-        go (Go (stage.Confirm a)) t = absurd t
-        go (Decided reply) t = absurd t
-        go (Refused e) t = absurd t
+    merges p next e first unsplit few b = elim b.told [
+      | inl r ↦ subst (Arrives j view way) (sym r) (goes stage.Root refl (λ m w is named r. tt))
+      | inr k ↦ subst (Arrives j view way) (sym k.1) (merges_at p k.0 e first unsplit few k.2)
+    ]
 
     -- it covers the key and has room
     module _ (covers : Covers view.node (key_of j.call)) (few : count view.node.content ≤ 16) where
@@ -154,26 +137,10 @@ module _ (j : Job) (view : View) (way : Way) where
 
 -- where the page has a merging child, that merge goes on
 pub helps : (j : Job) (view : View) (way : Way) (child : ℕ) (next : Next) → view.node.merging ≡ false → view.node.merging_child ≡ Some child → Helps view child next → Arrives j view way next
-helps j view way child next awake is_child h = go next h.told
-  where
-    go : (next : Next) → helps_as view child next → Arrives j view way next
-    go (Go stage.Root) t = goes j view way stage.Root refl (λ m w is named r. tt)
-    go (Go (stage.Child a)) t = goes j view way (stage.Child a) refl (λ m w is named r. helped is named r.here.height child a view awake is_child t r.here.stood r.here.live)
-    go (Go (stage.Walk a)) t = absurd t
-    go (Go (stage.Act a)) t = absurd t
-    go (Go (stage.Split a)) t = absurd t
-    go (Go (stage.Shorten a)) t = absurd t
-    go (Go (stage.Post a)) t = absurd t
-    go (Go (stage.Hoist a)) t = absurd t
-    go (Go (stage.Crown a)) t = absurd t
-    go (Go (stage.Free a)) t = absurd t
-    go (Go (stage.Intend a)) t = absurd t
-    go (Go (stage.Cap a)) t = absurd t
-    go (Go (stage.Seek a)) t = absurd t
-    go (Go (stage.Receive a)) t = absurd t
-    go (Go (stage.Confirm a)) t = absurd t
-    go (Decided reply) t = absurd t
-    go (Refused e) t = absurd t
+helps j view way child next awake is_child h = elim h.told [
+  | inl r ↦ subst (Arrives j view way) (sym r) (goes j view way stage.Root refl (λ m w is named r. tt))
+  | inr k ↦ subst (Arrives j view way) (sym k.1) (goes j view way (stage.Child k.0) refl (λ m w is named r. helped is named r.here.height child k.0 view awake is_child k.2 r.here.stood r.here.live))
+]
 
 -- what a read comes to, as a step
 pub arrives_moves : (j : Job) (s : Store) (view : View) (way : Way) (next : Next) (a : Stage) → Arrives j view way next

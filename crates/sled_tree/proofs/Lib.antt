@@ -1,6 +1,7 @@
 pub mod Facts
 pub mod Helping
 pub mod Arriving
+pub mod Passing
 pub mod Acting
 pub mod Splits
 pub mod Merges

@@ -1,5 +1,5 @@
 -- The steps of a merge.
-use Rattle.std.proofs.Common.{◌≡◌, ◌≢◌, ℕ, ◌≤◌, ◌⊎◌, true, false, List, [], Option, Some, None, Ok, Err, sym, refl, ap, ◌∙◌, subst, inl}
+use Rattle.std.proofs.Common.{◌≡◌, ◌≢◌, ℕ, ◌≤◌, ◌⊎◌, true, false, List, [], Option, Some, None, Ok, Err, sym, refl, ap, ◌∙◌, subst, inl, inr}
 use Rattle.sled_pages.specs.Order.{Key, Below, UpTo}
 use Rattle.sled_pages.specs.In.{In}
 use Rattle.sled_pages.specs.Halves.{received}
@@ -9,8 +9,8 @@ use Rattle.sled_pages.specs.declared.node.Node.{Node}
 use Rattle.sled_pages.specs.declared.node.Data.TheVariants.{Index}
 use Rattle.sled_pages.specs.declared.link.Link.TheVariants.{ParentMergeIntention, ParentMergeConfirm, ChildMergeCap}
 use Rattle.sled_pages.specs.declared.page.View.{View}
-use Rattle.tree_laws.specs.Forest.{Tree, Forest}
-use Rattle.tree_laws.specs.Moment.{Moment, moment_of, IsMoment, IsOpen, IsFew}
+use Rattle.tree_laws.specs.Forest.{Forest, place}
+use Rattle.tree_laws.specs.Moment.{Moment, moment_of, IsMoment, Stood}
 use Rattle.tree_laws.specs.Laws.{replaced}
 use Rattle.tree_laws.specs.Merging.{IsMergingOf, IsSeekingOf}
 use Rattle.tree_laws.specs.Stages.{IsJoined}
@@ -30,7 +30,7 @@ use Rattle.sled_tree.specs.declared.flight.Stage.TheVariants as stage
 use Rattle.sled_tree.specs.declared.flight.Next.{Next}
 use Rattle.sled_tree.specs.declared.flight.Next.TheVariants as next
 use Rattle.sled_tree.specs.Stages.{IsStage, owned}
-use Rattle.sled_tree.specs.Moves.{Moves, Helps, helps_as, ReadsChild, Looks, owned_next}
+use Rattle.sled_tree.specs.Moves.{Moves, Helps, ReadsChild, Looks, owned_next}
 use Rattle.sled_tree.proofs.Facts.{moves_on, quietly, once_acts, stays, rests, same_here, viewed, live_view}
 use Rattle.sled_tree.proofs.Helping.{helped}
 
@@ -65,56 +65,24 @@ child_read j s a view n read t = record {
 -- a page with a merging child was read, whose own merge goes on first
 module _ (view : View) (child : ℕ) (awake : view.node.merging ≡ false) (is_child : view.node.merging_child ≡ Some child) where
   pub child_helps : (j : Job) (a : Merge) (n : Next) → Helps view child n → ReadsChild j a view n
-  child_helps j a n h = go n h.told
-    where
-      go : (n : Next) → helps_as view child n → ReadsChild j a view n
-      go (next.Go stage.Root) t = record { touches = λ s. inl refl; told = λ s numbers gave w is named here live k. (refl, (tt, same_here (moment_of s numbers gave) w)) }
-      go (next.Go (stage.Child b)) t = record {
-        touches = λ s. inl refl;
-        told = λ s numbers gave w is named here live k.
-            (refl, (helped is named k.height child b view awake is_child t (subst (λ p. Rattle.tree_laws.specs.Moment.Stood (moment_of s numbers gave) w (Rattle.tree_laws.specs.Forest.place j.tree.name k.height) j.tree.number k.merging.lo p) (sym here) k.merging.c_stood) live, same_here (moment_of s numbers gave) w));
-      }
-      go (next.Go (stage.Walk b)) t = absurd t
-      go (next.Go (stage.Act b)) t = absurd t
-      go (next.Go (stage.Split b)) t = absurd t
-      go (next.Go (stage.Shorten b)) t = absurd t
-      go (next.Go (stage.Post b)) t = absurd t
-      go (next.Go (stage.Hoist b)) t = absurd t
-      go (next.Go (stage.Crown b)) t = absurd t
-      go (next.Go (stage.Free b)) t = absurd t
-      go (next.Go (stage.Intend b)) t = absurd t
-      go (next.Go (stage.Cap b)) t = absurd t
-      go (next.Go (stage.Seek b)) t = absurd t
-      go (next.Go (stage.Receive b)) t = absurd t
-      go (next.Go (stage.Confirm b)) t = absurd t
-      go (next.Decided reply) t = absurd t
-      go (next.Refused e) t = absurd t
+  child_helps j a n h = elim h.told [
+    | inl r ↦ subst (ReadsChild j a view) (sym r) (record { touches = λ s. inl refl; told = λ s numbers gave w is named here live k. (refl, (tt, same_here (moment_of s numbers gave) w)) })
+    | inr b ↦ subst (ReadsChild j a view) (sym b.1) (record {
+      touches = λ s. inl refl;
+      told = λ s numbers gave w is named here live k.
+          (refl, (helped is named k.height child b.0 view awake is_child b.2 (subst (λ p. Stood (moment_of s numbers gave) w (place j.tree.name k.height) j.tree.number k.merging.lo p) (sym here) k.merging.c_stood) live, same_here (moment_of s numbers gave) w));
+    })
+  ]
 
   pub cursor_helps : (j : Job) (a : Seek) (n : Next) → Helps view child n → Looks j a view n
-  cursor_helps j a n h = go n h.told
-    where
-      go : (n : Next) → helps_as view child n → Looks j a view n
-      go (next.Go stage.Root) t = record { touches = λ s. inl refl; told = λ s numbers gave w is named here live k. (refl, (tt, same_here (moment_of s numbers gave) w)) }
-      go (next.Go (stage.Child b)) t = record {
-        touches = λ s. inl refl;
-        told = λ s numbers gave w is named here live k.
-            (refl, (helped is named k.height child b view awake is_child t (subst (λ p. Rattle.tree_laws.specs.Moment.Stood (moment_of s numbers gave) w (Rattle.tree_laws.specs.Forest.place j.tree.name k.height) j.tree.number k.seeking.lo p) (sym here) k.seeking.stood) live, same_here (moment_of s numbers gave) w));
-      }
-      go (next.Go (stage.Walk b)) t = absurd t
-      go (next.Go (stage.Act b)) t = absurd t
-      go (next.Go (stage.Split b)) t = absurd t
-      go (next.Go (stage.Shorten b)) t = absurd t
-      go (next.Go (stage.Post b)) t = absurd t
-      go (next.Go (stage.Hoist b)) t = absurd t
-      go (next.Go (stage.Crown b)) t = absurd t
-      go (next.Go (stage.Free b)) t = absurd t
-      go (next.Go (stage.Intend b)) t = absurd t
-      go (next.Go (stage.Cap b)) t = absurd t
-      go (next.Go (stage.Seek b)) t = absurd t
-      go (next.Go (stage.Receive b)) t = absurd t
-      go (next.Go (stage.Confirm b)) t = absurd t
-      go (next.Decided reply) t = absurd t
-      go (next.Refused e) t = absurd t
+  cursor_helps j a n h = elim h.told [
+    | inl r ↦ subst (Looks j a view) (sym r) (record { touches = λ s. inl refl; told = λ s numbers gave w is named here live k. (refl, (tt, same_here (moment_of s numbers gave) w)) })
+    | inr b ↦ subst (Looks j a view) (sym b.1) (record {
+      touches = λ s. inl refl;
+      told = λ s numbers gave w is named here live k.
+          (refl, (helped is named k.height child b.0 view awake is_child b.2 (subst (λ p. Stood (moment_of s numbers gave) w (place j.tree.name k.height) j.tree.number k.seeking.lo p) (sym here) k.seeking.stood) live, same_here (moment_of s numbers gave) w));
+    })
+  ]
 
 -- the child is merging already, or open
 module _ (j : Job) (a : Merge) (view : View) where

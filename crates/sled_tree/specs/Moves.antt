@@ -119,23 +119,19 @@ pub record Arrives (j : Job) (view : View) (way : Way) (next : Next) : Type 0 wh
 abbrev pub IsLive : Moment → View → Type 0
 IsLive m v = m.state.pages v.pid ≡ Some (record { version = v.version; node = v.node })
 
--- a merge that is to go on from the reading of the child, or else the call begins again
-abbrev pub helps_as : View → ℕ → Next → Type 0
-helps_as view child (Go stage.Root) = Unit {0}
-helps_as view child (Go (stage.Child merge)) = (merge.parent ≡ view) × (merge.child ≡ child) × IsBefore child (pointers view.node.content) merge.before
-helps_as view child next = ⊥
+-- the merge of this child of the index, into the page whose pointer stands before the child's
+pub record IsMergeUnder (index : View) (child : ℕ) (merge : Merge) : Type 0 where
+  pub above : merge.parent ≡ index
+  pub is : merge.child ≡ child
+  pub before : IsBefore child (pointers index.node.content) merge.before
 
+-- a merge that is to go on from the reading of the child, or else the call begins again
 pub record Helps (view : View) (child : ℕ) (next : Next) : Type 0 where
-  pub told : helps_as view child next
+  pub told : (next ≡ Go stage.Root) ⊎ ((merge : Merge) × (next ≡ Go (stage.Child merge)) × IsMergeUnder view child merge)
 
 -- a merge that is to begin, or else the call begins again
-abbrev pub begins_as : View → ℕ → Next → Type 0
-begins_as parent child (Go stage.Root) = Unit {0}
-begins_as parent child (Go (stage.Intend merge)) = (merge.parent ≡ parent) × (merge.child ≡ child) × IsBefore child (pointers parent.node.content) merge.before
-begins_as parent child next = ⊥
-
 pub record Begins (parent : View) (child : ℕ) (next : Next) : Type 0 where
-  pub told : begins_as parent child next
+  pub told : (next ≡ Go stage.Root) ⊎ ((merge : Merge) × (next ≡ Go (stage.Intend merge)) × IsMergeUnder parent child merge)
 
 -- what comes after a merging child was read
 pub record ReadsChild (j : Job) (merge : Merge) (view : View) (next : Next) : Type 0 where

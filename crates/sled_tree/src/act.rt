@@ -1,7 +1,9 @@
 //! The call's change at its leaf.
 ghost use Rattle.std.specs.Prelude.{◌≡◌, IfOk, IfErr};
+ghost use Rattle.sled_pages.specs.Store.{now};
 ghost use Rattle.sled_pages.specs.declared.error.Error.TheVariants.{NoMemory};
 ghost use Rattle.sled_tree.specs.Moves.{Moves};
+ghost use Rattle.sled_tree.specs.Passing.{Passes};
 ghost use Rattle.sled_tree.specs.Change.{IsChangeOf};
 
 use crate::flight::{Job, Next, Stage};
@@ -37,7 +39,8 @@ fn prepare(job: &Job, node: &Node) -> Result<Option<Change>>
 
 // Links the call's change at the version of the leaf that it has read.
 pub(crate) fn act<P: Pages>(pages: &mut P, job: &Job, view: View) -> Next
-    ensures { Moves job.now (P.store pages.old) (Stage.Act view) result (P.store pages.new) }
+    ensures moves { Moves job.now (P.store pages.old) (Stage.Act view) result (P.store pages.new) }
+    ensures passes { Passes job.now (now (P.store pages.old)) (Stage.Act view) result (now (P.store pages.new)) }
 {
     let change = match prepare(job, &view.node) {
         Err(e) => return Next::Refused(e),

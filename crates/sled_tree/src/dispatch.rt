@@ -1,6 +1,8 @@
 //! One page action of a call in flight.
 ghost use Rattle.std.specs.Prelude.{◌<◌};
+ghost use Rattle.sled_pages.specs.Store.{now};
 ghost use Rattle.sled_tree.specs.Moves.{Moves, Advances};
+ghost use Rattle.sled_tree.specs.Passing.{Passes, GoesFurther};
 
 use crate::act::act;
 use crate::flight::{Flight, Job, Next, Stage, Went};
@@ -14,7 +16,8 @@ use std::alloc::Global;
 
 // Does the action of a stage: at most one page action.
 fn step<P: Pages>(pages: &mut P, alloc: Global, job: &Job, stage: Stage) -> Next
-    ensures { Moves job.now (P.store pages.old) stage result (P.store pages.new) }
+    ensures moves { Moves job.now (P.store pages.old) stage result (P.store pages.new) }
+    ensures passes { Passes job.now (now (P.store pages.old)) stage result (now (P.store pages.new)) }
 {
     match stage {
         Stage::Root => read_root(pages, alloc, job),
@@ -38,7 +41,8 @@ fn step<P: Pages>(pages: &mut P, alloc: Global, job: &Job, stage: Stage) -> Next
 /// Does one step of a call in flight that has turns left: at most one page action.
 pub fn advance<P: Pages>(pages: &mut P, alloc: Global, flight: &mut Flight) -> Went
     requires { flight.old.turns < MAX_LOOPS }
-    ensures { Advances (P.store pages.old) flight.old result (P.store pages.new) flight.new }
+    ensures advances { Advances (P.store pages.old) flight.old result (P.store pages.new) flight.new }
+    ensures passes { GoesFurther (now (P.store pages.old)) flight.old result (now (P.store pages.new)) flight.new }
 {
     let stage = std::mem::replace(&mut flight.stage, Stage::Root);
     match step(pages, alloc, &flight.job, stage) {

@@ -5,10 +5,12 @@
 ghost use Rattle.std.specs.Prelude.{◌≡◌, ◌≢◌, ◌≤◌, ◌↔◌, IsTrue};
 ghost use Rattle.std.specs.Prelude.{None, true, false, []};
 ghost use Rattle.sled_pages.specs.Order.{UpTo};
+ghost use Rattle.sled_pages.specs.Store.{now};
 ghost use Rattle.sled_pages.specs.Node.{Covers, count};
 ghost use Rattle.sled_model.specs.Answer.{key_of};
 ghost use Rattle.sled_tree.specs.Change.{IsLeaf, IsIndex};
 ghost use Rattle.sled_tree.specs.Moves.{Moves, Arrives};
+ghost use Rattle.sled_tree.specs.Passing.{Passes, PassesOn};
 
 use crate::flight::{Hoist, Job, Next, Post, Posting, Split, Stage, Walk};
 use crate::merge::{begin, help};
@@ -46,7 +48,8 @@ fn ends_before(node: &Node, key: &[u8]) -> bool
 
 // Reads the root of the call's tree.
 pub(crate) fn read_root<P: Pages>(pages: &P, alloc: Global, job: &Job) -> Next
-    ensures { Moves job.now (P.store pages.now) Stage.Root result (P.store pages.now) }
+    ensures moves { Moves job.now (P.store pages.now) Stage.Root result (P.store pages.now) }
+    ensures passes { Passes job.now (now (P.store pages.now)) Stage.Root result (now (P.store pages.now)) }
 {
     let Some(root) = pages.root(job.tree.name.as_ref()) else {
         return Next::Go(Stage::Root);
@@ -68,7 +71,8 @@ pub(crate) fn read_root<P: Pages>(pages: &P, alloc: Global, job: &Job) -> Next
 
 // Reads the cursor of a walk.
 pub(crate) fn read_cursor<P: Pages>(pages: &P, alloc: Global, job: &Job, walk: Walk) -> Next
-    ensures { Moves job.now (P.store pages.now) (Stage.Walk walk) result (P.store pages.now) }
+    ensures moves { Moves job.now (P.store pages.now) (Stage.Walk walk) result (P.store pages.now) }
+    ensures passes { Passes job.now (now (P.store pages.now)) (Stage.Walk walk) result (now (P.store pages.now)) }
 {
     match pages.read(alloc, walk.cursor) {
         Err(e) => Next::Refused(e),
@@ -87,7 +91,8 @@ pub(crate) fn read_cursor<P: Pages>(pages: &P, alloc: Global, job: &Job, walk: W
 
 // What comes after a page was read.
 fn arrive(job: &Job, view: View, way: Way) -> Next
-    ensures { Arrives job.now view way result }
+    ensures arrives { Arrives job.now view way result }
+    ensures passes { PassesOn job.now view way result }
 {
     if view.node.merging {
         return Next::Go(Stage::Root);
@@ -161,7 +166,8 @@ fn at_key(job: &Job, view: View, way: Way) -> Next
     requires free { view.node.merging_child ≡ None }
     requires covers { Covers view.node (key_of job.now.call) }
     requires few { count view.node.content ≤ 16 }
-    ensures { Arrives job.now view way result }
+    ensures arrives { Arrives job.now view way result }
+    ensures passes { PassesOn job.now view way result }
 {
     if way.unsplit {
         return post(job, view, way);
@@ -218,7 +224,8 @@ fn go_down(job: &Job, view: View, way: Way) -> Next
     requires covers { Covers view.node (key_of job.now.call) }
     requires few { count view.node.content ≤ 16 }
     requires index { IsIndex view.node.content }
-    ensures { Arrives job.now view way result }
+    ensures arrives { Arrives job.now view way result }
+    ensures passes { PassesOn job.now view way result }
 {
     match view.node.pointer(Bound::Included(job.call.key().as_ref())) {
         None => Next::Go(Stage::Root),
@@ -238,7 +245,8 @@ fn at_leaf(job: &Job, view: View, way: Way) -> Next
     requires covers { Covers view.node (key_of job.now.call) }
     requires few { count view.node.content ≤ 16 }
     requires leaf { IsLeaf view.node.content }
-    ensures { Arrives job.now view way result }
+    ensures arrives { Arrives job.now view way result }
+    ensures passes { PassesOn job.now view way result }
 {
     let value = match view.node.get(job.call.key().as_ref()) {
         Err(e) => return Next::Refused(e),

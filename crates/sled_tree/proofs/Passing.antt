@@ -1,0 +1,189 @@
+-- Steps on clean paths.
+use Rattle.std.proofs.Common.{◌≡◌, ◌≢◌, ℕ, length, ◌+◌, ◌<◌, ◌≤◌, ◌↔◌, IsTrue, true, false, Bool, not, ◌||◌, List, [], ◌∷◌, Option, Some, None, Err, option_map, sym, refl, ap, ◌∙◌, subst, inl, inr, arith}
+use Rattle.std.specs.List.{list_any}
+use Rattle.std.specs.declared.ops.Bound.TheVariants.{Included}
+use Rattle.std.proofs.lemmas.List.Folds.{list_any-append}
+use Rattle.sled_pages.specs.Order.{Key, UpTo}
+use Rattle.sled_pages.specs.Among.{IsLast, IsPointer, IsPointerFor}
+use Rattle.sled_pages.specs.Node.{Covers, count, pointers}
+use Rattle.sled_pages.specs.State.{State, Nodes, nodes_of}
+use Rattle.sled_pages.specs.Store.{Store, now, view_of, Changes}
+use Rattle.sled_pages.specs.declared.node.Node.{Node}
+use Rattle.sled_pages.specs.declared.node.Data.TheVariants.{Leaf, Index}
+use Rattle.sled_pages.specs.declared.page.Page.{Page}
+use Rattle.sled_pages.specs.declared.page.View.{View}
+use Rattle.sled_model.specs.Answer.{key_of}
+use Rattle.sled_model.specs.declared.decision.Effect.TheVariants.{Nothing}
+use Rattle.tree_laws.specs.Paths.{CleanFrom, IsPassed}
+use Rattle.tree_laws.specs.PathLaws.{CleanStep}
+use Rattle.tree_laws.proofs.Looking.{clean_step_law}
+use Rattle.tree_laws.proofs.Order.{below_not_upto}
+use Rattle.sled_tree.specs.Change.{IsLeaf, IsIndex, decision_at}
+use Rattle.sled_tree.specs.Passing.{IsUnchanged, IsOnPath, Passes, PassesOn, GoesFurther}
+use Rattle.sled_tree.specs.declared.flight.Flight.{Flight}
+use Rattle.sled_tree.specs.declared.flight.Job.{Job}
+use Rattle.sled_tree.specs.declared.flight.Next.{Next}
+use Rattle.sled_tree.specs.declared.flight.Next.TheVariants as next
+use Rattle.sled_tree.specs.declared.flight.Stage.{Stage}
+use Rattle.sled_tree.specs.declared.flight.Stage.TheVariants as stage
+use Rattle.sled_tree.specs.declared.flight.Walk.{Walk}
+use Rattle.sled_tree.specs.declared.flight.Went.TheVariants as went
+use Rattle.sled_tree.specs.declared.walk.Way.{Way}
+use Rattle.sled_tree.proofs.Facts.{viewed, untrue}
+use Rattle.sled_tree.proofs.Arriving.{leaf_is, index_is}
+
+none_some : {P X : Type 0} {x : X} → None ≡ Some x → P
+none_some e = cc
+
+true_false : {P : Type 0} → true ≡ false → P
+true_false e = cc
+
+some_is : {X : Type 0} {x y : X} → Some x ≡ Some y → x ≡ y
+some_is e = cc
+
+-- a stage that no clean path leads to
+pub passes_never : (j : Job) (old new : State) (a : Stage) (n : Next) → ((path : List ℕ) → IsOnPath old j a path → ⊥) → Passes j old a n new
+passes_never j old new a n off = record { told = λ path k. absurd (off path k) }
+
+pub passes_nowhere : (j : Job) (old new : State) (taken a : Stage) (n : Next) → taken ≡ a → ((path : List ℕ) → IsOnPath old j a path → ⊥) → Passes j old taken n new
+passes_nowhere j old new taken a n is off = passes_never j old new taken n (λ path k. off path (subst (λ z. IsOnPath old j z path) is k))
+
+-- the page of the path is there
+live_at : (s : State) (key : Key) (p : ℕ) (first : Bool) (path : List ℕ) → CleanFrom (nodes_of s) key p first path → s.pages p ≡ None → ⊥
+live_at s key p first [] k gone = k
+live_at s key p first (q ∷ rest) (e, n, passed, more) gone = none_some (ap (option_map (λ (g : Page). g.node)) (sym gone) ∙ passed.live)
+
+gone_at : (pid : ℕ) (o : Option Page) → None ≡ view_of pid o → o ≡ None
+gone_at pid None e = refl
+gone_at pid (Some g) e = none_some e
+
+module _ (j : Job) (s : State) where
+  -- the tree has no root,
+  pub no_root : (name : Key) (found : Option ℕ) (n : Next) → name ≡ j.tree.name → found ≡ s.roots name → found ≡ None → Passes j s stage.Root n s
+  no_root name found n called is_found none = passes_never j s s stage.Root n (λ path k. none_some (sym none ∙ is_found ∙ ap s.roots called ∙ k.is_root))
+
+  -- the root is gone,
+  pub root_gone : (name : Key) (found : Option ℕ) (root : ℕ) (n : Next) → name ≡ j.tree.name → found ≡ s.roots name → found ≡ Some root → None ≡ view_of root (s.pages root) → Passes j s stage.Root n s
+  root_gone name found root n called is_found is_some read = passes_never j s s stage.Root n
+      (λ path k. live_at s (key_of j.call) k.root true path k.clean (subst (λ r. s.pages r ≡ None) (some_is (sym is_some ∙ is_found ∙ ap s.roots called ∙ k.is_root)) (gone_at root (s.pages root) read)))
+
+  -- or it was read
+  pub root_passes : (name : Key) (found : Option ℕ) (root : ℕ) (view : View) (n : Next) → name ≡ j.tree.name → found ≡ s.roots name → found ≡ Some root → Some view ≡ view_of root (s.pages root)
+      → PassesOn j view (record { parent = None; first = true; unsplit = false }) n → Passes j s stage.Root n s
+  root_passes name found root view n called is_found is_some read t = record {
+    told = λ path k.
+        let v = viewed root (s.pages root) view read in
+        t.told s path refl (ap s.pages v.0 ∙ v.1) (subst (λ r. CleanFrom (nodes_of s) (key_of j.call) r true path) (some_is (sym k.is_root ∙ sym (ap s.roots called) ∙ sym is_found ∙ is_some) ∙ sym v.0) k.clean);
+  }
+
+  -- the cursor is gone,
+  pub cursor_gone : (a : Walk) (n : Next) → None ≡ view_of a.cursor (s.pages a.cursor) → Passes j s (stage.Walk a) n s
+  cursor_gone a n read = passes_never j s s (stage.Walk a) n (λ path k. live_at s (key_of j.call) a.cursor a.first path k.1 (gone_at a.cursor (s.pages a.cursor) read))
+
+  -- or it was read
+  pub cursor_passes : (a : Walk) (view : View) (n : Next) → Some view ≡ view_of a.cursor (s.pages a.cursor) → PassesOn j view (record { parent = Some a.parent; first = a.first; unsplit = a.unsplit }) n → Passes j s (stage.Walk a) n s
+  cursor_passes a view n read t = record {
+    told = λ path k.
+        let v = viewed a.cursor (s.pages a.cursor) view read in
+        t.told s path k.0 (ap s.pages v.0 ∙ v.1) (subst (λ c. CleanFrom (nodes_of s) (key_of j.call) c a.first path) (sym v.0) k.1);
+  }
+
+-- a walk that comes to a page of a clean path passes it
+steps : (s : State) (key : Key) (path : List ℕ) (view : View) (first : Bool) → IsUnchanged s view → CleanFrom (nodes_of s) key view.pid first path → CleanStep (nodes_of s) key path view.pid first view.node
+steps s key path view first live k = clean_step_law (nodes_of s) key path view.pid first view.node k (ap (option_map (λ (g : Page). g.node)) live)
+
+module _ (j : Job) (view : View) (way : Way) (n : Next) where
+  -- no clean path comes here
+  pub shut : ((nodes : Nodes) → way.unsplit ≡ false → IsPassed nodes (key_of j.call) view.pid way.first view.node → ⊥) → PassesOn j view way n
+  shut off = record { told = λ s path pointed live k. absurd (off (nodes_of s) pointed (steps s (key_of j.call) path view way.first live k).passed) }
+
+  pub shut_merging : view.node.merging ≡ true → PassesOn j view way n
+  shut_merging capped = shut (λ nodes pointed passed. true_false (sym capped ∙ passed.is_open.awake))
+
+  pub shut_child : (child : ℕ) → view.node.merging_child ≡ Some child → PassesOn j view way n
+  shut_child child e = shut (λ nodes pointed passed. none_some (sym passed.is_open.free ∙ e))
+
+  pub shut_long : {P : Type 0} (b : Bool) → IsTrue b ↔ ((16 < count view.node.content) × P) → b ≡ true → PassesOn j view way n
+  shut_long b told is = shut (λ nodes pointed passed. over (count view.node.content) (told.0 is).0 passed.few)
+    where
+      over : (c : ℕ) → 16 < c → c ≤ 16 → ⊥
+      over c a b = omega arith
+
+  pub shut_outside : (b : Bool) (key : Key) → key ≡ key_of j.call → IsTrue b ↔ Covers view.node key → b ≡ false → PassesOn j view way n
+  shut_outside b key e told off = shut (λ nodes pointed passed. untrue b told off (subst (Covers view.node) (sym e) passed.covers))
+
+  pub shut_unsplit : way.unsplit ≡ true → PassesOn j view way n
+  shut_unsplit unsplit = shut (λ nodes pointed passed. true_false (sym unsplit ∙ pointed))
+
+  pub shut_few : {P : Type 0} (b : Bool) → IsTrue b ↔ ((count view.node.content ≤ 3) × P) → b ≡ true → not way.first ≡ true → PassesOn j view way n
+  shut_few b told is later = shut (λ nodes pointed passed. true_false (sym later ∙ ap not (passed.many (told.0 is).0)))
+
+  pub shut_behind : (b : Bool) (key : Key) → key ≡ key_of j.call → IsTrue b ↔ ((view.node.hi ≢ []) × UpTo view.node.hi key) → b ≡ true → PassesOn j view way n
+  shut_behind b key e told is = shut (λ nodes pointed passed.
+      let beyond = told.0 is in
+      elim passed.covers.1 [ inl endless ↦ beyond.0 endless | inr below ↦ below_not_upto (key_of j.call) view.node.hi below (subst (UpTo view.node.hi) e beyond.1) ])
+
+-- one alone is the last, so that some element passes
+last_any : {X : Type 0} (p : X → Bool) (xs : List X) (x : X) → IsLast p xs x → list_any p xs ≡ false → ⊥
+last_any p xs x k none = true_false (sym (some (list_any p k.before) (p x) (list_any p k.after) k.passed) ∙ sym (ap (list_any p) k.is ∙ list_any-append p k.before (x ∷ k.after)) ∙ none)
+  where
+    some : (a b c : Bool) → b ≡ true → (a || (b || c)) ≡ true
+    some true b c e = refl
+    some false true c e = refl
+    some false false c e = true_false (sym e)
+
+module _ (j : Job) (view : View) (way : Way) where
+  -- an index without a pointer is on no clean path,
+  pub shut_pointless : (key : Key) → key ≡ key_of j.call → IsIndex view.node.content → IsPointerFor (Included key) (pointers view.node.content) None → (n : Next) → PassesOn j view way n
+  shut_pointless key e index none n = record { told = λ s path pointed live k. absurd (go s path live k) }
+    where
+      b : (es : List (Key × ℕ)) × (view.node.content ≡ Index es)
+      b = index_is view.node.content index
+
+      go : (s : State) (path : List ℕ) → IsUnchanged s view → CleanFrom (nodes_of s) (key_of j.call) view.pid way.first path → ⊥
+      go s [] live k = k
+      go s (q ∷ rest) live (at, m, passed, more) =
+          let same : m ≡ view.node = some_is (sym passed.live ∙ ap (option_map (λ (g : Page). g.node)) live) in
+          elim more [
+            | inl l ↦ leaf_index (sym (ap (λ (z : Node). z.content) same ∙ b.1) ∙ l.1)
+            | inr i ↦ last_any _ i.0 _ i.4.last
+                (subst (λ es. list_any (λ e. Rattle.sled_pages.specs.Among.is_up_to (Included (key_of j.call)) e.0) es ≡ false) (same_index (sym b.1 ∙ ap (λ (z : Node). z.content) (sym same) ∙ i.1))
+                (subst (λ z. list_any (λ e. Rattle.sled_pages.specs.Among.is_up_to (Included z) e.0) b.0 ≡ false) e
+                (subst (λ d. list_any (λ e. Rattle.sled_pages.specs.Among.is_up_to (Included key) e.0) (pointers d) ≡ false) b.1 none)))
+          ]
+        where
+          leaf_index : {P : Type 0} {es : List (Key × ℕ)} {fs : List (Key × Key)} → Index es ≡ Leaf fs → P
+          leaf_index e = cc
+
+          same_index : {es fs : List (Key × ℕ)} → Index es ≡ Index fs → es ≡ fs
+          same_index e = cc
+
+  -- below one with a pointer the rest of the path is ahead,
+  pub down_passes : (c : ℕ) (first : Bool) → IsIndex view.node.content → IsPointer (Included (key_of j.call)) (pointers view.node.content) c first
+      → PassesOn j view way (next.Go (stage.Walk (record { cursor = c; parent = view; first = first; unsplit = false })))
+  down_passes c first index k = record {
+    told = λ s path pointed live clean.
+        let b = index_is view.node.content index in
+        let d = (steps s (key_of j.call) path view way.first live clean).down b.0 c first b.1 (subst (λ d. IsPointer (Included (key_of j.call)) (pointers d) c first) b.1 k) in
+        (d.0, ap length d.1, (refl, d.2));
+  }
+
+  -- and a leaf is its end
+  pub leaf_passes : IsLeaf view.node.content → (decision_at j.call view.node.content).effect ≢ Nothing → PassesOn j view way (next.Go (stage.Act view))
+  leaf_passes leaf changes = record {
+    told = λ s path pointed live clean.
+        let b = leaf_is view.node.content leaf in
+        ([], ap length ((steps s (key_of j.call) path view way.first live clean).leaf b.0 b.1), (refl, live, changes));
+  }
+
+-- the leaf is unchanged, so that the call does not begin again
+pub act_current : (j : Job) (old new : Store) (view : View) {change : Node → Node} {present : Option ℕ} (n : Next) → Changes change view.pid view.version old new (Err present) → Passes j (now old) (stage.Act view) n (now new)
+act_current j old new view n c = passes_never j (now old) (now new) (stage.Act view) n (λ path k. c.told.2 (c.told.1 ∙ ap (option_map (λ (g : Page). g.version)) k.1))
+
+-- it changes the leaf
+pub act_changes : (j : Job) (old new : State) (view : View) (n : Next) → (decision_at j.call view.node.content).effect ≡ Nothing → Passes j old (stage.Act view) n new
+act_changes j old new view n none = passes_never j old new (stage.Act view) n (λ path k. k.2 none)
+
+-- a step after which the call goes on
+pub passes_further : (old new : State) (f : Flight) (taken stage : Stage) (n : Next) → taken ≡ f.stage → n ≡ next.Go stage → Passes f.job old taken n new → GoesFurther old f went.Moved new (record { job = f.job; stage = stage; turns = f.turns + 1 })
+passes_further old new f taken stage n e is p = record { told = λ path k. (subst (λ z. Passes f.job old taken z new) is p).told path (subst (λ z. IsOnPath old f.job z path) (sym e) k) }

@@ -1,0 +1,67 @@
+-- Calls in flight on clean paths: where no other call is in the way, a call goes on by a page a step.
+use Rattle.std.specs.Prelude.{◌≡◌, ◌≢◌, ℕ, suc, false, List, [], Some, length}
+use Rattle.sled_pages.specs.State.{State, nodes_of}
+use Rattle.sled_pages.specs.declared.page.View.{View}
+use Rattle.sled_model.specs.Answer.{key_of}
+use Rattle.sled_model.specs.declared.decision.Effect.TheVariants.{Nothing}
+use Rattle.tree_laws.specs.Paths.{IsClean, CleanFrom}
+use Rattle.sled_tree.specs.Change.{decision_at}
+use Rattle.sled_tree.specs.declared.flight.Flight.{Flight}
+use Rattle.sled_tree.specs.declared.flight.Job.{Job}
+use Rattle.sled_tree.specs.declared.flight.Next.{Next}
+use Rattle.sled_tree.specs.declared.flight.Next.TheVariants.{Go, Decided, Refused}
+use Rattle.sled_tree.specs.declared.flight.Stage.{Stage}
+use Rattle.sled_tree.specs.declared.flight.Stage.TheVariants as stage
+use Rattle.sled_tree.specs.declared.flight.Went.{Went}
+use Rattle.sled_tree.specs.declared.flight.Went.TheVariants as went
+use Rattle.sled_tree.specs.declared.walk.Way.{Way}
+
+-- the page stands as it was read
+abbrev pub IsUnchanged : State → View → Type 0
+IsUnchanged s v = s.pages v.pid ≡ Some (record { version = v.version; node = v.node })
+
+-- What is ahead of a call of a clean path to its key: all of it as the call begins, then the rest from the cursor of its walk on,
+-- and no page more at its leaf, which it read, changes, and finds unchanged
+abbrev pub IsOnPath : State → Job → Stage → List ℕ → Type 0
+IsOnPath s j stage.Root path = IsClean s j.tree.name (key_of j.call) path
+IsOnPath s j (stage.Walk a) path = (a.unsplit ≡ false) × CleanFrom (nodes_of s) (key_of j.call) a.cursor a.first path
+IsOnPath s j (stage.Act v) path = (path ≡ []) × IsUnchanged s v × ((decision_at j.call v.node.content).effect ≢ Nothing)
+IsOnPath s j (stage.Split a) path = ⊥
+IsOnPath s j (stage.Shorten a) path = ⊥
+IsOnPath s j (stage.Post a) path = ⊥
+IsOnPath s j (stage.Hoist a) path = ⊥
+IsOnPath s j (stage.Crown a) path = ⊥
+IsOnPath s j (stage.Free a) path = ⊥
+IsOnPath s j (stage.Intend a) path = ⊥
+IsOnPath s j (stage.Child a) path = ⊥
+IsOnPath s j (stage.Cap a) path = ⊥
+IsOnPath s j (stage.Seek a) path = ⊥
+IsOnPath s j (stage.Receive a) path = ⊥
+IsOnPath s j (stage.Confirm a) path = ⊥
+
+-- a path with one page less is ahead of the call
+abbrev pub IsFurther : State → Job → Stage → List ℕ → Type 0
+IsFurther s j stage path = (rest : List ℕ) × (length path ≡ suc (length rest)) × IsOnPath s j stage rest
+
+-- where the call goes on, it is one page further
+abbrev pub passes_as : State → Job → Next → List ℕ → Type 0
+passes_as s j (Go stage) path = IsFurther s j stage path
+passes_as s j (Decided reply) path = Unit {0}
+passes_as s j (Refused e) path = Unit {0}
+
+-- an action from a stage: on a clean path it brings the call one page further, or is its last
+pub record Passes (j : Job) (old : State) (stage : Stage) (next : Next) (new : State) : Type 0 where
+  pub told : (path : List ℕ) → IsOnPath old j stage path → passes_as new j next path
+
+-- what comes after a page of a clean path was read
+pub record PassesOn (j : Job) (view : View) (way : Way) (next : Next) : Type 0 where
+  pub told : (s : State) (path : List ℕ) → way.unsplit ≡ false → IsUnchanged s view → CleanFrom (nodes_of s) (key_of j.call) view.pid way.first path → passes_as s j next path
+
+abbrev pub goes_further_as : State → Flight → Went → State → Flight → Type 0
+goes_further_as old f went.Moved new g = (path : List ℕ) → IsOnPath old f.job f.stage path → IsFurther new g.job g.stage path
+goes_further_as old f (went.Decided reply) new g = Unit {0}
+goes_further_as old f (went.Refused e) new g = Unit {0}
+
+-- a step of a call in flight: on a clean path it brings the call one page further, or is its last
+pub record GoesFurther (old : State) (f : Flight) (went : Went) (new : State) (g : Flight) : Type 0 where
+  pub told : goes_further_as old f went new g
