@@ -19,6 +19,10 @@ fn get(alloc: Global, key: &str) -> Result<Call> {
     Ok(Call::Get(bytes(alloc, key)?))
 }
 
+fn remove(alloc: Global, key: &str) -> Result<Call> {
+    Ok(Call::Remove(bytes(alloc, key)?))
+}
+
 fn inserted(alloc: Global, key: &str, value: &str) -> Result<Event> {
     Ok(Event::Insert {
         key: bytes(alloc, key)?,
@@ -30,10 +34,6 @@ fn removed(alloc: Global, key: &str) -> Result<Event> {
     Ok(Event::Remove {
         key: bytes(alloc, key)?,
     })
-}
-
-fn value(alloc: Global, text: &str) -> Result<Reply> {
-    Ok(Reply::Value(Some(bytes(alloc, text)?)))
 }
 
 // The pairs, each as `key=value;`.
@@ -82,31 +82,28 @@ fn trees_clone(alloc: Global) -> Result<bool> {
     Ok(tree.clone()? == tree && tree != other && *tree.name() == tree.name)
 }
 
+// A clone of the call equals it, and the other does not. Both have the key `key`.
+fn call_clones(alloc: Global, call: &Call, other: &Call) -> Result<bool> {
+    let key = bytes(alloc, "key")?;
+    Ok(call.clone()? == *call && call != other && *call.key() == key && *other.key() == key)
+}
+
 fn calls_clone(alloc: Global) -> Result<bool> {
-    let call = insert(alloc, "key", "value")?;
-    let other = get(alloc, "key")?;
+    let get = get(alloc, "key")?;
+    let insert = insert(alloc, "key", "value")?;
+    let remove = remove(alloc, "key")?;
     Ok(
-        call.clone()? == call
-            && other.clone()? == other
-            && call != other
-            && *call.key() == *other.key()
+        call_clones(alloc, &get, &insert)?
+            && call_clones(alloc, &insert, &remove)?
+            && call_clones(alloc, &remove, &get)?
             && Whole::Flush.clone()? == Whole::Flush,
     )
 }
 
-fn more_calls_clone(alloc: Global) -> Result<bool> {
-    let remove = Call::Remove(bytes(alloc, "key")?);
+fn swaps_clone(alloc: Global) -> Result<bool> {
     let write = swap(alloc, None, Some("new"))?;
     let erase = swap(alloc, Some("new"), None)?;
-    Ok(
-        remove.clone()? == remove
-            && write.clone()? == write
-            && erase.clone()? == erase
-            && remove != write
-            && write != erase
-            && *remove.key() == bytes(alloc, "key")?
-            && *write.key() == bytes(alloc, "key")?,
-    )
+    Ok(call_clones(alloc, &write, &erase)? && call_clones(alloc, &erase, &write)?)
 }
 
 fn conflicts_clone(alloc: Global) -> Result<bool> {
@@ -116,14 +113,15 @@ fn conflicts_clone(alloc: Global) -> Result<bool> {
 }
 
 fn events_clone(alloc: Global) -> Result<bool> {
+    let key = bytes(alloc, "key")?;
     let event = inserted(alloc, "key", "value")?;
     let other = removed(alloc, "key")?;
     Ok(
         event.clone()? == event
             && other.clone()? == other
             && event != other
-            && *event.key() == *other.key()
-            && *event.key() == bytes(alloc, "key")?,
+            && *event.key() == key
+            && *other.key() == key,
     )
 }
 
@@ -133,8 +131,8 @@ fn values_equal_their_clones(rt: HostRuntime) -> std::result::Result<(), Fail> {
     assert!(rt; matches!(trees, Ok(true)));
     let calls = calls_clone(rt.alloc());
     assert!(rt; matches!(calls, Ok(true)));
-    let calls = more_calls_clone(rt.alloc());
-    assert!(rt; matches!(calls, Ok(true)));
+    let swaps = swaps_clone(rt.alloc());
+    assert!(rt; matches!(swaps, Ok(true)));
     let conflicts = conflicts_clone(rt.alloc());
     assert!(rt; matches!(conflicts, Ok(true)));
     let events = events_clone(rt.alloc());
@@ -142,23 +140,27 @@ fn values_equal_their_clones(rt: HostRuntime) -> std::result::Result<(), Fail> {
     Ok(())
 }
 
-fn ordered(alloc: Global) -> Result<bool> {
-    let ascending = [
-        inserted(alloc, "", "z")?,
-        inserted(alloc, "a", "a")?,
-        inserted(alloc, "a", "b")?,
-        inserted(alloc, "b", "a")?,
-        removed(alloc, "")?,
-        removed(alloc, "a")?,
-    ];
-    for i in 0..6usize {
-        for j in 0..6usize {
-            if ascending[i].cmp(&ascending[j]) != i.cmp(&j) {
-                return Ok(false);
+// Whether the values ascend.
+fn ascend<T: Ord>(values: &[T]) -> bool {
+    for i in 0..values.len() {
+        for j in 0..values.len() {
+            if values[i].cmp(&values[j]) != i.cmp(&j) {
+                return false;
             }
         }
     }
-    Ok(true)
+    true
+}
+
+fn ordered(alloc: Global) -> Result<bool> {
+    let mut events = Vec::new(alloc);
+    for (key, value) in [("", "z"), ("a", "a"), ("a", "b"), ("b", "a")] {
+        events.push(inserted(alloc, key, value)?)?;
+    }
+    for key in ["", "a"] {
+        events.push(removed(alloc, key)?)?;
+    }
+    Ok(ascend(events.as_slice()))
 }
 
 #[test]
@@ -169,22 +171,18 @@ fn events_go_by_kind_then_key_then_value(rt: HostRuntime) -> std::result::Result
 }
 
 fn conflicts_ordered(alloc: Global) -> Result<bool> {
-    let ascending = [
-        conflict(alloc, None, None)?,
-        conflict(alloc, None, Some(""))?,
-        conflict(alloc, None, Some("b"))?,
-        conflict(alloc, Some(""), None)?,
-        conflict(alloc, Some("a"), Some("z"))?,
-        conflict(alloc, Some("b"), Some("a"))?,
-    ];
-    for i in 0..6usize {
-        for j in 0..6usize {
-            if ascending[i].cmp(&ascending[j]) != i.cmp(&j) {
-                return Ok(false);
-            }
-        }
+    let mut conflicts = Vec::new(alloc);
+    for (current, proposed) in [
+        (None, None),
+        (None, Some("")),
+        (None, Some("b")),
+        (Some(""), None),
+        (Some("a"), Some("z")),
+        (Some("b"), Some("a")),
+    ] {
+        conflicts.push(conflict(alloc, current, proposed)?)?;
     }
-    Ok(true)
+    Ok(ascend(conflicts.as_slice()))
 }
 
 #[test]
@@ -215,69 +213,62 @@ fn comes_to(
     Ok(call.decide(some(alloc, value)?)? == Decision { effect, reply })
 }
 
-fn reads_and_inserts(alloc: Global) -> Result<bool> {
-    let get = get(alloc, "key")?;
-    let insert = insert(alloc, "key", "1")?;
-    let set = Effect::Set(bytes(alloc, "1")?);
-    let over = Effect::Set(bytes(alloc, "1")?);
+fn reads(alloc: Global, value: Option<&str>) -> Result<bool> {
+    let reply = Reply::Value(some(alloc, value)?);
+    comes_to(alloc, &get(alloc, "key")?, value, Effect::Nothing, reply)
+}
+
+// An insert of this value, where that one stands.
+fn inserts(alloc: Global, new: &str, old: Option<&str>) -> Result<bool> {
+    let reply = Reply::Value(some(alloc, old)?);
+    let effect = Effect::Set(bytes(alloc, new)?);
+    comes_to(alloc, &insert(alloc, "key", new)?, old, effect, reply)
+}
+
+fn inserts_the_same(alloc: Global, value: &str) -> Result<bool> {
+    let reply = Reply::Value(some(alloc, Some(value))?);
+    let insert = insert(alloc, "key", value)?;
+    comes_to(alloc, &insert, Some(value), Effect::Nothing, reply)
+}
+
+fn removes(alloc: Global, old: Option<&str>, effect: Effect) -> Result<bool> {
+    let reply = Reply::Value(some(alloc, old)?);
+    comes_to(alloc, &remove(alloc, "key")?, old, effect, reply)
+}
+
+fn reads_and_writes(alloc: Global) -> Result<bool> {
     Ok(
-        comes_to(alloc, &get, None, Effect::Nothing, Reply::Value(None))?
-            && comes_to(alloc, &get, Some("1"), Effect::Nothing, value(alloc, "1")?)?
-            && comes_to(
-                alloc,
-                &insert,
-                Some("1"),
-                Effect::Nothing,
-                value(alloc, "1")?,
-            )?
-            && comes_to(alloc, &insert, Some("2"), over, value(alloc, "2")?)?
-            && comes_to(alloc, &insert, None, set, Reply::Value(None))?,
+        reads(alloc, None)?
+            && reads(alloc, Some("1"))?
+            && inserts(alloc, "1", None)?
+            && inserts(alloc, "1", Some("2"))?
+            && inserts_the_same(alloc, "1")?
+            && removes(alloc, None, Effect::Nothing)?
+            && removes(alloc, Some(""), Effect::Remove)?
+            && removes(alloc, Some("1"), Effect::Remove)?,
     )
 }
 
-fn removals(alloc: Global) -> Result<bool> {
-    let remove = Call::Remove(bytes(alloc, "key")?);
-    Ok(
-        comes_to(alloc, &remove, None, Effect::Nothing, Reply::Value(None))?
-            && comes_to(alloc, &remove, Some(""), Effect::Remove, value(alloc, "")?)?
-            && comes_to(
-                alloc,
-                &remove,
-                Some("1"),
-                Effect::Remove,
-                value(alloc, "1")?,
-            )?,
-    )
+// A swap of the value that stands, which may be none.
+fn swaps(alloc: Global, old: Option<&str>, new: &str) -> Result<bool> {
+    let effect = Effect::Set(bytes(alloc, new)?);
+    let call = swap(alloc, old, Some(new))?;
+    comes_to(alloc, &call, old, effect, Reply::Swapped(Ok(())))
 }
 
-// Swaps of the value that is expected, which may be none, and of an equal one.
-fn swaps(alloc: Global) -> Result<bool> {
-    let set = Effect::Set(bytes(alloc, "2")?);
-    let made = Effect::Set(bytes(alloc, "1")?);
-    let kept = Effect::Set(bytes(alloc, "1")?);
-    let other = swap(alloc, Some("1"), Some("2"))?;
-    let equal = swap(alloc, Some("1"), Some("1"))?;
-    let new = swap(alloc, None, Some("1"))?;
-    let erase = swap(alloc, Some("1"), None)?;
-    let nothing = swap(alloc, None, None)?;
+// The same, where nothing is to stand.
+fn erases(alloc: Global, old: Option<&str>) -> Result<bool> {
+    let call = swap(alloc, old, None)?;
+    comes_to(alloc, &call, old, Effect::Remove, Reply::Swapped(Ok(())))
+}
+
+fn all_swap(alloc: Global) -> Result<bool> {
     Ok(
-        comes_to(alloc, &other, Some("1"), set, Reply::Swapped(Ok(())))?
-            && comes_to(alloc, &equal, Some("1"), kept, Reply::Swapped(Ok(())))?
-            && comes_to(alloc, &new, None, made, Reply::Swapped(Ok(())))?
-            && comes_to(
-                alloc,
-                &erase,
-                Some("1"),
-                Effect::Remove,
-                Reply::Swapped(Ok(())),
-            )?
-            && comes_to(
-                alloc,
-                &nothing,
-                None,
-                Effect::Remove,
-                Reply::Swapped(Ok(())),
-            )?,
+        swaps(alloc, Some("1"), "2")?
+            && swaps(alloc, Some("1"), "1")?
+            && swaps(alloc, None, "1")?
+            && erases(alloc, Some("1"))?
+            && erases(alloc, None)?,
     )
 }
 
@@ -312,63 +303,100 @@ fn all_conflict(alloc: Global) -> Result<bool> {
 fn calls_come_to_what_the_value_at_their_key_says(
     rt: HostRuntime,
 ) -> std::result::Result<(), Fail> {
-    let same = reads_and_inserts(rt.alloc());
+    let same = reads_and_writes(rt.alloc());
     assert!(rt; matches!(same, Ok(true)));
-    let same = removals(rt.alloc());
-    assert!(rt; matches!(same, Ok(true)));
-    let same = swaps(rt.alloc());
+    let same = all_swap(rt.alloc());
     assert!(rt; matches!(same, Ok(true)));
     let same = all_conflict(rt.alloc());
     assert!(rt; matches!(same, Ok(true)));
     Ok(())
 }
 
+// The pairs of a map that the plain program works on.
+type Pairs = Vec<(IVec, IVec)>;
+
+// The answer to a call is this reply, with this event.
+fn answers_so(map: &mut Pairs, call: &Call, reply: &Reply, event: Option<&Event>) -> Result<bool> {
+    let (told, brought) = answer(map, call)?;
+    Ok(told == *reply && brought.as_ref() == event)
+}
+
+// An insert that changes the map, over this value.
+fn insert_answers(
+    alloc: Global,
+    map: &mut Pairs,
+    key: &str,
+    new: &str,
+    old: Option<&str>,
+) -> Result<bool> {
+    let call = insert(alloc, key, new)?;
+    let reply = Reply::Value(some(alloc, old)?);
+    answers_so(map, &call, &reply, Some(&inserted(alloc, key, new)?))
+}
+
+// A call that changes nothing.
+fn quiet_answers(alloc: Global, map: &mut Pairs, call: &Call, old: Option<&str>) -> Result<bool> {
+    answers_so(map, call, &Reply::Value(some(alloc, old)?), None)
+}
+
+// The pairs are these.
+fn pairs_are(alloc: Global, map: &Pairs, wanted: &str) -> Result<bool> {
+    Ok(shown(alloc, map.as_slice())?.as_slice() == wanted.as_bytes())
+}
+
 fn answers(alloc: Global) -> Result<bool> {
     let mut map = Vec::new(alloc);
-    let first = answer(&mut map, &insert(alloc, "b", "1")?)?;
-    let second = answer(&mut map, &insert(alloc, "b", "2")?)?;
-    let equal = answer(&mut map, &insert(alloc, "b", "2")?)?;
-    let before = answer(&mut map, &insert(alloc, "a", "3")?)?;
-    let after = answer(&mut map, &insert(alloc, "c", "")?)?;
-    let there = answer(&mut map, &get(alloc, "b")?)?;
-    let absent = answer(&mut map, &get(alloc, "d")?)?;
     Ok(
-        first == (Reply::Value(None), Some(inserted(alloc, "b", "1")?))
-            && second == (value(alloc, "1")?, Some(inserted(alloc, "b", "2")?))
-            && equal == (value(alloc, "2")?, None)
-            && before == (Reply::Value(None), Some(inserted(alloc, "a", "3")?))
-            && after == (Reply::Value(None), Some(inserted(alloc, "c", "")?))
-            && there == (value(alloc, "2")?, None)
-            && absent == (Reply::Value(None), None)
-            && shown(alloc, map.as_slice())?.as_slice() == b"a=3;b=2;c=;".as_slice(),
+        insert_answers(alloc, &mut map, "b", "1", None)?
+            && insert_answers(alloc, &mut map, "b", "2", Some("1"))?
+            && quiet_answers(alloc, &mut map, &insert(alloc, "b", "2")?, Some("2"))?
+            && insert_answers(alloc, &mut map, "a", "3", None)?
+            && insert_answers(alloc, &mut map, "c", "", None)?
+            && quiet_answers(alloc, &mut map, &get(alloc, "b")?, Some("2"))?
+            && quiet_answers(alloc, &mut map, &get(alloc, "d")?, None)?
+            && pairs_are(alloc, &map, "a=3;b=2;c=;")?,
     )
+}
+
+fn removal_answers(alloc: Global, map: &mut Pairs, key: &str, old: &str) -> Result<bool> {
+    let call = remove(alloc, key)?;
+    let reply = Reply::Value(some(alloc, Some(old))?);
+    answers_so(map, &call, &reply, Some(&removed(alloc, key)?))
+}
+
+// A swap that is made, even where nothing changes.
+fn swap_answers(alloc: Global, map: &mut Pairs, old: Option<&str>, new: &str) -> Result<bool> {
+    let call = swap(alloc, old, Some(new))?;
+    let event = inserted(alloc, "key", new)?;
+    answers_so(map, &call, &Reply::Swapped(Ok(())), Some(&event))
+}
+
+fn erasure_answers(alloc: Global, map: &mut Pairs, old: Option<&str>) -> Result<bool> {
+    let call = swap(alloc, old, None)?;
+    let event = removed(alloc, "key")?;
+    answers_so(map, &call, &Reply::Swapped(Ok(())), Some(&event))
+}
+
+// A swap of no value, where this one stands.
+fn conflict_answers(alloc: Global, map: &mut Pairs, current: &str, new: &str) -> Result<bool> {
+    let call = swap(alloc, None, Some(new))?;
+    let reply = Reply::Swapped(Err(conflict(alloc, Some(current), Some(new))?));
+    answers_so(map, &call, &reply, None)
 }
 
 fn more_answers(alloc: Global) -> Result<bool> {
     let mut map = Vec::new(alloc);
-    answer(&mut map, &insert(alloc, "a", "3")?)?;
-    let made = answer(&mut map, &swap(alloc, None, Some("1"))?)?;
-    let refused = answer(&mut map, &swap(alloc, None, Some("2"))?)?;
-    let equal = answer(&mut map, &swap(alloc, Some("1"), Some("1"))?)?;
-    let taken = answer(&mut map, &Call::Remove(bytes(alloc, "a")?))?;
-    let absent = answer(&mut map, &Call::Remove(bytes(alloc, "a")?))?;
-    let there = shown(alloc, map.as_slice())?;
-    let erased = answer(&mut map, &swap(alloc, Some("1"), None)?)?;
-    let nothing = answer(&mut map, &swap(alloc, None, None)?)?;
     Ok(
-        made == (Reply::Swapped(Ok(())), Some(inserted(alloc, "key", "1")?))
-            && refused
-                == (
-                    Reply::Swapped(Err(conflict(alloc, Some("1"), Some("2"))?)),
-                    None,
-                )
-            && equal == (Reply::Swapped(Ok(())), Some(inserted(alloc, "key", "1")?))
-            && taken == (value(alloc, "3")?, Some(removed(alloc, "a")?))
-            && absent == (Reply::Value(None), None)
-            && there.as_slice() == b"key=1;".as_slice()
-            && erased == (Reply::Swapped(Ok(())), Some(removed(alloc, "key")?))
-            && nothing == (Reply::Swapped(Ok(())), Some(removed(alloc, "key")?))
-            && map.is_empty(),
+        insert_answers(alloc, &mut map, "a", "3", None)?
+            && swap_answers(alloc, &mut map, None, "1")?
+            && conflict_answers(alloc, &mut map, "1", "2")?
+            && swap_answers(alloc, &mut map, Some("1"), "1")?
+            && removal_answers(alloc, &mut map, "a", "3")?
+            && quiet_answers(alloc, &mut map, &remove(alloc, "a")?, None)?
+            && pairs_are(alloc, &map, "key=1;")?
+            && erasure_answers(alloc, &mut map, Some("1"))?
+            && erasure_answers(alloc, &mut map, None)?
+            && pairs_are(alloc, &map, "")?,
     )
 }
 
@@ -413,24 +441,51 @@ fn letter(outcome: &Outcome) -> u8 {
     }
 }
 
+// Begins a call on a copy of the tree.
+fn begins(plain: &mut Plain, tree: &Tree, call: Call) -> Result<u8> {
+    Ok(letter(&plain.begin(tree.clone()?, call)))
+}
+
+// One letter for each of these steps: whether the call in the slot goes on, is decided, or is given up.
+fn steps(alloc: Global, plain: &mut Plain, steps: &[(u8, u64)]) -> Result<Vec<u8>> {
+    let mut told = Vec::new(alloc);
+    for (kind, slot) in steps {
+        let outcome = match *kind {
+            b'm' => plain.moved(Slot(*slot)),
+            b'd' => plain.decided(Slot(*slot)),
+            _ => plain.abandoned(Slot(*slot)),
+        };
+        told.push(letter(&outcome))?;
+    }
+    Ok(told)
+}
+
 fn races(alloc: Global) -> Result<bool> {
     let (mut plain, tree) = opened(alloc)?;
-    let mut told = Vec::new(alloc);
-    told.push(letter(&plain.begin(tree.clone()?, insert(alloc, "a", "1")?)))?;
-    told.push(letter(&plain.begin(tree.clone()?, insert(alloc, "a", "2")?)))?;
-    told.push(letter(&plain.begin(tree.clone()?, get(alloc, "a")?)))?;
-    told.push(letter(&plain.moved(Slot(1))))?;
-    told.push(letter(&plain.moved(Slot(2))))?;
-    told.push(letter(&plain.decided(Slot(1))))?;
-    told.push(letter(&plain.moved(Slot(2))))?;
-    told.push(letter(&plain.decided(Slot(2))))?;
-    told.push(letter(&plain.moved(Slot(2))))?;
-    told.push(letter(&plain.decided(Slot(1))))?;
-    told.push(letter(&plain.decided(Slot(3))))?;
-    told.push(letter(&plain.begin(tree, get(alloc, "a")?)))?;
-    told.push(letter(&plain.abandoned(Slot(4))))?;
-    told.push(letter(&plain.abandoned(Slot(4))))?;
-    Ok(told.as_slice() == b"bbbmm0m1nn2ban".as_slice() && plain.slots_given == 4)
+    begins(&mut plain, &tree, insert(alloc, "a", "1")?)?;
+    begins(&mut plain, &tree, insert(alloc, "a", "2")?)?;
+    begins(&mut plain, &tree, get(alloc, "a")?)?;
+    let told = steps(
+        alloc,
+        &mut plain,
+        &[
+            (b'm', 1),
+            (b'm', 2),
+            (b'd', 1),
+            (b'm', 2),
+            (b'd', 2),
+            (b'm', 2),
+            (b'd', 1),
+            (b'd', 3),
+        ],
+    )?;
+    begins(&mut plain, &tree, get(alloc, "a")?)?;
+    let gone = steps(alloc, &mut plain, &[(b'a', 4), (b'a', 4)])?;
+    Ok(
+        told.as_slice() == b"mm0m1nn2".as_slice()
+            && gone.as_slice() == b"an".as_slice()
+            && plain.slots_given == 4,
+    )
 }
 
 #[test]
@@ -440,24 +495,25 @@ fn two_inserts_race(rt: HostRuntime) -> std::result::Result<(), Fail> {
     Ok(())
 }
 
+// The letter of a get that begins on a tree of this database and number, with the name of the default tree.
+fn begun_on(alloc: Global, plain: &mut Plain, database: &str, number: u64) -> Result<u8> {
+    let tree = Tree {
+        database: bytes(alloc, database)?,
+        name: bytes(alloc, "__sled__default")?,
+        number,
+    };
+    begins(plain, &tree, get(alloc, "a")?)
+}
+
 fn refuses(alloc: Global) -> Result<bool> {
-    let (mut plain, tree) = opened(alloc)?;
-    let foreign = Tree {
-        database: bytes(alloc, "other")?,
-        name: tree.name.clone()?,
-        number: tree.number,
-    };
-    let dropped = Tree {
-        database: tree.database.clone()?,
-        name: tree.name.clone()?,
-        number: 2,
-    };
-    let mut told = Vec::new(alloc);
-    told.push(letter(&plain.begin(foreign, get(alloc, "a")?)))?;
-    told.push(letter(&plain.begin(dropped, get(alloc, "a")?)))?;
-    told.push(letter(&plain.begin(tree, get(alloc, "a")?)))?;
+    let (mut plain, _) = opened(alloc)?;
     let absent = plain.tree(&bytes(alloc, "absent")?)?;
-    Ok(told.as_slice() == b"ucb".as_slice() && absent.is_none())
+    Ok(
+        begun_on(alloc, &mut plain, "other", 1)? == b'u'
+            && begun_on(alloc, &mut plain, "database", 2)? == b'c'
+            && begun_on(alloc, &mut plain, "database", 1)? == b'b'
+            && absent.is_none(),
+    )
 }
 
 #[test]

@@ -1,8 +1,12 @@
 //! Tests at the store in memory. What they expect is what a reader of the contracts expects, and not what the program gave.
 mod crashes;
+mod crowds;
+mod databases;
+mod levels;
 mod merges;
 mod plain;
 mod races;
+mod rare;
 mod refusals;
 mod sizes;
 mod slots;
