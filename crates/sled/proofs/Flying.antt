@@ -35,7 +35,7 @@ use Rattle.sled_tree.specs.declared.flight.Went.{Went}
 use Rattle.sled_tree.specs.declared.flight.Went.TheVariants.{Moved, Decided, Refused}
 use Rattle.sled_tree.specs.Stages.{IsStage, owned}
 use Rattle.sled_tree.specs.Passing.{GoesFurther}
-use Rattle.sled_tree.specs.Moves.{Moves, ActsOnce, ActsAtMostOnce, Acts, Same, Decides, refuses_as, Advances}
+use Rattle.sled_tree.specs.Moves.{Moves, ActsOnce, ActsAtMostOnce, Acts, Same, Decides, LeavesNone, refuses_as, Advances}
 use Rattle.sled.specs.Values.{KeepsRest, DbValue, numbers_of, given_to, named, state_of, db_state, moment}
 use Rattle.sled.specs.Sound.{IsDb}
 use Rattle.sled.specs.Calls.{MustBeRefused, must_be_refused_as}
@@ -210,6 +210,7 @@ module _ {P M : Type 0} (store : P → Store) (meant : M → Merge) (old : DbVal
     quiet = λ q. refl;
     rest = record { mark = refl; recovered = refl; readable = refl };
     passes = record { told = tt };
+    leaves = λ v is. tt;
     goes_on = λ e. absurd (apart e);
     others = λ h off k. (k, λ e. absurd (apart e));
     same = refl;
@@ -269,7 +270,7 @@ module _ {P M : Type 0} (store : P → Store) (meant : M → Merge) (old : DbVal
 
       -- the call goes on
       module _ (few : f.turns < MAX_LOOPS) (g : Flight) (job : g.job ≡ f.job) (turns : g.turns ≡ f.turns + 1) (moves : Moves f.job (store old.pages) f.stage (next.Go g.stage) (store q)) (further : GoesFurther (now (store old.pages)) f Moved (now (store q)) g) where
-        moved : (v : Forest) × Acts (owned f.stage) (owned g.stage) at db.forest after v × (IsStage after v f.job g.stage × Same at db.forest after v)
+        moved : (v : Forest) × Acts (owned f.stage) (owned g.stage) at db.forest after v × (IsStage after v f.job g.stage × Same at db.forest after v) × LeavesNone (owned f.stage) (owned g.stage) (now (store old.pages)) (now (store q)) v
         moved = moves.told (numbers_of old.trees) (given_to old.trees_given) db.forest db.is named_now (known.told db.forest db.is)
 
         moved_touches : Touches (store old.pages) (store q)
@@ -321,6 +322,7 @@ module _ {P M : Type 0} (store : P → Store) (meant : M → Merge) (old : DbVal
           quiet = λ k. absurd (apart k.reply k.decided);
           rest = moved_touches.rest;
           passes = further;
+          leaves = λ u is. subst (λ (z : Forest). LeavesNone (owned f.stage) (owned g.stage) (now (store old.pages)) (now (store q)) z) (one_law (nodes_at after) after.state.roots moved.0 u moved.1.is.formed is.formed) moved.3;
           goes_on = λ e. (job, moved_known);
           others = λ h apart k. (known_kept db.is moved.1 h k apart.off, λ e. record { off = λ p i j. not_own db.is moved.1 h k apart.off p j i });
           same = refl;
@@ -334,7 +336,7 @@ module _ {P M : Type 0} (store : P → Store) (meant : M → Merge) (old : DbVal
 
       -- the call is refused by the store
       module _ (few : f.turns < MAX_LOOPS) (g : Flight) (e : Error) (moves : Moves f.job (store old.pages) f.stage (next.Refused e) (store q)) where
-        refused : (v : Forest) × Acts (owned f.stage) [] at db.forest after v × Same at db.forest after v
+        refused : (v : Forest) × Acts (owned f.stage) [] at db.forest after v × Same at db.forest after v × Unit {0}
         refused = moves.told (numbers_of old.trees) (given_to old.trees_given) db.forest db.is named_now (known.told db.forest db.is)
 
         rests : Rests (store old.pages) (store q)
@@ -369,6 +371,7 @@ module _ {P M : Type 0} (store : P → Store) (meant : M → Merge) (old : DbVal
           quiet = λ k. absurd (apart k.reply k.decided);
           rest = rests.rest;
           passes = record { told = tt };
+          leaves = λ v is. tt;
           goes_on = λ e. absurd (off e);
           others = λ h a k. (known_kept db.is refused.1 h k a.off, λ e. absurd (off e));
           same = refl;
@@ -388,7 +391,7 @@ module _ {P M : Type 0} (store : P → Store) (meant : M → Merge) (old : DbVal
 
       -- the call is decided
       module _ (few : f.turns < MAX_LOOPS) (g : Flight) (reply : Reply) (moves : Moves f.job (store old.pages) f.stage (next.Decided reply) (store q)) where
-        done : (v : Forest) × Acts (owned f.stage) [] at db.forest after v × Decides f.job reply (store old.pages) (store q) at db.forest after v
+        done : (v : Forest) × Acts (owned f.stage) [] at db.forest after v × Decides f.job reply (store old.pages) (store q) at db.forest after v × LeavesNone (owned f.stage) [] (now (store old.pages)) (now (store q)) v
         done = moves.told (numbers_of old.trees) (given_to old.trees_given) db.forest db.is named_now (known.told db.forest db.is)
 
         done_touches : Touches (store old.pages) (store q)
@@ -466,6 +469,7 @@ module _ {P M : Type 0} (store : P → Store) (meant : M → Merge) (old : DbVal
           quiet = λ k. done.2.quiet (ap (λ (t : NamedTree). (answer_of f.job.call t.map).event) (some_is (sym there ∙ k.there)) ∙ k.silent);
           rest = done_touches.rest;
           passes = record { told = tt };
+          leaves = λ u is. subst (λ (z : Forest). LeavesNone (owned f.stage) [] (now (store old.pages)) (now (store q)) z) (one_law (nodes_at after) after.state.roots done.0 u done.1.is.formed is.formed) done.3;
           goes_on = λ e. absurd (off e);
           others = λ h a k. (known_kept db.is done.1 h k a.off, λ e. absurd (off e));
           same = refl;

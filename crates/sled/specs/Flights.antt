@@ -17,9 +17,12 @@ use Rattle.tree_laws.specs.Forest.{Forest}
 use Rattle.tree_laws.specs.Crashes.{Extends}
 use Rattle.tree_laws.specs.Moment.{Moment, IsMoment}
 use Rattle.sled_tree.specs.Stages.{IsStage, owned}
+use Rattle.sled_tree.specs.Moves.{leaves_as}
 use Rattle.sled_tree.specs.Passing.{GoesFurther}
 use Rattle.sled_tree.specs.declared.flight.Flight.{Flight}
 use Rattle.sled_tree.specs.declared.flight.Stage.TheVariants.{Root}
+use Rattle.sled_tree.specs.declared.flight.Next.{Next}
+use Rattle.sled_tree.specs.declared.flight.Next.TheVariants as next
 use Rattle.sled_tree.specs.declared.flight.Went.{Went}
 use Rattle.sled_tree.specs.declared.flight.Went.TheVariants.{Moved, Decided, Refused}
 use Rattle.sled.specs.Values.{KeepsRest, DbValue, db_state, instant_of, moment}
@@ -50,6 +53,12 @@ slot_after Moved g = Some (flying_of g)
 slot_after (Decided reply) g = None
 slot_after (Refused e) g = None
 
+-- what a step comes to, as what its page action came to
+abbrev pub next_of : Went → Flight → Next
+next_of Moved g = next.Go g.stage
+next_of (Decided reply) g = next.Decided reply
+next_of (Refused e) g = next.Refused e
+
 -- the maps that the step added
 abbrev pub maps_added : Went → Maps → List Maps
 maps_added Moved maps = []
@@ -78,6 +87,8 @@ pub record Flies {P M : Type 0} (store : P → Store) (meant : M → Merge) (old
   pub rest : KeepsRest (store old.pages) (store new.pages)
   -- on a clean path the call goes one page further, or ends
   pub passes : GoesFurther (now (store old.pages)) f went (now (store new.pages)) g
+  -- no page is left behind, but by a call that is refused
+  pub leaves : (v : Forest) → IsMoment (moment (store new.pages) new.trees new.trees_given) v → leaves_as (next_of went g) (owned f.stage) (now (store old.pages)) (now (store new.pages)) v
   -- the call goes on, and knows what it needs
   pub goes_on : went ≡ Moved → (g.job ≡ f.job) × IsKnown (moment (store new.pages) new.trees new.trees_given) g
   -- what another call knows stays true, and no page becomes the two calls' own

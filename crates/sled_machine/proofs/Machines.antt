@@ -33,8 +33,13 @@ use Rattle.sled.specs.Flights.{flying_of, IsKnown, AreApart, Flies, outcome_of, 
 use Rattle.sled.specs.Flush.{Stays, FlushesDb, RefusesFlush}
 use Rattle.sled_machine.specs.Slots.{kept_at, RiseAbove, StandsAt}
 use Rattle.sled_machine.specs.Values.{MachineValue, slots_of, instant_of}
+use Rattle.tree_laws.specs.Forest.{Forest}
+use Rattle.sled_pages.specs.In.{In}
 use Rattle.sled_tree.specs.Passing.{IsOnPath}
-use Rattle.sled_machine.specs.Crash.{Reaches, passes_as, keeps_as, acts_as}
+use Rattle.sled_tree.specs.Stages.{owned}
+use Rattle.sled_tree.specs.Moves.{LeavesNone}
+use Rattle.sled_tree.proofs.Facts.{leaves_same}
+use Rattle.sled_machine.specs.Crash.{Reaches, passes_as, leaves_at, owned_by, keeps_as, acts_as}
 use Rattle.sled_machine.specs.Sound.{IsMachine}
 use Rattle.sled_machine.specs.Fly.{StepsAt, flights_after}
 use Rattle.sled_machine.proofs.Places.{stands, set_kept, take_kept, set_rise, take_rise, push_kept, push_rise}
@@ -84,10 +89,10 @@ more i fs = ap (λ k. take i fs ++ drop k fs) (add-one i)
 module _ {P M : Type 0} (store : P → Store) (meant : M → Merge) (v : MachineValue P M) (im : IsMachine (moment (store v.db.pages) v.db.trees v.db.trees_given) v.flights v.slots_given) where
   -- no call has the slot
   pub missing_step : (slot : ℕ) → kept_at v.flights slot ≡ None → Reaches store meant v (step.Step slot) outcome.NoSuchSlot v
-  missing_step slot e = record { maps = []; is = record { step = record { told = (record { free = ap (option_map flying_of) e; is = refl }, refl) }; keeps = extends_same (store v.db.pages); acts = refl; rest = record { mark = refl; recovered = refl; readable = refl } }; passes = tt }
+  missing_step slot e = record { maps = []; is = record { step = record { told = (record { free = ap (option_map flying_of) e; is = refl }, refl) }; keeps = extends_same (store v.db.pages); acts = refl; rest = record { mark = refl; recovered = refl; readable = refl } }; passes = tt; leaves = λ w is. subst (λ o. LeavesNone (owned_by o) (owned_by o) (now (store v.db.pages)) (now (store v.db.pages)) w) (sym e) (leaves_same [] [] (now (store v.db.pages)) w (λ q i. i)) }
 
   pub missing_abandon : (slot : ℕ) → kept_at v.flights slot ≡ None → Reaches store meant v (step.Abandon slot) outcome.NoSuchSlot v
-  missing_abandon slot e = record { maps = []; is = record { step = record { told = (record { free = ap (option_map flying_of) e; is = refl }, refl) }; keeps = extends_same (store v.db.pages); acts = refl; rest = record { mark = refl; recovered = refl; readable = refl } }; passes = tt }
+  missing_abandon slot e = record { maps = []; is = record { step = record { told = (record { free = ap (option_map flying_of) e; is = refl }, refl) }; keeps = extends_same (store v.db.pages); acts = refl; rest = record { mark = refl; recovered = refl; readable = refl } }; passes = tt; leaves = tt }
 
   pub in_range : (slot i : ℕ) → StandsAt v.flights slot i → i < length v.flights
   in_range slot i s = slice_get_within v.flights i (slot, s.kept) s.is
@@ -123,6 +128,7 @@ module _ {P M : Type 0} (store : P → Store) (meant : M → Merge) (v : Machine
         rest = record { mark = refl; recovered = refl; readable = refl };
       };
       passes = tt;
+      leaves = tt;
     }
 
     pub abandoned_machine : IsMachine (moment (store v.db.pages) v.db.trees v.db.trees_given) gs v.slots_given
@@ -142,8 +148,9 @@ module _ {P M : Type 0} (store : P → Store) (meant : M → Merge) (v : Machine
     after = moment (store db.pages) db.trees db.trees_given
 
     reach : (f next : Flight) (went : Went) → slice_get v.flights i ≡ Some (slot, f) → Flies store meant v.db f went db next → slots_of gs ≡ put_at (slots_of v.flights) slot (slot_after went next)
-        → passes_as store v (step.Step slot) (outcome_of went) (record v { db = db; flights = gs }) → Reaches store meant v (step.Step slot) (outcome_of went) (record v { db = db; flights = gs })
-    reach f next went there flies slots passes = record {
+        → passes_as store v (step.Step slot) (outcome_of went) (record v { db = db; flights = gs }) → leaves_at store v (step.Step slot) (outcome_of went) (record v { db = db; flights = gs })
+        → Reaches store meant v (step.Step slot) (outcome_of went) (record v { db = db; flights = gs })
+    reach f next went there flies slots passes leaves = record {
       maps = maps_added went (maps_of (db_state store meant db));
       is = record {
         step = subst (λ z. Steps (instant_of store meant v) (step.Step slot) (outcome_of went) (instant_of_db store meant db z v.slots_given) (maps_added went (maps_of (db_state store meant db)))) (sym slots)
@@ -153,6 +160,7 @@ module _ {P M : Type 0} (store : P → Store) (meant : M → Merge) (v : Machine
         rest = flies.rest;
       };
       passes = passes;
+      leaves = leaves;
     }
       where
         keeps_flying : (went : Went) → Flies store meant v.db f went db next → keeps_as (step.Step slot) (outcome_of went) (maps_added went (maps_of (db_state store meant db))) (maps_of (db_state store meant db)) (store v.db.pages) (store db.pages)
@@ -180,6 +188,13 @@ module _ {P M : Type 0} (store : P → Store) (meant : M → Merge) (v : Machine
         let same : k.flight ≡ f = some_is (sym k.here ∙ at_place slot i f there) in
         let p = flies.passes.told path (subst (λ (z : Flight). IsOnPath (now (store v.db.pages)) z.job z.stage path) same k.clean) in
         (p.0, p.1, record { flight = next; here = went_on f next there e slot ∙ put_here (kept_at v.flights) slot (Some next); clean = p.2 })
+
+    -- what the call owned and what it owns, by its slot
+    owns : (f : Flight) (o : Option Flight) → slice_get v.flights i ≡ Some (slot, f) → ((q : ℕ) → kept_at gs q ≡ put_at (kept_at v.flights) slot o q) → (w : Forest) → LeavesNone (owned f.stage) (owned_by o) (now (store v.db.pages)) (now (store db.pages)) w
+        → LeavesNone (owned_by (kept_at v.flights slot)) (owned_by (kept_at gs slot)) (now (store v.db.pages)) (now (store db.pages)) w
+    owns f o there are w l =
+        subst (λ z. LeavesNone (owned_by (kept_at v.flights slot)) (owned_by z) (now (store v.db.pages)) (now (store db.pages)) w) (sym (are slot ∙ put_here (kept_at v.flights) slot o))
+        (subst (λ z. LeavesNone (owned_by z) (owned_by o) (now (store v.db.pages)) (now (store db.pages)) w) (sym (at_place slot i f there)) l)
 
     -- what the others know is kept
     kept : (f next : Flight) (went : Went) → slice_get v.flights i ≡ Some (slot, f) → Flies store meant v.db f went db next → (j : ℕ) (h : Flight) → j ≢ slot → kept_at v.flights j ≡ Some h → IsKnown after h × (went ≡ Moved → AreApart next h)
@@ -219,9 +234,9 @@ module _ {P M : Type 0} (store : P → Store) (meant : M → Merge) (v : Machine
         }
 
     stepped_as : (f next : Flight) (went : Went) → slice_get v.flights i ≡ Some (slot, f) → Flies store meant v.db f went db next → gs ≡ flights_after went v.flights slot i next → Reaches store meant v (step.Step slot) (outcome_of went) (record v { db = db; flights = gs }) × IsMachine after gs v.slots_given
-    stepped_as f next Moved there flies e = (reach f next Moved there flies (slots_put v.flights gs slot (Some next) (went_on f next there e)) (further f next there flies e), moved_machine f next there flies e)
-    stepped_as f next (Decided reply) there flies e = (reach f next (Decided reply) there flies (slots_put v.flights gs slot None (ended f there e)) tt, ended_machine f next (Decided reply) there flies e)
-    stepped_as f next (Refused r) there flies e = (reach f next (Refused r) there flies (slots_put v.flights gs slot None (ended f there e)) tt, ended_machine f next (Refused r) there flies e)
+    stepped_as f next Moved there flies e = (reach f next Moved there flies (slots_put v.flights gs slot (Some next) (went_on f next there e)) (further f next there flies e) (λ w is. owns f (Some next) there (went_on f next there e) w (flies.leaves w is)), moved_machine f next there flies e)
+    stepped_as f next (Decided reply) there flies e = (reach f next (Decided reply) there flies (slots_put v.flights gs slot None (ended f there e)) tt (λ w is. owns f None there (ended f there e) w (flies.leaves w is)), ended_machine f next (Decided reply) there flies e)
+    stepped_as f next (Refused r) there flies e = (reach f next (Refused r) there flies (slots_put v.flights gs slot None (ended f there e)) tt tt, ended_machine f next (Refused r) there flies e)
 
     pub stepped : (o : Outcome) → StepsAt store meant v.db v.flights slot i o db gs → Reaches store meant v (step.Step slot) o (record v { db = db; flights = gs })
     stepped o s = subst (λ z. Reaches store meant v (step.Step slot) z (record v { db = db; flights = gs })) (sym s.outcome) (stepped_as s.flight s.next s.went s.there s.flies s.is).0
@@ -231,7 +246,7 @@ module _ {P M : Type 0} (store : P → Store) (meant : M → Merge) (v : Machine
 
   -- a call begins, or is refused
   pub begin_refused : (tree : Tree) (call : Call) (e : Error) → MayRefuse (state_of store meant v.db (slots_of v.flights) v.slots_given) (store v.db.pages) (store v.db.pages) (ToBegin tree call) e → Reaches store meant v (step.Begin tree call) (outcome.Refused e) v
-  begin_refused tree call e may = record { maps = []; is = record { step = record { told = (may, refl, refl) }; keeps = extends_same (store v.db.pages); acts = refl; rest = record { mark = refl; recovered = refl; readable = refl } }; passes = tt }
+  begin_refused tree call e may = record { maps = []; is = record { step = record { told = (may, refl, refl) }; keeps = extends_same (store v.db.pages); acts = refl; rest = record { mark = refl; recovered = refl; readable = refl } }; passes = tt; leaves = tt }
 
   pub begin_untested : (tree : Tree) (call : Call) (e : Error) → MustBeRefused (must_refuse_of (db_state store meant v.db) (tree ∷ [])) e → Reaches store meant v (step.Begin tree call) (outcome.Refused e) v
   begin_untested tree call e tested = begin_refused tree call e (record { told = go (must_refuse_of (db_state store meant v.db) (tree ∷ [])) tested.told })
@@ -274,6 +289,7 @@ module _ {P M : Type 0} (store : P → Store) (meant : M → Merge) (v : Machine
           rest = record { mark = refl; recovered = refl; readable = refl };
         };
         passes = tt;
+        leaves = tt;
       }
 
       all_below : (i m : ℕ) (y : Flight) → slice_get v.flights i ≡ Some (m, y) → m < slot
@@ -306,6 +322,7 @@ module _ {P M : Type 0} (store : P → Store) (meant : M → Merge) (v : Machine
     maps = [];
     is = record { step = record { told = (f.free, f.stays.state (slots_of v.flights) v.slots_given, refl) }; keeps = record { flushes = f.flushes; leaves = record { is = subst (λ z. Matches z (maps_of (db_state store meant db) ∷ [])) (sym (ap (map trees_of) f.left ∙ ap (λ z. z ∷ []) f.maps)) (matches_same _) } }; acts = f.flushes.actions; rest = f.stays.rest };
     passes = tt;
+    leaves = tt;
   }
 
   pub flush_refused : (db : DbValue P M) (e : Error) → RefusesFlush store meant v.db db e → Reaches store meant v (step.Whole Flush) (outcome.Refused e) (record v { db = db })
@@ -313,6 +330,7 @@ module _ {P M : Type 0} (store : P → Store) (meant : M → Merge) (v : Machine
     maps = [];
     is = record { step = record { told = (f.may (slots_of v.flights) v.slots_given, f.stays.state (slots_of v.flights) v.slots_given, refl) }; keeps = f.extends; acts = f.actions; rest = f.stays.rest };
     passes = tt;
+    leaves = tt;
   }
 
   pub stays_machine : (db : DbValue P M) → Stays store meant v.db db → IsMachine (moment (store db.pages) db.trees db.trees_given) v.flights v.slots_given

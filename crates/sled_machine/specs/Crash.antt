@@ -1,5 +1,5 @@
 -- Steps of the machine, with what they add to what a crash may leave.
-use Rattle.std.specs.Prelude.{◌≡◌, ◌≢◌, ℕ, zero, suc, ◌+◌, ◌<◌, ◌≤◌, List, [], ◌∷◌, ◌++◌, length, map, Some, None}
+use Rattle.std.specs.Prelude.{◌≡◌, ◌≢◌, ℕ, zero, suc, ◌+◌, ◌<◌, ◌≤◌, List, [], ◌∷◌, ◌++◌, length, map, Option, Some, None}
 use Rattle.sled_pages.specs.Store.{Store, now}
 use Rattle.sled_pages.specs.Crash.{states_left}
 use Rattle.sled_model.specs.Maps.{Maps, Merge}
@@ -17,10 +17,14 @@ use Rattle.sled_model.specs.declared.TheConstants.{MAX_LOOPS}
 use Rattle.sled_pages.specs.declared.error.Error.{Error}
 use Rattle.tree_laws.specs.Contents.{trees_of}
 use Rattle.tree_laws.specs.Crashes.{Extends, Flushes, Matches}
+use Rattle.tree_laws.specs.Forest.{Forest}
+use Rattle.tree_laws.specs.Moment.{IsMoment}
 use Rattle.tree_laws.specs.Paths.{IsClean}
+use Rattle.sled_tree.specs.Stages.{owned}
+use Rattle.sled_tree.specs.Moves.{LeavesNone}
 use Rattle.sled_tree.specs.Passing.{IsOnPath}
 use Rattle.sled_tree.specs.declared.flight.Flight.{Flight}
-use Rattle.sled.specs.Values.{KeepsRest}
+use Rattle.sled.specs.Values.{KeepsRest, moment}
 use Rattle.sled_machine.specs.Slots.{kept_at}
 use Rattle.sled_machine.specs.Values.{MachineValue, slots_of, instant_of}
 
@@ -74,6 +78,18 @@ abbrev pub passes_as : {P M : Type 0} → (P → Store) → MachineValue P M →
 passes_as store old (step.Step slot) Moved new = (path : List ℕ) → IsAhead store old slot path → (rest : List ℕ) × (length path ≡ suc (length rest)) × IsAhead store new slot rest
 passes_as store old s o new = Unit {0}
 
+-- the pages that are the own of the call in a slot, if there is one
+abbrev pub owned_by : Option Flight → List ℕ
+owned_by None = []
+owned_by (Some f) = owned f.stage
+
+-- a step of a slot leaves no page behind, unless the call is refused
+abbrev pub leaves_at : {P M : Type 0} → (P → Store) → MachineValue P M → Step → Outcome → MachineValue P M → Type 0
+leaves_at store old (step.Step slot) (Refused e) new = Unit {0}
+leaves_at store old (step.Step slot) o new = (v : Forest) → IsMoment (moment (store new.db.pages) new.db.trees new.db.trees_given) v
+    → LeavesNone (owned_by (kept_at old.flights slot)) (owned_by (kept_at new.flights slot)) (now (store old.db.pages)) (now (store new.db.pages)) v
+leaves_at store old s o new = Unit {0}
+
 -- one step, with its outcome and the maps that it added
 pub record StepsTo (old : Instant) (s : Step) (o : Outcome) (new : Instant) (maps : List Maps) : Type 0 where
   pub step : Steps old s o new maps
@@ -87,6 +103,7 @@ pub record Reaches {P M : Type 0} (store : P → Store) (meant : M → Merge) (o
   pub is : StepsTo (instant_of store meant old) s o (instant_of store meant new) maps
   -- on a clean path the call in the slot goes one page further, or ends
   pub passes : passes_as store old s o new
+  pub leaves : leaves_at store old s o new
 
 -- A run, with the list of maps that a crash might leave before it and the list after it:
 -- the map at the last flush that was decided, if there was one, else the list before; and then the map after each call that was decided since

@@ -7,6 +7,7 @@ mod merges;
 mod plain;
 mod races;
 mod rare;
+mod reads;
 mod refusals;
 mod sizes;
 mod slots;

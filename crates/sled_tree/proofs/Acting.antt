@@ -20,8 +20,8 @@ use Rattle.sled_tree.specs.declared.flight.Job.{Job}
 use Rattle.sled_tree.specs.declared.flight.Stage.TheVariants.{Act}
 use Rattle.sled_tree.specs.declared.flight.Next.TheVariants as next
 use Rattle.sled_tree.specs.Change.{IsChangeOf, link_of, decision_at}
-use Rattle.sled_tree.specs.Moves.{Moves, Acts, Decides}
-use Rattle.sled_tree.proofs.Facts.{once_acts}
+use Rattle.sled_tree.specs.Moves.{Moves, Acts, Decides, LeavesNone}
+use Rattle.sled_tree.proofs.Facts.{once_acts, leaves_replaced, rid_of_none}
 
 some_is : {X : Type 0} {x y : X} → Some x ≡ Some y → x ≡ y
 some_is e = cc
@@ -70,6 +70,8 @@ act_moves j old new view change given is c = record {
           others = did.others;
           quiet = λ none. absurd (a.changes (silent e key (ap (λ (d : Decision). event_of d.effect key) (sym same) ∙ none)));
         }),
+        subst (λ (z : Moment). LeavesNone [] [] m.state z.state w) (sym after) (leaves_replaced [] [] m view.pid (record { version = view.version; node = c.told.0 }) (record { version = given; node = applied change.link c.told.0 }) w c.told.1
+            (rid_of_none [] (record { version = view.version; node = c.told.0 }) view.node (a.acting.seen.view.speaks (record { version = view.version; node = c.told.0 }) c.told.1 refl) a.acting.seen.is_open.free) (λ q i. absurd i)),
       );
 }
   where

@@ -34,7 +34,7 @@ use Rattle.sled_tree.specs.declared.walk.Way.{Way}
 use Rattle.sled_tree.specs.Change.{IsLeaf, IsIndex, decision_at}
 use Rattle.sled_tree.specs.Stages.{IsStage, owned}
 use Rattle.sled_tree.specs.Moves.{Moves, Arrives, IsRead, IsMergeUnder, Helps, Begins, owned_next}
-use Rattle.sled_tree.proofs.Facts.{same_here, rests, viewed, live_view}
+use Rattle.sled_tree.proofs.Facts.{same_here, rests, viewed, live_view, leaves_read}
 use Rattle.sled_tree.proofs.Helping.{helped}
 
 pub leaf_is : (d : Data) → IsLeaf d → (es : List (Key × Key)) × (d ≡ Leaf es)
@@ -143,17 +143,17 @@ helps j view way child next awake is_child h = elim h.told [
 ]
 
 -- what a read comes to, as a step
-pub arrives_moves : (j : Job) (s : Store) (view : View) (way : Way) (next : Next) (a : Stage) → Arrives j view way next
+pub arrives_moves : (j : Job) (s : Store) (view : View) (way : Way) (next : Next) (a : Stage) → owned a ≡ [] → Arrives j view way next
     → ((numbers : Tree → Option ℕ) (given : ℕ → Bool) (w : Forest) → IsMoment (moment_of s numbers given) w → numbers j.tree.name ≡ Some j.tree.number → IsStage (moment_of s numbers given) w j a → IsRead (moment_of s numbers given) w j view way)
     → Moves j s a next s
-arrives_moves j s view way next a t known = record {
+arrives_moves j s view way next a none t known = record {
   touches = t.touches s;
-  told = λ numbers given w is named k. let r = t.told s numbers given w is named (known numbers given w is named k) in (w, rests (owned a) (owned_next next) (moment_of s numbers given) w is (λ q i. absurd (subst (In q) r.0 i)), r.1);
+  told = λ numbers given w is named k. let r = t.told s numbers given w is named (known numbers given w is named k) in (w, rests (owned a) (owned_next next) (moment_of s numbers given) w is (λ q i. absurd (subst (In q) r.0 i)), r.1, leaves_read (owned a) next (now s) w none);
 }
 
 -- the root was read,
 pub root_read : (j : Job) (s : Store) (name : Key) (found : Option ℕ) (root : ℕ) (view : View) (next : Next) → name ≡ j.tree.name → found ≡ (now s).roots name → found ≡ Some root → Some view ≡ view_of root ((now s).pages root) → Arrives j view (record { parent = None; first = true; unsplit = false }) next → Moves j s stage.Root next s
-root_read j s name found root view next called is_found is_some read t = arrives_moves j s view (record { parent = None; first = true; unsplit = false }) next stage.Root t
+root_read j s name found root view next called is_found is_some read t = arrives_moves j s view (record { parent = None; first = true; unsplit = false }) next stage.Root refl t
     (λ numbers given w is named k. record {
       here = root_here_law (moment_of s numbers given) w is j.tree.name j.tree.number (key_of j.call) view true named (ap (now s).roots (sym called) ∙ sym is_found ∙ is_some ∙ ap Some (sym (viewed root ((now s).pages root) view read).0)) (live_view s root view read);
       room = λ p e. absurd (none_some e);
@@ -164,7 +164,7 @@ root_read j s name found root view next called is_found is_some read t = arrives
 
 -- or the cursor of a walk
 pub cursor_read : (j : Job) (s : Store) (a : Walk) (view : View) (next : Next) → Some view ≡ view_of a.cursor ((now s).pages a.cursor) → Arrives j view (record { parent = Some a.parent; first = a.first; unsplit = a.unsplit }) next → Moves j s (stage.Walk a) next s
-cursor_read j s a view next read t = arrives_moves j s view (record { parent = Some a.parent; first = a.first; unsplit = a.unsplit }) next (stage.Walk a) t
+cursor_read j s a view next read t = arrives_moves j s view (record { parent = Some a.parent; first = a.first; unsplit = a.unsplit }) next (stage.Walk a) refl t
     (λ numbers given w is named k. record {
       here = cursor_here_law (moment_of s numbers given) w is j.tree.name j.tree.number (key_of j.call) a.parent view a.first a.unsplit named
           (subst (λ c. IsWalking (moment_of s numbers given) w j.tree.name j.tree.number (key_of j.call) c a.parent a.first a.unsplit) (sym (viewed a.cursor ((now s).pages a.cursor) view read).0) k.walking) (live_view s a.cursor view read);

@@ -1,5 +1,5 @@
 -- Small facts that the stages share.
-use Rattle.std.proofs.Common.{◌≡◌, ℕ, ◌+◌, ◌<◌, ◌≤◌, ◌↔◌, IsTrue, true, false, Bool, List, [], ◌++◌, Option, Some, None, sym, refl, ap, ◌∙◌, subst, inl, inr, arith, Less, Equal, Greater, Err}
+use Rattle.std.proofs.Common.{◌≡◌, ℕ, ◌+◌, ◌<◌, ◌≤◌, ◌↔◌, IsTrue, true, false, Bool, List, [], ◌∷◌, ◌++◌, Option, Some, None, sym, refl, ap, ◌∙◌, subst, inl, inr, arith, Less, Equal, Greater, Err}
 use Rattle.std.specs.Ordering.{is_gt, ordering_reverse}
 use Rattle.std.specs.declared.cmp.Ordering.{Ordering}
 use Rattle.std.proofs.lemmas.Bool.Decides.{leb_tells}
@@ -15,10 +15,13 @@ use Rattle.sled_pages.specs.declared.error.Error.TheVariants as error
 use Rattle.sled_pages.specs.declared.node.Node.{Node}
 use Rattle.sled_pages.specs.declared.page.Page.{Page}
 use Rattle.sled_pages.specs.declared.page.View.{View}
-use Rattle.tree_laws.specs.Forest.{Tree, Forest}
+use Rattle.tree_laws.specs.Forest.{Tree, Forest, Place, place}
+use Rattle.tree_laws.specs.Laws.{replaced, allocated, freed, hoisted}
 use Rattle.tree_laws.specs.Moment.{Moment, moment_of, nodes_at, IsMoment, Grows}
 use Rattle.tree_laws.specs.Stages.{Quiet}
-use Rattle.tree_laws.proofs.Known.{goes_same}
+use Rattle.tree_laws.proofs.Known.{goes_same, root_in}
+use Rattle.tree_laws.proofs.Replace.{same_number}
+use Rattle.tree_laws.proofs.Update.{put_here, put_there, name_here}
 use Rattle.tree_laws.proofs.Order.{key_total}
 use Rattle.sled_tree.specs.declared.flight.Job.{Job}
 use Rattle.sled_tree.specs.declared.flight.Stage.{Stage}
@@ -28,10 +31,13 @@ use Rattle.sled_tree.specs.declared.flight.Next.TheVariants as next
 use Rattle.sled_tree.specs.declared.flight.Flight.{Flight}
 use Rattle.sled_tree.specs.declared.flight.Went.TheVariants.{Moved}
 use Rattle.sled_tree.specs.Stages.{IsStage, owned}
-use Rattle.sled_tree.specs.Moves.{Moves, ActsOnce, Acts, Same, Advances, refuses_as}
+use Rattle.sled_tree.specs.Moves.{Moves, ActsOnce, Acts, Same, Advances, LeavesNone, leaves_as, refuses_as}
 
-some_is : {X : Type 0} {x y : X} → Some x ≡ Some y → x ≡ y
+pub some_is : {X : Type 0} {x y : X} → Some x ≡ Some y → x ≡ y
 some_is e = cc
+
+none_some : {P X : Type 0} {x : X} → None ≡ Some x → P
+none_some e = cc
 
 -- a page that stays as it is does not grow
 pub grows_not : (m : Moment) (w : Forest) → Grows (nodes_at m) (nodes_at m) w
@@ -47,18 +53,96 @@ rests mine own m w is kept = record { is = is; goes = goes_same (mine ++ own) m 
 pub same_here : (m : Moment) (w : Forest) → Same m w m w
 same_here m w = record { same = λ t. refl }
 
--- what comes of an action that does nothing
-pub stays : (j : Job) (s : Store) (a b : Stage) → ((q : ℕ) → In q (owned b) → In q (owned a))
-    → ((numbers : Tree → Option ℕ) (given : ℕ → Bool) (w : Forest) → IsMoment (moment_of s numbers given) w → numbers j.tree.name ≡ Some j.tree.number → IsStage (moment_of s numbers given) w j a → IsStage (moment_of s numbers given) w j b)
-    → Moves j s a (next.Go b) s
-stays j s a b kept known = record {
-  touches = inl refl;
-  told = λ numbers given w is named k. (w, rests (owned a) (owned b) (moment_of s numbers given) w is kept, (known numbers given w is named k, same_here (moment_of s numbers given) w));
+-- an action that does nothing leaves no page behind
+pub leaves_same : (mine own : List ℕ) (s : State) (v : Forest) → ((q : ℕ) → In q mine → In q own) → LeavesNone mine own s s v
+leaves_same mine own s v kept = record {
+  kept = λ q i. inl (kept q i);
+  made = λ q e. inl e;
+  merged = λ p c g h was child now. inl (ap (λ (z : Page). z.node.merging_child) (some_is (sym now ∙ was)) ∙ child);
 }
 
--- the call begins again
-pub restarts : (j : Job) (s : Store) (a : Stage) → Moves j s a (next.Go stage.Root) s
-restarts j s a = stays j s a stage.Root (λ q i. absurd i) (λ numbers given w is named k. tt)
+-- .. nor does a read of a call that owns none
+pub leaves_read : (mine : List ℕ) (n : Next) (s : State) (v : Forest) → mine ≡ [] → leaves_as n mine s s v
+leaves_read mine (next.Go b) s v none = leaves_same mine (owned b) s v (λ q i. absurd (subst (In q) none i))
+leaves_read mine (next.Decided reply) s v none = leaves_same mine [] s v (λ q i. subst (In q) none i)
+leaves_read mine (next.Refused e) s v none = tt
+
+-- a page changes, and is not rid of a merging child but to the call
+pub leaves_replaced : (mine own : List ℕ) (m : Moment) (p : ℕ) (g n : Page) (v : Forest) → m.state.pages p ≡ Some g → ((c : ℕ) → g.node.merging_child ≡ Some c → In c own)
+    → ((q : ℕ) → In q mine → (x : Place) × In q (v.chain x)) → LeavesNone mine own m.state (replaced m p n).state v
+leaves_replaced mine own m p g n v live rid kept = record {
+  kept = λ q i. inr (inr (kept q i));
+  made = λ q e. elim (same_number q p) [
+    | inl s ↦ none_some (sym e ∙ ap m.state.pages s ∙ live)
+    | inr off ↦ inl (put_there m.state.pages p (Some n) q off ∙ e)
+  ];
+  merged = λ q c a b was child now. elim (same_number q p) [
+    | inl s ↦ inr (rid c (ap (λ (z : Page). z.node.merging_child) (some_is (sym live ∙ ap m.state.pages (sym s) ∙ was)) ∙ child))
+    | inr off ↦ inl (ap (λ (z : Page). z.node.merging_child) (some_is (sym now ∙ put_there m.state.pages p (Some n) q off ∙ was)) ∙ child)
+  ];
+}
+
+-- an open page has no merging child to be rid of
+pub rid_of_none : (own : List ℕ) (g : Page) (n : Node) → g.node ≡ n → n.merging_child ≡ None → (c : ℕ) → g.node.merging_child ≡ Some c → In c own
+rid_of_none own g n e none c child = none_some (sym none ∙ ap (λ (z : Node). z.merging_child) (sym e) ∙ child)
+
+-- a page is made
+pub leaves_allocated : (m : Moment) (w : Forest) (p : ℕ) (n : Page) (v : Forest) → IsMoment m w → m.pids p ≡ false → LeavesNone [] (p ∷ []) m.state (allocated m p n).state v
+leaves_allocated m w p n v is fresh = record {
+  kept = λ q i. absurd i;
+  made = λ q e. elim (same_number q p) [
+    | inl s ↦ inr (inl s)
+    | inr off ↦ inl (put_there m.state.pages p (Some n) q off ∙ e)
+  ];
+  merged = λ q c a b was child now. elim (same_number q p) [
+    | inl s ↦ absurd (apart (sym fresh ∙ ap m.pids (sym s) ∙ is.pids q a was))
+    | inr off ↦ inl (ap (λ (z : Page). z.node.merging_child) (some_is (sym now ∙ put_there m.state.pages p (Some n) q off ∙ was)) ∙ child)
+  ];
+}
+  where
+    apart : false ≡ true → ⊥
+    apart e = cc
+
+-- a page of the call's own becomes a root
+pub leaves_hoisted : (m : Moment) (t : Tree) (r : ℕ) (v : Forest) → IsMoment (hoisted m t r) v → LeavesNone (r ∷ []) [] m.state (hoisted m t r).state v
+leaves_hoisted m t r v is = record {
+  kept = λ q i. elim i [
+    | inl e ↦ let o = root_in is.formed t r (name_here m.state.roots t (Some r)) in inr (inr (place t o.0, subst (λ z. In z (v.chain (place t o.0))) (sym e) o.2))
+    | inr b ↦ absurd b
+  ];
+  made = λ q e. inl e;
+  merged = λ p c g h was child now. inl (ap (λ (z : Page). z.node.merging_child) (some_is (sym now ∙ was)) ∙ child);
+}
+
+-- .. or is freed
+pub leaves_freed : (m : Moment) (p : ℕ) (v : Forest) → LeavesNone (p ∷ []) [] m.state (freed m p).state v
+leaves_freed m p v = record {
+  kept = λ q i. elim i [
+    | inl e ↦ inr (inl (ap (put_at m.state.pages p None) e ∙ put_here m.state.pages p None))
+    | inr b ↦ absurd b
+  ];
+  made = λ q e. elim (same_number q p) [
+    | inl s ↦ inl (ap (put_at m.state.pages p None) s ∙ put_here m.state.pages p None)
+    | inr off ↦ inl (put_there m.state.pages p None q off ∙ e)
+  ];
+  merged = λ q c a b was child now. elim (same_number q p) [
+    | inl s ↦ none_some (sym (ap (put_at m.state.pages p None) s ∙ put_here m.state.pages p None) ∙ now)
+    | inr off ↦ inl (ap (λ (z : Page). z.node.merging_child) (some_is (sym now ∙ put_there m.state.pages p None q off ∙ was)) ∙ child)
+  ];
+}
+
+-- what comes of an action that does nothing
+pub stays : (j : Job) (s : Store) (a b : Stage) → ((q : ℕ) → In q (owned b) → In q (owned a)) → ((q : ℕ) → In q (owned a) → In q (owned b))
+    → ((numbers : Tree → Option ℕ) (given : ℕ → Bool) (w : Forest) → IsMoment (moment_of s numbers given) w → numbers j.tree.name ≡ Some j.tree.number → IsStage (moment_of s numbers given) w j a → IsStage (moment_of s numbers given) w j b)
+    → Moves j s a (next.Go b) s
+stays j s a b from to known = record {
+  touches = inl refl;
+  told = λ numbers given w is named k. (w, rests (owned a) (owned b) (moment_of s numbers given) w is from, (known numbers given w is named k, same_here (moment_of s numbers given) w), leaves_same (owned a) (owned b) (now s) w to);
+}
+
+-- the call begins again, where it owns no page
+pub restarts : (j : Job) (s : Store) (a : Stage) → ((q : ℕ) → In q (owned a) → ⊥) → Moves j s a (next.Go stage.Root) s
+restarts j s a none = stays j s a stage.Root (λ q i. absurd i) none (λ numbers given w is named k. tt)
 
 -- a store that counted a fault shows the same moment
 same_moment : (old new : Store) (numbers : Tree → Option ℕ) (given : ℕ → Bool) (e : Error) → refuses_as e old new → moment_of new numbers given ≡ moment_of old numbers given
@@ -80,6 +164,7 @@ refuses j old new a e t = record {
         w,
         subst (λ (m : Moment). Acts (owned a) [] (moment_of old numbers given) w m w) same (rests (owned a) [] (moment_of old numbers given) w is (λ q i. absurd i)),
         subst (λ (m : Moment). Same (moment_of old numbers given) w m w) same (same_here (moment_of old numbers given) w),
+        tt,
       );
 }
 
@@ -121,13 +206,15 @@ pub record Quietly (j : Job) (a b : Stage) (m : Moment) (w : Forest) (new : Mome
   pub acts : Acts (owned a) (owned b) m w new after
   pub same : Same m w new after
   pub knows : IsStage new after j b
+  pub leaves : LeavesNone (owned a) (owned b) m.state new.state after
 
-pub quietly : (j : Job) (a b : Stage) {m new : Moment} {w v : Forest} {few : Type 0} → Quiet (owned a) (owned b) m w new v few → few → IsStage new v j b → Quietly j a b m w new
-quietly j a b {m} {new} {w} {v} q f k = record {
+pub quietly : (j : Job) (a b : Stage) {m new : Moment} {w v : Forest} {few : Type 0} → Quiet (owned a) (owned b) m w new v few → few → IsStage new v j b → LeavesNone (owned a) (owned b) m.state new.state v → Quietly j a b m w new
+quietly j a b {m} {new} {w} {v} q f k l = record {
   after = v;
   acts = record { is = q.is; goes = q.goes; fresh = q.fresh; sized = q.sized f; grows = q.grows f };
   same = record { same = q.same };
   knows = k;
+  leaves = l;
 }
 
 -- a changing action after which the call goes on
@@ -140,7 +227,7 @@ moves_on j old new a b once known = record {
   told = λ numbers given w is named k.
       let n = known numbers given w is named k in
       let mo : Moment = moment_of old numbers given in
-      subst (λ (z : Moment). (v : Forest) × Acts (owned a) (owned b) mo w z v × (IsStage z v j b × Same mo w z v)) (sym n.1) (n.2.after, n.2.acts, (n.2.knows, n.2.same));
+      subst (λ (z : Moment). (v : Forest) × Acts (owned a) (owned b) mo w z v × (IsStage z v j b × Same mo w z v) × LeavesNone (owned a) (owned b) mo.state z.state v) (sym n.1) (n.2.after, n.2.acts, (n.2.knows, n.2.same), n.2.leaves);
 }
 
 -- one changing action: a page was changed, a page was made, a page went, or a root became another
@@ -177,8 +264,8 @@ long_enough b c told is = more c (told.0 is).0
     more c h = omega arith
 
 -- the page had changed, and the call begins again
-pub stale : (j : Job) (old new : Store) (a : Stage) {change : Node → Node} {pid version : ℕ} {present : Option ℕ} → Changes change pid version old new (Err present) → Moves j old a (next.Go stage.Root) new
-stale j old new a c = subst (λ (s : Store). Moves j old a (next.Go stage.Root) s) (sym c.told.0) (restarts j old a)
+pub stale : (j : Job) (old new : Store) (a : Stage) {change : Node → Node} {pid version : ℕ} {present : Option ℕ} → ((q : ℕ) → In q (owned a) → ⊥) → Changes change pid version old new (Err present) → Moves j old a (next.Go stage.Root) new
+stale j old new a none c = subst (λ (s : Store). Moves j old a (next.Go stage.Root) s) (sym c.told.0) (restarts j old a none)
 
 -- what a test that failed tells
 pub untrue : {P : Type 0} (b : Bool) → IsTrue b ↔ P → b ≡ false → P → ⊥

@@ -1,5 +1,5 @@
 -- The steps of a merge.
-use Rattle.std.proofs.Common.{◌≡◌, ◌≢◌, ℕ, ◌≤◌, ◌⊎◌, true, false, List, [], Option, Some, None, Ok, Err, sym, refl, ap, ◌∙◌, subst, inl, inr}
+use Rattle.std.proofs.Common.{◌≡◌, ◌≢◌, ℕ, ◌≤◌, ◌⊎◌, true, false, List, [], ◌∷◌, Option, Some, None, Ok, Err, sym, refl, ap, ◌∙◌, subst, inl, inr}
 use Rattle.sled_pages.specs.Order.{Key, Below, UpTo}
 use Rattle.sled_pages.specs.In.{In}
 use Rattle.sled_pages.specs.Halves.{received}
@@ -31,7 +31,7 @@ use Rattle.sled_tree.specs.declared.flight.Next.{Next}
 use Rattle.sled_tree.specs.declared.flight.Next.TheVariants as next
 use Rattle.sled_tree.specs.Stages.{IsStage, owned}
 use Rattle.sled_tree.specs.Moves.{Moves, Helps, ReadsChild, Looks, owned_next}
-use Rattle.sled_tree.proofs.Facts.{moves_on, quietly, once_acts, stays, rests, same_here, viewed, live_view}
+use Rattle.sled_tree.proofs.Facts.{moves_on, quietly, once_acts, stays, rests, same_here, viewed, live_view, leaves_replaced, leaves_read, rid_of_none, some_is}
 use Rattle.sled_tree.proofs.Helping.{helped}
 
 -- the parent takes the page for its merging child
@@ -47,7 +47,9 @@ intends j old new a version c = moves_on j old new _ _ (once_acts c.told.2) (λ 
       after,
       store_replaced numbers gave c.told.2 ∙ ap (λ (z : Node). replaced m a.parent.pid (record { version = version; node = applied (ParentMergeIntention a.child) z })) node,
       quietly j (stage.Intend a) (stage.Child (record { parent = record { pid = a.parent.pid; version = version; node = record (a.parent.node) { merging_child = Some a.child } }; child = a.child; before = a.before })) law.1 k.small
-          (subst (λ (z : Node). IsMergingOf after law.0 j.tree.name j.tree.number (record { pid = a.parent.pid; version = version; node = z }) a.child a.before) child law.2),
+          (subst (λ (z : Node). IsMergingOf after law.0 j.tree.name j.tree.number (record { pid = a.parent.pid; version = version; node = z }) a.child a.before) child law.2)
+          (leaves_replaced [] [] m a.parent.pid (record { version = a.parent.version; node = c.told.0 }) (record { version = version; node = applied (ParentMergeIntention a.child) a.parent.node }) law.0 c.told.1
+          (rid_of_none [] (record { version = a.parent.version; node = c.told.0 }) a.parent.node node k.intending.above.seen.is_open.free) (λ q i. absurd i)),
     ))
   where
     taken : (n : Node) (child : ℕ) (es : List (Key × ℕ)) → n.content ≡ Index es → applied (ParentMergeIntention child) n ≡ record n { merging_child = Some child }
@@ -59,7 +61,7 @@ child_read j s a view n read t = record {
   touches = t.touches s;
   told = λ numbers gave w is named k.
       let r = t.told s numbers gave w is named (viewed a.child ((now s).pages a.child) view read).0 (live_view s a.child view read) k in
-      (w, rests [] (owned_next n) (moment_of s numbers gave) w is (λ q i. subst (In q) r.0 i), r.1);
+      (w, rests [] (owned_next n) (moment_of s numbers gave) w is (λ q i. subst (In q) r.0 i), r.1, leaves_read [] n (now s) w refl);
 }
 
 -- a page with a merging child was read, whose own merge goes on first
@@ -120,12 +122,14 @@ caps j old new a version c = moves_on j old new _ _ (once_acts c.told.2) (λ num
     let law = caps_law m w j.tree.name j.tree.number a.merge.parent page a.merge.child a.merge.before version c.told.0 is k (record { named = named; page = c.told.1 }) c.told.2.fresh in (
       replaced m a.merge.child (record { version = version; node = applied ChildMergeCap a.node }),
       store_replaced numbers gave c.told.2 ∙ ap (λ (z : Node). replaced m a.merge.child (record { version = version; node = applied ChildMergeCap z })) node,
-      quietly j (stage.Cap a) (stage.Seek (record { merge = a.merge; version = version; node = record (a.node) { merging = true }; cursor = a.merge.before })) law.1 tt law.2,
+      quietly j (stage.Cap a) (stage.Seek (record { merge = a.merge; version = version; node = record (a.node) { merging = true }; cursor = a.merge.before })) law.1 tt law.2
+          (leaves_replaced [] [] m a.merge.child (record { version = a.version; node = c.told.0 }) (record { version = version; node = applied ChildMergeCap a.node }) law.0 c.told.1
+          (rid_of_none [] (record { version = a.version; node = c.told.0 }) a.node node k.capping.is_open.free) (λ q i. absurd i)),
     ))
 
 pub cap_stale : (j : Job) (old new : Store) (a : Cap) (present : Option ℕ) → Changes (applied ChildMergeCap) a.merge.child a.version old new (Err present) → Moves j old (stage.Cap a) (next.Go (stage.Child a.merge)) new
 cap_stale j old new a present c = subst (λ (s : Store). Moves j old (stage.Cap a) (next.Go (stage.Child a.merge)) s) (sym c.told.0)
-    (stays j old (stage.Cap a) (stage.Child a.merge) (λ q i. i) (λ numbers gave w is named k. record { height = k.height; merging = k.merging }))
+    (stays j old (stage.Cap a) (stage.Child a.merge) (λ q i. i) (λ q i. i) (λ numbers gave w is named k. record { height = k.height; merging = k.merging }))
 
 -- what a read of the search's cursor comes to, as a step
 pub cursor_looks : (j : Job) (s : Store) (a : Seek) (view : View) (n : Next) → Some view ≡ view_of a.cursor ((now s).pages a.cursor) → Looks j a view n → Moves j s (stage.Seek a) n s
@@ -133,7 +137,7 @@ cursor_looks j s a view n read t = record {
   touches = t.touches s;
   told = λ numbers gave w is named k.
       let r = t.told s numbers gave w is named (viewed a.cursor ((now s).pages a.cursor) view read).0 (live_view s a.cursor view read) k in
-      (w, rests [] (owned_next n) (moment_of s numbers gave) w is (λ q i. subst (In q) r.0 i), r.1);
+      (w, rests [] (owned_next n) (moment_of s numbers gave) w is (λ q i. subst (In q) r.0 i), r.1, leaves_read [] n (now s) w refl);
 }
 
 module _ (j : Job) (a : Seek) (view : View) where
@@ -174,13 +178,15 @@ receives j old new a both version e c = moves_on j old new _ _ (once_acts c.told
     (subst (IsJoined a.left.node a.node) (sym e) (joined_law a.left.node a.node)) in (
       replaced m a.left.pid (record { version = version; node = both }),
       store_replaced numbers gave c.told.2,
-      quietly j (stage.Receive a) (stage.Confirm (record { parent = a.merge.parent; child = a.merge.child; version = a.version })) law.1 k.few (record { node = a.node; confirming = law.2 }),
+      quietly j (stage.Receive a) (stage.Confirm (record { parent = a.merge.parent; child = a.merge.child; version = a.version })) law.1 k.few (record { node = a.node; confirming = law.2 })
+          (leaves_replaced [] [] m a.left.pid (record { version = a.left.version; node = c.told.0 }) (record { version = version; node = both }) law.0 c.told.1
+          (rid_of_none [] (record { version = a.left.version; node = c.told.0 }) a.left.node (k.receiving.receiving.seen.view.speaks (record { version = a.left.version; node = c.told.0 }) c.told.1 refl) k.receiving.receiving.seen.is_open.free) (λ q i. absurd i)),
     ))
 
 pub receive_stale : (j : Job) (old new : Store) (a : Receive) (both : Node) (present : Option ℕ) → Changes (λ _. both) a.left.pid a.left.version old new (Err present)
     → Moves j old (stage.Receive a) (next.Go (stage.Seek (record { merge = a.merge; version = a.version; node = a.node; cursor = a.left.pid }))) new
 receive_stale j old new a both present c = subst (λ (s : Store). Moves j old (stage.Receive a) (next.Go (stage.Seek (record { merge = a.merge; version = a.version; node = a.node; cursor = a.left.pid }))) s) (sym c.told.0)
-    (stays j old (stage.Receive a) (stage.Seek (record { merge = a.merge; version = a.version; node = a.node; cursor = a.left.pid })) (λ q i. i)
+    (stays j old (stage.Receive a) (stage.Seek (record { merge = a.merge; version = a.version; node = a.node; cursor = a.left.pid })) (λ q i. i) (λ q i. i)
     (λ numbers gave w is named k. seek_again_law (moment_of old numbers gave) w j.tree.name j.tree.number a.merge.parent a.merge.child a.merge.before a.version a.node a.left k.receiving))
 
 -- the pointer to the child goes
@@ -192,5 +198,7 @@ confirms j old new a version c = moves_on j old new _ _ (once_acts c.told.2) (λ
     let law = confirms_law m w j.tree.name j.tree.number a.parent a.child a.version k.node version c.told.0 is k.confirming (record { named = named; page = c.told.1 }) c.told.2.fresh in (
       replaced m a.parent.pid (record { version = version; node = applied ParentMergeConfirm a.parent.node }),
       store_replaced numbers gave c.told.2 ∙ ap (λ (z : Node). replaced m a.parent.pid (record { version = version; node = applied ParentMergeConfirm z })) node,
-      quietly j (stage.Confirm a) (stage.Free (record { pid = a.child; version = a.version })) law.1 tt law.2,
+      quietly j (stage.Confirm a) (stage.Free (record { pid = a.child; version = a.version })) law.1 tt law.2
+          (leaves_replaced [] (a.child ∷ []) m a.parent.pid (record { version = a.parent.version; node = c.told.0 }) (record { version = version; node = applied ParentMergeConfirm a.parent.node }) law.0 c.told.1
+          (λ q child. inl (some_is (sym child ∙ ap (λ (z : Node). z.merging_child) node ∙ k.confirming.confirming.merger.child))) (λ q i. absurd i)),
     ))

@@ -1,8 +1,9 @@
 -- What one page action of a call in flight does.
 use Rattle.std.specs.Prelude.{◌≡◌, ◌≢◌, ℕ, ◌+◌, ◌⊎◌, Bool, false, List, [], ◌++◌, Option, Some, None}
 use Rattle.sled_pages.specs.In.{In}
-use Rattle.sled_pages.specs.State.{Action}
+use Rattle.sled_pages.specs.State.{State, Action}
 use Rattle.sled_pages.specs.Store.{Store, acted, now}
+use Rattle.sled_pages.specs.declared.page.Page.{Page}
 use Rattle.sled_pages.specs.declared.page.View.{View}
 use Rattle.sled_pages.specs.declared.error.Error.{Error}
 use Rattle.sled_pages.specs.declared.error.Error.TheVariants.{Io, NoMemory}
@@ -71,6 +72,19 @@ pub record Decides (j : Job) (reply : Reply) (a b : Store) (old : Moment) (w : F
   pub others : (t : Tree) → t ≢ j.tree.name → contents (nodes_at new) v t ≡ contents (nodes_at old) w t
   pub quiet : (answer_of j.call (contents (nodes_at old) w j.tree.name)).event ≡ None → b ≡ a
 
+-- No page is left behind: what was the call's own still is, or was freed, or stands in a tree; and a page that was made, or that
+-- its parent is to merge no more, is the call's own
+pub record LeavesNone (mine own : List ℕ) (old new : State) (v : Forest) : Type 0 where
+  pub kept : (q : ℕ) → In q mine → In q own ⊎ ((new.pages q ≡ None) ⊎ ((x : Place) × In q (v.chain x)))
+  pub made : (q : ℕ) → old.pages q ≡ None → (new.pages q ≡ None) ⊎ In q own
+  pub merged : (p c : ℕ) (g h : Page) → old.pages p ≡ Some g → g.node.merging_child ≡ Some c → new.pages p ≡ Some h → (h.node.merging_child ≡ Some c) ⊎ In c own
+
+-- .. but for what a refused call leaves
+abbrev pub leaves_as : Next → List ℕ → State → State → Forest → Type 0
+leaves_as (Go stage) mine old new v = LeavesNone mine (owned stage) old new v
+leaves_as (Decided reply) mine old new v = LeavesNone mine [] old new v
+leaves_as (Refused e) mine old new v = Unit {0}
+
 abbrev pub owned_next : Next → List ℕ
 owned_next (Go stage) = owned stage
 owned_next (Decided reply) = []
@@ -88,7 +102,7 @@ pub record Moves (j : Job) (old : Store) (stage : Stage) (next : Next) (new : St
   pub touches : touches_as next old new
   pub told : (numbers : Tree → Option ℕ) (given : ℕ → Bool) (w : Forest)
       → IsMoment (moment_of old numbers given) w → numbers j.tree.name ≡ Some j.tree.number → IsStage (moment_of old numbers given) w j stage
-      → (v : Forest) × Acts (owned stage) (owned_next next) (moment_of old numbers given) w (moment_of new numbers given) v × Comes j old new (moment_of old numbers given) w next (moment_of new numbers given) v
+      → (v : Forest) × Acts (owned stage) (owned_next next) (moment_of old numbers given) w (moment_of new numbers given) v × Comes j old new (moment_of old numbers given) w next (moment_of new numbers given) v × leaves_as next (owned stage) (now old) (now new) v
 
 abbrev pub advances_as : Store → Flight → Went → Store → Flight → Type 0
 advances_as old f went.Moved new g = (g.job ≡ f.job) × (g.turns ≡ f.turns + 1) × Moves f.job old f.stage (Go g.stage) new

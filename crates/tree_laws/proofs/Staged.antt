@@ -84,6 +84,7 @@ left_half_law m w t number page posts left at q own version node is k c unused =
     record {
       after = d.after;
       quiet = d.quiet;
+      stands = (place t k.height, d.in_after);
       posted = λ parent e. go posts k e d;
       hoisted = λ e. up posts k e d;
     }

@@ -105,6 +105,8 @@ HalfLaw = (m : Moment) (w : Forest) (t : Tree) (number : ℕ) (page : Look) (pos
 pub record Halved (m : Moment) (w : Forest) (new : Moment) (t : Tree) (number : ℕ) (page : Look) (posts : PostsAt) (left right : Node) (at : Key) (q : ℕ) : Type 0 where
   pub after : Forest
   pub quiet : Quiet (q ∷ []) [] m w new after (Unit {0})
+  -- the right half stands in a tree
+  pub stands : (x : Place) × In q (after.chain x)
   pub posted : (parent : Look) → posts ≡ AtParent parent → IsPosting new after t number parent at q
   pub hoisted : posts ≡ AtRoot → IsHoisting new after t number page.pid at q
 

@@ -4,10 +4,10 @@ use crate::{crash, empty};
 use sled::Db;
 use sled_model::plain::Plain;
 
-const SEED: u64 = 88172645463325252;
+pub(crate) const SEED: u64 = 88172645463325252;
 
 // The next number of a sequence that looks random.
-fn mixed(number: u64) -> u64 {
+pub(crate) fn mixed(number: u64) -> u64 {
     let number = number ^ (number << 13);
     let number = number ^ (number >> 7);
     number ^ (number << 17)

@@ -6,7 +6,7 @@ pub returns-in-Err : goal.returns-in-Err
 returns-in-Err g c = refused _ _ _ _ _ c.in-Err.ensures.err
 
 pub returns-in-Ok-Err-None : goal.returns-in-Ok-Err-None
-returns-in-Ok-Err-None g c = stale _ _ _ _ (rw c.in-Ok-Err-None.field-0-is at c.in-Ok-Err-None.ensures.ok)
+returns-in-Ok-Err-None g c = stale _ _ _ _ (λ q i. i) (rw c.in-Ok-Err-None.field-0-is at c.in-Ok-Err-None.ensures.ok)
 
 pub returns-in-Ok-Err-Some : goal.returns-in-Ok-Err-Some
 returns-in-Ok-Err-Some g c = cap_stale _ _ _ _ _ (rw c.in-Ok-Err-Some.field-0-is at c.in-Ok-Err-Some.ensures.ok)

@@ -6,7 +6,7 @@ pub returns-in-Err : goal.returns-in-Err
 returns-in-Err g c = unable _ _ _ _ c.in-Err.ensures.cause
 
 pub returns-in-Ok-false : goal.returns-in-Ok-false
-returns-in-Ok-false g c = restarts _ _ _
+returns-in-Ok-false g c = restarts _ _ _ (λ q i. i)
 
 pub returns-in-Err-replace : goal.returns-in-Err-replace
 returns-in-Err-replace g c = refused _ _ _ _ _ c.in-Err-replace.ensures.err
