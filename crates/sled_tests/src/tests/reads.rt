@@ -5,17 +5,18 @@ use super::steps::{insert_of, is_value};
 use super::*;
 use crate::empty;
 use sled::Db;
-use sled_pages::{Link, Node, Pages, Version, View};
-use std::cell::Cell;
+use sled_pages::{Link, Node, Pages, Pid, Version, View};
+use std::sync::atomic::{AtomicU64, Ordering};
 
-// How many keys there are.
+// How many keys there are, and how many of them are looked for.
 const KEYS: u64 = 100_000;
+const SOUGHT: u64 = 2_000;
 
 // A store in memory that counts the pages that are read.
 #[derive(Drop)]
 struct Counting<'a> {
     inner: MemPages,
-    reads: &'a Cell<u64>,
+    reads: &'a AtomicU64,
 }
 
 impl<'a> Pages for Counting<'a> {
@@ -24,7 +25,7 @@ impl<'a> Pages for Counting<'a> {
     ghost store = { λ c. store_of c.inner };
 
     fn read(&self, alloc: Global, pid: Pid) -> sled_pages::Result<Option<View>> {
-        self.reads.set(self.reads.get().wrapping_add(1));
+        self.reads.fetch_add(1, Ordering::Relaxed);
         self.inner.read(alloc, pid)
     }
 
@@ -176,34 +177,35 @@ fn put_all<P: Pages, M: MergeOperator>(
     alloc: Global,
     machine: &mut Machine<P, M>,
     tree: &Tree,
-    reads: &Cell<u64>,
+    reads: &AtomicU64,
 ) -> Result<Tally, Fail> {
     let mut tally = Tally::new();
     let mut number = SEED;
     for _ in 0..KEYS {
         number = mixed(number);
-        reads.set(0);
         put(rt, alloc, machine, tree, number)?;
-        tally = tally.with(reads.get());
+        tally = tally.with(reads.swap(0, Ordering::Relaxed));
     }
     Ok(tally)
 }
 
-// Finds all keys in the tree.
-fn find_all<P: Pages, M: MergeOperator>(
+// Finds the first keys in the tree. A get too splits a page that it finds too long, so each key is looked for twice, and the
+// second time counts.
+fn find_first<P: Pages, M: MergeOperator>(
     rt: &impl Abort,
     alloc: Global,
     machine: &mut Machine<P, M>,
     tree: &Tree,
-    reads: &Cell<u64>,
+    reads: &AtomicU64,
 ) -> Result<Tally, Fail> {
     let mut tally = Tally::new();
     let mut number = SEED;
-    for _ in 0..KEYS {
+    for _ in 0..SOUGHT {
         number = mixed(number);
-        reads.set(0);
         find(rt, alloc, machine, tree, number)?;
-        tally = tally.with(reads.get());
+        reads.store(0, Ordering::Relaxed);
+        find(rt, alloc, machine, tree, number)?;
+        tally = tally.with(reads.swap(0, Ordering::Relaxed));
     }
     Ok(tally)
 }
@@ -213,14 +215,13 @@ fn reads_are_few<M: MergeOperator>(
     rt: &impl Abort,
     alloc: Global,
     db: Db<Counting<'_>, M>,
-    reads: &Cell<u64>,
+    reads: &AtomicU64,
 ) -> Result<(), Fail> {
     let tree = db.default_tree()?;
     let mut machine = Machine::new(db);
+    reads.store(0, Ordering::Relaxed);
     let puts = put_all(rt, alloc, &mut machine, &tree, reads)?;
-    // A get too splits a page that it finds too long. So each key is looked for once before the gets are counted.
-    find_all(rt, alloc, &mut machine, &tree, reads)?;
-    let finds = find_all(rt, alloc, &mut machine, &tree, reads)?;
+    let finds = find_first(rt, alloc, &mut machine, &tree, reads)?;
     let pages = machine.into_db().into_pages();
     assert_eq!(rt; levels_of(alloc, &pages.inner)?, 5);
     assert_eq!(rt; finds.least, 5);
@@ -236,7 +237,7 @@ fn reads_are_few<M: MergeOperator>(
 fn a_call_reads_few_more_pages_than_there_are_levels(rt: HostRuntime) -> Result<(), Fail> {
     let alloc = rt.alloc();
     println!(rt; "seed {SEED}")?;
-    let reads = Cell::new(0);
+    let reads = AtomicU64::new(0);
     let pages = Counting {
         inner: empty(alloc),
         reads: &reads,
