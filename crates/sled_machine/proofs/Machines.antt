@@ -34,7 +34,6 @@ use Rattle.sled.specs.Flush.{Stays, FlushesDb, RefusesFlush}
 use Rattle.sled_machine.specs.Slots.{kept_at, RiseAbove, StandsAt}
 use Rattle.sled_machine.specs.Values.{MachineValue, slots_of, instant_of}
 use Rattle.tree_laws.specs.Forest.{Forest}
-use Rattle.sled_pages.specs.In.{In}
 use Rattle.sled_tree.specs.Passing.{IsOnPath}
 use Rattle.sled_tree.specs.Stages.{owned}
 use Rattle.sled_tree.specs.Moves.{LeavesNone}
