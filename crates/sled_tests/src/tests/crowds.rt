@@ -86,6 +86,12 @@ fn abandon_both<M: MergeOperator>(
     assert!(rt; one && other);
 }
 
+// The text of the plain program's pairs.
+pub(crate) fn text_of(rt: &impl Abort, alloc: Global, plain: &Plain) -> Result<String, Fail> {
+    assert_eq!(rt; plain.trees.len(), 1);
+    shown(alloc, plain.trees[0].pairs.as_slice())
+}
+
 // Both have the same pairs.
 fn same_pairs<M: MergeOperator>(
     rt: &impl Abort,
@@ -93,8 +99,7 @@ fn same_pairs<M: MergeOperator>(
     machine: &Machine<MemPages, M>,
     plain: &Plain,
 ) -> Result<(), Fail> {
-    assert_eq!(rt; plain.trees.len(), 1);
-    let pairs = shown(alloc, plain.trees[0].pairs.as_slice())?;
+    let pairs = text_of(rt, alloc, plain)?;
     export_is(rt, alloc, machine, pairs.as_str())
 }
 
@@ -134,7 +139,7 @@ fn live<M: MergeOperator>(
 }
 
 // A plain program that was opened anew, with the pairs of the old one and no call in flight.
-fn reopened(rt: &impl Abort, alloc: Global, old: Plain) -> Result<Plain, Fail> {
+pub(crate) fn reopened(rt: &impl Abort, alloc: Global, old: Plain) -> Result<Plain, Fail> {
     let mut new = Plain::open(alloc, b"db")?;
     let mut old = old;
     assert_eq!(rt; old.trees.len(), 1);
@@ -180,6 +185,99 @@ fn calls_that_split_and_merge_together_reply_as_the_plain_program_does(
             Err((_, e)) => return failed(e),
         };
         plain = reopened(&rt, rt.alloc(), plain)?;
+    }
+    Ok(())
+}
+
+// Forty steps of eight calls. The text of the pairs is added after each call that was decided. Answers the next number of the
+// sequence.
+fn short_life<M: MergeOperator>(
+    rt: &impl Abort,
+    alloc: Global,
+    machine: &mut Machine<MemPages, M>,
+    tree: &Tree,
+    plain: &mut Plain,
+    texts: &mut Vec<String>,
+    first: u64,
+    grows: bool,
+) -> Result<u64, Fail> {
+    let mut number = first;
+    let mut slots = [Slot(0); 8];
+    for i in 0..8usize {
+        number = mixed(number);
+        slots[i] = begin_both(rt, alloc, machine, tree, plain, number, grows)?;
+    }
+    for _ in 0..40u32 {
+        number = mixed(number);
+        let i = (number % 8) as usize;
+        if step_both(rt, alloc, machine, plain, slots[i])? {
+            texts.push(text_of(rt, alloc, plain)?)?;
+            slots[i] = begin_both(rt, alloc, machine, tree, plain, number, grows)?;
+        }
+    }
+    Ok(number)
+}
+
+// Whether it is one of these texts.
+fn is_one_of(text: &str, texts: &[String]) -> bool {
+    for other in texts {
+        if other.as_str() == text {
+            return true;
+        }
+    }
+    false
+}
+
+// A plain program with the pairs that a crash left, which are those of one of the texts.
+fn recovered<M: MergeOperator>(
+    rt: &impl Abort,
+    alloc: Global,
+    db: &Db<MemPages, M>,
+    texts: &[String],
+) -> Result<Plain, Fail> {
+    let mut all = db.export()?;
+    assert_eq!(rt; all.len(), 1);
+    let text = shown(alloc, all[0].2.as_slice())?;
+    assert!(rt; is_one_of(text.as_str(), texts), "{text}");
+    let mut plain = Plain::open(alloc, b"db")?;
+    assert_eq!(rt; plain.trees.len(), 1);
+    std::mem::swap(&mut plain.trees[0].pairs, &mut all[0].2);
+    Ok(plain)
+}
+
+#[test]
+fn a_crash_at_any_action_leaves_a_beginning(rt: HostRuntime) -> Result<(), Fail> {
+    println!(rt; "seed {SEED}")?;
+    let alloc = rt.alloc();
+    let mut number = SEED;
+    let mut plain = Plain::open(alloc, b"db")?;
+    let mut db = match Db::open(alloc, empty(alloc), b"db") {
+        Ok(db) => db,
+        Err((_, e)) => return failed(e),
+    };
+    // The tree grows in a hundred lives and shrinks in a hundred. Each ends by a crash that keeps none to all of its actions.
+    for life in 0..400usize {
+        let mut texts = Vec::new(alloc);
+        texts.push(text_of(&rt, alloc, &plain)?)?;
+        let tree = db.default_tree()?;
+        let mut machine = Machine::new(db);
+        let grows = life % 200 < 100;
+        number = short_life(
+            &rt,
+            alloc,
+            &mut machine,
+            &tree,
+            &mut plain,
+            &mut texts,
+            number,
+            grows,
+        )?;
+        let pages = crash(machine.into_db(), life % 30)?;
+        db = match Db::open(alloc, pages, b"db") {
+            Ok(db) => db,
+            Err((_, e)) => return failed(e),
+        };
+        plain = recovered(&rt, alloc, &db, texts.as_slice())?;
     }
     Ok(())
 }

@@ -1,17 +1,9 @@
 //! The machine beside the plain program, on one sequence of moves that looks random.
+use super::crowds::{SEED, mixed, reopened, text_of};
 use super::*;
 use crate::{crash, empty};
 use sled::Db;
 use sled_model::plain::Plain;
-
-const SEED: u64 = 88172645463325252;
-
-// The next number of a sequence that looks random.
-fn mixed(number: u64) -> u64 {
-    let number = number ^ (number << 13);
-    let number = number ^ (number >> 7);
-    number ^ (number << 17)
-}
 
 // One of as many texts.
 fn choice(number: u64, texts: &[&'static str]) -> &'static str {
@@ -90,22 +82,6 @@ fn moved<M: MergeOperator>(
     Ok(())
 }
 
-// The pairs of the plain program's tree.
-fn plain_pairs(rt: &impl Abort, alloc: Global, plain: &Plain) -> Result<String, Fail> {
-    assert_eq!(rt; plain.trees.len(), 1);
-    shown(alloc, plain.trees[0].pairs.as_slice())
-}
-
-// A plain program that was opened anew, with the pairs of the old one and no call in flight.
-fn reopened(rt: &impl Abort, alloc: Global, old: Plain) -> Result<Plain, Fail> {
-    let mut new = Plain::open(alloc, b"db")?;
-    let mut old = old;
-    assert_eq!(rt; old.trees.len(), 1);
-    assert_eq!(rt; new.trees.len(), 1);
-    std::mem::swap(&mut new.trees[0].pairs, &mut old.trees[0].pairs);
-    Ok(new)
-}
-
 // Fifty moves of both, after each of which both have the same pairs: the next number of the sequence.
 fn live<M: MergeOperator>(
     rt: &impl Abort,
@@ -119,7 +95,7 @@ fn live<M: MergeOperator>(
     for _ in 0..50 {
         number = mixed(number);
         moved(rt, alloc, machine, tree, plain, number)?;
-        let pairs = plain_pairs(rt, alloc, plain)?;
+        let pairs = text_of(rt, alloc, plain)?;
         export_is(rt, alloc, machine, pairs.as_str())?;
     }
     Ok(number)
