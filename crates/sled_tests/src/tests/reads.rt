@@ -10,6 +10,7 @@ use std::sync::atomic::{AtomicU64, Ordering};
 
 // How many keys there are, and how many of them are looked for.
 const KEYS: u64 = 100_000;
+
 const SOUGHT: u64 = 2_000;
 
 // A store in memory that counts the pages that are read.
