@@ -255,7 +255,7 @@ fn a_crash_at_any_action_leaves_a_beginning(rt: HostRuntime) -> Result<(), Fail>
         Ok(db) => db,
         Err((_, e)) => return failed(e),
     };
-    // The tree grows in a hundred lives and shrinks in a hundred. Each ends by a crash that keeps none to all of its actions.
+    // Twice the tree grows in a hundred lives and shrinks in a hundred. Each ends by a crash that keeps none to 29 of its actions.
     for life in 0..400usize {
         let mut texts = Vec::new(alloc);
         texts.push(text_of(&rt, alloc, &plain)?)?;
