@@ -38,7 +38,7 @@ use Rattle.sled_tree.specs.Passing.{IsOnPath}
 use Rattle.sled_tree.specs.Stages.{owned}
 use Rattle.sled_tree.specs.Moves.{LeavesNone}
 use Rattle.sled_tree.proofs.Facts.{leaves_same}
-use Rattle.sled_machine.specs.Crash.{Reaches, passes_as, leaves_at, owned_by, keeps_as, acts_as}
+use Rattle.sled_machine.specs.Crash.{Reaches, passes_as, leaves_at, owned_by, keeps_as, acts_as, slot_of}
 use Rattle.sled_machine.specs.Sound.{IsMachine}
 use Rattle.sled_machine.specs.Fly.{StepsAt, flights_after}
 use Rattle.sled_machine.proofs.Places.{stands, set_kept, take_kept, set_rise, take_rise, push_kept, push_rise}
@@ -88,10 +88,10 @@ more i fs = ap (λ k. take i fs ++ drop k fs) (add-one i)
 module _ {P M : Type 0} (store : P → Store) (meant : M → Merge) (v : MachineValue P M) (im : IsMachine (moment (store v.db.pages) v.db.trees v.db.trees_given) v.flights v.slots_given) where
   -- no call has the slot
   pub missing_step : (slot : ℕ) → kept_at v.flights slot ≡ None → Reaches store meant v (step.Step slot) outcome.NoSuchSlot v
-  missing_step slot e = record { maps = []; is = record { step = record { told = (record { free = ap (option_map flying_of) e; is = refl }, refl) }; keeps = extends_same (store v.db.pages); acts = refl; rest = record { mark = refl; recovered = refl; readable = refl } }; passes = tt; leaves = λ w is. subst (λ o. LeavesNone (owned_by o) (owned_by o) (now (store v.db.pages)) (now (store v.db.pages)) w) (sym e) (leaves_same [] [] (now (store v.db.pages)) w (λ q i. i)) }
+  missing_step slot e = record { maps = []; is = record { step = record { told = (record { free = ap (option_map flying_of) e; is = refl }, refl) }; keeps = extends_same (store v.db.pages); acts = refl; rest = record { mark = refl; recovered = refl; readable = refl } }; others = λ q off. refl; passes = tt; leaves = λ w is. subst (λ o. LeavesNone (owned_by o) (owned_by o) (now (store v.db.pages)) (now (store v.db.pages)) w) (sym e) (leaves_same [] [] (now (store v.db.pages)) w (λ q i. i)) }
 
   pub missing_abandon : (slot : ℕ) → kept_at v.flights slot ≡ None → Reaches store meant v (step.Abandon slot) outcome.NoSuchSlot v
-  missing_abandon slot e = record { maps = []; is = record { step = record { told = (record { free = ap (option_map flying_of) e; is = refl }, refl) }; keeps = extends_same (store v.db.pages); acts = refl; rest = record { mark = refl; recovered = refl; readable = refl } }; passes = tt; leaves = tt }
+  missing_abandon slot e = record { maps = []; is = record { step = record { told = (record { free = ap (option_map flying_of) e; is = refl }, refl) }; keeps = extends_same (store v.db.pages); acts = refl; rest = record { mark = refl; recovered = refl; readable = refl } }; others = λ q off. refl; passes = tt; leaves = tt }
 
   pub in_range : (slot i : ℕ) → StandsAt v.flights slot i → i < length v.flights
   in_range slot i s = slice_get_within v.flights i (slot, s.kept) s.is
@@ -126,6 +126,7 @@ module _ {P M : Type 0} (store : P → Store) (meant : M → Merge) (v : Machine
         acts = refl;
         rest = record { mark = refl; recovered = refl; readable = refl };
       };
+      others = λ q off. gone q ∙ put_there (kept_at v.flights) slot q None (λ s. off (ap Some (sym s)));
       passes = tt;
       leaves = tt;
     }
@@ -146,18 +147,19 @@ module _ {P M : Type 0} (store : P → Store) (meant : M → Merge) (v : Machine
     abbrev after : Moment
     after = moment (store db.pages) db.trees db.trees_given
 
-    reach : (f next : Flight) (went : Went) → slice_get v.flights i ≡ Some (slot, f) → Flies store meant v.db f went db next → slots_of gs ≡ put_at (slots_of v.flights) slot (slot_after went next)
+    reach : (f next : Flight) (went : Went) → slice_get v.flights i ≡ Some (slot, f) → Flies store meant v.db f went db next → (kept : Option Flight) → option_map flying_of kept ≡ slot_after went next → ((q : ℕ) → kept_at gs q ≡ put_at (kept_at v.flights) slot kept q)
         → passes_as store v (step.Step slot) (outcome_of went) (record v { db = db; flights = gs }) → leaves_at store v (step.Step slot) (outcome_of went) (record v { db = db; flights = gs })
         → Reaches store meant v (step.Step slot) (outcome_of went) (record v { db = db; flights = gs })
-    reach f next went there flies slots passes leaves = record {
+    reach f next went there flies kept is are passes leaves = record {
       maps = maps_added went (maps_of (db_state store meant db));
       is = record {
-        step = subst (λ z. Steps (instant_of store meant v) (step.Step slot) (outcome_of went) (instant_of_db store meant db z v.slots_given) (maps_added went (maps_of (db_state store meant db)))) (sym slots)
+        step = subst (λ z. Steps (instant_of store meant v) (step.Step slot) (outcome_of went) (instant_of_db store meant db z v.slots_given) (maps_added went (maps_of (db_state store meant db)))) (sym (slots_put v.flights gs slot kept are ∙ ap (put_at (slots_of v.flights) slot) is))
             (flies.steps (slots_of v.flights) v.slots_given slot (ap (option_map flying_of) (at_place slot i f there)));
         keeps = keeps_flying went flies;
         acts = acts_flying went flies;
         rest = flies.rest;
       };
+      others = λ q off. are q ∙ put_there (kept_at v.flights) slot q kept (λ s. off (ap Some (sym s)));
       passes = passes;
       leaves = leaves;
     }
@@ -233,9 +235,9 @@ module _ {P M : Type 0} (store : P → Store) (meant : M → Merge) (v : Machine
         }
 
     stepped_as : (f next : Flight) (went : Went) → slice_get v.flights i ≡ Some (slot, f) → Flies store meant v.db f went db next → gs ≡ flights_after went v.flights slot i next → Reaches store meant v (step.Step slot) (outcome_of went) (record v { db = db; flights = gs }) × IsMachine after gs v.slots_given
-    stepped_as f next Moved there flies e = (reach f next Moved there flies (slots_put v.flights gs slot (Some next) (went_on f next there e)) (further f next there flies e) (λ w is. owns f (Some next) there (went_on f next there e) w (flies.leaves w is)), moved_machine f next there flies e)
-    stepped_as f next (Decided reply) there flies e = (reach f next (Decided reply) there flies (slots_put v.flights gs slot None (ended f there e)) tt (λ w is. owns f None there (ended f there e) w (flies.leaves w is)), ended_machine f next (Decided reply) there flies e)
-    stepped_as f next (Refused r) there flies e = (reach f next (Refused r) there flies (slots_put v.flights gs slot None (ended f there e)) tt tt, ended_machine f next (Refused r) there flies e)
+    stepped_as f next Moved there flies e = (reach f next Moved there flies (Some next) refl (went_on f next there e) (further f next there flies e) (λ w is. owns f (Some next) there (went_on f next there e) w (flies.leaves w is)), moved_machine f next there flies e)
+    stepped_as f next (Decided reply) there flies e = (reach f next (Decided reply) there flies None refl (ended f there e) tt (λ w is. owns f None there (ended f there e) w (flies.leaves w is)), ended_machine f next (Decided reply) there flies e)
+    stepped_as f next (Refused r) there flies e = (reach f next (Refused r) there flies None refl (ended f there e) tt tt, ended_machine f next (Refused r) there flies e)
 
     pub stepped : (o : Outcome) → StepsAt store meant v.db v.flights slot i o db gs → Reaches store meant v (step.Step slot) o (record v { db = db; flights = gs })
     stepped o s = subst (λ z. Reaches store meant v (step.Step slot) z (record v { db = db; flights = gs })) (sym s.outcome) (stepped_as s.flight s.next s.went s.there s.flies s.is).0
@@ -245,7 +247,7 @@ module _ {P M : Type 0} (store : P → Store) (meant : M → Merge) (v : Machine
 
   -- a call begins, or is refused
   pub begin_refused : (tree : Tree) (call : Call) (e : Error) → MayRefuse (state_of store meant v.db (slots_of v.flights) v.slots_given) (store v.db.pages) (store v.db.pages) (ToBegin tree call) e → Reaches store meant v (step.Begin tree call) (outcome.Refused e) v
-  begin_refused tree call e may = record { maps = []; is = record { step = record { told = (may, refl, refl) }; keeps = extends_same (store v.db.pages); acts = refl; rest = record { mark = refl; recovered = refl; readable = refl } }; passes = tt; leaves = tt }
+  begin_refused tree call e may = record { maps = []; is = record { step = record { told = (may, refl, refl) }; keeps = extends_same (store v.db.pages); acts = refl; rest = record { mark = refl; recovered = refl; readable = refl } }; others = λ q off. refl; passes = tt; leaves = tt }
 
   pub begin_untested : (tree : Tree) (call : Call) (e : Error) → MustBeRefused (must_refuse_of (db_state store meant v.db) (tree ∷ [])) e → Reaches store meant v (step.Begin tree call) (outcome.Refused e) v
   begin_untested tree call e tested = begin_refused tree call e (record { told = go (must_refuse_of (db_state store meant v.db) (tree ∷ [])) tested.told })
@@ -287,6 +289,7 @@ module _ {P M : Type 0} (store : P → Store) (meant : M → Merge) (v : Machine
           acts = refl;
           rest = record { mark = refl; recovered = refl; readable = refl };
         };
+        others = λ q off. added q ∙ put_there (kept_at v.flights) slot q (Some f) (λ s. off (ap Some (sym s)));
         passes = tt;
         leaves = tt;
       }
@@ -320,6 +323,7 @@ module _ {P M : Type 0} (store : P → Store) (meant : M → Merge) (v : Machine
   flushed_all db n f = record {
     maps = [];
     is = record { step = record { told = (f.free, f.stays.state (slots_of v.flights) v.slots_given, refl) }; keeps = record { flushes = f.flushes; leaves = record { is = subst (λ z. Matches z (maps_of (db_state store meant db) ∷ [])) (sym (ap (map trees_of) f.left ∙ ap (λ z. z ∷ []) f.maps)) (matches_same _) } }; acts = f.flushes.actions; rest = f.stays.rest };
+    others = λ q off. refl;
     passes = tt;
     leaves = tt;
   }
@@ -328,6 +332,7 @@ module _ {P M : Type 0} (store : P → Store) (meant : M → Merge) (v : Machine
   flush_refused db e f = record {
     maps = [];
     is = record { step = record { told = (f.may (slots_of v.flights) v.slots_given, f.stays.state (slots_of v.flights) v.slots_given, refl) }; keeps = f.extends; acts = f.actions; rest = f.stays.rest };
+    others = λ q off. refl;
     passes = tt;
     leaves = tt;
   }

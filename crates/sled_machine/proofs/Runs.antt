@@ -26,7 +26,7 @@ use Rattle.sled.specs.Values.{moment}
 use Rattle.sled_machine.specs.Slots.{kept_at}
 use Rattle.sled_machine.specs.Sound.{IsMachine}
 use Rattle.sled_machine.specs.Values.{MachineValue, instant_of, slots_of}
-use Rattle.sled_machine.specs.Crash.{StepsTo, Reaches, Performs, Finishes, IsAhead, steps_of, outcomes_of, Leaves, keeps_as, kept_after, RunsKeeping, KeepsAll, KeepsMore}
+use Rattle.sled_machine.specs.Crash.{StepsTo, Reaches, ReachesAll, NoCalls, OneCall, Performs, Finishes, IsAhead, steps_of, outcomes_of, Leaves, keeps_as, kept_after, RunsKeeping, KeepsAll, KeepsMore}
 use Rattle.sled_machine.proofs.Machines.{put_here}
 
 -- what a crash may leave goes on by the maps that were added
@@ -62,11 +62,19 @@ keeps_more kept [] (p ∷ os) last run r = elim run [ ]
 keeps_more kept (t ∷ ss) [] last run r = elim run [ ]
 
 module _ {P M : Type 0} (store : P → Store) (meant : M → Merge) where
+  -- one more call at the end
+  reaches_more : (a m b : MachineValue P M) (ss : List Step) (os : List Outcome) (s : Step) (o : Outcome) → ReachesAll store meant a ss os m → Reaches store meant m s o b → ReachesAll store meant a (ss ++ s ∷ []) (os ++ o ∷ []) b
+  reaches_more a m b [] [] s o NoCalls r = OneCall r NoCalls
+  reaches_more a m b (t ∷ ss) (p ∷ os) s o (OneCall {m = c} q run) r = OneCall q (reaches_more c m b ss os s o run r)
+  reaches_more a m b [] (p ∷ os) s o run r = elim run [ ]
+  reaches_more a m b (t ∷ ss) [] s o run r = elim run [ ]
+
   pub performs_none : (a : MachineValue P M) → Performs store meant a [] [] a
-  performs_none a = record { maps = []; run = NoSteps; keeps = λ kept l. record { last = kept; run = KeepsAll; leaves = l } }
+  performs_none a = record { reaches = NoCalls; maps = []; run = NoSteps; keeps = λ kept l. record { last = kept; run = KeepsAll; leaves = l } }
 
   pub performs_more : (a m b : MachineValue P M) (ss : List Step) (os : List Outcome) (s : Step) (o : Outcome) → Performs store meant a ss os m → Reaches store meant m s o b → Performs store meant a (ss ++ s ∷ []) (os ++ o ∷ []) b
   performs_more a m b ss os s o p r = let k = runs_more ss os p.maps p.run r.is in record {
+    reaches = reaches_more a m b ss os s o p.reaches r;
     maps = k.0;
     run = k.1;
     keeps = λ kept l.

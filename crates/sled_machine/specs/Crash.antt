@@ -11,7 +11,7 @@ use Rattle.sled_model.specs.Runs.{RunsBy}
 use Rattle.sled_model.specs.declared.outcome.Step.{Step}
 use Rattle.sled_model.specs.declared.outcome.Step.TheVariants as step
 use Rattle.sled_model.specs.declared.outcome.Outcome.{Outcome}
-use Rattle.sled_model.specs.declared.outcome.Outcome.TheVariants.{Moved, Decided, Refused, NoSuchSlot}
+use Rattle.sled_model.specs.declared.outcome.Outcome.TheVariants.{Begun, Moved, Decided, Refused, NoSuchSlot}
 use Rattle.sled_model.specs.declared.call.Whole.TheVariants.{Flush}
 use Rattle.sled_model.specs.declared.TheConstants.{MAX_LOOPS}
 use Rattle.sled_pages.specs.declared.error.Error.{Error}
@@ -90,6 +90,13 @@ leaves_at store old (step.Step slot) o new = (v : Forest) → IsMoment (moment (
     → LeavesNone (owned_by (kept_at old.flights slot)) (owned_by (kept_at new.flights slot)) (now (store old.db.pages)) (now (store new.db.pages)) v
 leaves_at store old s o new = Unit {0}
 
+-- the slot that a step is about; a flush is about none, and nor is a call that does not begin
+abbrev pub slot_of : Step → Outcome → Option ℕ
+slot_of (step.Begin tree call) (Begun slot) = Some slot
+slot_of (step.Step slot) o = Some slot
+slot_of (step.Abandon slot) o = Some slot
+slot_of s o = None
+
 -- one step, with its outcome and the maps that it added
 pub record StepsTo (old : Instant) (s : Step) (o : Outcome) (new : Instant) (maps : List Maps) : Type 0 where
   pub step : Steps old s o new maps
@@ -101,9 +108,17 @@ pub record StepsTo (old : Instant) (s : Step) (o : Outcome) (new : Instant) (map
 pub record Reaches {P M : Type 0} (store : P → Store) (meant : M → Merge) (old : MachineValue P M) (s : Step) (o : Outcome) (new : MachineValue P M) : Type 0 where
   pub maps : List Maps
   pub is : StepsTo (instant_of store meant old) s o (instant_of store meant new) maps
+  -- the calls in all other slots are as they were, with what they know of the pages and what they own
+  pub others : (slot : ℕ) → slot_of s o ≢ Some slot → kept_at new.flights slot ≡ kept_at old.flights slot
   -- on a clean path the call in the slot goes one page further, or ends
   pub passes : passes_as store old s o new
   pub leaves : leaves_at store old s o new
+
+-- the steps were made in order, each as one call of the machine
+pub data ReachesAll {P M : Type 0} (store : P → Store) (meant : M → Merge) : MachineValue P M → List Step → List Outcome → MachineValue P M → Type 0 where
+  NoCalls : {m : MachineValue P M} → ReachesAll store meant m [] [] m
+  OneCall : {a m b : MachineValue P M} {step : Step} {steps : List Step} {outcome : Outcome} {outcomes : List Outcome}
+      → Reaches store meant a step outcome m → ReachesAll store meant m steps outcomes b → ReachesAll store meant a (step ∷ steps) (outcome ∷ outcomes) b
 
 -- A run, with the list of maps that a crash might leave before it and the list after it:
 -- the map at the last flush that was decided, if there was one, else the list before; and then the map after each call that was decided since
@@ -120,6 +135,7 @@ pub record Keeps (old new : Instant) (steps : List Step) (outcomes : List Outcom
 
 -- a list of steps, one after the other
 pub record Performs {P M : Type 0} (store : P → Store) (meant : M → Merge) (old : MachineValue P M) (steps : List Step) (outcomes : List Outcome) (new : MachineValue P M) : Type 0 where
+  pub reaches : ReachesAll store meant old steps outcomes new
   -- each is a step of the model, and these are the maps after each call that was decided, in order
   pub maps : List Maps
   pub run : RunsBy StepsTo (instant_of store meant old) steps outcomes (instant_of store meant new) maps
