@@ -1,8 +1,13 @@
 //! The calls of a database by themselves, without a machine.
+ghost use Rattle.sled_pages.specs.Memory.{store_of};
+ghost use Rattle.sled.specs.Values.{moment};
+ghost use Rattle.sled.specs.Flights.{IsKnown};
+
 use super::*;
 use crate::{crash, empty};
 use sled::{DEFAULT_TREE, Db};
 use sled_pages::texts;
+use sled_tree::{Flight, Went};
 
 // So many actions become durable.
 fn flushes<M: MergeOperator>(
@@ -85,4 +90,46 @@ fn what_a_crash_leaves_was_recovered(rt: HostRuntime) -> Result<(), Fail> {
     };
     assert!(rt; db.was_recovered());
     Ok(())
+}
+
+// The first two steps of a call, or the first alone where the call ends with it.
+fn two_steps<M: MergeOperator>(db: &mut Db<MemPages, M>, flight: &mut Flight) -> Went
+    requires { IsKnown (moment (store_of db.old.pages) db.old.trees db.old.trees_given) flight.old }
+{
+    match db.fly(flight) {
+        Went::Moved => db.fly(flight),
+        went => went,
+    }
+}
+
+fn discard<T: Drop>(_item: T) {}
+
+// Begins a call on the default tree, and makes its first two steps. They come out so.
+fn flown_is<M: MergeOperator>(
+    rt: &impl Abort,
+    alloc: Global,
+    db: &mut Db<MemPages, M>,
+    call: Call,
+    wanted: &str,
+) -> Result<(), Fail> {
+    let mut flight = Flight::new(db.default_tree()?, call);
+    let went = two_steps(db, &mut flight);
+    discard(flight);
+    let outcome = match went {
+        Went::Moved => Outcome::Moved,
+        Went::Decided(reply) => Outcome::Decided(reply),
+        Went::Refused(e) => Outcome::Refused(e),
+    };
+    outcome_is(rt, alloc, &outcome, wanted)
+}
+
+#[test]
+fn a_call_flies_without_a_machine(rt: HostRuntime) -> Result<(), Fail> {
+    let alloc = rt.alloc();
+    let mut db = match Db::open(alloc, empty(alloc), b"db") {
+        Ok(db) => db,
+        Err((_, e)) => return failed(e),
+    };
+    flown_is(&rt, alloc, &mut db, insert(alloc, "k", "v")?, "none")?;
+    flown_is(&rt, alloc, &mut db, read(alloc, "k")?, "v")
 }
