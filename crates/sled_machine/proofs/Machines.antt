@@ -68,6 +68,10 @@ put_map f k n x q = elim (nat_eq q n) as (λ b. option_map f (cond b x (k q)) �
 slots_put : (fs gs : List (ℕ × Flight)) (slot : ℕ) (x : Option Flight) → ((q : ℕ) → kept_at gs q ≡ put_at (kept_at fs) slot x q) → slots_of gs ≡ put_at (slots_of fs) slot (option_map flying_of x)
 slots_put fs gs slot x e = fun_ext (λ q. ap (option_map flying_of) (e q) ∙ put_map flying_of (kept_at fs) slot x q)
 
+-- what is kept in the other slots is as it was
+elsewhere : (fs gs : List (ℕ × Flight)) (slot : ℕ) (x : Option Flight) → ((q : ℕ) → kept_at gs q ≡ put_at (kept_at fs) slot x q) → (q : ℕ) → Some slot ≢ Some q → kept_at gs q ≡ kept_at fs q
+elsewhere fs gs slot x e q off = e q ∙ put_there (kept_at fs) slot q x (λ s. off (ap Some (sym s)))
+
 -- whoever is in the list with one number less was in it before
 fewer : (fs gs : List (ℕ × Flight)) (slot : ℕ) → ((q : ℕ) → kept_at gs q ≡ put_at (kept_at fs) slot None q) → (j : ℕ) (f : Flight) → kept_at gs j ≡ Some f → (kept_at fs j ≡ Some f) × (j ≢ slot)
 fewer fs gs slot e j f there = elim (same_or_not j slot) [
@@ -126,7 +130,7 @@ module _ {P M : Type 0} (store : P → Store) (meant : M → Merge) (v : Machine
         acts = refl;
         rest = record { mark = refl; recovered = refl; readable = refl };
       };
-      others = λ q off. gone q ∙ put_there (kept_at v.flights) slot q None (λ s. off (ap Some (sym s)));
+      others = elsewhere v.flights gs slot None gone;
       passes = tt;
       leaves = tt;
     }
@@ -159,7 +163,7 @@ module _ {P M : Type 0} (store : P → Store) (meant : M → Merge) (v : Machine
         acts = acts_flying went flies;
         rest = flies.rest;
       };
-      others = λ q off. are q ∙ put_there (kept_at v.flights) slot q kept (λ s. off (ap Some (sym s)));
+      others = elsewhere v.flights gs slot kept are;
       passes = passes;
       leaves = leaves;
     }
@@ -289,7 +293,7 @@ module _ {P M : Type 0} (store : P → Store) (meant : M → Merge) (v : Machine
           acts = refl;
           rest = record { mark = refl; recovered = refl; readable = refl };
         };
-        others = λ q off. added q ∙ put_there (kept_at v.flights) slot q (Some f) (λ s. off (ap Some (sym s)));
+        others = elsewhere v.flights gs slot (Some f) added;
         passes = tt;
         leaves = tt;
       }
