@@ -39,7 +39,7 @@ use Rattle.sled_tree.specs.Moves.{Moves, ActsOnce, ActsAtMostOnce, Acts, Same, D
 use Rattle.sled.specs.Values.{KeepsRest, DbValue, numbers_of, given_to, named, state_of, db_state, moment}
 use Rattle.sled.specs.Sound.{IsDb}
 use Rattle.sled.specs.Calls.{MustBeRefused, must_be_refused_as}
-use Rattle.sled.specs.Flights.{flying_of, IsKnown, Flies}
+use Rattle.sled.specs.Flights.{flying_of, IsKnown, StillStands, LosesNone, Flies}
 use Rattle.sled.proofs.Trees.{trees_at, trees_same, trees_put, maps_are, current, numbered}
 
 none_some : {P X : Type 0} {x : X} → None ≡ Some x → P
@@ -107,6 +107,22 @@ known_kept {mine} {own} {old} {new} {w} {v} is a h k off = record {
   few = k.few;
   begins = k.begins;
 }
+
+-- what an action leaves of the trees, at the forests that fit
+pub loses_nothing : (m : Moment) → LosesNone m m
+loses_nothing m w v was is = subst (λ (z : Forest). StillStands w (nodes_at m) z) (one_law (nodes_at m) m.state.roots w v was.formed is.formed) (record { told = λ x p i. inl i })
+
+loses_acting : {mine own : List ℕ} (m n : Moment) (w v : Forest) → IsMoment m w → Acts mine own m w n v → LosesNone m n
+loses_acting m n w v is a u z was is_now =
+    subst (λ (f : Forest). StillStands f (nodes_at n) z) (one_law (nodes_at m) m.state.roots w u is.formed was.formed)
+    (subst (λ (f : Forest). StillStands w (nodes_at n) f) (one_law (nodes_at n) n.state.roots v z a.is.formed is_now.formed)
+    (record {
+      told = λ x p i.
+          let here = is.formed.page x p (is.formed.homed x p i) in let s = a.goes.keeps.stood x p here.0 none_some i here.1.live in elim s.3 [
+            | inl c ↦ inl c
+            | inr b ↦ inr (s.0, s.1, b)
+          ];
+    }))
 
 -- what a step leaves of the store, whatever its action
 pub record Touches (a b : Store) : Type 0 where
@@ -210,6 +226,7 @@ module _ {P M : Type 0} (store : P → Store) (meant : M → Merge) (old : DbVal
     quiet = λ q. refl;
     rest = record { mark = refl; recovered = refl; readable = refl };
     passes = record { told = tt };
+    loses = loses_nothing at;
     leaves = λ v is. tt;
     goes_on = λ e. absurd (apart e);
     others = λ h off k. (k, λ e. absurd (apart e));
@@ -322,6 +339,7 @@ module _ {P M : Type 0} (store : P → Store) (meant : M → Merge) (old : DbVal
           quiet = λ k. absurd (apart k.reply k.decided);
           rest = moved_touches.rest;
           passes = further;
+          loses = loses_acting at after db.forest moved.0 db.is moved.1;
           leaves = λ u is. subst (λ (z : Forest). LeavesNone (owned f.stage) (owned g.stage) (now (store old.pages)) (now (store q)) z) (one_law (nodes_at after) after.state.roots moved.0 u moved.1.is.formed is.formed) moved.3;
           goes_on = λ e. (job, moved_known);
           others = λ h apart k. (known_kept db.is moved.1 h k apart.off, λ e. record { off = λ p i j. not_own db.is moved.1 h k apart.off p j i });
@@ -371,6 +389,7 @@ module _ {P M : Type 0} (store : P → Store) (meant : M → Merge) (old : DbVal
           quiet = λ k. absurd (apart k.reply k.decided);
           rest = rests.rest;
           passes = record { told = tt };
+          loses = loses_acting at after db.forest refused.0 db.is refused.1;
           leaves = λ v is. tt;
           goes_on = λ e. absurd (off e);
           others = λ h a k. (known_kept db.is refused.1 h k a.off, λ e. absurd (off e));
@@ -469,6 +488,7 @@ module _ {P M : Type 0} (store : P → Store) (meant : M → Merge) (old : DbVal
           quiet = λ k. done.2.quiet (ap (λ (t : NamedTree). (answer_of f.job.call t.map).event) (some_is (sym there ∙ k.there)) ∙ k.silent);
           rest = done_touches.rest;
           passes = record { told = tt };
+          loses = loses_acting at after db.forest done.0 db.is done.1;
           leaves = λ u is. subst (λ (z : Forest). LeavesNone (owned f.stage) [] (now (store old.pages)) (now (store q)) z) (one_law (nodes_at after) after.state.roots done.0 u done.1.is.formed is.formed) done.3;
           goes_on = λ e. absurd (off e);
           others = λ h a k. (known_kept db.is done.1 h k a.off, λ e. absurd (off e));

@@ -1,6 +1,8 @@
 -- One step of a call in flight on a database.
-use Rattle.std.specs.Prelude.{◌≡◌, ℕ, ◌+◌, ◌≤◌, List, [], ◌∷◌, Option, Some, None}
+use Rattle.std.specs.Prelude.{◌≡◌, ℕ, ◌+◌, ◌≤◌, ◌⊎◌, true, List, [], ◌∷◌, Option, Some, None}
 use Rattle.sled_pages.specs.In.{In}
+use Rattle.sled_pages.specs.State.{Nodes}
+use Rattle.sled_pages.specs.declared.node.Node.{Node}
 use Rattle.sled_pages.specs.Store.{Store, now}
 use Rattle.sled_pages.specs.declared.error.Error.{Error}
 use Rattle.sled_pages.specs.Update.{put_at}
@@ -13,9 +15,9 @@ use Rattle.sled_model.specs.declared.outcome.Outcome.{Outcome}
 use Rattle.sled_model.specs.declared.outcome.Outcome.TheVariants as outcome
 use Rattle.sled_model.specs.declared.outcome.Step.TheVariants as step
 use Rattle.sled_model.specs.declared.TheConstants.{MAX_LOOPS}
-use Rattle.tree_laws.specs.Forest.{Forest}
+use Rattle.tree_laws.specs.Forest.{Place, Forest}
 use Rattle.tree_laws.specs.Crashes.{Extends}
-use Rattle.tree_laws.specs.Moment.{Moment, IsMoment}
+use Rattle.tree_laws.specs.Moment.{Moment, nodes_at, IsMoment}
 use Rattle.sled_tree.specs.Stages.{IsStage, owned}
 use Rattle.sled_tree.specs.Moves.{leaves_as}
 use Rattle.sled_tree.specs.Passing.{GoesFurther}
@@ -73,6 +75,14 @@ pub record IsQuiet {P M : Type 0} (store : P → Store) (meant : M → Merge) (o
   pub there : (db_state store meant old).trees f.job.tree.name ≡ Some tree
   pub silent : (answer_of f.job.call tree.map).event ≡ None
 
+-- each page that stood in a tree stands there still, or is merging
+pub record StillStands (w : Forest) (nodes : Nodes) (v : Forest) : Type 0 where
+  pub told : (x : Place) (p : ℕ) → In p (w.chain x) → In p (v.chain x) ⊎ ((n : Node) × (nodes p ≡ Some n) × (n.merging ≡ true))
+
+-- .. at the forests that fit the pages at the two moments
+abbrev pub LosesNone : Moment → Moment → Type 0
+LosesNone old new = (w v : Forest) → IsMoment old w → IsMoment new v → StillStands w (nodes_at new) v
+
 -- One step of a call in flight
 pub record Flies {P M : Type 0} (store : P → Store) (meant : M → Merge) (old : DbValue P M) (f : Flight) (went : Went) (new : DbValue P M) (g : Flight) : Type 0 where
   -- in whatever slot the call is, the machine makes this step
@@ -87,7 +97,8 @@ pub record Flies {P M : Type 0} (store : P → Store) (meant : M → Merge) (old
   pub rest : KeepsRest (store old.pages) (store new.pages)
   -- on a clean path the call goes one page further, or ends
   pub passes : GoesFurther (now (store old.pages)) f went (now (store new.pages)) g
-  -- no page is left behind, but by a call that is refused
+  -- no page of a tree is lost, and none of the call's own is left behind, but by a call that is refused
+  pub loses : LosesNone (moment (store old.pages) old.trees old.trees_given) (moment (store new.pages) new.trees new.trees_given)
   pub leaves : (v : Forest) → IsMoment (moment (store new.pages) new.trees new.trees_given) v → leaves_as (next_of went g) (owned f.stage) (now (store old.pages)) (now (store new.pages)) v
   -- the call goes on, and knows what it needs
   pub goes_on : went ≡ Moved → (g.job ≡ f.job) × IsKnown (moment (store new.pages) new.trees new.trees_given) g

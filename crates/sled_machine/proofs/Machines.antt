@@ -29,8 +29,9 @@ use Rattle.sled_tree.specs.declared.flight.Went.{Went}
 use Rattle.sled_tree.specs.declared.flight.Went.TheVariants.{Moved, Decided, Refused}
 use Rattle.sled.specs.Values.{DbValue, state_of, db_state, instant_of as instant_of_db, moment}
 use Rattle.sled.specs.Calls.{MustBeRefused, must_be_refused_as}
-use Rattle.sled.specs.Flights.{flying_of, IsKnown, AreApart, Flies, outcome_of, slot_after, maps_added}
+use Rattle.sled.specs.Flights.{flying_of, IsKnown, AreApart, LosesNone, Flies, outcome_of, slot_after, maps_added}
 use Rattle.sled.specs.Flush.{Stays, FlushesDb, RefusesFlush}
+use Rattle.sled.proofs.Flying.{loses_nothing}
 use Rattle.sled_machine.specs.Slots.{kept_at, RiseAbove, StandsAt}
 use Rattle.sled_machine.specs.Values.{MachineValue, slots_of, instant_of}
 use Rattle.tree_laws.specs.Forest.{Forest}
@@ -92,10 +93,10 @@ more i fs = ap (λ k. take i fs ++ drop k fs) (add-one i)
 module _ {P M : Type 0} (store : P → Store) (meant : M → Merge) (v : MachineValue P M) (im : IsMachine (moment (store v.db.pages) v.db.trees v.db.trees_given) v.flights v.slots_given) where
   -- no call has the slot
   pub missing_step : (slot : ℕ) → kept_at v.flights slot ≡ None → Reaches store meant v (step.Step slot) outcome.NoSuchSlot v
-  missing_step slot e = record { maps = []; is = record { step = record { told = (record { free = ap (option_map flying_of) e; is = refl }, refl) }; keeps = extends_same (store v.db.pages); acts = refl; rest = record { mark = refl; recovered = refl; readable = refl } }; others = λ q off. refl; passes = tt; leaves = λ w is. subst (λ o. LeavesNone (owned_by o) (owned_by o) (now (store v.db.pages)) (now (store v.db.pages)) w) (sym e) (leaves_same [] [] (now (store v.db.pages)) w (λ q i. i)) }
+  missing_step slot e = record { maps = []; is = record { step = record { told = (record { free = ap (option_map flying_of) e; is = refl }, refl) }; keeps = extends_same (store v.db.pages); acts = refl; rest = record { mark = refl; recovered = refl; readable = refl } }; starts = tt; others = λ q off. refl; passes = tt; loses = loses_nothing (moment (store v.db.pages) v.db.trees v.db.trees_given); leaves = λ w is. subst (λ o. LeavesNone (owned_by o) (owned_by o) (now (store v.db.pages)) (now (store v.db.pages)) w) (sym e) (leaves_same [] [] (now (store v.db.pages)) w (λ q i. i)) }
 
   pub missing_abandon : (slot : ℕ) → kept_at v.flights slot ≡ None → Reaches store meant v (step.Abandon slot) outcome.NoSuchSlot v
-  missing_abandon slot e = record { maps = []; is = record { step = record { told = (record { free = ap (option_map flying_of) e; is = refl }, refl) }; keeps = extends_same (store v.db.pages); acts = refl; rest = record { mark = refl; recovered = refl; readable = refl } }; others = λ q off. refl; passes = tt; leaves = tt }
+  missing_abandon slot e = record { maps = []; is = record { step = record { told = (record { free = ap (option_map flying_of) e; is = refl }, refl) }; keeps = extends_same (store v.db.pages); acts = refl; rest = record { mark = refl; recovered = refl; readable = refl } }; starts = tt; others = λ q off. refl; passes = tt; loses = loses_nothing (moment (store v.db.pages) v.db.trees v.db.trees_given); leaves = tt }
 
   pub in_range : (slot i : ℕ) → StandsAt v.flights slot i → i < length v.flights
   in_range slot i s = slice_get_within v.flights i (slot, s.kept) s.is
@@ -130,8 +131,10 @@ module _ {P M : Type 0} (store : P → Store) (meant : M → Merge) (v : Machine
         acts = refl;
         rest = record { mark = refl; recovered = refl; readable = refl };
       };
+      starts = tt;
       others = elsewhere v.flights gs slot None gone;
       passes = tt;
+      loses = loses_nothing (moment (store v.db.pages) v.db.trees v.db.trees_given);
       leaves = tt;
     }
 
@@ -163,8 +166,10 @@ module _ {P M : Type 0} (store : P → Store) (meant : M → Merge) (v : Machine
         acts = acts_flying went flies;
         rest = flies.rest;
       };
+      starts = tt;
       others = elsewhere v.flights gs slot kept are;
       passes = passes;
+      loses = flies.loses;
       leaves = leaves;
     }
       where
@@ -251,7 +256,7 @@ module _ {P M : Type 0} (store : P → Store) (meant : M → Merge) (v : Machine
 
   -- a call begins, or is refused
   pub begin_refused : (tree : Tree) (call : Call) (e : Error) → MayRefuse (state_of store meant v.db (slots_of v.flights) v.slots_given) (store v.db.pages) (store v.db.pages) (ToBegin tree call) e → Reaches store meant v (step.Begin tree call) (outcome.Refused e) v
-  begin_refused tree call e may = record { maps = []; is = record { step = record { told = (may, refl, refl) }; keeps = extends_same (store v.db.pages); acts = refl; rest = record { mark = refl; recovered = refl; readable = refl } }; others = λ q off. refl; passes = tt; leaves = tt }
+  begin_refused tree call e may = record { maps = []; is = record { step = record { told = (may, refl, refl) }; keeps = extends_same (store v.db.pages); acts = refl; rest = record { mark = refl; recovered = refl; readable = refl } }; starts = tt; others = λ q off. refl; passes = tt; loses = loses_nothing (moment (store v.db.pages) v.db.trees v.db.trees_given); leaves = tt }
 
   pub begin_untested : (tree : Tree) (call : Call) (e : Error) → MustBeRefused (must_refuse_of (db_state store meant v.db) (tree ∷ [])) e → Reaches store meant v (step.Begin tree call) (outcome.Refused e) v
   begin_untested tree call e tested = begin_refused tree call e (record { told = go (must_refuse_of (db_state store meant v.db) (tree ∷ [])) tested.told })
@@ -293,8 +298,10 @@ module _ {P M : Type 0} (store : P → Store) (meant : M → Merge) (v : Machine
           acts = refl;
           rest = record { mark = refl; recovered = refl; readable = refl };
         };
+        starts = added slot ∙ put_here (kept_at v.flights) slot (Some f) ∙ ap Some is;
         others = elsewhere v.flights gs slot (Some f) added;
         passes = tt;
+        loses = loses_nothing (moment (store v.db.pages) v.db.trees v.db.trees_given);
         leaves = tt;
       }
 
@@ -323,12 +330,17 @@ module _ {P M : Type 0} (store : P → Store) (meant : M → Merge) (v : Machine
           }
 
   -- a flush
+  loses_flush : (db : DbValue P M) → Stays store meant v.db db → LosesNone (moment (store v.db.pages) v.db.trees v.db.trees_given) (moment (store db.pages) db.trees db.trees_given)
+  loses_flush db s = subst (λ (m : Moment). LosesNone (moment (store v.db.pages) v.db.trees v.db.trees_given) m) (sym s.moment) (loses_nothing (moment (store v.db.pages) v.db.trees v.db.trees_given))
+
   pub flushed_all : (db : DbValue P M) (n : ℕ) → FlushesDb store meant v.db db → Reaches store meant v (step.Whole Flush) (outcome.Decided (Number n)) (record v { db = db })
   flushed_all db n f = record {
     maps = [];
     is = record { step = record { told = (f.free, f.stays.state (slots_of v.flights) v.slots_given, refl) }; keeps = record { flushes = f.flushes; leaves = record { is = subst (λ z. Matches z (maps_of (db_state store meant db) ∷ [])) (sym (ap (map trees_of) f.left ∙ ap (λ z. z ∷ []) f.maps)) (matches_same _) } }; acts = f.flushes.actions; rest = f.stays.rest };
+    starts = tt;
     others = λ q off. refl;
     passes = tt;
+    loses = loses_flush db f.stays;
     leaves = tt;
   }
 
@@ -336,8 +348,10 @@ module _ {P M : Type 0} (store : P → Store) (meant : M → Merge) (v : Machine
   flush_refused db e f = record {
     maps = [];
     is = record { step = record { told = (f.may (slots_of v.flights) v.slots_given, f.stays.state (slots_of v.flights) v.slots_given, refl) }; keeps = f.extends; acts = f.actions; rest = f.stays.rest };
+    starts = tt;
     others = λ q off. refl;
     passes = tt;
+    loses = loses_flush db f.stays;
     leaves = tt;
   }
 

@@ -24,7 +24,9 @@ use Rattle.sled_tree.specs.Stages.{owned}
 use Rattle.sled_tree.specs.Moves.{LeavesNone}
 use Rattle.sled_tree.specs.Passing.{IsOnPath}
 use Rattle.sled_tree.specs.declared.flight.Flight.{Flight}
+use Rattle.sled_tree.specs.declared.flight.Stage.TheVariants.{Root}
 use Rattle.sled.specs.Values.{KeepsRest, moment}
+use Rattle.sled.specs.Flights.{LosesNone}
 use Rattle.sled_machine.specs.Slots.{kept_at}
 use Rattle.sled_machine.specs.Values.{MachineValue, slots_of, instant_of}
 
@@ -97,6 +99,11 @@ slot_of (step.Step slot) o = Some slot
 slot_of (step.Abandon slot) o = Some slot
 slot_of s o = None
 
+-- a call that begins has yet to read its tree's root
+abbrev pub starts_as : {P M : Type 0} → Step → Outcome → MachineValue P M → Type 0
+starts_as (step.Begin tree call) (Begun slot) new = kept_at new.flights slot ≡ Some (record { job = record { tree = tree; call = call }; stage = Root; turns = 0 })
+starts_as s o new = Unit {0}
+
 -- one step, with its outcome and the maps that it added
 pub record StepsTo (old : Instant) (s : Step) (o : Outcome) (new : Instant) (maps : List Maps) : Type 0 where
   pub step : Steps old s o new maps
@@ -108,10 +115,13 @@ pub record StepsTo (old : Instant) (s : Step) (o : Outcome) (new : Instant) (map
 pub record Reaches {P M : Type 0} (store : P → Store) (meant : M → Merge) (old : MachineValue P M) (s : Step) (o : Outcome) (new : MachineValue P M) : Type 0 where
   pub maps : List Maps
   pub is : StepsTo (instant_of store meant old) s o (instant_of store meant new) maps
+  pub starts : starts_as s o new
   -- the calls in all other slots are as they were, with what they know of the pages and what they own
   pub others : (slot : ℕ) → slot_of s o ≢ Some slot → kept_at new.flights slot ≡ kept_at old.flights slot
   -- on a clean path the call in the slot goes one page further, or ends
   pub passes : passes_as store old s o new
+  -- no page of a tree is lost, and none of a call's own is left behind
+  pub loses : LosesNone (moment (store old.db.pages) old.db.trees old.db.trees_given) (moment (store new.db.pages) new.db.trees new.db.trees_given)
   pub leaves : leaves_at store old s o new
 
 -- the steps were made in order, each as one call of the machine

@@ -22,7 +22,9 @@ pub fn survive(
 ) -> Result<(Vec<Outcome>, MemPages)>
     requires well { IsWhole (now (store_of pages)) }
     requires calm { (now (store_of pages)).in_group ≡ false }
-    ensures { IfOk result (λ r. Survives (store_of pages) steps.now r.0.items (store_of r.1)) }
+    ensures ok { IfOk result (λ r. Survives (store_of pages) name.now steps.now r.0.items keep (store_of r.1)) }
+    ensures well { IfOk result (λ r. IsWhole (now (store_of r.1))) }
+    ensures calm { IfOk result (λ r. (now (store_of r.1)).in_group ≡ false) }
 {
     let db = match Db::open(alloc, pages, name) {
         Ok(db) => db,

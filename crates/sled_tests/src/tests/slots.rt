@@ -1,7 +1,12 @@
 //! Slots, lists of steps, and trees that are refused.
+ghost use Rattle.std.specs.Prelude.{◌≡◌, false, IfOk};
+ghost use Rattle.sled_pages.specs.Store.{now};
+ghost use Rattle.sled_pages.specs.Memory.{store_of};
+ghost use Rattle.tree_laws.specs.Crashes.{IsWhole};
+
 use super::*;
-use crate::empty;
-use sled::Db;
+use crate::{empty, survive};
+use sled::{DEFAULT_TREE, Db};
 use sled_model::Step;
 
 // A list of steps, and how each comes out.
@@ -85,6 +90,18 @@ fn steps_alone(alloc: Global, tree: &Tree) -> Result<Vec<Step>, Fail> {
     Ok(list)
 }
 
+// The outcomes are those of the list.
+fn come_out(rt: &impl Abort, alloc: Global, tree: &Tree, outcomes: &[Outcome]) -> Result<(), Fail> {
+    let mut i = 0usize;
+    for (_, wanted) in steps(alloc, tree)? {
+        assert!(rt; i < outcomes.len());
+        outcome_is(rt, alloc, &outcomes[i], wanted)?;
+        i = i.wrapping_add(1);
+    }
+    assert_eq!(rt; i, outcomes.len());
+    Ok(())
+}
+
 // The same steps as one list come out so too.
 fn all_at_once<M: MergeOperator>(
     rt: &impl Abort,
@@ -94,13 +111,7 @@ fn all_at_once<M: MergeOperator>(
 ) -> Result<(), Fail> {
     let list = steps_alone(alloc, tree)?;
     let outcomes = machine.run(list.as_slice())?;
-    let mut i = 0usize;
-    for (_, wanted) in steps(alloc, tree)? {
-        assert!(rt; i < outcomes.len());
-        outcome_is(rt, alloc, &outcomes[i], wanted)?;
-        i = i.wrapping_add(1);
-    }
-    assert_eq!(rt; i, outcomes.len());
+    come_out(rt, alloc, tree, outcomes.as_slice())?;
     export_is(rt, alloc, machine, "a=1;")
 }
 
@@ -113,6 +124,35 @@ fn a_list_of_steps_comes_out_as_listed(rt: HostRuntime) -> Result<(), Fail> {
     let tree = db.default_tree()?;
     let mut machine = Machine::new(db);
     all_at_once(&rt, rt.alloc(), &mut machine, &tree)
+}
+
+// The steps of the list on a new database, and a crash that keeps so many of the last actions. The pages that are found.
+fn survived(rt: &impl Abort, alloc: Global, keep: usize) -> Result<MemPages, Fail>
+    ensures well { IfOk result (λ pages. IsWhole (now (store_of pages))) }
+    ensures calm { IfOk result (λ pages. (now (store_of pages)).in_group ≡ false) }
+{
+    let tree = Tree {
+        database: bytes(alloc, "db")?,
+        name: bytes(alloc, DEFAULT_TREE)?,
+        number: 1,
+    };
+    let list = steps_alone(alloc, &tree)?;
+    let (outcomes, pages) = survive(alloc, empty(alloc), b"db", list.as_slice(), keep)?;
+    come_out(rt, alloc, &tree, outcomes.as_slice())?;
+    Ok(pages)
+}
+
+#[test]
+fn what_survives_a_list_of_steps_was_decided(rt: HostRuntime) -> Result<(), Fail> {
+    for (keep, wanted) in [(0usize, "a=2;"), (1, "a=1;"), (9, "a=1;")] {
+        let pages = survived(&rt, rt.alloc(), keep)?;
+        let db = match Db::open(rt.alloc(), pages, b"db") {
+            Ok(db) => db,
+            Err((_, e)) => return failed(e),
+        };
+        export_is(&rt, rt.alloc(), &Machine::new(db), wanted)?;
+    }
+    Ok(())
 }
 
 // A tree of this database's name and another number is refused, and one of another database too.
