@@ -39,7 +39,7 @@ use Rattle.sled_tree.specs.Moves.{Moves, ActsOnce, ActsAtMostOnce, Acts, Same, D
 use Rattle.sled.specs.Values.{KeepsRest, DbValue, numbers_of, given_to, named, state_of, db_state, moment}
 use Rattle.sled.specs.Sound.{IsDb}
 use Rattle.sled.specs.Calls.{MustBeRefused, must_be_refused_as}
-use Rattle.sled.specs.Flights.{flying_of, IsKnown, StillStands, LosesNone, Flies}
+use Rattle.sled.specs.Flights.{flying_of, IsKnown, StillStands, LosesNone, RefusesQuietly, Flies}
 use Rattle.sled.proofs.Trees.{trees_at, trees_same, trees_put, maps_are, current, numbered}
 
 none_some : {P X : Type 0} {x : X} → None ≡ Some x → P
@@ -128,17 +128,10 @@ loses_acting m n w v is a u z was is_now =
 pub record Touches (a b : Store) : Type 0 where
   pub rest : KeepsRest a b
   pub calm : (now b).in_group ≡ (now a).in_group
-  pub once : b.actions ≤ a.actions + 1
 
 touches_acting : (a b : Store) → ActsAtMostOnce a b → Touches a b
-touches_acting a b (inl e) = record { rest = record { mark = ap (λ (s : Store). s.mark) e; recovered = ap (λ (s : Store). s.recovered) e; readable = ap (λ (s : Store). s.is_readable) e }; calm = ap (λ (s : Store). (now s).in_group) e; once = same (ap (λ (s : Store). s.actions) e) }
-  where
-    same : b.actions ≡ a.actions → b.actions ≤ a.actions + 1
-    same e = omega arith
-touches_acting a b (inr o) = record { rest = record { mark = ap (λ (s : Store). s.mark) o.is; recovered = ap (λ (s : Store). s.recovered) o.is; readable = ap (λ (s : Store). s.is_readable) o.is }; calm = o.calm; once = one (ap (λ (s : Store). s.actions) o.is) }
-  where
-    one : b.actions ≡ a.actions + 1 → b.actions ≤ a.actions + 1
-    one e = omega arith
+touches_acting a b (inl e) = record { rest = record { mark = ap (λ (s : Store). s.mark) e; recovered = ap (λ (s : Store). s.recovered) e; readable = ap (λ (s : Store). s.is_readable) e }; calm = ap (λ (s : Store). (now s).in_group) e }
+touches_acting a b (inr o) = record { rest = record { mark = ap (λ (s : Store). s.mark) o.is; recovered = ap (λ (s : Store). s.recovered) o.is; readable = ap (λ (s : Store). s.is_readable) o.is }; calm = o.calm }
 
 -- a refusal leaves all but the count of faults
 pub record Rests (a b : Store) : Type 0 where
@@ -157,6 +150,18 @@ rests_refused (error.ReportableBug text) a b t = absurd t
 rests_refused (error.Corruption fault) a b t = absurd t
 rests_refused error.FullQueue a b t = absurd t
 rests_refused error.Closed a b t = absurd t
+
+-- a fault may be counted
+refuses_quietly : (e : Error) (a b : Store) → refuses_as e a b → RefusesQuietly a b
+refuses_quietly error.NoMemory a b t = inl t
+refuses_quietly (error.Io fault) a b (inl t) = inr t
+refuses_quietly (error.Io fault) a b (inr (t, p)) = inl t
+refuses_quietly (error.CollectionNotFound name) a b t = absurd t
+refuses_quietly (error.Unsupported text) a b t = absurd t
+refuses_quietly (error.ReportableBug text) a b t = absurd t
+refuses_quietly (error.Corruption fault) a b t = absurd t
+refuses_quietly error.FullQueue a b t = absurd t
+refuses_quietly error.Closed a b t = absurd t
 
 now_rests : {a b : Store} → Rests a b → now b ≡ now a
 now_rests {a} {b} r = λ i. Rattle.sled_pages.specs.State.after_all (r.recent i) (r.base i)
@@ -221,8 +226,7 @@ module _ {P M : Type 0} (store : P → Store) (meant : M → Merge) (old : DbVal
   untouched f g e limit may = record {
     steps = λ slots given slot here. record { told = (record { flying = flying_of f; here = here; may = may slots given; limit = limit; is = refl }, refl) };
     extends = extends_same (store old.pages);
-    once = omega arith;
-    still = λ x e. refl;
+    does = inl refl;
     quiet = λ q. refl;
     rest = record { mark = refl; recovered = refl; readable = refl };
     passes = record { told = tt };
@@ -334,8 +338,7 @@ module _ {P M : Type 0} (store : P → Store) (meant : M → Merge) (old : DbVal
             );
           };
           extends = moved_extends;
-          once = moved_touches.once;
-          still = λ x e. absurd (unlike x e);
+          does = moves.touches;
           quiet = λ k. absurd (apart k.reply k.decided);
           rest = moved_touches.rest;
           passes = further;
@@ -348,9 +351,6 @@ module _ {P M : Type 0} (store : P → Store) (meant : M → Merge) (old : DbVal
           where
             apart : (r : Reply) → Moved ≡ Decided r → ⊥
             apart r e = cc
-
-            unlike : (x : Error) → Moved ≡ Refused x → ⊥
-            unlike x e = cc
 
       -- the call is refused by the store
       module _ (few : f.turns < MAX_LOOPS) (g : Flight) (e : Error) (moves : Moves f.job (store old.pages) f.stage (next.Refused e) (store q)) where
@@ -384,8 +384,7 @@ module _ {P M : Type 0} (store : P → Store) (meant : M → Merge) (old : DbVal
             );
           };
           extends = refused_extends;
-          once = same rests.actions;
-          still = λ x e. rests.actions;
+          does = refuses_quietly e (store old.pages) (store q) moves.touches;
           quiet = λ k. absurd (apart k.reply k.decided);
           rest = rests.rest;
           passes = record { told = tt };
@@ -401,9 +400,6 @@ module _ {P M : Type 0} (store : P → Store) (meant : M → Merge) (old : DbVal
 
             off : Refused e ≡ Moved → ⊥
             off e = cc
-
-            same : (store q).actions ≡ (store old.pages).actions → (store q).actions ≤ (store old.pages).actions + 1
-            same e = omega arith
 
             below : (n : ℕ) → n < MAX_LOOPS → n ≡ MAX_LOOPS → ⊥
             below n h e = omega arith
@@ -483,8 +479,7 @@ module _ {P M : Type 0} (store : P → Store) (meant : M → Merge) (old : DbVal
             );
           };
           extends = subst (λ m. Extends (m ∷ []) (store old.pages) (store q)) (sym same_maps) done_extends;
-          once = done_touches.once;
-          still = λ x e. absurd (unlike x e);
+          does = moves.touches;
           quiet = λ k. done.2.quiet (ap (λ (t : NamedTree). (answer_of f.job.call t.map).event) (some_is (sym there ∙ k.there)) ∙ k.silent);
           rest = done_touches.rest;
           passes = record { told = tt };
@@ -500,9 +495,6 @@ module _ {P M : Type 0} (store : P → Store) (meant : M → Merge) (old : DbVal
 
             off : Decided reply ≡ Moved → ⊥
             off e = cc
-
-            unlike : (x : Error) → Decided reply ≡ Refused x → ⊥
-            unlike x e = cc
 
       -- one step of the call, whatever comes of it
       pub flies_on : (few : f.turns < MAX_LOOPS) (went : Went) (g : Flight) → Advances (store old.pages) f went (store q) g → GoesFurther (now (store old.pages)) f went (now (store q)) g → Flies store meant old f went new g

@@ -19,7 +19,7 @@ use Rattle.tree_laws.specs.Forest.{Place, Forest}
 use Rattle.tree_laws.specs.Crashes.{Extends}
 use Rattle.tree_laws.specs.Moment.{Moment, nodes_at, IsMoment}
 use Rattle.sled_tree.specs.Stages.{IsStage, owned}
-use Rattle.sled_tree.specs.Moves.{leaves_as}
+use Rattle.sled_tree.specs.Moves.{ActsAtMostOnce, leaves_as}
 use Rattle.sled_tree.specs.Passing.{GoesFurther}
 use Rattle.sled_tree.specs.declared.flight.Flight.{Flight}
 use Rattle.sled_tree.specs.declared.flight.Stage.TheVariants.{Root}
@@ -83,6 +83,16 @@ pub record StillStands (w : Forest) (nodes : Nodes) (v : Forest) : Type 0 where
 abbrev pub LosesNone : Moment → Moment → Type 0
 LosesNone old new = (w v : Forest) → IsMoment old w → IsMoment new v → StillStands w (nodes_at new) v
 
+-- a refusal changes nothing, but that a fault may be counted
+abbrev pub RefusesQuietly : Store → Store → Type 0
+RefusesQuietly old new = (new ≡ old) ⊎ (new ≡ record old { faults = old.faults + 1 })
+
+-- what a step does to the store
+abbrev pub does_as : Went → Store → Store → Type 0
+does_as Moved old new = ActsAtMostOnce old new
+does_as (Decided reply) old new = ActsAtMostOnce old new
+does_as (Refused e) old new = RefusesQuietly old new
+
 -- One step of a call in flight
 pub record Flies {P M : Type 0} (store : P → Store) (meant : M → Merge) (old : DbValue P M) (f : Flight) (went : Went) (new : DbValue P M) (g : Flight) : Type 0 where
   -- in whatever slot the call is, the machine makes this step
@@ -91,8 +101,7 @@ pub record Flies {P M : Type 0} (store : P → Store) (meant : M → Merge) (old
   -- what a crash may leave grows by the map after the call, if it was decided
   pub extends : Extends (maps_added went (maps_of (db_state store meant new))) (store old.pages) (store new.pages)
   -- at most one changing action is done, and none where the call is refused or was decided without an event
-  pub once : (store new.pages).actions ≤ (store old.pages).actions + 1
-  pub still : (e : Error) → went ≡ Refused e → (store new.pages).actions ≡ (store old.pages).actions
+  pub does : does_as went (store old.pages) (store new.pages)
   pub quiet : IsQuiet store meant old f went → store new.pages ≡ store old.pages
   pub rest : KeepsRest (store old.pages) (store new.pages)
   -- on a clean path the call goes one page further, or ends

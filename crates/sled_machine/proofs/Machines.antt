@@ -182,9 +182,9 @@ module _ {P M : Type 0} (store : P → Store) (meant : M → Merge) (v : Machine
         here = ap (option_map flying_of) (at_place slot i f there)
 
         acts_flying : (went : Went) → Flies store meant v.db f went db next → acts_as (instant_of store meant v) (step.Step slot) (outcome_of went) (instant_of store meant (record v { db = db; flights = gs }))
-        acts_flying Moved k = k.once
-        acts_flying (Decided reply) k = (k.once, λ q. k.quiet (record { reply = reply; decided = refl; tree = q.tree; there = subst (λ (z : Flying). (db_state store meant v.db).trees z.tree.name ≡ Some q.tree) (some_is (sym q.here ∙ here)) q.there; silent = subst (λ (z : Flying). (answer_of z.call q.tree.map).event ≡ None) (some_is (sym q.here ∙ here)) q.silent }))
-        acts_flying (Refused r) k = k.still r refl
+        acts_flying Moved k = k.does
+        acts_flying (Decided reply) k = (k.does, λ q. k.quiet (record { reply = reply; decided = refl; tree = q.tree; there = subst (λ (z : Flying). (db_state store meant v.db).trees z.tree.name ≡ Some q.tree) (some_is (sym q.here ∙ here)) q.there; silent = subst (λ (z : Flying). (answer_of z.call q.tree.map).event ≡ None) (some_is (sym q.here ∙ here)) q.silent }))
+        acts_flying (Refused r) k = k.does
 
     ended : (f : Flight) → slice_get v.flights i ≡ Some (slot, f) → gs ≡ take i v.flights ++ drop (i + 1) v.flights → (q : ℕ) → kept_at gs q ≡ put_at (kept_at v.flights) slot None q
     ended f there e q = ap (λ z. kept_at z q) (e ∙ more i v.flights) ∙ take_kept 0 v.flights i slot f q im.rise.is there

@@ -21,12 +21,12 @@ use Rattle.tree_laws.specs.Forest.{Forest}
 use Rattle.tree_laws.specs.Moment.{IsMoment}
 use Rattle.tree_laws.specs.Paths.{IsClean}
 use Rattle.sled_tree.specs.Stages.{owned}
-use Rattle.sled_tree.specs.Moves.{LeavesNone}
+use Rattle.sled_tree.specs.Moves.{ActsAtMostOnce, LeavesNone}
 use Rattle.sled_tree.specs.Passing.{IsOnPath}
 use Rattle.sled_tree.specs.declared.flight.Flight.{Flight}
 use Rattle.sled_tree.specs.declared.flight.Stage.TheVariants.{Root}
 use Rattle.sled.specs.Values.{KeepsRest, moment}
-use Rattle.sled.specs.Flights.{LosesNone}
+use Rattle.sled.specs.Flights.{RefusesQuietly, LosesNone}
 use Rattle.sled_machine.specs.Slots.{kept_at}
 use Rattle.sled_machine.specs.Values.{MachineValue, slots_of, instant_of}
 
@@ -59,13 +59,14 @@ pub record IsSilent (s : State) (slot : ℕ) : Type 0 where
   pub silent : (answer_of flying.call tree.map).event ≡ None
 
 -- What a step does of page actions: a call that begins or is given up, or that no slot has, does none, and nor does a flush. A
--- step of a slot does at most one changing action, and none where the call is refused or decided without an event
+-- step of a slot does at most one changing action, and none where the call is refused or decided without an event. A fault that
+-- the store counts refuses the call
 abbrev pub acts_as : Instant → Step → Outcome → Instant → Type 0
 acts_as old (step.Begin tree call) o new = new.store ≡ old.store
-acts_as old (step.Step slot) (Decided reply) new = (new.store.actions ≤ old.store.actions + 1) × (IsSilent old.state slot → new.store ≡ old.store)
-acts_as old (step.Step slot) (Refused e) new = new.store.actions ≡ old.store.actions
+acts_as old (step.Step slot) (Decided reply) new = ActsAtMostOnce old.store new.store × (IsSilent old.state slot → new.store ≡ old.store)
+acts_as old (step.Step slot) (Refused e) new = RefusesQuietly old.store new.store
 acts_as old (step.Step slot) NoSuchSlot new = new.store ≡ old.store
-acts_as old (step.Step slot) o new = new.store.actions ≤ old.store.actions + 1
+acts_as old (step.Step slot) o new = ActsAtMostOnce old.store new.store
 acts_as old (step.Abandon slot) o new = new.store ≡ old.store
 acts_as old (step.Whole Flush) o new = new.store.actions ≡ old.store.actions
 
