@@ -179,6 +179,20 @@ module _ {P M : Type 0} (store : P → Store) (meant : M → Merge) where
       (subst (λ ts. Answered ts (trees_at new) tree (Insert key value) reply) (begun_keeps old begun tree (Insert key value) slot b)
       (finish_told begun new slot tree (Insert key value) (outcome.Decided reply) (begun_means old begun tree (Insert key value) slot b) f))
 
+  -- a call that was begun and not decided
+  pub undecided : (old begun new : MachineValue P M) (slot : ℕ) (tree : Tree) (call : Call) (o : Outcome) → ((reply : Reply) → o ≡ outcome.Decided reply → ⊥)
+      → Reaches store meant old (step.Begin tree call) (outcome.Begun slot) begun → Finishes store meant begun slot o new → maps_now store meant new.db ≡ maps_now store meant old.db
+  undecided old begun new slot tree call o off b f =
+      go o off (subst (λ ts. told_as o ts (trees_at new) tree call) (begun_keeps old begun tree call slot b) (finish_told begun new slot tree call o (begun_means old begun tree call slot b) f))
+    where
+      go : (o : Outcome) → ((reply : Reply) → o ≡ outcome.Decided reply → ⊥) → told_as o (trees_at old) (trees_at new) tree call → maps_now store meant new.db ≡ maps_now store meant old.db
+      go (outcome.Decided reply) off t = absurd (off reply refl)
+      go (outcome.Begun i) off t = ap maps_at t
+      go outcome.Moved off t = ap maps_at t
+      go (outcome.Refused e) off t = ap maps_at t
+      go outcome.Abandoned off t = ap maps_at t
+      go outcome.NoSuchSlot off t = ap maps_at t
+
   -- a get that was begun, and ended
   pub got : (old begun new : MachineValue P M) (slot : ℕ) (tree : Tree) (key : Key) (o : Outcome)
       → Reaches store meant old (step.Begin tree (Get key)) (outcome.Begun slot) begun → Finishes store meant begun slot o new

@@ -1,5 +1,5 @@
 //! Callers of the machine. Their proofs cite what the contracts below say, and nothing of how it is done.
-ghost use Rattle.std.specs.Prelude.{◌≡◌, IfOk, IfErr, IfSome, MatchOption, Some, false, if◌then◌else◌};
+ghost use Rattle.std.specs.Prelude.{◌≡◌, IfOk, IfErr, IfSome, IfNone, MatchOption, Some, false, if◌then◌else◌};
 ghost use Rattle.sled_pages.specs.Store.{now};
 ghost use Rattle.sled_pages.specs.Crash.{Crashes};
 ghost use Rattle.sled_pages.specs.Memory.{store_of};
@@ -15,13 +15,15 @@ use sled_pages::{Error, IVec, MemPages, Pages, Result};
 use std::alloc::Global;
 use tree_laws::law_empty;
 
-/// Inserts a pair into a tree, and gets its key then: how the get came out, or `None` where the insert was not decided.
+/// Inserts a pair into a tree, and gets its key then: how the get came out, or `None` where the insert was not decided, which
+/// changes no map.
 pub fn insert_then_get<P: Pages, M: MergeOperator>(
     machine: &mut Machine<P, M>,
     tree: &Tree,
     key: &IVec,
     value: &IVec,
 ) -> Result<Option<Outcome>>
+    ensures none { IfOk result (λ got. IfNone got (maps_now P.store M.meant machine.new.db ≡ maps_now P.store M.meant machine.old.db)) }
     ensures reads { IfOk result (λ got. IfSome got (ReadsAs (Some value.now))) }
     ensures puts { IfOk result (λ got. IfSome got (λ _. PutsOne (maps_now P.store M.meant machine.old.db) (maps_now P.store M.meant machine.new.db) tree.now.name key.now value.now)) }
 {
