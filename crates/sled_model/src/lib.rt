@@ -26,6 +26,3 @@ pub const MAX_LOOPS: u64 = 1_000_000;
 
 /// So many events wait in a subscriber's queue at the most.
 pub const QUEUE_LIMIT: usize = 1024;
-
-#[cfg(test)]
-mod tests;

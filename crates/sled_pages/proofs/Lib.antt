@@ -4,6 +4,5 @@ pub mod Kept
 pub mod Roots
 pub mod Answered
 pub mod Back
-pub mod Runs
 pub mod Found
 pub mod Laying

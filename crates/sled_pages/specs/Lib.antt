@@ -14,7 +14,6 @@ pub mod Replay
 pub mod Memory
 pub mod Faults
 pub mod Laws
-pub mod Client
 pub mod Halves
 pub mod Posting
 pub mod Among

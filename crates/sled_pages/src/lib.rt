@@ -9,7 +9,6 @@
 #![tactic(auto)]
 
 mod among;
-mod client;
 mod error;
 mod ivec;
 mod link;
@@ -19,8 +18,6 @@ mod page;
 mod pages;
 mod pairs;
 mod pid;
-#[cfg(test)]
-mod tests;
 pub mod texts;
 
 pub use error::{Error, Fault, Result};

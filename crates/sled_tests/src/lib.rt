@@ -1,10 +1,8 @@
-//! Tests that cross crates, and callers of the machine that are proved against its contracts alone.
+//! Callers of the machine that are proved from public contracts alone: what those say is enough to build on.
 #![tactic(auto)]
 
 mod callers;
 mod recovery;
-#[cfg(test)]
-mod tests;
 
 pub use callers::{
     crash, empty, get, insert_then_get, insert_then_get_in_new, race, refusing, reopen,

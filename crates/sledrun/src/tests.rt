@@ -1,4 +1,11 @@
 //! Tests of the program as a function: from text to text and the exit status.
+mod crashes;
+mod merges;
+mod scripts;
+mod slots;
+mod splits;
+mod values;
+
 use crate::serve::serve;
 use std::alloc::Global;
 use std::io::{self, BufRead, Read, Write};
