@@ -84,16 +84,23 @@ impl<P: Pages, M: MergeOperator> Machine<P, M> {
         ensures err { IfErr result (λ e. Reaches P.store M.meant self.old (step.Begin tree.now call) (outcome.Refused e) self.new) }
     {
         if let Err(e) = self.db.check(tree) {
+            drop(call);
             return Err(e);
         }
         if self.slots_given == u64::MAX {
+            drop(call);
             return Err(Error::Unsupported(NUMBERS_USED_UP));
         }
         let tree = match tree.clone() {
             Ok(tree) => tree,
-            Err(e) => return Err(e),
+            Err(e) => {
+                drop(call);
+                return Err(e);
+            }
         };
         if let Err(e) = make_room(&mut self.flights) {
+            drop(tree);
+            drop(call);
             return Err(e);
         }
         let slot = self.slots_given + 1;

@@ -43,13 +43,28 @@ pub(crate) fn act<P: Pages>(pages: &mut P, job: &Job, view: View) -> Next
     ensures passes { Passes job.now (now (P.store pages.old)) (Stage.Act view) result (now (P.store pages.new)) }
 {
     let change = match prepare(job, &view.node) {
-        Err(e) => return Next::Refused(e),
-        Ok(None) => return Next::Go(Stage::Root),
+        Err(e) => {
+            drop(view);
+            return Next::Refused(e);
+        }
+        Ok(None) => {
+            drop(view);
+            return Next::Go(Stage::Root);
+        }
         Ok(Some(change)) => change,
     };
-    match pages.link(view.pid, view.version, change.link) {
-        Err(e) => Next::Refused(e),
-        Ok(Err(_)) => Next::Go(Stage::Root),
-        Ok(Ok(_)) => Next::Decided(change.reply),
+    let Change { link, reply } = change;
+    let (pid, version) = (view.pid, view.version);
+    drop(view);
+    match pages.link(pid, version, link) {
+        Err(e) => {
+            drop(reply);
+            Next::Refused(e)
+        }
+        Ok(Err(_)) => {
+            drop(reply);
+            Next::Go(Stage::Root)
+        }
+        Ok(Ok(_)) => Next::Decided(reply),
     }
 }

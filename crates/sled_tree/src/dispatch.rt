@@ -47,7 +47,8 @@ pub fn advance<P: Pages>(pages: &mut P, alloc: Global, flight: &mut Flight) -> W
     let stage = std::mem::replace(&mut flight.stage, Stage::Root);
     match step(pages, alloc, &flight.job, stage) {
         Next::Go(stage) => {
-            flight.stage = stage;
+            let old = std::mem::replace(&mut flight.stage, stage);
+            drop(old);
             flight.turns += 1;
             Went::Moved
         }

@@ -12,5 +12,5 @@ returns-in-Err-link-clause-moves g c = refused _ _ _ _ _ c.in-Err-link.ensures.e
 pub returns-in-Ok-Err-clause-passes : goal.returns-in-Ok-Err-clause-passes
 returns-in-Ok-Err-clause-passes g c = act_current _ _ _ _ _ (rw c.in-Ok-Err.field-0-is at c.in-Ok-Err.ensures.ok)
 
-pub returns-clause-moves : goal.returns-clause-moves
-returns-clause-moves g c = act_moves _ _ _ _ _ _ (rw c.in-Ok-Some.field-0-is at c.in-Ok-Some.ensures.ok) (rw c.in-Ok-Ok.field-0-is at c.in-Ok-Ok.ensures.ok)
+pub returns-in-Ok-Ok-clause-moves : goal.returns-in-Ok-Ok-clause-moves
+returns-in-Ok-Ok-clause-moves g c = act_moves _ _ _ _ _ _ (rw c.in-Ok-Some.field-0-is at c.in-Ok-Some.ensures.ok) (rw c.in-Ok-Ok.field-0-is at c.in-Ok-Ok.ensures.ok)
