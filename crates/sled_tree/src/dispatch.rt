@@ -20,10 +20,7 @@ fn step<P: Pages>(pages: &mut P, alloc: Global, job: &Job, stage: Stage) -> Next
     ensures passes { Passes job.now (now (P.store pages.old)) stage result (now (P.store pages.new)) }
 {
     match stage {
-        Stage::Root => {
-            drop(stage);
-            read_root(pages, alloc, job)
-        }
+        Stage::Root => read_root(pages, alloc, job),
         Stage::Walk(walk) => read_cursor(pages, alloc, job, walk),
         Stage::Act(view) => act(pages, job, view),
         Stage::Split(split) => halve(pages, alloc, job, split),
