@@ -1,5 +1,5 @@
 -- Commands: what a line asks for.
-use Rattle.std.specs.Prelude.{ℕ, List, [], ◌∷◌, Option, Some, None, option_map, codes, if◌then◌else◌}
+use Rattle.std.specs.Prelude.{ℕ, List, [], ◌∷◌, Option, Some, None, is_some, option_map, codes, if◌then◌else◌}
 use Rattle.std.specs.Str.{bytes_eq}
 use Rattle.sled_pages.specs.Order.{Key}
 use Rattle.sled_model.specs.declared.call.Call.{Call}
@@ -10,14 +10,19 @@ use Rattle.sled_lines.specs.declared.command.Name.TheVariants as name
 use Rattle.sled_lines.specs.declared.command.Command.{Command}
 use Rattle.sled_lines.specs.declared.command.Command.TheVariants.{Point, Begin, Step, Finish, Abandon, Flush, Crash, Dump}
 
--- the name of a command
-abbrev pub name_of : List ℕ → Option Name
-name_of word =
+-- the name of a call
+abbrev pub call_name_of : List ℕ → Option Name
+call_name_of word =
     if bytes_eq word (codes "insert") then Some name.Insert
     else if bytes_eq word (codes "get") then Some name.Get
     else if bytes_eq word (codes "remove") then Some name.Remove
     else if bytes_eq word (codes "cas") then Some name.Cas
-    else if bytes_eq word (codes "begin") then Some name.Begin
+    else None
+
+-- the name of a command that is no call
+abbrev pub other_name_of : List ℕ → Option Name
+other_name_of word =
+    if bytes_eq word (codes "begin") then Some name.Begin
     else if bytes_eq word (codes "step") then Some name.Step
     else if bytes_eq word (codes "finish") then Some name.Finish
     else if bytes_eq word (codes "abandon") then Some name.Abandon
@@ -25,6 +30,10 @@ name_of word =
     else if bytes_eq word (codes "crash") then Some name.Crash
     else if bytes_eq word (codes "dump") then Some name.Dump
     else None
+
+-- the name of a command
+abbrev pub name_of : List ℕ → Option Name
+name_of word = if is_some (call_name_of word) then call_name_of word else other_name_of word
 
 -- the only word of the arguments
 abbrev pub one_of : List (List ℕ) → Option (List ℕ)

@@ -32,6 +32,7 @@ bad_left n (Some text) = Some (first_bad (n + 1) (lines_of text))
 abbrev pub Reads : Option (Option ℕ) → Option (Option ℕ) → ℕ → Line → Type 0
 Reads before after n line.NoLine = IfSome before (λ bad. bad ≡ None)
 Reads before after n line.BadLine = IfSome before (λ bad. bad ≡ Some n)
+Reads before after n (line.Crash keep) = IfSome before (λ bad. after ≡ Some bad)
 Reads before after n (line.Command c) = IfSome before (λ bad. after ≡ Some bad)
 
 -- the same of how a session ends

@@ -3,7 +3,7 @@ ghost use Rattle.std.specs.Prelude.{◌≡◌, IfOk, IfErr, option_map};
 ghost use Rattle.std.specs.Option.{option_and_then};
 ghost use Rattle.sled_pages.specs.declared.error.Error.TheVariants.{NoMemory};
 ghost use Rattle.sled_lines.specs.Words.{words_after, read_number};
-ghost use Rattle.sled_lines.specs.Command.{name_of, one_of, two_of, three_of, insert_of, get_of, remove_of, swap_of, call_of, call_of_words, in_slot, alone, command_of};
+ghost use Rattle.sled_lines.specs.Command.{call_name_of, other_name_of, name_of, one_of, two_of, three_of, insert_of, get_of, remove_of, swap_of, call_of, call_of_words, in_slot, alone, command_of};
 
 use crate::words::{first_word, read_number, read_value, read_word};
 use sled_model::Call;
@@ -47,8 +47,8 @@ enum Name {
     Dump,
 }
 
-fn name_of(word: &[u8]) -> Option<Name>
-    ensures { result ≡ name_of word.now }
+fn call_name_of(word: &[u8]) -> Option<Name>
+    ensures { result ≡ call_name_of word.now }
 {
     if word == b"insert".as_slice() {
         Some(Name::Insert)
@@ -58,7 +58,15 @@ fn name_of(word: &[u8]) -> Option<Name>
         Some(Name::Remove)
     } else if word == b"cas".as_slice() {
         Some(Name::Cas)
-    } else if word == b"begin".as_slice() {
+    } else {
+        None
+    }
+}
+
+fn other_name_of(word: &[u8]) -> Option<Name>
+    ensures { result ≡ other_name_of word.now }
+{
+    if word == b"begin".as_slice() {
         Some(Name::Begin)
     } else if word == b"step".as_slice() {
         Some(Name::Step)
@@ -74,6 +82,15 @@ fn name_of(word: &[u8]) -> Option<Name>
         Some(Name::Dump)
     } else {
         None
+    }
+}
+
+fn name_of(word: &[u8]) -> Option<Name>
+    ensures { result ≡ name_of word.now }
+{
+    match call_name_of(word) {
+        Some(name) => Some(name),
+        None => other_name_of(word),
     }
 }
 
@@ -225,7 +242,10 @@ fn alone(command: Command, arguments: Option<&[u8]>) -> Option<Command>
 {
     match arguments {
         None => Some(command),
-        Some(_) => None,
+        Some(_) => {
+            drop(command);
+            None
+        }
     }
 }
 

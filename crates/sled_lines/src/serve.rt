@@ -2,7 +2,7 @@
 ghost use Rattle.std.specs.Prelude.{◌≡◌, ◌≤◌, false, IfOk, IfSome};
 ghost use Rattle.sled_pages.specs.Store.{now};
 ghost use Rattle.sled_pages.specs.Memory.{store_of};
-ghost use Rattle.tree_laws.specs.Crashes.{IsWhole};
+ghost use Rattle.tree_laws.specs.Crashes.{IsWhole, IsCrashWhole};
 ghost use Rattle.sled_lines.specs.Serve.{Reads, Ends, Ran, IsStatus, bad_left};
 
 use crate::command::{Command, parse};
@@ -10,7 +10,6 @@ use crate::input::{Stopped, read_line, without_end};
 use crate::print::{push_bad_line, push_recovered};
 use crate::session::{Session, write};
 use sled::{Db, crash_pages, empty_pages};
-use sled_machine::Machine;
 use sled_pages::MemPages;
 use std::alloc::Global;
 use std::io::{BufRead, Write};
@@ -34,6 +33,7 @@ enum End {
 enum Line {
     NoLine,
     BadLine,
+    Crash(u64),
     Command(Command),
 }
 
@@ -63,13 +63,35 @@ fn next_line<R: BufRead, W: Write>(
     };
     buffers.number = number;
     match parse(alloc, without_end(buffers.line.as_slice()))? {
+        Some(Command::Crash(keep)) => Ok(Line::Crash(keep)),
         Some(command) => Ok(Line::Command(command)),
         None => Ok(Line::BadLine),
     }
 }
 
+// Prints which line could not be read.
+fn tell_bad<W: Write>(
+    number: u64,
+    output: &mut W,
+    out: &mut Vec<u8>,
+) -> Result<(), Stopped> {
+    push_bad_line(out, number)?;
+    write(output, out)
+}
+
+// Runs a command, and prints how it came out.
+fn answer<W: Write>(
+    session: &mut Session,
+    command: Command,
+    output: &mut W,
+    out: &mut Vec<u8>,
+) -> Result<(), Stopped> {
+    session.run(command, output, out)?;
+    write(output, out)
+}
+
 // Runs lines up to a crash or the last of them.
-fn live<R: BufRead, W: Write>(
+fn lines<R: BufRead, W: Write>(
     alloc: Global,
     session: &mut Session,
     input: &mut R,
@@ -82,51 +104,95 @@ fn live<R: BufRead, W: Write>(
         match next_line(alloc, input, output, buffers)? {
             Line::NoLine => return Ok(End::NoLine),
             Line::BadLine => {
-                push_bad_line(&mut buffers.out, buffers.number)?;
-                write(output, &mut buffers.out)?;
+                tell_bad(buffers.number, output, &mut buffers.out)?;
                 return Ok(End::BadLine);
             }
-            Line::Command(Command::Crash(keep)) => return Ok(End::Crash(keep)),
-            Line::Command(command) => {
-                session.run(command, output, &mut buffers.out)?;
-                write(output, &mut buffers.out)?;
-            }
+            Line::Crash(keep) => return Ok(End::Crash(keep)),
+            Line::Command(command) => answer(session, command, output, &mut buffers.out)?,
         }
     }
     Err(Stopped)
 }
 
-// Opens the pages, and tells if they are what a crash left.
-fn open<W: Write>(
-    alloc: Global,
-    pages: MemPages,
+// Prints whether the pages of a session are what a crash left.
+fn tell_recovered<W: Write>(
+    session: &Session,
     output: &mut W,
     out: &mut Vec<u8>,
-) -> Result<Session, Stopped>
-    requires well { IsWhole (now (store_of pages)) }
-    requires calm { (now (store_of pages)).in_group ≡ false }
-{
-    let Ok(session) = Session::open(alloc, pages, DATABASE) else {
-        return Err(Stopped);
-    };
+) -> Result<(), Stopped> {
     if session.db().was_recovered() {
         push_recovered(out)?;
-        write(output, out)?;
     }
-    Ok(session)
+    write(output, out)
 }
 
-// Ends a session by a crash that keeps so many actions, and opens what is left.
-fn crash<W: Write>(
+// Opens the pages, tells if they are what a crash left, and runs lines up to a crash or the last of them: how that ended,
+// and the pages.
+fn live<R: BufRead, W: Write>(
     alloc: Global,
-    session: Session,
-    keep: u64,
+    pages: MemPages,
+    input: &mut R,
     output: &mut W,
-    out: &mut Vec<u8>,
-) -> Result<Session, Stopped> {
-    let keep = usize::try_from(keep).unwrap_or(usize::MAX);
-    let pages = crash_pages(session.into_pages(), keep)?;
-    open(alloc, pages, output, out)
+    buffers: &mut Buffers,
+) -> Result<(End, MemPages), Stopped>
+    requires well { IsWhole (now (store_of pages)) }
+    requires calm { (now (store_of pages)).in_group ≡ false }
+    ensures whole { IfOk result (λ ended. IsCrashWhole (store_of ended.1)) }
+    ensures bad { IfOk result (λ ended. Ends (bad_left buffers.old.number (R.remaining input.old)) (bad_left buffers.new.number (R.remaining input.new)) buffers.new.number ended.0) }
+{
+    let db = match Db::open(alloc, pages, DATABASE) {
+        Ok(db) => db,
+        Err(refused) => {
+            drop(refused);
+            return Err(Stopped);
+        }
+    };
+    let mut session = match Session::over(alloc, db) {
+        Ok(session) => session,
+        Err(refused) => {
+            drop(refused);
+            return Err(Stopped);
+        }
+    };
+    if let Err(stopped) = tell_recovered(&session, output, &mut buffers.out) {
+        drop(session);
+        return Err(stopped);
+    }
+    match lines(alloc, &mut session, input, output, buffers) {
+        Ok(end) => Ok((end, session.into_db().into_pages())),
+        Err(stopped) => {
+            drop(session);
+            Err(stopped)
+        }
+    }
+}
+
+// Opens pages from crash to crash: whether every line could be read.
+fn run_from<R: BufRead, W: Write>(
+    alloc: Global,
+    input: &mut R,
+    output: &mut W,
+    buffers: &mut Buffers,
+) -> Result<bool, Stopped>
+    ensures { IfOk result (Ran (bad_left buffers.old.number (R.remaining input.old))) }
+{
+    let mut pages = empty_pages(alloc);
+    for _ in 0..u64::MAX {
+        let (end, left) = live(alloc, pages, input, output, buffers)?;
+        let read = match end {
+            End::Crash(keep) => {
+                let keep = usize::try_from(keep).unwrap_or(usize::MAX);
+                pages = crash_pages(left, keep)?;
+                continue;
+            }
+            End::NoLine => true,
+            End::BadLine => false,
+        };
+        drop(left);
+        return Ok(read);
+    }
+    drop(pages);
+    Err(Stopped)
 }
 
 // Whether every line could be read.
@@ -139,33 +205,9 @@ fn run<R: BufRead, W: Write>(alloc: Global, input: &mut R, output: &mut W) -> Re
         number: 0,
         left: 0,
     };
-    let mut session = open(alloc, empty_pages(alloc), output, &mut buffers.out)?;
-    for _ in 0..u64::MAX {
-        let end = match live(alloc, &mut session, input, output, &mut buffers) {
-            Ok(end) => end,
-            Err(stopped) => {
-                drop(session);
-                return Err(stopped);
-            }
-        };
-        match end {
-            End::NoLine => {
-                drop(session);
-                output.flush()?;
-                return Ok(true);
-            }
-            End::BadLine => {
-                drop(session);
-                output.flush()?;
-                return Ok(false);
-            }
-            End::Crash(keep) => {
-                session = crash(alloc, session, keep, output, &mut buffers.out)?;
-            }
-        }
-    }
-    drop(session);
-    Err(Stopped)
+    let read = run_from(alloc, input, output, &mut buffers)?;
+    output.flush()?;
+    Ok(read)
 }
 
 /// Runs the lines of the input, and prints what each of them came to. Answers the exit status: 0 at the end, 1 at the first

@@ -6,7 +6,7 @@ ghost use Rattle.tree_laws.specs.Crashes.{IsWhole, IsCrashWhole};
 
 use crate::command::Command;
 use crate::input::Stopped;
-use crate::print::{Shown, push_end, push_outcome, push_pair, push_refused, push_slot};
+use crate::print::{Shown, push_end, push_outcome, push_pair};
 use sled::{Collection, Db};
 use sled_machine::Machine;
 use sled_model::{Call, Outcome, Slot, Tree, Whole};
@@ -16,6 +16,14 @@ use std::io::Write;
 
 // So many bytes of lines are gathered before they are written.
 const GATHERED: usize = 4096;
+
+// What is done with a call in flight.
+#[derive(Clone, Copy)]
+enum Act {
+    Step,
+    Finish,
+    Abandon,
+}
 
 /// A machine over pages in memory, the current tree, and the slots that the lines began.
 #[derive(Drop)]
@@ -27,19 +35,12 @@ pub struct Session {
 }
 
 impl Session {
-    /// Opens the database that the pages hold; the default tree is current. Where that is refused it gives the pages back.
-    pub fn open(
-        alloc: Global,
-        pages: MemPages,
-        name: &[u8],
-    ) -> Result<Session, (MemPages, Error)>
-        requires well { IsWhole (now (store_of pages)) }
-        requires calm { (now (store_of pages)).in_group ≡ false }
+    /// A session over a database, whose default tree is current. Where that is refused it gives the pages back.
+    pub fn over(alloc: Global, db: Db<MemPages>) -> Result<Session, (MemPages, Error)>
+        ensures whole { IfErr result (λ e. IsCrashWhole (store_of e.0)) }
+        ensures well { IfErr result (λ e. IsWhole (now (store_of e.0))) }
+        ensures calm { IfErr result (λ e. (now (store_of e.0)).in_group ≡ false) }
     {
-        let db = match Db::open(alloc, pages, name) {
-            Ok(db) => db,
-            Err(refused) => return Err(refused),
-        };
         match db.default_tree() {
             Ok(tree) => Ok(Session {
                 machine: Machine::new(db),
@@ -60,16 +61,12 @@ impl Session {
         &self.tree
     }
 
-    /// The pages. The calls in flight are given up.
-    pub fn into_pages(self) -> MemPages
-        ensures whole { IsCrashWhole (store_of result) }
-        ensures well { IsWhole (now (store_of result)) }
-        ensures calm { (now (store_of result)).in_group ≡ false }
-    {
+    /// The database. The calls in flight are given up.
+    pub fn into_db(self) -> Db<MemPages> {
         let Session { machine, tree, slots } = self;
         drop(slots);
         drop(tree);
-        machine.into_db().into_pages()
+        machine.into_db()
     }
 
     /// How often the call of this number went on so far, if it is in flight.
@@ -84,55 +81,50 @@ impl Session {
         self.slots.get(place).copied()
     }
 
-    fn point(&mut self, call: Call, out: &mut Vec<u8>) -> sled_pages::Result<()> {
+    // A call from its begin to its end.
+    fn point(&mut self, call: Call) -> (Shown, Outcome) {
         let shown = Shown::of(&call);
-        match self.machine.begin(&self.tree, call) {
-            Ok(slot) => push_outcome(out, shown, &self.machine.finish(slot)),
-            Err(error) => push_refused(out, &error),
-        }
+        let outcome = match self.machine.begin(&self.tree, call) {
+            Ok(slot) => self.machine.finish(slot),
+            Err(error) => Outcome::Refused(error),
+        };
+        (shown, outcome)
     }
 
-    fn begin(&mut self, call: Call, out: &mut Vec<u8>) -> sled_pages::Result<()> {
+    // A call takes a slot, which is printed by its number among those that lines began.
+    fn begin(&mut self, call: Call) -> Result<(Shown, Outcome), Stopped> {
         let shown = Shown::of(&call);
-        self.slots.reserve(1)?;
-        match self.machine.begin(&self.tree, call) {
+        if self.slots.reserve(1).is_err() {
+            drop(call);
+            return Err(Stopped);
+        }
+        let outcome = match self.machine.begin(&self.tree, call) {
             Ok(slot) => {
                 self.slots.push((slot, shown))?;
-                push_slot(out, self.slots.len() as u64)
+                Outcome::Begun(Slot(self.slots.len() as u64))
             }
-            Err(error) => push_refused(out, &error),
-        }
+            Err(error) => Outcome::Refused(error),
+        };
+        Ok((shown, outcome))
     }
 
-    fn step(&mut self, number: u64, out: &mut Vec<u8>) -> sled_pages::Result<()> {
-        match self.slot(number) {
-            Some((slot, shown)) => push_outcome(out, shown, &self.machine.step(slot)),
-            None => push_outcome(out, Shown::Value, &Outcome::NoSuchSlot),
-        }
-    }
-
-    fn finish(&mut self, number: u64, out: &mut Vec<u8>) -> sled_pages::Result<()> {
-        match self.slot(number) {
-            Some((slot, shown)) => push_outcome(out, shown, &self.machine.finish(slot)),
-            None => push_outcome(out, Shown::Value, &Outcome::NoSuchSlot),
-        }
-    }
-
-    fn abandon(&mut self, number: u64, out: &mut Vec<u8>) -> sled_pages::Result<()> {
-        match self.slot(number) {
-            Some((slot, shown)) => push_outcome(out, shown, &self.machine.abandon(slot)),
-            None => push_outcome(out, Shown::Value, &Outcome::NoSuchSlot),
-        }
-    }
-
-    fn flush(&mut self, out: &mut Vec<u8>) -> sled_pages::Result<()> {
-        push_outcome(out, Shown::Value, &self.machine.whole(Whole::Flush))
+    // Does something with the call in the slot of this number.
+    fn act(&mut self, number: u64, act: Act) -> (Shown, Outcome) {
+        let Some((slot, shown)) = self.slot(number) else {
+            return (Shown::Value, Outcome::NoSuchSlot);
+        };
+        let outcome = match act {
+            Act::Step => self.machine.step(slot),
+            Act::Finish => self.machine.finish(slot),
+            Act::Abandon => self.machine.abandon(slot),
+        };
+        (shown, outcome)
     }
 
     fn dump<W: Write>(&self, output: &mut W, out: &mut Vec<u8>) -> Result<(), Stopped> {
         match self.machine.db().export() {
             Ok(trees) => write_trees(output, out, trees.as_slice()),
-            Err(error) => Ok(push_refused(out, &error)?),
+            Err(error) => show(out, Shown::Value, Outcome::Refused(error)),
         }
     }
 
@@ -144,18 +136,25 @@ impl Session {
         output: &mut W,
         out: &mut Vec<u8>,
     ) -> Result<(), Stopped> {
-        match command {
-            Command::Point(call) => self.point(call, out)?,
-            Command::Begin(call) => self.begin(call, out)?,
-            Command::Step(number) => self.step(number, out)?,
-            Command::Finish(number) => self.finish(number, out)?,
-            Command::Abandon(number) => self.abandon(number, out)?,
-            Command::Flush => self.flush(out)?,
-            Command::Crash(_) => {}
-            Command::Dump => self.dump(output, out)?,
-        }
-        Ok(())
+        let (shown, outcome) = match command {
+            Command::Point(call) => self.point(call),
+            Command::Begin(call) => self.begin(call)?,
+            Command::Step(number) => self.act(number, Act::Step),
+            Command::Finish(number) => self.act(number, Act::Finish),
+            Command::Abandon(number) => self.act(number, Act::Abandon),
+            Command::Flush => (Shown::Value, self.machine.whole(Whole::Flush)),
+            Command::Crash(_) => return Ok(()),
+            Command::Dump => return self.dump(output, out),
+        };
+        show(out, shown, outcome)
     }
+}
+
+// Adds the line of an outcome.
+fn show(out: &mut Vec<u8>, shown: Shown, outcome: Outcome) -> Result<(), Stopped> {
+    let pushed = push_outcome(out, shown, &outcome);
+    drop(outcome);
+    Ok(pushed?)
 }
 
 /// Writes the lines that were gathered.

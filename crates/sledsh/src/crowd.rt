@@ -1,11 +1,8 @@
 //! Eight calls in flight at once, and crashes, beside the plain program, in an order that looks random.
-ghost use Rattle.std.specs.Prelude.{◌≡◌, false};
-ghost use Rattle.sled_pages.specs.Store.{now};
-ghost use Rattle.sled_pages.specs.Memory.{store_of};
-ghost use Rattle.tree_laws.specs.Crashes.{IsWhole};
 
 use crate::plain::{Pairs, Plain, copied};
-use sled::{DEFAULT_TREE, Db, crash_pages, empty_pages};
+use crate::store::Kept;
+use sled::{DEFAULT_TREE, Db};
 use sled_lines::input::{Stopped, without_end};
 use sled_lines::print::{Shown, push_number, push_numbered, push_outcome, push_text};
 use sled_machine::Machine;
@@ -22,6 +19,12 @@ enum Halt {
 
 impl From<Error> for Halt {
     fn from(_: Error) -> Self {
+        Halt::Stopped
+    }
+}
+
+impl From<Stopped> for Halt {
+    fn from(_: Stopped) -> Self {
         Halt::Stopped
     }
 }
@@ -56,7 +59,18 @@ struct Life {
 enum End {
     All,
     Flushed,
-    Some(usize),
+    Some(u64),
+}
+
+impl End {
+    // How many actions the crash keeps.
+    fn keep(self) -> u64 {
+        match self {
+            End::All => u64::MAX,
+            End::Flushed => 0,
+            End::Some(keep) => keep,
+        }
+    }
 }
 
 // A small value.
@@ -299,39 +313,14 @@ impl Crowd {
         Ok(())
     }
 
-    // A life from the opening to the crash, which keeps so many actions.
-    fn live(
-        &mut self,
-        machine: &mut Machine<MemPages>,
-        life: Life,
-        end: End,
-    ) -> Run<usize> {
-        let tree = machine.db().default_tree()?;
-        self.maps.clear();
-        self.note()?;
-        if life.is_mix {
-            self.mix(machine, &tree, life)?;
-        } else {
-            self.eight(machine, &tree, life)?;
-        }
-        Ok(match end {
-            End::All => usize::MAX,
-            End::Some(keep) => keep,
-            End::Flushed => {
-                self.flush(machine)?;
-                0
-            }
-        })
-    }
-
     // The pairs are those that a crash may leave; the plain program goes on from them.
     fn recover(
         &mut self,
         machine: &Machine<MemPages>,
-        end: End,
+        last: End,
     ) -> Run<()> {
         let pairs = self.pairs(machine)?;
-        let is_one = match end {
+        let is_one = match last {
             End::Some(_) => {
                 let is = |map: &Pairs| map.as_slice() == pairs.as_slice();
                 self.maps.iter().any(is)
@@ -361,60 +350,81 @@ impl Crowd {
         let end = match (self.number >> 8) % 4 {
             0 => End::All,
             1 => End::Flushed,
-            _ if life.steps <= 50 => End::Some(((self.number >> 16) % 30) as usize),
+            _ if life.steps <= 50 => End::Some((self.number >> 16) % 30),
             _ => End::All,
         };
         (life, end)
     }
-}
 
-// A machine over these pages.
-fn open(alloc: Global, pages: MemPages) -> Result<Machine<MemPages>>
-    requires well { IsWhole (now (store_of pages)) }
-    requires calm { (now (store_of pages)).in_group ≡ false }
-{
-    match Db::open(alloc, pages, b"crowd") {
-        Ok(db) => Ok(Machine::new(db)),
-        Err((pages, error)) => {
-            drop(pages);
-            Err(error)
+    // What comes between an opening after a life that ended so and the next crash: how it ends, `None` where all calls were
+    // begun.
+    fn live(
+        &mut self,
+        machine: &mut Machine<MemPages>,
+        last: End,
+        place: u64,
+    ) -> Run<Option<End>> {
+        let tree = machine.db().default_tree()?;
+        self.recover(machine, last)?;
+        if self.left == 0 {
+            return Ok(None);
         }
+        self.maps.clear();
+        self.note()?;
+        let (life, end) = self.next(place);
+        if life.is_mix {
+            self.mix(machine, &tree, life)?;
+        } else {
+            self.eight(machine, &tree, life)?;
+        }
+        if matches!(end, End::Flushed) {
+            self.flush(machine)?;
+        }
+        Ok(Some(end))
     }
 }
 
-// The machine over what a crash leaves.
-fn crash(alloc: Global, machine: Machine<MemPages>, keep: usize) -> Result<Machine<MemPages>> {
-    let pages = crash_pages(machine.into_db().into_pages(), keep)?;
-    open(alloc, pages)
+// One life: the pages after its crash and how it ended, `None` where all calls were begun.
+fn live(crowd: &mut Crowd, kept: Kept, last: End, place: u64) -> Run<Option<(Kept, End)>> {
+    let (pages, _) = kept.into_pages();
+    let db = match Db::open(crowd.alloc, pages, b"crowd") {
+        Ok(db) => db,
+        Err(refused) => {
+            drop(refused);
+            return Err(Halt::Stopped);
+        }
+    };
+    let mut machine = Machine::new(db);
+    let end = match crowd.live(&mut machine, last, place) {
+        Ok(Some(end)) => end,
+        ended => {
+            drop(machine);
+            return ended.map(|_| None);
+        }
+    };
+    let kept = Kept::of(machine.into_db());
+    Ok(Some((kept.crash(crowd.alloc, end.keep())?, end)))
 }
 
 // Lives until all calls were begun.
 fn run(crowd: &mut Crowd) -> Run<()> {
-    let alloc = crowd.alloc;
-    let mut machine = open(alloc, empty_pages(alloc))?;
+    let mut kept = Kept::empty(crowd.alloc);
+    let mut last = End::All;
     for place in 0..u64::MAX {
-        if crowd.left == 0 {
-            break;
-        }
-        let (life, end) = crowd.next(place);
-        match crowd.live(&mut machine, life, end) {
-            Ok(keep) => machine = crash(alloc, machine, keep)?,
-            Err(halt) => {
-                drop(machine);
-                return Err(halt);
+        match live(crowd, kept, last, place)? {
+            Some((left, end)) => {
+                kept = left;
+                last = end;
             }
-        }
-        if let Err(halt) = crowd.recover(&machine, end) {
-            drop(machine);
-            return Err(halt);
+            None => return Ok(()),
         }
     }
-    drop(machine);
+    drop(kept);
     Ok(())
 }
 
 /// Runs so many calls on a store of its own beside the plain program, and adds whether all came out the same.
-pub fn crowd(
+pub fn run_calls(
     alloc: Global,
     seed: u64,
     calls: u64,

@@ -41,16 +41,31 @@ quit  ends
 /// What a line asks for.
 #[derive(Drop)]
 pub enum Command {
+    Ask(Ask),
+    Change(Change),
+    Quit,
+}
+
+/// What leaves the pages where they are.
+#[derive(Drop)]
+pub enum Ask {
     /// What `sledrun` knows too.
     Line(command::Command),
     /// How often the call of this number went on.
     Turns(u64),
     /// Whether the store is what a crash left.
     Recovered,
-    /// The levels of the tree.
-    Pages,
-    /// Calls from this seed, so many, beside the plain program.
-    Crowd(u64, u64),
+    /// The lines that there are.
+    Help,
+}
+
+/// What is done between two openings, or beside the database.
+#[derive(Drop)]
+pub enum Change {
+    /// A crash that keeps so many actions.
+    Crash(u64),
+    /// A crash that keeps all; the store left refuses these calls.
+    Recover(Vec<u64>),
     /// An empty store that refuses these calls.
     New(Vec<u64>),
     /// The store is opened again.
@@ -61,10 +76,10 @@ pub enum Command {
     Unreadable(Vec<u64>),
     /// The same; ids up to this one are set aside.
     Mark(u64),
-    /// A crash that keeps all; the store left refuses these calls.
-    Recover(Vec<u64>),
-    Help,
-    Quit,
+    /// The same; the levels of the tree are printed.
+    Pages,
+    /// Calls from this seed, so many, beside the plain program.
+    Crowd(u64, u64),
 }
 
 // Why a line does not have a form.
@@ -106,7 +121,7 @@ struct Fit<'a> {
 }
 
 // Compares the words of a line with those of a form.
-fn fit<'a>(alloc: Global, form: &[u8], line: &'a [u8]) -> Result<Fit<'a>> {
+fn compare<'a>(alloc: Global, form: &[u8], line: &'a [u8]) -> Result<Fit<'a>> {
     let mut own = 0usize;
     let mut odd_word = None;
     let (mut parts, mut words) = (Some(form), Some(line));
@@ -243,24 +258,39 @@ fn numbers(alloc: Global, line: &[u8]) -> Result<Vec<u64>> {
     Ok(numbers)
 }
 
+// What a line of this form changes, if it does; the numbers in it are these.
+fn change_of(form: &[u8], told: Vec<u64>) -> Option<Change> {
+    match (form, told.as_slice()) {
+        (b"crash N", [keep]) => Some(Change::Crash(*keep)),
+        (b"recover" | b"recover refuse N ..", _) => Some(Change::Recover(told)),
+        (b"new" | b"new refuse N ..", _) => Some(Change::New(told)),
+        (b"reopen", _) => Some(Change::Reopen),
+        (b"reopen refuse N ..", _) => Some(Change::Refuse(told)),
+        (b"reopen unreadable PID ..", _) => Some(Change::Unreadable(told)),
+        (b"reopen mark N", [upto]) => Some(Change::Mark(*upto)),
+        (b"pages", _) => Some(Change::Pages),
+        (b"crowd SEED CALLS", [seed, calls]) => Some(Change::Crowd(*seed, *calls)),
+        _ => None,
+    }
+}
+
 // The command of a line that has this form.
 fn made(alloc: Global, form: &[u8], line: &[u8]) -> Result<Option<Command>> {
     let told = numbers(alloc, line)?;
-    Ok(match (form, told.as_slice()) {
-        (b"turns N", [number]) => Some(Command::Turns(*number)),
-        (b"recovered", _) => Some(Command::Recovered),
-        (b"pages", _) => Some(Command::Pages),
-        (b"crowd SEED CALLS", [seed, calls]) => Some(Command::Crowd(*seed, *calls)),
-        (b"new" | b"new refuse N ..", _) => Some(Command::New(told)),
-        (b"reopen", _) => Some(Command::Reopen),
-        (b"reopen refuse N ..", _) => Some(Command::Refuse(told)),
-        (b"reopen unreadable PID ..", _) => Some(Command::Unreadable(told)),
-        (b"reopen mark N", [number]) => Some(Command::Mark(*number)),
-        (b"recover" | b"recover refuse N ..", _) => Some(Command::Recover(told)),
-        (b"help", _) => Some(Command::Help),
-        (b"quit", _) => Some(Command::Quit),
-        _ => parse(alloc, line)?.map(Command::Line),
-    })
+    let ask = match (form, told.as_slice()) {
+        (b"quit", _) => return Ok(Some(Command::Quit)),
+        (b"turns N", [number]) => Ask::Turns(*number),
+        (b"recovered", _) => Ask::Recovered,
+        (b"help", _) => Ask::Help,
+        _ => match change_of(form, told) {
+            Some(change) => return Ok(Some(Command::Change(change))),
+            None => match parse(alloc, line)? {
+                Some(command) => Ask::Line(command),
+                None => return Ok(None),
+            },
+        },
+    };
+    Ok(Some(Command::Ask(ask)))
 }
 
 /// What a line asks for; `None` where it cannot be read, and then the reason is added.
@@ -268,7 +298,7 @@ pub fn read(alloc: Global, line: &[u8], out: &mut Vec<u8>) -> Result<Option<Comm
     let (mut best, mut own, mut why) = (line, 0, Misfit::Name);
     for text in HELP.as_bytes().split(|byte| *byte == b'\n') {
         let form = form_of(text);
-        let fits = fit(alloc, form, line)?;
+        let fits = compare(alloc, form, line)?;
         let Some(misfit) = fits.misfit else {
             return made(alloc, form, line);
         };

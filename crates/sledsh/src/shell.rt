@@ -1,18 +1,20 @@
-//! A session of the shell: a store, opened or not, from line to line.
+//! A session of the shell: lines, from opening to opening.
 
-use crate::crowd::crowd;
-use crate::forms::{Command, HELP, read};
+use crate::crowd::run_calls;
+use crate::forms::{Ask, Change, Command, HELP, read};
 use crate::levels::push_levels;
 use crate::store::Kept;
+use sled::{DEFAULT_TREE, Db};
 use sled_lines::command;
 use sled_lines::input::{Stopped, read_line, without_end};
-use sled_lines::print::{
-    push_number, push_numbered, push_recovered, push_refused, push_text,
-};
+use sled_lines::print::{push_number, push_numbered, push_refused, push_text};
 use sled_lines::session::{Session, write};
-use sled_pages::Error;
+use sled_pages::{Error, MemPages};
 use std::alloc::Global;
 use std::io::{BufRead, Write};
+
+// The name that databases are opened under.
+const DATABASE: &[u8] = b"sledsh";
 
 // The store: opened, or the pages that a refused opening gave back.
 #[derive(Drop)]
@@ -21,210 +23,279 @@ enum State {
     Shut(Kept),
 }
 
-// How the shell goes on after a line.
-#[derive(Clone, Copy)]
-enum Next {
-    Line,
-    // The line could not be read, and why is told.
-    Bad,
-    End,
-}
-
-// The store, and what the line prints.
-#[derive(Drop)]
-struct Shell {
-    alloc: Global,
-    state: State,
-    mark: u64,
-    out: Vec<u8>,
-}
-
-impl Shell {
-    // Takes the pages out; an empty store is left.
-    fn take(&mut self) -> Kept {
-        let empty = State::Shut(Kept::empty(self.alloc));
-        match std::mem::replace(&mut self.state, empty) {
-            State::Open(session) => Kept::of(session),
+impl State {
+    fn into_kept(self) -> Kept {
+        match self {
+            State::Open(session) => Kept::of(session.into_db()),
             State::Shut(kept) => kept,
         }
     }
+}
 
-    fn put(&mut self, state: State) {
-        let old = std::mem::replace(&mut self.state, state);
-        drop(old);
+// The line that was read last and its number, and what is to be printed.
+#[derive(Drop)]
+struct Shell {
+    alloc: Global,
+    prompts: bool,
+    line: Vec<u8>,
+    left: usize,
+    number: u64,
+    // Whether each line could be read.
+    good: bool,
+    out: Vec<u8>,
+    mark: u64,
+    // What the next opening prints, or why there is none.
+    opened: &'static [u8],
+    refused: Option<Error>,
+}
+
+impl Shell {
+    // Adds the line of one that cannot be read.
+    fn tell_bad(&mut self, why: &[u8]) -> Result<(), Stopped> {
+        self.good = false;
+        push_text(&mut self.out, b"bad line ")?;
+        push_number(&mut self.out, self.number)?;
+        push_text(&mut self.out, b": ")?;
+        push_text(&mut self.out, why)?;
+        Ok(push_text(&mut self.out, b"\n")?)
     }
 
-    // Opens pages, and adds what the opening prints.
-    fn open(&mut self, kept: Kept, opened: &[u8]) -> sled_pages::Result<()> {
-        match kept.open(self.alloc) {
-            Ok(session) => {
-                self.put(State::Open(session));
-                push_text(&mut self.out, opened)
-            }
-            Err((kept, error)) => {
-                self.put(State::Shut(kept));
-                push_refused(&mut self.out, &error)
-            }
+    // Adds why ids cannot be set aside.
+    fn tell_below(&mut self, upto: u64) -> Result<(), Stopped> {
+        let mut why = Vec::new(self.alloc);
+        push_text(&mut why, b"`")?;
+        push_number(&mut why, upto)?;
+        push_text(&mut why, b"` is below the mark, which is ")?;
+        push_number(&mut why, self.mark)?;
+        self.tell_bad(why.as_slice())
+    }
+
+    // What the line asks for. A line that cannot be read is told.
+    fn command(&mut self) -> Result<Option<Command>, Stopped> {
+        let line = without_end(self.line.as_slice());
+        if line.is_empty() || line.starts_with(b"#") {
+            return Ok(None);
         }
-    }
-
-    fn new_store(&mut self, refused: &[u64]) -> Result<(), Stopped> {
-        let mut kept = Kept::empty(self.alloc);
-        kept.refuse(refused)?;
-        self.mark = 0;
-        Ok(self.open(kept, b"opened\n")?)
-    }
-
-    fn refuse(&mut self, calls: &[u64]) -> Result<(), Stopped> {
-        let mut kept = self.take();
-        kept.refuse(calls)?;
-        Ok(self.open(kept, b"opened\n")?)
-    }
-
-    fn unreadable(&mut self, pids: &[u64]) -> Result<(), Stopped> {
-        let mut kept = self.take();
-        for pid in pids {
-            kept.unreadable(*pid)?;
-        }
-        Ok(self.open(kept, b"opened\n")?)
-    }
-
-    fn mark(&mut self, upto: u64) -> sled_pages::Result<Next> {
-        if upto < self.mark {
-            push_text(&mut self.out, b"`")?;
-            push_number(&mut self.out, upto)?;
-            push_numbered(&mut self.out, b"` is below the mark, which is ", self.mark)?;
-            self.out.pop();
-            return Ok(Next::Bad);
-        }
-        let mut kept = self.take();
-        match kept.set_aside(upto) {
-            Ok(()) => {
-                self.mark = upto;
-                self.open(kept, b"opened\n")?;
+        let mut why = Vec::new(self.alloc);
+        match read(self.alloc, line, &mut why)? {
+            Some(Command::Change(Change::Mark(upto))) if upto < self.mark => {
+                self.tell_below(upto)?;
+                Ok(None)
             }
-            Err(error) => {
-                self.put(State::Shut(kept));
-                push_refused(&mut self.out, &error)?;
+            Some(command) => Ok(Some(command)),
+            None => {
+                self.tell_bad(why.as_slice())?;
+                Ok(None)
             }
         }
-        Ok(Next::Line)
     }
 
-    fn crash(&mut self, keep: u64, refused: &[u64], opened: &[u8]) -> Result<(), Stopped> {
-        let keep = usize::try_from(keep).unwrap_or(usize::MAX);
-        let kept = self.take();
-        let mut left = kept.crash(self.alloc, keep)?;
-        left.refuse(refused)?;
-        Ok(self.open(left, opened)?)
-    }
-
-    // Adds the levels of the tree, and opens the pages again.
-    fn levels(&mut self) -> sled_pages::Result<()> {
-        let name = match &self.state {
-            State::Open(session) => session.tree().name().clone()?,
-            State::Shut(_) => return push_refused(&mut self.out, &Error::Closed),
-        };
-        let kept = self.take();
-        push_levels(self.alloc, kept.pages(), name.as_ref(), &mut self.out)?;
-        self.open(kept, b"")
-    }
-
-    fn recovered(&mut self) -> sled_pages::Result<()> {
-        match &self.state {
-            State::Open(session) if session.db().was_recovered() => {
-                push_text(&mut self.out, b"yes\n")
+    // Writes what is to be printed, and reads lines up to the next command.
+    fn next<R: BufRead, W: Write>(
+        &mut self,
+        input: &mut R,
+        output: &mut W,
+    ) -> Result<Command, Stopped> {
+        for _ in 0..u64::MAX {
+            write(output, &mut self.out)?;
+            if self.prompts {
+                output.write_all(b"> ")?;
             }
-            State::Open(_) => push_text(&mut self.out, b"no\n"),
-            State::Shut(_) => push_refused(&mut self.out, &Error::Closed),
+            if read_line(input, output, &mut self.line, &mut self.left)? == 0 {
+                break;
+            }
+            self.number = self.number.saturating_add(1);
+            if let Some(command) = self.command()? {
+                return Ok(command);
+            }
         }
+        Ok(Command::Quit)
     }
 
-    fn turns(&mut self, number: u64) -> sled_pages::Result<()> {
-        let turns = match &self.state {
-            State::Open(session) => session.turns(number),
-            State::Shut(_) => None,
-        };
+    fn turns(&mut self, turns: Option<u64>) -> sled_pages::Result<()> {
         match turns {
             Some(turns) => push_numbered(&mut self.out, b"number ", turns),
             None => push_text(&mut self.out, b"no slot\n"),
         }
     }
 
-    // A line that `sledrun` knows too.
-    fn line<W: Write>(
-        &mut self,
-        command: command::Command,
-        output: &mut W,
-    ) -> Result<(), Stopped> {
-        if let command::Command::Crash(keep) = command {
-            return self.crash(keep, &[], b"recovered\n");
-        }
-        match &mut self.state {
-            State::Open(session) => session.run(command, output, &mut self.out),
-            State::Shut(_) => {
-                let is_of_slot = matches!(
-                    &command,
-                    command::Command::Step(_)
-                        | command::Command::Finish(_)
-                        | command::Command::Abandon(_)
-                );
-                drop(command);
-                if is_of_slot {
-                    return Ok(push_text(&mut self.out, b"no slot\n")?);
-                }
-                Ok(push_refused(&mut self.out, &Error::Closed)?)
-            }
-        }
-    }
-
-    fn obey<W: Write>(&mut self, command: Command, output: &mut W) -> Result<Next, Stopped> {
-        match command {
-            Command::Line(line) => self.line(line, output)?,
-            Command::Turns(number) => self.turns(number)?,
-            Command::Recovered => self.recovered()?,
-            Command::Pages => self.levels()?,
-            Command::Crowd(seed, calls) => crowd(self.alloc, seed, calls, &mut self.out)?,
-            Command::New(refused) => self.new_store(refused.as_slice())?,
-            Command::Reopen => {
-                let kept = self.take();
-                self.open(kept, b"opened\n")?;
-            }
-            Command::Refuse(calls) => self.refuse(calls.as_slice())?,
-            Command::Unreadable(pids) => self.unreadable(pids.as_slice())?,
-            Command::Mark(upto) => return Ok(self.mark(upto)?),
-            Command::Recover(refused) => self.crash(u64::MAX, refused.as_slice(), b"opened\n")?,
-            Command::Help => push_text(&mut self.out, HELP.as_bytes())?,
-            Command::Quit => return Ok(Next::End),
-        }
-        Ok(Next::Line)
-    }
-
-    // Does what a line asks for, and writes what it prints.
+    // Answers at a database.
     fn answer<W: Write>(
         &mut self,
-        line: &[u8],
-        number: u64,
+        session: &mut Session,
+        ask: Ask,
         output: &mut W,
-    ) -> Result<Next, Stopped> {
-        if line.is_empty() || line.starts_with(b"#") {
-            return Ok(Next::Line);
+    ) -> Result<(), Stopped> {
+        match ask {
+            Ask::Line(command) => session.run(command, output, &mut self.out),
+            Ask::Turns(number) => Ok(self.turns(session.turns(number))?),
+            Ask::Recovered if session.db().was_recovered() => {
+                Ok(push_text(&mut self.out, b"yes\n")?)
+            }
+            Ask::Recovered => Ok(push_text(&mut self.out, b"no\n")?),
+            Ask::Help => Ok(push_text(&mut self.out, HELP.as_bytes())?),
         }
-        let mut why = Vec::new(self.alloc);
-        let next = match read(self.alloc, line, &mut why)? {
-            Some(command) => self.obey(command, output)?,
-            None => Next::Bad,
+    }
+
+    // Answers where there is none.
+    fn answer_shut(&mut self, ask: Ask) -> Result<(), Stopped> {
+        let answered = match &ask {
+            Ask::Help => push_text(&mut self.out, HELP.as_bytes()),
+            Ask::Turns(_)
+            | Ask::Line(
+                command::Command::Step(_)
+                | command::Command::Finish(_)
+                | command::Command::Abandon(_),
+            ) => push_text(&mut self.out, b"no slot\n"),
+            _ => push_refused(&mut self.out, &Error::Closed),
         };
-        if matches!(next, Next::Bad) {
-            why.append(&mut self.out)?;
-            push_numbered(&mut self.out, b"bad line ", number)?;
-            self.out.pop();
-            push_text(&mut self.out, b": ")?;
-            push_text(&mut self.out, why.as_slice())?;
-            push_text(&mut self.out, b"\n")?;
+        drop(ask);
+        Ok(answered?)
+    }
+
+    // Answers lines up to one that changes the store, or to the end.
+    fn lines<R: BufRead, W: Write>(
+        &mut self,
+        state: &mut State,
+        input: &mut R,
+        output: &mut W,
+    ) -> Result<Option<Change>, Stopped> {
+        for _ in 0..u64::MAX {
+            match (self.next(input, output)?, &mut *state) {
+                (Command::Quit, _) => break,
+                (Command::Change(Change::Pages), State::Shut(_)) => {
+                    push_refused(&mut self.out, &Error::Closed)?;
+                }
+                (Command::Change(change), _) => return Ok(Some(change)),
+                (Command::Ask(ask), State::Open(session)) => self.answer(session, ask, output)?,
+                (Command::Ask(ask), State::Shut(_)) => self.answer_shut(ask)?,
+            }
         }
-        write(output, &mut self.out)?;
-        Ok(next)
+        Ok(None)
+    }
+
+    // The state after a refusal, which is printed.
+    fn shut(&mut self, kept: Kept, error: Error) -> Result<State, Stopped> {
+        let pushed = push_refused(&mut self.out, &error);
+        drop(error);
+        match pushed {
+            Ok(()) => Ok(State::Shut(kept)),
+            Err(_) => {
+                drop(kept);
+                Err(Stopped)
+            }
+        }
+    }
+
+    // The state after an opening, which is printed.
+    fn open(&mut self, db: Db<MemPages>) -> Result<State, Stopped> {
+        if push_text(&mut self.out, self.opened).is_err() {
+            drop(db);
+            return Err(Stopped);
+        }
+        match Session::over(self.alloc, db) {
+            Ok(session) => Ok(State::Open(session)),
+            Err(refused) => {
+                drop(refused);
+                Err(Stopped)
+            }
+        }
+    }
+
+    // Opens the pages and answers lines up to one that changes the store, or to the end.
+    fn live<R: BufRead, W: Write>(
+        &mut self,
+        kept: Kept,
+        input: &mut R,
+        output: &mut W,
+    ) -> Result<(Kept, Option<Change>), Stopped> {
+        let mut state = match self.refused.take() {
+            Some(error) => self.shut(kept, error)?,
+            None => {
+                let (pages, crashes) = kept.into_pages();
+                match Db::open(self.alloc, pages, DATABASE) {
+                    Ok(db) => self.open(db)?,
+                    Err((pages, error)) => self.shut(Kept::refused(pages, crashes), error)?,
+                }
+            }
+        };
+        for _ in 0..u64::MAX {
+            let change = match self.lines(&mut state, input, output) {
+                Ok(Some(Change::Crowd(seed, calls))) => {
+                    match run_calls(self.alloc, seed, calls, &mut self.out) {
+                        Ok(()) => continue,
+                        Err(stopped) => Err(stopped),
+                    }
+                }
+                Ok(change) => return Ok((state.into_kept(), change)),
+                Err(stopped) => Err(stopped),
+            };
+            drop(state);
+            return change;
+        }
+        drop(state);
+        Err(Stopped)
+    }
+
+    // Sets ids aside; where that is refused the pages are not opened.
+    fn set_aside(&mut self, kept: Kept, upto: u64) -> Kept {
+        let (kept, done) = kept.set_aside(upto);
+        match done {
+            Ok(()) => self.mark = upto,
+            Err(error) => {
+                let old = std::mem::replace(&mut self.refused, Some(error));
+                drop(old);
+            }
+        }
+        kept
+    }
+
+    // What a line makes of the pages, which are opened then.
+    fn changed(&mut self, kept: Kept, change: Change) -> Result<Kept, Stopped> {
+        self.opened = b"opened\n";
+        match change {
+            Change::Crash(keep) => {
+                self.opened = b"recovered\n";
+                kept.crash(self.alloc, keep)
+            }
+            Change::Recover(calls) => kept.crash(self.alloc, u64::MAX)?.refuse(calls.as_slice()),
+            Change::New(calls) => {
+                drop(kept);
+                self.mark = 0;
+                Kept::empty(self.alloc).refuse(calls.as_slice())
+            }
+            Change::Refuse(calls) => kept.refuse(calls.as_slice()),
+            Change::Unreadable(pids) => kept.unreadable(pids.as_slice()),
+            Change::Mark(upto) => Ok(self.set_aside(kept, upto)),
+            Change::Pages => {
+                self.opened = b"";
+                let name = DEFAULT_TREE.as_bytes();
+                match push_levels(self.alloc, kept.pages(), name, &mut self.out) {
+                    Ok(()) => Ok(kept),
+                    Err(_) => {
+                        drop(kept);
+                        Err(Stopped)
+                    }
+                }
+            }
+            Change::Reopen | Change::Crowd(_, _) => Ok(kept),
+        }
+    }
+
+    // Answers all lines.
+    fn run<R: BufRead, W: Write>(&mut self, input: &mut R, output: &mut W) -> Result<(), Stopped> {
+        let mut kept = Kept::empty(self.alloc);
+        for _ in 0..u64::MAX {
+            match self.live(kept, input, output)? {
+                (left, Some(change)) => kept = self.changed(left, change)?,
+                (left, None) => {
+                    drop(left);
+                    return Ok(output.flush()?);
+                }
+            }
+        }
+        drop(kept);
+        Err(Stopped)
     }
 }
 
@@ -237,27 +308,16 @@ pub fn run<R: BufRead, W: Write>(
 ) -> Result<bool, Stopped> {
     let mut shell = Shell {
         alloc,
-        state: State::Shut(Kept::empty(alloc)),
-        mark: 0,
+        prompts,
+        line: Vec::new(alloc),
+        left: 0,
+        number: 0,
+        good: true,
         out: Vec::new(alloc),
+        mark: 0,
+        opened: b"",
+        refused: None,
     };
-    let empty = shell.take();
-    shell.open(empty, b"")?;
-    let (mut line, mut left, mut good) = (Vec::new(alloc), 0, true);
-    for number in 0..u64::MAX {
-        if prompts {
-            output.write_all(b"> ")?;
-        }
-        if read_line(input, output, &mut line, &mut left)? == 0 {
-            break;
-        }
-        match shell.answer(without_end(line.as_slice()), number + 1, output)? {
-            Next::Line => {}
-            Next::Bad => good = false,
-            Next::End => break,
-        }
-    }
-    drop(shell);
-    output.flush()?;
-    Ok(good)
+    shell.run(input, output)?;
+    Ok(shell.good)
 }

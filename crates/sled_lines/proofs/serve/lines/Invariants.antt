@@ -1,6 +1,6 @@
 use Rattle.std.proofs.Common.{◌≡◌, Some, IfSome}
 use Rattle.sled_lines.specs.Serve.{bad_left}
-use Rattle.sled_lines.proofs.serve.live.Given as goal
+use Rattle.sled_lines.proofs.serve.lines.Given as goal
 
 -- the first bad line is still to be read
 abbrev pub invariant-loop : goal.invariant-loop
