@@ -70,11 +70,7 @@ fn next_line<R: BufRead, W: Write>(
 }
 
 // Prints which line could not be read.
-fn tell_bad<W: Write>(
-    number: u64,
-    output: &mut W,
-    out: &mut Vec<u8>,
-) -> Result<(), Stopped> {
+fn tell_bad<W: Write>(number: u64, output: &mut W, out: &mut Vec<u8>) -> Result<(), Stopped> {
     push_bad_line(out, number)?;
     write(output, out)
 }
@@ -179,17 +175,20 @@ fn run_from<R: BufRead, W: Write>(
     let mut pages = empty_pages(alloc);
     for _ in 0..u64::MAX {
         let (end, left) = live(alloc, pages, input, output, buffers)?;
-        let read = match end {
+        match end {
             End::Crash(keep) => {
                 let keep = usize::try_from(keep).unwrap_or(usize::MAX);
                 pages = crash_pages(left, keep)?;
-                continue;
             }
-            End::NoLine => true,
-            End::BadLine => false,
-        };
-        drop(left);
-        return Ok(read);
+            End::NoLine => {
+                drop(left);
+                return Ok(true);
+            }
+            End::BadLine => {
+                drop(left);
+                return Ok(false);
+            }
+        }
     }
     drop(pages);
     Err(Stopped)

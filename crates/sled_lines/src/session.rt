@@ -63,7 +63,11 @@ impl Session {
 
     /// The database. The calls in flight are given up.
     pub fn into_db(self) -> Db<MemPages> {
-        let Session { machine, tree, slots } = self;
+        let Session {
+            machine,
+            tree,
+            slots,
+        } = self;
         drop(slots);
         drop(tree);
         machine.into_db()

@@ -144,13 +144,7 @@ impl Crowd {
     }
 
     // Compares how both sides came out.
-    fn same(
-        &mut self,
-        did: &[u8],
-        slot: Slot,
-        one: &Outcome,
-        other: &Outcome,
-    ) -> Run<()> {
+    fn same(&mut self, did: &[u8], slot: Slot, one: &Outcome, other: &Outcome) -> Run<()> {
         let (mut is, mut wanted) = (Vec::new(self.alloc), Vec::new(self.alloc));
         push_outcome(&mut is, Shown::Value, one)?;
         push_outcome(&mut wanted, Shown::Value, other)?;
@@ -169,12 +163,7 @@ impl Crowd {
     }
 
     // Begins the call of the present number on both sides.
-    fn begin(
-        &mut self,
-        machine: &mut Machine<MemPages>,
-        tree: &Tree,
-        life: Life,
-    ) -> Run<Slot> {
+    fn begin(&mut self, machine: &mut Machine<MemPages>, tree: &Tree, life: Life) -> Run<Slot> {
         self.left = self.left.saturating_sub(1);
         let one = match machine.begin(tree, chosen(self.alloc, self.number, life)?) {
             Ok(slot) => Outcome::Begun(slot),
@@ -187,12 +176,7 @@ impl Crowd {
     }
 
     // Steps a call on both sides: whether it was decided.
-    fn step(
-        &mut self,
-        machine: &mut Machine<MemPages>,
-        slot: Slot,
-        life: Life,
-    ) -> Run<bool> {
+    fn step(&mut self, machine: &mut Machine<MemPages>, slot: Slot, life: Life) -> Run<bool> {
         let one = machine.step(slot);
         let decided = matches!(&one, Outcome::Decided(_));
         let other = self.plain.step(slot, decided)?;
@@ -204,11 +188,7 @@ impl Crowd {
     }
 
     // Gives a call up on both sides.
-    fn abandon(
-        &mut self,
-        machine: &mut Machine<MemPages>,
-        slot: Slot,
-    ) -> Run<()> {
+    fn abandon(&mut self, machine: &mut Machine<MemPages>, slot: Slot) -> Run<()> {
         let (one, other) = (machine.abandon(slot), self.plain.abandon(slot));
         self.same(b"abandon ", slot, &one, &other)
     }
@@ -237,10 +217,7 @@ impl Crowd {
             Some((kind, name, pairs))
                 if is_one
                     && kind.as_slice() == b"tree".as_slice()
-                    && name.as_slice() == DEFAULT_TREE.as_bytes() =>
-            {
-                Ok(pairs)
-            }
+                    && name.as_slice() == DEFAULT_TREE.as_bytes() => { Ok(pairs) }
             _ => self.differed(b"an export has other trees"),
         }
     }
@@ -255,12 +232,7 @@ impl Crowd {
     }
 
     // Steps of eight calls. One that was decided makes room for another, and now and then one is given up.
-    fn eight(
-        &mut self,
-        machine: &mut Machine<MemPages>,
-        tree: &Tree,
-        life: Life,
-    ) -> Run<()> {
+    fn eight(&mut self, machine: &mut Machine<MemPages>, tree: &Tree, life: Life) -> Run<()> {
         let mut slots = [Slot(0); 8];
         for i in 0..8usize {
             self.number = mixed(self.number);
@@ -287,12 +259,7 @@ impl Crowd {
     }
 
     // Moves of any kind over five keys; mostly a call is in the slot.
-    fn mix(
-        &mut self,
-        machine: &mut Machine<MemPages>,
-        tree: &Tree,
-        life: Life,
-    ) -> Run<()> {
+    fn mix(&mut self, machine: &mut Machine<MemPages>, tree: &Tree, life: Life) -> Run<()> {
         for _ in 0..life.steps {
             self.number = mixed(self.number);
             let back = (self.number >> 40) % 4;
@@ -314,11 +281,7 @@ impl Crowd {
     }
 
     // The pairs are those that a crash may leave; the plain program goes on from them.
-    fn recover(
-        &mut self,
-        machine: &Machine<MemPages>,
-        last: End,
-    ) -> Run<()> {
+    fn recover(&mut self, machine: &Machine<MemPages>, last: End) -> Run<()> {
         let pairs = self.pairs(machine)?;
         let is_one = match last {
             End::Some(_) => {
@@ -358,12 +321,7 @@ impl Crowd {
 
     // What comes between an opening after a life that ended so and the next crash: how it ends, `None` where all calls were
     // begun.
-    fn live(
-        &mut self,
-        machine: &mut Machine<MemPages>,
-        last: End,
-        place: u64,
-    ) -> Run<Option<End>> {
+    fn live(&mut self, machine: &mut Machine<MemPages>, last: End, place: u64) -> Run<Option<End>> {
         let tree = machine.db().default_tree()?;
         self.recover(machine, last)?;
         if self.left == 0 {

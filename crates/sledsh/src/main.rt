@@ -11,12 +11,11 @@ mod shell;
 mod store;
 
 use check::check;
-use sled_lines::input::Stopped;
 use shell::run;
-use std::env;
-use std::fs;
+use sled_lines::input::Stopped;
 use std::io::{BufReader, BufWriter, IsTerminal, Write};
 use std::process::ExitCode;
+use std::{env, fs};
 
 // Runs standard input as a session: whether each line could be read.
 fn run_input(rt: &HostRuntime, output: &mut impl Write) -> Result<bool, Stopped> {
@@ -25,11 +24,7 @@ fn run_input(rt: &HostRuntime, output: &mut impl Write) -> Result<bool, Stopped>
 }
 
 // Runs each file as a session of its own: whether each line could be read.
-fn run_files(
-    rt: &HostRuntime,
-    names: &[String],
-    output: &mut impl Write,
-) -> Result<bool, Stopped> {
+fn run_files(rt: &HostRuntime, names: &[String], output: &mut impl Write) -> Result<bool, Stopped> {
     let mut read = true;
     for name in names {
         let mut input = BufReader::new(rt.alloc(), fs::open(rt, name.as_str())?)?;

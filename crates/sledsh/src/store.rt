@@ -1,8 +1,7 @@
 //! Pages between two openings.
-ghost use Rattle.std.specs.Prelude.{◌≡◌, true, false, IfOk};
-ghost use Rattle.sled_pages.specs.Store.{now};
+ghost use Rattle.std.specs.Prelude.{◌≡◌, true, IfOk};
 ghost use Rattle.sled_pages.specs.Memory.{store_of};
-ghost use Rattle.tree_laws.specs.Crashes.{IsWhole, IsCrashWhole};
+ghost use Rattle.tree_laws.specs.Crashes.{IsCrashWhole};
 
 use sled::{DEFAULT_TREE, Db, crash_pages, empty_pages};
 use sled_lines::input::Stopped;
@@ -73,17 +72,12 @@ impl Kept {
     pub fn crash(self, alloc: Global, keep: u64) -> Result<Kept, Stopped> {
         let keep = usize::try_from(keep).unwrap_or(usize::MAX);
         let Kept { pages, crashes } = self;
-        let pages = if crashes {
-            crash_pages(pages, keep)?
-        } else {
-            let mark = pages.mark();
-            drop(pages);
-            crash_pages(marked(alloc, mark)?, keep)?
-        };
-        Ok(Kept {
-            pages,
-            crashes: true,
-        })
+        if crashes {
+            return crashed(pages, keep);
+        }
+        let mark = pages.mark();
+        drop(pages);
+        crashed(marked(alloc, mark)?, keep)
     }
 
     /// The store will refuse its calls of these numbers, and no others.
@@ -118,13 +112,30 @@ impl Kept {
     /// Sets ids aside, or says why not; a mark that is higher stays.
     pub fn set_aside(self, upto: u64) -> (Kept, Result<(), Error>) {
         let Kept { mut pages, crashes } = self;
-        let done = if upto > pages.mark() {
-            pages.set_aside(upto)
-        } else {
-            Ok(())
-        };
+        let done = raise_mark(&mut pages, upto);
         (Kept { pages, crashes }, done)
     }
+}
+
+// What a crash leaves of these pages.
+fn crashed(pages: MemPages, keep: usize) -> Result<Kept, Stopped>
+    requires { IsCrashWhole (store_of pages) }
+{
+    Ok(Kept {
+        pages: crash_pages(pages, keep)?,
+        crashes: true,
+    })
+}
+
+// Raises the mark of a store, if it is lower.
+fn raise_mark(pages: &mut MemPages, upto: u64) -> Result<(), Error>
+    ensures base { (store_of pages.new).base ≡ (store_of pages.old).base }
+    ensures recent { (store_of pages.new).recent ≡ (store_of pages.old).recent }
+{
+    if upto > pages.mark() {
+        pages.set_aside(upto)?;
+    }
+    Ok(())
 }
 
 // An empty store with this mark.
@@ -132,6 +143,11 @@ fn marked(alloc: Global, mark: u64) -> Result<MemPages, Error>
     ensures { IfOk result (λ pages. IsCrashWhole (store_of pages)) }
 {
     let mut pages = empty_pages(alloc);
-    pages.set_aside(mark)?;
-    Ok(pages)
+    match raise_mark(&mut pages, mark) {
+        Ok(()) => Ok(pages),
+        Err(error) => {
+            drop(pages);
+            Err(error)
+        }
+    }
 }
