@@ -4,20 +4,32 @@ use crate::words::{Result, Stop, Words};
 use std::alloc::Global;
 
 /// What the lines of a text print, from a fresh store on.
-pub fn printed(alloc: Global, text: &[u8]) -> Result<String> {
+pub fn printed(alloc: Global, text: &str) -> Result<String> {
     let mut out = String::new(alloc);
-    let mut answer = String::new(alloc);
     let mut store = Store::new(alloc);
+    let ran = run_lines(alloc, &mut store, text.as_bytes(), &mut out);
+    drop(store);
+    match ran {
+        Ok(()) => Ok(out),
+        Err(stop) => {
+            drop(out);
+            Err(stop)
+        }
+    }
+}
+
+fn run_lines(alloc: Global, store: &mut Store, text: &[u8], out: &mut String) -> Result<()> {
+    let mut answer = String::new(alloc);
     let mut number = 0u64;
     for line in text.split(|byte| *byte == b'\n') {
         number = number.saturating_add(1);
         if !line.is_empty() && !line.starts_with(b"#") {
-            run_line(&mut store, number, line, &mut answer)?;
+            run_line(store, number, line, &mut answer)?;
             out.push_str(answer.as_str())?;
             out.push('\n')?;
         }
     }
-    Ok(out)
+    Ok(())
 }
 
 // What the line of this number comes to.
@@ -40,13 +52,14 @@ fn repeat(store: &mut Store, line: &[u8], answer: &mut String) -> Result<()> {
     };
     let mut words = Words::of(rest);
     for _ in 0..words.number()? {
+        let mut command = words;
         answer.clear();
-        store.run(&mut words.clone()?, answer)?;
+        store.run(&mut command, answer)?;
     }
     Ok(())
 }
 
-/// Whether lines are those that are expected. Adds a line that says so, or shows the first line that differs.
+/// Whether lines are those that are expected. Adds a line that says so, or shows the first one that differs.
 pub fn compare(name: &str, printed: &str, expected: &str, out: &mut String) -> Result<bool> {
     let mut lines = printed.lines();
     let mut others = expected.lines();
@@ -58,27 +71,16 @@ pub fn compare(name: &str, printed: &str, expected: &str, out: &mut String) -> R
             }
             (line, other) => {
                 if line != other {
-                    push_difference(name, count, line, other, out)?;
+                    let line = line.unwrap_or("the end");
+                    let other = other.unwrap_or("the end");
+                    write!(
+                        out,
+                        "{name}: after {count} lines: {line}\n  expected: {other}\n"
+                    )?;
                     return Ok(false);
                 }
             }
         }
     }
     Ok(true)
-}
-
-fn push_difference(
-    name: &str,
-    count: u64,
-    line: Option<&str>,
-    other: Option<&str>,
-    out: &mut String,
-) -> Result<()> {
-    let line = line.unwrap_or("the end");
-    let other = other.unwrap_or("the end");
-    write!(
-        out,
-        "{name}: after {count} lines: {line}\n  expected: {other}\n"
-    )?;
-    Ok(())
 }

@@ -67,28 +67,34 @@ successor NODE BOUND, predecessor NODE BOUND    pair K V, or none
 ";
 
 // Prints what a text of lines prints.
-fn run_text(rt: &(impl Print + AllocGlobal), text: &[u8]) -> io::Result<()> {
+fn run_text(rt: &(impl Print + AllocGlobal), text: &str) -> io::Result<()> {
     rt.print(check::printed(rt.alloc(), text)?.as_str())
 }
 
-fn run_input(rt: &(impl Input + Print + AllocGlobal)) -> io::Result<()> {
-    let text = io::read_to_string(rt.alloc(), rt.reader())?;
-    run_text(rt, text.as_str().as_bytes())
+fn run_files(rt: &(impl Files + Print + AllocGlobal), files: &[String]) -> io::Result<()> {
+    for file in files {
+        run_text(rt, fs::read_to_string(rt, file.as_str())?.as_str())?;
+    }
+    Ok(())
 }
 
-// Whether the lines of a name print what they should.
+// The file of a name and an ending.
+fn read(rt: &(impl Files + AllocGlobal), name: &str, ending: &str) -> io::Result<String> {
+    let path = format!(in rt.alloc(); "{name}.{ending}")?;
+    fs::read_to_string(rt, path.as_str())
+}
+
+// Whether the lines of a name print what they should. Says so.
 fn check_name(rt: &(impl Files + Print + AllocGlobal), name: &str) -> io::Result<bool> {
-    let alloc = rt.alloc();
-    let lines = fs::read(rt, format!(in alloc; "{name}.lines")?.as_str())?;
-    let expected = fs::read_to_string(rt, format!(in alloc; "{name}.expected")?.as_str())?;
-    let printed = check::printed(alloc, lines.as_slice())?;
-    let mut out = String::new(alloc);
-    let is_same = check::compare(name, printed.as_str(), expected.as_str(), &mut out)?;
+    let printed = check::printed(rt.alloc(), read(rt, name, "lines")?.as_str())?;
+    let expected = read(rt, name, "expected")?;
+    let mut out = String::new(rt.alloc());
+    let is_same = check::compare(name, printed.as_str(), expected.as_str(), &mut out);
     rt.print(out.as_str())?;
-    Ok(is_same)
+    Ok(is_same?)
 }
 
-fn check_names(rt: &(impl Files + Print + AllocGlobal), names: env::Args) -> io::Result<bool> {
+fn check_names(rt: &(impl Files + Print + AllocGlobal), names: &[String]) -> io::Result<bool> {
     let mut all_same = true;
     for name in names {
         all_same &= check_name(rt, name.as_str())?;
@@ -96,36 +102,24 @@ fn check_names(rt: &(impl Files + Print + AllocGlobal), names: env::Args) -> io:
     Ok(all_same)
 }
 
-fn run_files(
-    rt: &(impl Files + Print + AllocGlobal),
-    first: &str,
-    files: env::Args,
-) -> io::Result<()> {
-    run_text(rt, fs::read(rt, first)?.as_slice())?;
-    for file in files {
-        run_text(rt, fs::read(rt, file.as_str())?.as_slice())?;
-    }
-    Ok(())
-}
-
 // Whether no file printed something else than it should.
-fn run(rt: &(impl Env + Files + Input + Print + AllocGlobal)) -> io::Result<bool> {
-    let mut arguments = env::args(rt)?;
-    arguments.next();
-    let Some(first) = arguments.next() else {
-        run_input(rt)?;
-        return Ok(true);
-    };
-    match first.as_str() {
-        "check" => return check_names(rt, arguments),
-        "help" => rt.print(HELP)?,
-        file => run_files(rt, file, arguments)?,
+fn run(rt: &(impl Files + Input + Print + AllocGlobal), arguments: &[String]) -> io::Result<bool> {
+    match arguments {
+        [] => run_text(rt, io::read_to_string(rt.alloc(), rt.reader())?.as_str())?,
+        [first, ..] if first.as_str() == "help" => rt.print(HELP)?,
+        [first, names @ ..] if first.as_str() == "check" => return check_names(rt, names),
+        files => run_files(rt, files)?,
     }
     Ok(true)
 }
 
+fn run_arguments(rt: &(impl Env + Files + Input + Print + AllocGlobal)) -> io::Result<bool> {
+    let arguments: Vec<String> = env::args(rt)?.skip(1).collect(rt.alloc())?;
+    run(rt, arguments.as_slice())
+}
+
 fn main(rt: HostRuntime) -> ExitCode {
-    match run(&rt) {
+    match run_arguments(&rt) {
         Ok(true) => ExitCode::SUCCESS,
         Ok(false) => ExitCode::from(1),
         Err(error) => {

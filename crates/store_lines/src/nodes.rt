@@ -3,11 +3,72 @@ ghost use Rattle.std.specs.Prelude.{◌≡◌};
 ghost use Rattle.sled_pages.specs.Node.{count};
 
 use crate::words::{
-    Result, Stop, Words, push_number, push_number_or_none, push_string, push_whether,
+    Result, Stop, Words, named, push_number, push_number_or_none, push_string, read_bound,
+    read_number, read_string, whether,
 };
 use sled_pages::{Data, IVec, Index, Leaf, Link, Node, Pid};
 use std::alloc::Global;
 use std::ops::Bound;
+
+// What makes or changes a node.
+#[derive(Clone, Copy)]
+enum Change {
+    Leaf,
+    Index,
+    Apply,
+    Next,
+    Receive,
+    Clone,
+    Split,
+    Post,
+}
+
+const CHANGES: [(&str, Change); 8] = [
+    ("leaf", Change::Leaf),
+    ("index", Change::Index),
+    ("apply", Change::Apply),
+    ("next", Change::Next),
+    ("receive", Change::Receive),
+    ("clone", Change::Clone),
+    ("split", Change::Split),
+    ("post", Change::Post),
+];
+
+// What is asked of a node alone.
+#[derive(Clone, Copy)]
+enum Question {
+    Show,
+    Len,
+    ShouldSplit,
+    ShouldMerge,
+    CanMergeChild,
+}
+
+const QUESTIONS: [(&str, Question); 5] = [
+    ("show", Question::Show),
+    ("len", Question::Len),
+    ("should-split", Question::ShouldSplit),
+    ("should-merge", Question::ShouldMerge),
+    ("can-merge-child", Question::CanMergeChild),
+];
+
+// What is sought in a node.
+#[derive(Clone, Copy)]
+enum Search {
+    Get,
+    Pointer,
+    PointerBefore,
+    Successor,
+    Predecessor,
+}
+
+const SEARCHES: [(&str, Search); 5] = [
+    ("get", Search::Get),
+    ("pointer", Search::Pointer),
+    ("pointer-before", Search::PointerBefore),
+    ("successor", Search::Successor),
+    ("predecessor", Search::Predecessor),
+];
 
 /// The nodes that have names.
 #[derive(Drop)]
@@ -49,167 +110,177 @@ impl Nodes {
 
     /// Gives a node a name, in the place of another one of that name.
     pub fn put(&mut self, name: &[u8], node: Node) -> Result<()> {
-        for i in 0..self.named.len() {
-            if self.named[i].0.as_ref() == name {
-                let old = std::mem::replace(&mut self.named[i].1, node);
-                drop(old);
-                return Ok(());
-            }
-        }
-        self.add(name, node)
-    }
-
-    fn add(&mut self, name: &[u8], node: Node) -> Result<()> {
+        self.named.retain(|named| named.0.as_ref() != name);
         match IVec::from_slice(self.alloc, name) {
-            Ok(name) => self.push(name, node),
+            Ok(name) => Ok(self.named.push((name, node))?),
             Err(error) => {
-                drop(error);
                 drop(node);
-                Err(Stop::NoMemory)
-            }
-        }
-    }
-
-    fn push(&mut self, name: IVec, node: Node) -> Result<()> {
-        match self.named.push((name, node)) {
-            Ok(()) => Ok(()),
-            Err(failed) => {
-                drop(failed);
-                Err(Stop::NoMemory)
+                Err(Stop::from(error))
             }
         }
     }
 
     /// Does what a line says whose first word is this one.
     pub fn run(&mut self, command: &[u8], words: &mut Words<'_>, out: &mut String) -> Result<()> {
-        match command {
-            b"leaf" => self.build(true, words)?,
-            b"index" => self.build(false, words)?,
-            b"apply" => self.apply(words)?,
-            b"next" => self.lead_on(words)?,
-            b"receive" => self.receive(words)?,
-            b"clone" => self.keep_copy(words)?,
-            b"split" => return self.split(words, out),
-            b"post" => return self.post(words, out),
-            _ => return self.ask(command, words, out),
+        if let Some(change) = named(&CHANGES, command) {
+            out.push_str(self.change(change, words)?)?;
+            return Ok(());
         }
-        Ok(out.push_str("done")?)
+        let node = self.get(words.word()?)?;
+        if let Some(question) = named(&QUESTIONS, command) {
+            words.end()?;
+            return answer(question, node, out);
+        }
+        match named(&SEARCHES, command) {
+            Some(search) => find(self.alloc, search, node, words.last()?, out),
+            None => Err(Stop::BadLine),
+        }
+    }
+
+    fn change(&mut self, change: Change, words: &mut Words<'_>) -> Result<&'static str> {
+        match change {
+            Change::Leaf => self.build(true, words),
+            Change::Index => self.build(false, words),
+            Change::Apply => self.apply(words),
+            Change::Next => self.lead_on(words),
+            Change::Receive => self.receive(words),
+            Change::Clone => self.keep_copy(words),
+            Change::Split => self.split(words),
+            Change::Post => self.post(words),
+        }
     }
 
     // Builds a leaf or an index.
-    fn build(&mut self, is_leaf: bool, words: &mut Words<'_>) -> Result<()> {
+    fn build(&mut self, is_leaf: bool, words: &mut Words<'_>) -> Result<&'static str> {
         let name = words.word()?;
-        let frame = read_frame(self.alloc, words)?;
-        match read_content(self.alloc, is_leaf, words) {
-            Ok(content) => self.put(name, frame.around(content)),
+        let node = read_node(self.alloc, is_leaf, words)?;
+        self.put(name, node)?;
+        Ok("done")
+    }
+
+    fn apply(&mut self, words: &mut Words<'_>) -> Result<&'static str> {
+        let name = words.word()?;
+        let link = read_link(self.alloc, words)?;
+        match self.get_mut(name) {
+            Ok(node) => node.apply(link)?,
             Err(stop) => {
-                drop(frame);
-                Err(stop)
-            }
-        }
-    }
-
-    fn apply(&mut self, words: &mut Words<'_>) -> Result<()> {
-        let alloc = self.alloc;
-        let node = self.get_mut(words.word()?)?;
-        let link = read_link(alloc, words)?;
-        Ok(node.apply(link)?)
-    }
-
-    fn lead_on(&mut self, words: &mut Words<'_>) -> Result<()> {
-        let node = self.get_mut(words.word()?)?;
-        let next = words.pid_or_none()?;
-        words.end()?;
-        node.next = next;
-        Ok(())
-    }
-
-    fn receive(&mut self, words: &mut Words<'_>) -> Result<()> {
-        let left = self.get(words.word()?)?;
-        let right = self.get(words.word()?)?;
-        let name = words.word()?;
-        words.end()?;
-        let both = left.receive_merge(self.alloc, right)?;
-        self.put(name, both)
-    }
-
-    fn keep_copy(&mut self, words: &mut Words<'_>) -> Result<()> {
-        let of = words.word()?;
-        let name = words.word()?;
-        words.end()?;
-        let copy = self.copy(of)?;
-        self.put(name, copy)
-    }
-
-    fn split(&mut self, words: &mut Words<'_>, out: &mut String) -> Result<()> {
-        let node = self.get(words.word()?)?;
-        let left_name = words.word()?;
-        let right_name = words.word()?;
-        words.end()?;
-        if len(node) < 2 {
-            return Ok(out.push_str("barred")?);
-        }
-        let (left, right) = node.split(self.alloc)?;
-        match self.put(left_name, left) {
-            Ok(()) => self.put(right_name, right)?,
-            Err(stop) => {
-                drop(right);
+                drop(link);
                 return Err(stop);
             }
         }
-        Ok(out.push_str("done")?)
+        Ok("done")
     }
 
-    fn post(&mut self, words: &mut Words<'_>, out: &mut String) -> Result<()> {
-        let alloc = self.alloc;
-        let node = self.get_mut(words.word()?)?;
-        let key = words.string(alloc)?;
-        match read_last_pid(words) {
-            Ok(pid) => push_whether(out, node.parent_split(key, pid)?),
+    fn lead_on(&mut self, words: &mut Words<'_>) -> Result<&'static str> {
+        let name = words.word()?;
+        let next = words.pid_or_none()?;
+        words.end()?;
+        self.get_mut(name)?.next = next;
+        Ok("done")
+    }
+
+    fn receive(&mut self, words: &mut Words<'_>) -> Result<&'static str> {
+        let left = self.get(words.word()?)?;
+        let right = self.get(words.word()?)?;
+        let name = words.last()?;
+        let both = left.receive_merge(self.alloc, right)?;
+        self.put(name, both)?;
+        Ok("done")
+    }
+
+    fn keep_copy(&mut self, words: &mut Words<'_>) -> Result<&'static str> {
+        let of = words.word()?;
+        let name = words.last()?;
+        let copy = self.copy(of)?;
+        self.put(name, copy)?;
+        Ok("done")
+    }
+
+    fn split(&mut self, words: &mut Words<'_>) -> Result<&'static str> {
+        let node = self.get(words.word()?)?;
+        let left_name = words.word()?;
+        let right_name = words.last()?;
+        if len(node) < 2 {
+            return Ok("barred");
+        }
+        let (left, right) = node.split(self.alloc)?;
+        let left_put = self.put(left_name, left);
+        self.put(right_name, right)?;
+        left_put?;
+        Ok("done")
+    }
+
+    fn post(&mut self, words: &mut Words<'_>) -> Result<&'static str> {
+        let name = words.word()?;
+        let key = words.word()?;
+        let pid = Pid(read_number(words.last()?)?);
+        let key = read_string(self.alloc, key)?;
+        match self.get_mut(name) {
+            Ok(node) => Ok(whether(node.parent_split(key, pid)?)),
             Err(stop) => {
                 drop(key);
                 Err(stop)
             }
         }
     }
+}
 
-    // What changes nothing.
-    fn ask(&self, command: &[u8], words: &mut Words<'_>, out: &mut String) -> Result<()> {
-        let node = self.get(words.word()?)?;
-        match command {
-            b"get" => push_value(self.alloc, node, words, out),
-            b"pointer" => push_pointer(self.alloc, node, words, out),
-            b"pointer-before" => push_pointer_before(node, words, out),
-            b"successor" => {
-                let bound = words.bound(self.alloc)?;
-                words.end()?;
-                push_pair(out, node.successor(as_bytes(&bound))?)
-            }
-            b"predecessor" => {
-                let bound = words.bound(self.alloc)?;
-                words.end()?;
-                push_pair(out, node.predecessor(as_bytes(&bound))?)
-            }
-            _ => {
-                words.end()?;
-                tell(command, node, out)
-            }
+fn answer(question: Question, node: &Node, out: &mut String) -> Result<()> {
+    match question {
+        Question::Show => push_node(out, node),
+        Question::Len => {
+            out.push_str("number")?;
+            push_number(out, len(node) as u64)
+        }
+        Question::ShouldSplit => Ok(out.push_str(whether(node.should_split()))?),
+        Question::ShouldMerge => Ok(out.push_str(whether(node.should_merge()))?),
+        Question::CanMergeChild => Ok(out.push_str(whether(node.can_merge_child()))?),
+    }
+}
+
+// Finds what a word asks for.
+fn find(alloc: Global, search: Search, node: &Node, word: &[u8], out: &mut String) -> Result<()> {
+    match search {
+        Search::Get => find_value(alloc, node, word, out),
+        Search::PointerBefore => {
+            let before = node.pointer_before(Pid(read_number(word)?));
+            push_page(out, "pointer", before)
+        }
+        _ => {
+            let bound = read_bound(alloc, word)?;
+            find_within(search, node, as_bytes(&bound), out)
         }
     }
 }
 
-// What is asked of a node without further words.
-fn tell(command: &[u8], node: &Node, out: &mut String) -> Result<()> {
-    match command {
-        b"show" => push_node(out, node),
-        b"len" => {
-            out.push_str("number")?;
-            push_number(out, len(node) as u64)
-        }
-        b"should-split" => push_whether(out, node.should_split()),
-        b"should-merge" => push_whether(out, node.should_merge()),
-        b"can-merge-child" => push_whether(out, node.can_merge_child()),
-        _ => Err(Stop::BadLine),
+fn find_value(alloc: Global, node: &Node, word: &[u8], out: &mut String) -> Result<()> {
+    let key = read_string(alloc, word)?;
+    let value = node.get(key.as_ref());
+    drop(key);
+    out.push_str("value")?;
+    match value? {
+        Some(value) => push_string(out, value.as_ref()),
+        None => Ok(out.push_str(" -")?),
+    }
+}
+
+fn find_within(search: Search, node: &Node, bound: Bound<&[u8]>, out: &mut String) -> Result<()> {
+    match search {
+        Search::Successor => push_pair(out, node.successor(bound)?),
+        Search::Predecessor => push_pair(out, node.predecessor(bound)?),
+        _ => match node.pointer(bound) {
+            Some((pid, true)) => push_page(out, "first", Some(pid)),
+            Some((pid, false)) => push_page(out, "later", Some(pid)),
+            None => push_page(out, "first", None),
+        },
+    }
+}
+
+fn as_bytes(bound: &Bound<IVec>) -> Bound<&[u8]> {
+    match bound {
+        Bound::Included(key) => Bound::Included(key.as_ref()),
+        Bound::Excluded(key) => Bound::Excluded(key.as_ref()),
+        Bound::Unbounded => Bound::Unbounded,
     }
 }
 
@@ -223,39 +294,9 @@ fn len(node: &Node) -> usize
     }
 }
 
-// A node but for its entries.
-#[derive(Drop)]
-struct Frame {
-    lo: IVec,
-    hi: IVec,
-    next: Option<Pid>,
-    merging_child: Option<Pid>,
-    merging: bool,
-}
-
-impl Frame {
-    fn around(self, content: Data) -> Node {
-        let Frame {
-            lo,
-            hi,
-            next,
-            merging_child,
-            merging,
-        } = self;
-        Node {
-            lo,
-            hi,
-            next,
-            merging,
-            merging_child,
-            content,
-        }
-    }
-}
-
-fn read_frame(alloc: Global, words: &mut Words<'_>) -> Result<Frame> {
-    let lo = words.string(alloc)?;
-    let hi = words.string(alloc)?;
+fn read_node(alloc: Global, is_leaf: bool, words: &mut Words<'_>) -> Result<Node> {
+    let lo = words.word()?;
+    let hi = words.word()?;
     let next = words.pid_or_none()?;
     let merging_child = words.pid_or_none()?;
     let merging = match words.word()? {
@@ -263,108 +304,114 @@ fn read_frame(alloc: Global, words: &mut Words<'_>) -> Result<Frame> {
         b"-" => false,
         _ => return Err(Stop::BadLine),
     };
-    Ok(Frame {
-        lo,
-        hi,
-        next,
-        merging_child,
-        merging,
-    })
+    let (lo, hi) = read_bounds(alloc, lo, hi)?;
+    match read_content(alloc, is_leaf, words) {
+        Ok(content) => Ok(Node {
+            lo,
+            hi,
+            next,
+            merging,
+            merging_child,
+            content,
+        }),
+        Err(stop) => {
+            drop(lo);
+            drop(hi);
+            Err(stop)
+        }
+    }
 }
 
+fn read_bounds(alloc: Global, lo: &[u8], hi: &[u8]) -> Result<(IVec, IVec)> {
+    let lo = read_string(alloc, lo)?;
+    Ok((lo, read_string(alloc, hi)?))
+}
+
+// The entries, which are the rest of the line.
 fn read_content(alloc: Global, is_leaf: bool, words: &mut Words<'_>) -> Result<Data> {
     if is_leaf {
-        let pairs = read_pairs(alloc, words)?;
-        Ok(Data::Leaf(Leaf::from_pairs(alloc, pairs.as_slice())?))
+        let mut pairs = Vec::new(alloc);
+        let read = read_pairs(alloc, words, &mut pairs);
+        let leaf = Leaf::from_pairs(alloc, pairs.as_slice());
+        drop(pairs);
+        read?;
+        Ok(Data::Leaf(leaf?))
     } else {
-        let pointers = read_pointers(alloc, words)?;
-        Ok(Data::Index(Index::from_pairs(alloc, pointers.as_slice())?))
+        let mut pointers = Vec::new(alloc);
+        let read = read_pointers(alloc, words, &mut pointers);
+        let index = Index::from_pairs(alloc, pointers.as_slice());
+        drop(pointers);
+        read?;
+        Ok(Data::Index(index?))
     }
 }
 
-fn read_pairs(alloc: Global, words: &mut Words<'_>) -> Result<Vec<(IVec, IVec)>> {
-    let mut pairs = Vec::new(alloc);
+fn read_pairs(alloc: Global, words: &mut Words<'_>, pairs: &mut Vec<(IVec, IVec)>) -> Result<()> {
     for _ in 0..u64::MAX {
         if words.is_empty() {
             break;
         }
-        let key = words.string(alloc)?;
-        pairs.push((key, words.string(alloc)?))?;
+        pairs.push(read_bounds(alloc, words.word()?, words.word()?)?)?;
     }
-    Ok(pairs)
+    Ok(())
 }
 
-fn read_pointers(alloc: Global, words: &mut Words<'_>) -> Result<Vec<(IVec, Pid)>> {
-    let mut pointers = Vec::new(alloc);
+fn read_pointers(
+    alloc: Global,
+    words: &mut Words<'_>,
+    pointers: &mut Vec<(IVec, Pid)>,
+) -> Result<()> {
     for _ in 0..u64::MAX {
         if words.is_empty() {
             break;
         }
-        let key = words.string(alloc)?;
-        pointers.push((key, words.pid()?))?;
+        let key = words.word()?;
+        let pid = words.pid()?;
+        pointers.push((read_string(alloc, key)?, pid))?;
     }
-    Ok(pointers)
+    Ok(())
 }
+
+#[derive(Clone, Copy)]
+enum LinkName {
+    Set,
+    Del,
+    Intend,
+    Confirm,
+    Cap,
+}
+
+const LINKS: [(&str, LinkName); 5] = [
+    ("set", LinkName::Set),
+    ("del", LinkName::Del),
+    ("intend", LinkName::Intend),
+    ("confirm", LinkName::Confirm),
+    ("cap", LinkName::Cap),
+];
 
 /// A link, which is the rest of the line.
 pub fn read_link(alloc: Global, words: &mut Words<'_>) -> Result<Link> {
-    let link = match words.word()? {
-        b"set" => {
-            let key = words.string(alloc)?;
-            Link::Set(key, words.string(alloc)?)
-        }
-        b"del" => Link::Del(words.string(alloc)?),
-        b"intend" => Link::ParentMergeIntention(words.pid()?),
-        b"confirm" => Link::ParentMergeConfirm,
-        b"cap" => Link::ChildMergeCap,
-        _ => return Err(Stop::BadLine),
+    let Some(name) = named(&LINKS, words.word()?) else {
+        return Err(Stop::BadLine);
     };
-    words.end()?;
-    Ok(link)
-}
-
-fn read_last_pid(words: &mut Words<'_>) -> Result<Pid> {
-    let pid = words.pid()?;
-    words.end()?;
-    Ok(pid)
-}
-
-fn as_bytes(bound: &Bound<IVec>) -> Bound<&[u8]> {
-    match bound {
-        Bound::Included(key) => Bound::Included(key.as_ref()),
-        Bound::Excluded(key) => Bound::Excluded(key.as_ref()),
-        Bound::Unbounded => Bound::Unbounded,
-    }
-}
-
-fn push_value(alloc: Global, node: &Node, words: &mut Words<'_>, out: &mut String) -> Result<()> {
-    let key = words.string(alloc)?;
-    words.end()?;
-    out.push_str("value")?;
-    match node.get(key.as_ref())? {
-        Some(value) => push_string(out, value.as_ref()),
-        None => Ok(out.push_str(" -")?),
-    }
-}
-
-fn push_pointer(alloc: Global, node: &Node, words: &mut Words<'_>, out: &mut String) -> Result<()> {
-    let bound = words.bound(alloc)?;
-    words.end()?;
-    match node.pointer(as_bytes(&bound)) {
-        Some((pid, is_first)) => {
-            out.push_str(if is_first { "first" } else { "later" })?;
-            push_number(out, pid.0)
+    match name {
+        LinkName::Set => {
+            let (key, value) = read_bounds(alloc, words.word()?, words.last()?)?;
+            Ok(Link::Set(key, value))
         }
-        None => Ok(out.push_str("none")?),
+        LinkName::Del => Ok(Link::Del(read_string(alloc, words.last()?)?)),
+        LinkName::Intend => Ok(Link::ParentMergeIntention(Pid(read_number(words.last()?)?))),
+        LinkName::Confirm => words.end().map(|_| Link::ParentMergeConfirm),
+        LinkName::Cap => words.end().map(|_| Link::ChildMergeCap),
     }
 }
 
-fn push_pointer_before(node: &Node, words: &mut Words<'_>, out: &mut String) -> Result<()> {
-    let pid = read_last_pid(words)?;
-    match node.pointer_before(pid) {
-        Some(before) => {
-            out.push_str("pointer")?;
-            push_number(out, before.0)
+// Adds a word and the number of a page, or `none`.
+fn push_page(out: &mut String, word: &str, page: Option<Pid>) -> Result<()> {
+    match page {
+        Some(pid) => {
+            out.push_str(word)?;
+            push_number(out, pid.0)
         }
         None => Ok(out.push_str("none")?),
     }
@@ -372,44 +419,58 @@ fn push_pointer_before(node: &Node, words: &mut Words<'_>, out: &mut String) -> 
 
 fn push_pair(out: &mut String, pair: Option<(IVec, IVec)>) -> Result<()> {
     match pair {
-        Some((key, value)) => {
+        Some(pair) => {
             out.push_str("pair")?;
-            push_string(out, key.as_ref())?;
-            push_string(out, value.as_ref())
+            push_entry(out, &pair)
         }
         None => Ok(out.push_str("none")?),
     }
 }
 
+fn push_entry(out: &mut String, pair: &(IVec, IVec)) -> Result<()> {
+    push_string(out, pair.0.as_ref())?;
+    push_string(out, pair.1.as_ref())
+}
+
+/// Adds keys with the numbers of their pages.
+pub fn push_pointers(out: &mut String, pointers: &[(IVec, Pid)]) -> Result<()> {
+    for pointer in pointers {
+        push_string(out, pointer.0.as_ref())?;
+        push_number(out, pointer.1.0)?;
+    }
+    Ok(())
+}
+
+fn push_pairs(out: &mut String, pairs: &[(IVec, IVec)]) -> Result<()> {
+    for pair in pairs {
+        push_entry(out, pair)?;
+    }
+    Ok(())
+}
+
 /// Adds a node as a line builds it, but for its name.
 pub fn push_node(out: &mut String, node: &Node) -> Result<()> {
-    out.push_str(match &node.content {
-        Data::Leaf(_) => "leaf",
-        Data::Index(_) => "index",
-    })?;
+    match &node.content {
+        Data::Leaf(leaf) => {
+            push_frame(out, "leaf", node)?;
+            let pairs = leaf.pairs(*out.allocator())?;
+            push_pairs(out, pairs.as_slice())
+        }
+        Data::Index(index) => {
+            push_frame(out, "index", node)?;
+            let pointers = index.pairs(*out.allocator())?;
+            push_pointers(out, pointers.as_slice())
+        }
+    }
+}
+
+// Adds what a node is but for its entries.
+fn push_frame(out: &mut String, kind: &str, node: &Node) -> Result<()> {
+    out.push_str(kind)?;
     push_string(out, node.lo.as_ref())?;
     push_string(out, node.hi.as_ref())?;
     push_number_or_none(out, node.next.map(|pid| pid.0))?;
     push_number_or_none(out, node.merging_child.map(|pid| pid.0))?;
     out.push_str(if node.merging { " merging" } else { " -" })?;
-    push_content(out, &node.content)
-}
-
-fn push_content(out: &mut String, content: &Data) -> Result<()> {
-    let alloc = *out.allocator();
-    match content {
-        Data::Leaf(leaf) => {
-            for pair in leaf.pairs(alloc)?.as_slice() {
-                push_string(out, pair.0.as_ref())?;
-                push_string(out, pair.1.as_ref())?;
-            }
-        }
-        Data::Index(index) => {
-            for pointer in index.pairs(alloc)?.as_slice() {
-                push_string(out, pointer.0.as_ref())?;
-                push_number(out, pointer.1.0)?;
-            }
-        }
-    }
     Ok(())
 }

@@ -79,10 +79,11 @@ impl<'a> Words<'a> {
         Ok(word)
     }
 
-    /// A byte string.
-    pub fn string(&mut self, alloc: Global) -> Result<IVec> {
+    /// The last word.
+    pub fn last(&mut self) -> Result<&'a [u8]> {
         let word = self.word()?;
-        read_string(alloc, word)
+        self.end()?;
+        Ok(word)
     }
 
     /// A number in decimal.
@@ -103,19 +104,20 @@ impl<'a> Words<'a> {
             word => Ok(Some(Pid(read_number(word)?))),
         }
     }
-
-    /// `[K`, `(K` or `..`.
-    pub fn bound(&mut self, alloc: Global) -> Result<Bound<IVec>> {
-        match self.word()? {
-            b".." => Ok(Bound::Unbounded),
-            [b'[', key @ ..] => Ok(Bound::Included(read_string(alloc, key)?)),
-            [b'(', key @ ..] => Ok(Bound::Excluded(read_string(alloc, key)?)),
-            _ => Err(Stop::BadLine),
-        }
-    }
 }
 
-fn read_number(word: &[u8]) -> Result<u64> {
+/// The value beside a word in a table.
+pub fn named<T: Copy>(table: &[(&str, T)], word: &[u8]) -> Option<T> {
+    for row in table {
+        if row.0.as_bytes() == word {
+            return Some(row.1);
+        }
+    }
+    None
+}
+
+/// A number in decimal.
+pub fn read_number(word: &[u8]) -> Result<u64> {
     match str::from_utf8(word) {
         Ok(text) => text.parse::<u64>().map_err(|_| Stop::BadLine),
         Err(_) => Err(Stop::BadLine),
@@ -143,7 +145,18 @@ fn first_byte(word: &[u8]) -> Option<(u8, usize)> {
     }
 }
 
-fn read_string(alloc: Global, word: &[u8]) -> Result<IVec> {
+/// `[K`, `(K` or `..`.
+pub fn read_bound(alloc: Global, word: &[u8]) -> Result<Bound<IVec>> {
+    match word {
+        b".." => Ok(Bound::Unbounded),
+        [b'[', key @ ..] => Ok(Bound::Included(read_string(alloc, key)?)),
+        [b'(', key @ ..] => Ok(Bound::Excluded(read_string(alloc, key)?)),
+        _ => Err(Stop::BadLine),
+    }
+}
+
+/// A byte string.
+pub fn read_string(alloc: Global, word: &[u8]) -> Result<IVec> {
     let mut bytes = Vec::new(alloc);
     let mut rest = match word {
         b"%" => b"".as_slice(),
@@ -169,18 +182,24 @@ impl From<Stop> for io::Error {
     }
 }
 
+// Adds a byte as it stands in a word.
+fn push_byte(out: &mut String, byte: u8) -> Result<()> {
+    match byte {
+        b'!'..=b'~' if byte != b'%' => out.push(char::from(byte))?,
+        _ => write!(out, "%{byte:02x}")?,
+    }
+    Ok(())
+}
+
 /// Adds a space and a byte string.
 pub fn push_string(out: &mut String, bytes: &[u8]) -> Result<()> {
-    out.push(' ')?;
     match bytes {
-        [] => out.push('%')?,
-        b"-" => out.push_str("%2d")?,
+        [] => out.push_str(" %")?,
+        b"-" => out.push_str(" %2d")?,
         _ => {
+            out.push(' ')?;
             for byte in bytes {
-                match byte {
-                    b'!'..=b'~' if *byte != b'%' => out.push(char::from(*byte))?,
-                    _ => write!(out, "%{byte:02x}")?,
-                }
+                push_byte(out, *byte)?;
             }
         }
     }
@@ -201,8 +220,7 @@ pub fn push_number_or_none(out: &mut String, number: Option<u64>) -> Result<()> 
     }
 }
 
-/// Adds `yes` or `no`.
-pub fn push_whether(out: &mut String, is: bool) -> Result<()> {
-    out.push_str(if is { "yes" } else { "no" })?;
-    Ok(())
+/// `yes` or `no`.
+pub fn whether(is: bool) -> &'static str {
+    if is { "yes" } else { "no" }
 }
