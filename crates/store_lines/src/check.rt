@@ -59,8 +59,13 @@ fn repeat(store: &mut Store, line: &[u8], answer: &mut String) -> Result<()> {
     Ok(())
 }
 
-/// Whether lines are those that are expected. Adds a line that says so, or shows the first one that differs.
-pub fn compare(name: &str, printed: &str, expected: &str, out: &mut String) -> Result<bool> {
+/// Whether a text of lines prints what is expected. Adds a line that says so, or shows the first one that differs.
+pub fn check(name: &str, text: &str, expected: &str, out: &mut String) -> Result<bool> {
+    let printed = printed(*out.allocator(), text)?;
+    compare(name, printed.as_str(), expected, out)
+}
+
+fn compare(name: &str, printed: &str, expected: &str, out: &mut String) -> Result<bool> {
     let mut lines = printed.lines();
     let mut others = expected.lines();
     for count in 0..u64::MAX {

@@ -27,7 +27,7 @@ LINK is `set K V`, `del K`, `intend P`, `confirm` or `cap`.
 repeat N COMMAND                      what the command prints the last of N times
 
 Calls of the store. A refused one prints `refused: ` and the error; one that may not be made now prints `barred`.
-new                                   done, with an empty store
+new                                   done, with an empty store, of which no version was met
 allocate NODE                         page P version PLACE
 read P                                page P version PLACE and the node, or none
 read P NODE                           the same; the node is given the name
@@ -46,7 +46,7 @@ crash N                               done, with what a crash leaves that keeps 
 refuse N ..                           done; the calls of these numbers will be refused, and no others
 unreadable P                          done
 image-page P NODE, image-root K P     done; a page or a root of the next image
-image N                               done, with a store of the image, whose mark is N
+image N                               done, with a store of the image, whose mark is N, and of which no version was met
 
 Nodes. CHILD is the merging child, MERGING is `merging` or -.
 leaf NODE LO HI NEXT CHILD MERGING K V ..    done
@@ -84,14 +84,23 @@ fn read(rt: &(impl Files + AllocGlobal), name: &str, ending: &str) -> io::Result
     fs::read_to_string(rt, path.as_str())
 }
 
-// Whether the lines of a name print what they should. Says so.
-fn check_name(rt: &(impl Files + Print + AllocGlobal), name: &str) -> io::Result<bool> {
-    let printed = check::printed(rt.alloc(), read(rt, name, "lines")?.as_str())?;
-    let expected = read(rt, name, "expected")?;
+// Whether the lines print what they should. Says so.
+fn check_text(
+    rt: &(impl Print + AllocGlobal),
+    name: &str,
+    lines: &str,
+    expected: &str,
+) -> io::Result<bool> {
     let mut out = String::new(rt.alloc());
-    let is_same = check::compare(name, printed.as_str(), expected.as_str(), &mut out);
+    let is_same = check::check(name, lines, expected, &mut out)?;
     rt.print(out.as_str())?;
-    Ok(is_same?)
+    Ok(is_same)
+}
+
+fn check_name(rt: &(impl Files + Print + AllocGlobal), name: &str) -> io::Result<bool> {
+    let lines = read(rt, name, "lines")?;
+    let expected = read(rt, name, "expected")?;
+    check_text(rt, name, lines.as_str(), expected.as_str())
 }
 
 fn check_names(rt: &(impl Files + Print + AllocGlobal), names: &[String]) -> io::Result<bool> {
@@ -102,15 +111,22 @@ fn check_names(rt: &(impl Files + Print + AllocGlobal), names: &[String]) -> io:
     Ok(all_same)
 }
 
+fn run_input(rt: &(impl Input + Print + AllocGlobal)) -> io::Result<()> {
+    run_text(rt, io::read_to_string(rt.alloc(), rt.reader())?.as_str())
+}
+
 // Whether no file printed something else than it should.
 fn run(rt: &(impl Files + Input + Print + AllocGlobal), arguments: &[String]) -> io::Result<bool> {
-    match arguments {
-        [] => run_text(rt, io::read_to_string(rt.alloc(), rt.reader())?.as_str())?,
-        [first, ..] if first.as_str() == "help" => rt.print(HELP)?,
-        [first, names @ ..] if first.as_str() == "check" => return check_names(rt, names),
-        files => run_files(rt, files)?,
+    let Some((first, others)) = arguments.split_first() else {
+        return run_input(rt).map(|_| true);
+    };
+    if first.as_str() == "check" {
+        return check_names(rt, others);
     }
-    Ok(true)
+    if first.as_str() == "help" {
+        return rt.print(HELP).map(|_| true);
+    }
+    run_files(rt, arguments).map(|_| true)
 }
 
 fn run_arguments(rt: &(impl Env + Files + Input + Print + AllocGlobal)) -> io::Result<bool> {

@@ -122,10 +122,13 @@ impl Nodes {
 
     /// Does what a line says whose first word is this one.
     pub fn run(&mut self, command: &[u8], words: &mut Words<'_>, out: &mut String) -> Result<()> {
-        if let Some(change) = named(&CHANGES, command) {
-            out.push_str(self.change(change, words)?)?;
-            return Ok(());
+        match named(&CHANGES, command) {
+            Some(change) => Ok(out.push_str(self.change(change, words)?)?),
+            None => self.ask(command, words, out),
         }
+    }
+
+    fn ask(&self, command: &[u8], words: &mut Words<'_>, out: &mut String) -> Result<()> {
         let node = self.get(words.word()?)?;
         if let Some(question) = named(&QUESTIONS, command) {
             words.end()?;
@@ -180,12 +183,17 @@ impl Nodes {
     }
 
     fn receive(&mut self, words: &mut Words<'_>) -> Result<&'static str> {
-        let left = self.get(words.word()?)?;
-        let right = self.get(words.word()?)?;
+        let left = words.word()?;
+        let right = words.word()?;
         let name = words.last()?;
-        let both = left.receive_merge(self.alloc, right)?;
+        let both = self.received(left, right)?;
         self.put(name, both)?;
         Ok("done")
+    }
+
+    fn received(&self, left: &[u8], right: &[u8]) -> Result<Node> {
+        let right = self.get(right)?;
+        Ok(self.get(left)?.receive_merge(self.alloc, right)?)
     }
 
     fn keep_copy(&mut self, words: &mut Words<'_>) -> Result<&'static str> {
@@ -205,9 +213,8 @@ impl Nodes {
         }
         let (left, right) = node.split(self.alloc)?;
         let left_put = self.put(left_name, left);
-        self.put(right_name, right)?;
-        left_put?;
-        Ok("done")
+        let right_put = self.put(right_name, right);
+        left_put.and(right_put).map(|_| "done")
     }
 
     fn post(&mut self, words: &mut Words<'_>) -> Result<&'static str> {
@@ -294,17 +301,17 @@ fn len(node: &Node) -> usize
     }
 }
 
+const MERGING: [(&str, bool); 2] = [("merging", true), ("-", false)];
+
 fn read_node(alloc: Global, is_leaf: bool, words: &mut Words<'_>) -> Result<Node> {
     let lo = words.word()?;
     let hi = words.word()?;
     let next = words.pid_or_none()?;
     let merging_child = words.pid_or_none()?;
-    let merging = match words.word()? {
-        b"merging" => true,
-        b"-" => false,
-        _ => return Err(Stop::BadLine),
+    let Some(merging) = named(&MERGING, words.word()?) else {
+        return Err(Stop::BadLine);
     };
-    let (lo, hi) = read_bounds(alloc, lo, hi)?;
+    let (lo, hi) = read_two(alloc, lo, hi)?;
     match read_content(alloc, is_leaf, words) {
         Ok(content) => Ok(Node {
             lo,
@@ -322,9 +329,10 @@ fn read_node(alloc: Global, is_leaf: bool, words: &mut Words<'_>) -> Result<Node
     }
 }
 
-fn read_bounds(alloc: Global, lo: &[u8], hi: &[u8]) -> Result<(IVec, IVec)> {
-    let lo = read_string(alloc, lo)?;
-    Ok((lo, read_string(alloc, hi)?))
+// Two byte strings.
+fn read_two(alloc: Global, first: &[u8], second: &[u8]) -> Result<(IVec, IVec)> {
+    let first = read_string(alloc, first)?;
+    Ok((first, read_string(alloc, second)?))
 }
 
 // The entries, which are the rest of the line.
@@ -351,7 +359,7 @@ fn read_pairs(alloc: Global, words: &mut Words<'_>, pairs: &mut Vec<(IVec, IVec)
         if words.is_empty() {
             break;
         }
-        pairs.push(read_bounds(alloc, words.word()?, words.word()?)?)?;
+        pairs.push(read_two(alloc, words.word()?, words.word()?)?)?;
     }
     Ok(())
 }
@@ -395,15 +403,27 @@ pub fn read_link(alloc: Global, words: &mut Words<'_>) -> Result<Link> {
         return Err(Stop::BadLine);
     };
     match name {
-        LinkName::Set => {
-            let (key, value) = read_bounds(alloc, words.word()?, words.last()?)?;
-            Ok(Link::Set(key, value))
-        }
-        LinkName::Del => Ok(Link::Del(read_string(alloc, words.last()?)?)),
+        LinkName::Set => read_set(alloc, words),
+        LinkName::Del => read_del(alloc, words),
         LinkName::Intend => Ok(Link::ParentMergeIntention(Pid(read_number(words.last()?)?))),
-        LinkName::Confirm => words.end().map(|_| Link::ParentMergeConfirm),
-        LinkName::Cap => words.end().map(|_| Link::ChildMergeCap),
+        LinkName::Confirm => {
+            words.end()?;
+            Ok(Link::ParentMergeConfirm)
+        }
+        LinkName::Cap => {
+            words.end()?;
+            Ok(Link::ChildMergeCap)
+        }
     }
+}
+
+fn read_set(alloc: Global, words: &mut Words<'_>) -> Result<Link> {
+    let (key, value) = read_two(alloc, words.word()?, words.last()?)?;
+    Ok(Link::Set(key, value))
+}
+
+fn read_del(alloc: Global, words: &mut Words<'_>) -> Result<Link> {
+    Ok(Link::Del(read_string(alloc, words.last()?)?))
 }
 
 // Adds a word and the number of a page, or `none`.
