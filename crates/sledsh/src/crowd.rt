@@ -121,7 +121,14 @@ fn chosen(alloc: Global, number: u64, life: Life) -> Result<Call> {
     })
 }
 
-// Both sides, and what they are to do.
+// The machine and its tree.
+#[derive(Drop)]
+struct Side {
+    machine: Machine<MemPages>,
+    tree: Tree,
+}
+
+// The plain program, and what both are to do.
 #[derive(Drop)]
 struct Crowd {
     alloc: Global,
@@ -144,10 +151,14 @@ impl Crowd {
     }
 
     // Compares how both sides came out.
-    fn same(&mut self, did: &[u8], slot: Slot, one: &Outcome, other: &Outcome) -> Run<()> {
+    fn same(&mut self, did: &[u8], slot: Slot, one: Outcome, other: Outcome) -> Run<()> {
         let (mut is, mut wanted) = (Vec::new(self.alloc), Vec::new(self.alloc));
-        push_outcome(&mut is, Shown::Value, one)?;
-        push_outcome(&mut wanted, Shown::Value, other)?;
+        let pushed = push_outcome(&mut is, Shown::Value, &one);
+        drop(one);
+        let other_pushed = push_outcome(&mut wanted, Shown::Value, &other);
+        drop(other);
+        pushed?;
+        other_pushed?;
         if is.as_slice() == wanted.as_slice() {
             return Ok(());
         }
@@ -163,24 +174,27 @@ impl Crowd {
     }
 
     // Begins the call of the present number on both sides.
-    fn begin(&mut self, machine: &mut Machine<MemPages>, tree: &Tree, life: Life) -> Run<Slot> {
+    fn begin(&mut self, side: &mut Side, life: Life) -> Run<Slot> {
         self.left = self.left.saturating_sub(1);
-        let one = match machine.begin(tree, chosen(self.alloc, self.number, life)?) {
+        let one = match side
+            .machine
+            .begin(&side.tree, chosen(self.alloc, self.number, life)?)
+        {
             Ok(slot) => Outcome::Begun(slot),
             Err(error) => Outcome::Refused(error),
         };
         let other = self.plain.begin(chosen(self.alloc, self.number, life)?)?;
         let slot = Slot(self.plain.given);
-        self.same(b"begin ", slot, &one, &other)?;
+        self.same(b"begin ", slot, one, other)?;
         Ok(slot)
     }
 
     // Steps a call on both sides: whether it was decided.
-    fn step(&mut self, machine: &mut Machine<MemPages>, slot: Slot, life: Life) -> Run<bool> {
-        let one = machine.step(slot);
+    fn step(&mut self, side: &mut Side, slot: Slot, life: Life) -> Run<bool> {
+        let one = side.machine.step(slot);
         let decided = matches!(&one, Outcome::Decided(_));
         let other = self.plain.step(slot, decided)?;
-        self.same(b"step ", slot, &one, &other)?;
+        self.same(b"step ", slot, one, other)?;
         if decided && life.steps <= 50 {
             self.note()?;
         }
@@ -188,13 +202,13 @@ impl Crowd {
     }
 
     // Gives a call up on both sides.
-    fn abandon(&mut self, machine: &mut Machine<MemPages>, slot: Slot) -> Run<()> {
-        let (one, other) = (machine.abandon(slot), self.plain.abandon(slot));
-        self.same(b"abandon ", slot, &one, &other)
+    fn abandon(&mut self, side: &mut Side, slot: Slot) -> Run<()> {
+        let (one, other) = (side.machine.abandon(slot), self.plain.abandon(slot));
+        self.same(b"abandon ", slot, one, other)
     }
 
-    fn flush(&mut self, machine: &mut Machine<MemPages>) -> Run<()> {
-        let Outcome::Decided(Reply::Number(_)) = machine.whole(Whole::Flush) else {
+    fn flush(&mut self, side: &mut Side) -> Run<()> {
+        let Outcome::Decided(Reply::Number(_)) = side.machine.whole(Whole::Flush) else {
             return self.differed(b"a flush was refused");
         };
         self.maps.clear();
@@ -208,8 +222,8 @@ impl Crowd {
     }
 
     // The pairs of the machine, which has the default tree alone.
-    fn pairs(&mut self, machine: &Machine<MemPages>) -> Run<Pairs> {
-        let Ok(mut all) = machine.db().export() else {
+    fn pairs(&mut self, side: &Side) -> Run<Pairs> {
+        let Ok(mut all) = side.machine.db().export() else {
             return self.differed(b"an export was refused");
         };
         let is_one = all.len() == 1;
@@ -223,8 +237,8 @@ impl Crowd {
     }
 
     // Both have the same pairs.
-    fn same_pairs(&mut self, machine: &Machine<MemPages>) -> Run<()> {
-        let pairs = self.pairs(machine)?;
+    fn same_pairs(&mut self, side: &Side) -> Run<()> {
+        let pairs = self.pairs(side)?;
         if pairs.as_slice() == self.plain.pairs.as_slice() {
             return Ok(());
         }
@@ -232,34 +246,34 @@ impl Crowd {
     }
 
     // Steps of eight calls. One that was decided makes room for another, and now and then one is given up.
-    fn eight(&mut self, machine: &mut Machine<MemPages>, tree: &Tree, life: Life) -> Run<()> {
+    fn eight(&mut self, side: &mut Side, life: Life) -> Run<()> {
         let mut slots = [Slot(0); 8];
         for i in 0..8usize {
             self.number = mixed(self.number);
             if self.left > 0 {
-                slots[i] = self.begin(machine, tree, life)?;
+                slots[i] = self.begin(side, life)?;
             }
         }
         for step in 0..life.steps {
             self.number = mixed(self.number);
             let i = (self.number % 8) as usize;
-            let decided = self.step(machine, slots[i], life)?;
+            let decided = self.step(side, slots[i], life)?;
             let given_up = !decided && (self.number >> 50) % 64 == 0;
             if given_up {
-                self.abandon(machine, slots[i])?;
+                self.abandon(side, slots[i])?;
             }
             if (decided || given_up) && self.left > 0 {
-                slots[i] = self.begin(machine, tree, life)?;
+                slots[i] = self.begin(side, life)?;
             }
             if step % 20 == 0 {
-                self.same_pairs(machine)?;
+                self.same_pairs(side)?;
             }
         }
         Ok(())
     }
 
     // Moves of any kind over five keys; mostly a call is in the slot.
-    fn mix(&mut self, machine: &mut Machine<MemPages>, tree: &Tree, life: Life) -> Run<()> {
+    fn mix(&mut self, side: &mut Side, life: Life) -> Run<()> {
         for _ in 0..life.steps {
             self.number = mixed(self.number);
             let back = (self.number >> 40) % 4;
@@ -267,22 +281,22 @@ impl Crowd {
             let slot = Slot(self.plain.given.wrapping_sub(back).wrapping_add(on));
             match self.number % 16 {
                 0..=4 if self.left > 0 => {
-                    self.begin(machine, tree, life)?;
+                    self.begin(side, life)?;
                 }
-                5 => self.abandon(machine, slot)?,
-                6 => self.flush(machine)?,
+                5 => self.abandon(side, slot)?,
+                6 => self.flush(side)?,
                 _ => {
-                    self.step(machine, slot, life)?;
+                    self.step(side, slot, life)?;
                 }
             }
-            self.same_pairs(machine)?;
+            self.same_pairs(side)?;
         }
         Ok(())
     }
 
     // The pairs are those that a crash may leave; the plain program goes on from them.
-    fn recover(&mut self, machine: &Machine<MemPages>, last: End) -> Run<()> {
-        let pairs = self.pairs(machine)?;
+    fn recover(&mut self, side: &Side, last: End) -> Run<()> {
+        let pairs = self.pairs(side)?;
         let is_one = match last {
             End::Some(_) => {
                 let is = |map: &Pairs| map.as_slice() == pairs.as_slice();
@@ -321,9 +335,8 @@ impl Crowd {
 
     // What comes between an opening after a life that ended so and the next crash: how it ends, `None` where all calls were
     // begun.
-    fn live(&mut self, machine: &mut Machine<MemPages>, last: End, place: u64) -> Run<Option<End>> {
-        let tree = machine.db().default_tree()?;
-        self.recover(machine, last)?;
+    fn live(&mut self, side: &mut Side, last: End, place: u64) -> Run<Option<End>> {
+        self.recover(side, last)?;
         if self.left == 0 {
             return Ok(None);
         }
@@ -331,12 +344,12 @@ impl Crowd {
         self.note()?;
         let (life, end) = self.next(place);
         if life.is_mix {
-            self.mix(machine, &tree, life)?;
+            self.mix(side, life)?;
         } else {
-            self.eight(machine, &tree, life)?;
+            self.eight(side, life)?;
         }
         if matches!(end, End::Flushed) {
-            self.flush(machine)?;
+            self.flush(side)?;
         }
         Ok(Some(end))
     }
@@ -352,14 +365,20 @@ fn live(crowd: &mut Crowd, kept: Kept, last: End, place: u64) -> Run<Option<(Kep
             return Err(Halt::Stopped);
         }
     };
-    let mut machine = Machine::new(db);
-    let end = match crowd.live(&mut machine, last, place) {
+    let tree = db.default_tree()?;
+    let mut side = Side {
+        machine: Machine::new(db),
+        tree,
+    };
+    let end = match crowd.live(&mut side, last, place) {
         Ok(Some(end)) => end,
         ended => {
-            drop(machine);
+            drop(side);
             return ended.map(|_| None);
         }
     };
+    let Side { machine, tree } = side;
+    drop(tree);
     let kept = Kept::of(machine.into_db());
     Ok(Some((kept.crash(crowd.alloc, end.keep())?, end)))
 }

@@ -6,36 +6,36 @@ use sled_lines::words::{first_word, read_number, read_value, read_word};
 use sled_pages::Result;
 use std::alloc::Global;
 
-/// The form of each command, and behind two spaces what it does. In a form K, V, OLD and NEW are byte strings, other words in
+/// The form of each command, and behind a colon what it does. In a form K, V, OLD and NEW are byte strings, other words in
 /// capitals are numbers, and `..` stands for more of the word before it.
-pub const HELP: &str = "insert K V  sets the value at a key, and prints the one that stood there
-get K  prints the value at a key
-remove K  takes a key out, and prints the value that stood there
-cas K OLD NEW  sets the value at a key to NEW where it is OLD; - is no value
-begin insert K V  begins the same call in a slot, which is printed
-begin get K  begins a get in a slot
-begin remove K  begins a removal in a slot
-begin cas K OLD NEW  begins a swap in a slot
-step N  does one step of the call in a slot
-finish N  does the steps of the call in a slot to its end
-abandon N  gives the call in a slot up
-turns N  prints how often the call in a slot went on so far
-flush  makes all durable
-crash N  a crash that keeps N actions since the last flush, and an opening
-dump  prints all pairs
-new  an empty store, opened
-new refuse N ..  the same, where the store refuses its calls of these numbers
-reopen  opens the store again
-reopen refuse N ..  the same, where the store refuses its calls of these numbers
-reopen unreadable PID ..  the same, where these pages cannot be read
-reopen mark N  the same, where ids up to N are set aside
-recover  a crash that keeps all actions, and an opening
-recover refuse N ..  the same, where the store left refuses its calls of these numbers
-recovered  prints whether the store is what a crash left
-pages  prints how many pages each level of the tree has, and the most entries of one of them
-crowd SEED CALLS  runs CALLS calls, eight at once, beside a plain program, and compares
-help  prints these lines
-quit  ends
+pub const HELP: &str = "insert K V: sets the value at a key, and prints the one that stood there
+get K: prints the value at a key
+remove K: takes a key out, and prints the value that stood there
+cas K OLD NEW: sets the value at a key to NEW where it is OLD; - is no value
+begin insert K V: begins the same call in a slot, which is printed
+begin get K: begins a get in a slot
+begin remove K: begins a removal in a slot
+begin cas K OLD NEW: begins a swap in a slot
+step N: does one step of the call in a slot
+finish N: does the steps of the call in a slot to its end
+abandon N: gives the call in a slot up
+turns N: prints how often the call in a slot went on so far
+flush: makes all durable
+crash N: a crash that keeps N actions since the last flush, and an opening
+dump: prints all pairs
+new: an empty store, opened
+new refuse N ..: the same, where the store refuses its calls of these numbers
+reopen: opens the store again
+reopen refuse N ..: the same, where the store refuses its calls of these numbers
+reopen unreadable PID ..: the same, where these pages cannot be read
+reopen mark N: the same, where ids up to N are set aside
+recover: a crash that keeps all actions, and an opening
+recover refuse N ..: the same, where the store left refuses its calls of these numbers
+recovered: prints whether the store is what a crash left
+pages: prints how many pages each level of the tree has, and the most entries of one of them
+crowd SEED CALLS: runs CALLS calls, eight at once, beside a plain program, and compares
+help: prints these lines
+quit: ends
 ";
 
 /// What a line asks for.
@@ -173,30 +173,15 @@ fn compare<'a>(alloc: Global, form: &[u8], line: &'a [u8]) -> Result<Fit<'a>> {
     })
 }
 
-// The part of a text before two spaces.
+// The form in a line of the help.
 fn form_of(text: &[u8]) -> &[u8] {
-    for (at, pair) in text.windows(2).enumerate() {
-        if pair == b"  ".as_slice() {
-            return &text[..at];
-        }
+    match text.split(|byte| *byte == b':').next() {
+        Some(form) => form,
+        None => text,
     }
-    text
-}
-
-// The words of a form that are the command's own, and the others.
-fn parted(form: &[u8]) -> (&[u8], &[u8]) {
-    for (at, byte) in form.iter().enumerate() {
-        if byte.is_ascii_uppercase() {
-            return (&form[..at.saturating_sub(1)], &form[at..]);
-        }
-    }
-    (form, b"")
 }
 
 fn count(words: &[u8]) -> &'static [u8] {
-    if words.is_empty() {
-        return b"no words";
-    }
     if words.ends_with(b"..") {
         return b"one word or more";
     }
@@ -214,6 +199,30 @@ fn push_quoted(out: &mut Vec<u8>, word: &[u8], rest: &[u8]) -> Result<()> {
     push_text(out, rest)
 }
 
+// Adds what stands behind the command's own words in a form.
+fn push_count(out: &mut Vec<u8>, form: &[u8]) -> Result<()> {
+    let (own, mut rest) = first_word(form);
+    push_text(out, b"`")?;
+    push_text(out, own)?;
+    if let Some(words) = rest {
+        let (second, others) = first_word(words);
+        if is_own(second) {
+            push_text(out, b" ")?;
+            push_text(out, second)?;
+            rest = others;
+        }
+    }
+    push_text(out, b"` takes ")?;
+    match rest {
+        Some(words) => {
+            push_text(out, words)?;
+            push_text(out, b", ")?;
+            push_text(out, count(words))
+        }
+        None => push_text(out, b"no words"),
+    }
+}
+
 // Adds the reason why a line does not have a form.
 fn push_reason(out: &mut Vec<u8>, form: &[u8], line: &[u8], misfit: Misfit<'_>) -> Result<()> {
     let name = first_word(line).0;
@@ -225,15 +234,7 @@ fn push_reason(out: &mut Vec<u8>, form: &[u8], line: &[u8], misfit: Misfit<'_>) 
             push_text(out, name)?;
             push_text(out, b"`; `help` lists what does")
         }
-        Misfit::Count => {
-            let (own, others) = parted(form);
-            push_quoted(out, own, b"takes ")?;
-            if !others.is_empty() {
-                push_text(out, others)?;
-                push_text(out, b", ")?;
-            }
-            push_text(out, count(others))
-        }
+        Misfit::Count => push_count(out, form),
         Misfit::Number(word) => push_quoted(
             out,
             word,
@@ -298,6 +299,9 @@ pub fn read(alloc: Global, line: &[u8], out: &mut Vec<u8>) -> Result<Option<Comm
     let (mut best, mut own, mut why) = (line, 0, Misfit::Name);
     for text in HELP.as_bytes().split(|byte| *byte == b'\n') {
         let form = form_of(text);
+        if form.is_empty() {
+            continue;
+        }
         let fits = compare(alloc, form, line)?;
         let Some(misfit) = fits.misfit else {
             return made(alloc, form, line);

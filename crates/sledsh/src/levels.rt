@@ -49,15 +49,14 @@ fn push_level<P: Pages>(
 }
 
 fn push_all<P: Pages>(alloc: Global, pages: &P, name: &[u8], out: &mut Vec<u8>) -> Result<()> {
-    let mut levels = 0;
+    let mut levels = 0u64;
     let mut first = pages.root(name);
     for level in 0..u64::MAX {
         let Some(pid) = first else {
             break;
         };
         first = push_level(alloc, pages, pid, out)?;
-        levels = level;
-        levels = levels.saturating_add(1);
+        levels = level.saturating_add(1);
     }
     push_numbered(out, b"end ", levels)
 }

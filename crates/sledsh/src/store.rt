@@ -19,13 +19,13 @@ pub struct Kept {
 }
 
 impl Model for Kept {
-    ghost use Rattle.sled_pages.specs.Store.{Store};
+    ghost use Rattle.std.specs.Prelude.{Bool};
     ghost use Rattle.sled_pages.specs.Memory.{store_of};
     ghost use Rattle.sledsh.specs.Store.{CanOpen};
 
-    ghost Value = { Store };
+    ghost Value = { Bool };
 
-    ghost view = { λ k. store_of k.pages };
+    ghost view = { λ k. k.crashes };
 
     ghost invariant = { λ k. CanOpen k.crashes (store_of k.pages) };
 }
