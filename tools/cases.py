@@ -1,0 +1,16 @@
+#!/usr/bin/env python3
+"""Writes the files of lines in crates/sledsh/data with what they should print, and the check of them all.
+
+    cases.py            writes all files
+    cases.py NAME ..    writes these
+
+What is printed comes from the oracle; see script.py for what it is compared with.
+"""
+import sys
+import cases_flights
+import cases_levels
+import cases_values
+import script
+
+if __name__ == '__main__':
+    script.write_all(sys.argv[1:])
