@@ -9,6 +9,7 @@ What is printed comes from the oracle; see script.py for what it is compared wit
 import sys
 import cases_flights
 import cases_levels
+import cases_rare
 import cases_values
 import script
 

@@ -484,7 +484,7 @@ def a_page_that_should_split_splits_before_it_receives(s):
     s.did(1)
     s.holds(*both(10))
     s.pages((1, 2), (2, 11))
-    s.reaches('search splits')
+    s.reaches('split for a merge')
 
 
 @case

@@ -142,14 +142,13 @@ def keys_in_a_mixed_order(s):
 @case
 def long_strings(s):
     """Keys and values of 0, 22, 23, 1000 and 5000 bytes."""
-    lengths = 0, 22, 23, 1000
-    words = {n: word(bytes([7]) * n) for n in lengths}
-    for k in words.values():
-        for v in words.values():
+    words = ['%', '%07' * 22, '%07' * 23, 'z' * 1000]
+    for k in words:
+        for v in words:
             s.line(f'cas {k} - {v}', 'swapped')
             s.line(f'remove {k}', f'old {v}')
-    s.insert(*words.values())
-    s.holds(*words.values())
+    s.insert(*words)
+    s.holds(*words)
     s.note('Longer ones, which are kept by a crash, replaced, swapped and found by another call in flight.')
     s.new()
     a, b = 'a' * 5000, 'b' * 5000

@@ -45,7 +45,7 @@ def value_of(text):
     if text == '%':
         return b''
     if text == '-' or not re.fullmatch('(?:[!-$&-~]|%[0-9a-f]{2})+', text):
-        raise BadLine(f'no byte string: {text}')
+        raise BadLine(f'`{text}` is no byte string: % and two lower-case hexadecimal digits stand for a byte')
     return bytes(int(p[1:], 16) if len(p) > 1 else ord(p) for p in re.findall('%..|.', text))
 
 
@@ -57,7 +57,7 @@ def optional(text):
 def number_of(text):
     """The number that a word spells."""
     if not re.fullmatch('0|[1-9][0-9]*', text) or int(text) > GREATEST:
-        raise BadLine(f'no number: {text}')
+        raise BadLine(f'`{text}` is no number: decimal digits without leading zeros')
     return int(text)
 
 
@@ -251,12 +251,12 @@ def walk(store, call):
             yield from split(store, view, parent)
             return
         if node.ends_before(key):
+            store.notes['next a second time, the unsplit parent kept'] += unsplit == 1
             yield
             if parent is None:
                 yield from hoist(store, pid, node.next, node.hi)
                 return
             pid, first, unsplit = node.next, True, unsplit + 1
-            store.notes['next a second time, the unsplit parent kept'] += unsplit == 2
             continue
         if unsplit:
             yield
@@ -291,16 +291,14 @@ def split(store, view, parent, posting=True):
     new = store.allocate(right)
     yield
     ok, _ = store.change(view, replace(left, next=new.pid))
+    store.notes['split' + ('' if posting else ' for a merge') + ('' if ok else ' is stale')] += 1
     yield
     if not ok:
-        store.notes['split is stale' + ('' if posting else ', for a merge')] += 1
         store.change(new, None)
         yield
-    elif not posting:
-        store.notes['search splits'] += 1
-    elif parent is None:
+    elif posting and parent is None:
         yield from hoist(store, view.pid, new.pid, right.lo)
-    else:
+    elif posting:
         yield from post(store, parent, right.lo, new.pid)
 
 
@@ -319,9 +317,9 @@ def hoist(store, left, right, at):
     new = store.allocate(Node(leaf=False, entries=((b'', left), (at, right))))
     yield
     ok = store.swap_root(left, new.pid)
+    store.notes['hoist is stale'] += not ok
     yield
     if not ok:
-        store.notes['hoist is stale'] += 1
         store.change(new, None)
         yield
 
@@ -332,11 +330,11 @@ def merge(store, parent, child):
     while seen is None or not seen.node.merging:        # until the child is seen capped
         seen = store.read(child)
         store.notes['merging child is gone'] += seen is None
+        store.notes['merging child has one of its own'] += seen is not None and seen.node.child is not None
         yield
         if seen is None:
             return
         if seen.node.child is not None:
-            store.notes['merging child has one of its own'] += 1
             yield from merge(store, seen, seen.node.child)
             return
         if seen.node.merging:
@@ -355,26 +353,28 @@ def merge(store, parent, child):
             store.notes['search meets ' + ('a merging page' if left else 'no page')] += 1
             yield
             return
+        node = left.node
+        leads, beyond = node.next == child, node.hi == b'' or node.hi >= seen.node.lo
+        store.notes['search meets a page with a merging child'] += node.child is not None
+        store.notes['search finds the child received'] += node.child is None and beyond and not leads
+        store.notes['search passes a long page'] += node.should_split() and not beyond
         yield
-        if left.node.child is not None:
-            store.notes['search meets a page with a merging child of its own'] += 1
-            yield from merge(store, left, left.node.child)
+        if node.child is not None:
+            yield from merge(store, left, node.child)
             return
-        if left.node.next == child:
-            if left.node.should_split():
-                yield from split(store, left, None, posting=False)
-                return
-            received, now = store.change(left, left.node.receive(seen.node))
+        if leads and node.should_split():
+            yield from split(store, left, None, posting=False)
+            return
+        if leads:
+            received, now = store.change(left, node.receive(seen.node))
             store.notes['receive ' + ('is stale' if now else 'finds no page')] += not received
             yield
             if now is None:
                 return
-        elif left.node.hi == b'' or left.node.hi >= seen.node.lo:
-            store.notes['search finds the child received'] += 1
+        elif beyond:
             received = True
         else:
-            store.notes['search passes a long page'] += left.node.should_split()
-            cursor = left.node.next
+            cursor = node.next
     ok, _ = store.change(parent, parent.node.confirm())
     store.notes['confirmation is stale'] += not ok
     yield
@@ -385,29 +385,48 @@ def merge(store, parent, child):
 
 # The shell.
 
-POINT = {'insert': (value_of, value_of), 'get': (value_of,), 'remove': (value_of,), 'cas': (value_of, optional, optional)}
-NUMBERED = ('step', 'finish', 'abandon', 'turns', 'crash')
-ALONE = ('flush', 'dump', 'pages', 'recovered', 'new', 'reopen', 'recover', 'help', 'quit')
+FORMS = """insert K V; get K; remove K; cas K OLD NEW; begin insert K V; begin get K; begin remove K; begin cas K OLD NEW
+step N; finish N; abandon N; turns N; flush; crash N; dump; new; new refuse N ..; reopen; reopen refuse N ..
+reopen unreadable PID ..; reopen mark N; recover; recover refuse N ..; recovered; pages; crowd SEED CALLS; help; quit"""
+FORMS = [form.split(' ') for form in re.split('; |\n', FORMS)]
+POINT = ('insert', 'get', 'remove', 'cas')
+READERS = {'K': value_of, 'V': value_of, 'OLD': optional, 'NEW': optional}
+
+
+def fit(form, words):
+    """How many of the shell's own words of a form a line has, what its other words stand for, and else why it has not the
+    form."""
+    own = [part for part in form if part.islower()]
+    has = [word == part for word, part in zip(words, own)]
+    if not all(has):
+        at = has.index(False)
+        return at, None, f'`{words[at]}` does not follow `{words[0]}`; `help` lists what does'
+    if len(words) < len(own):
+        return len(has), None, f'`{" ".join(words)}` takes a word more; `help` lists which'
+    parts, words = form[len(own):], words[len(own):]
+    if parts[-1:] == ['..']:
+        parts = parts[:-1] + parts[:1] * (len(words) - 1)
+    if len(parts) != len(words):
+        told = ' '.join(form[len(own):])
+        count = 'one word or more' if '..' in form else ('no words', 'one word', 'two words', 'three words')[len(parts)]
+        return len(own), None, f'`{" ".join(own)}` takes {told}{told and ", "}{count}'
+    try:
+        return len(own), own + [READERS.get(part, number_of)(word) for part, word in zip(parts, words)], None
+    except BadLine as why:
+        return len(own), None, str(why)
 
 
 def read_line(text):
-    """The words of a line: its name, and what the others stand for."""
-    name, *rest = text.split(' ')
-    if name == 'begin' and rest and rest[0] in POINT:
-        return ('begin',) + read_line(' '.join(rest))
-    if name in POINT and len(rest) == len(POINT[name]):
-        return (name,) + tuple(read(w) for read, w in zip(POINT[name], rest))
-    if name in NUMBERED and len(rest) == 1:
-        return name, number_of(rest[0])
-    if name in ALONE and not rest:
-        return (name,)
-    if name in ('new', 'reopen', 'recover') and len(rest) > 1 and rest[0] == 'refuse':
-        return name, 'refuse', frozenset(map(number_of, rest[1:]))
-    if name == 'reopen' and len(rest) > 1 and rest[0] == 'unreadable':
-        return name, 'unreadable', frozenset(map(number_of, rest[1:]))
-    if name == 'reopen' and len(rest) == 2 and rest[0] == 'mark':
-        return name, 'mark', number_of(rest[1])
-    raise BadLine(f'no such line: {text}')
+    """The words of a line: the shell's own, and what the others stand for."""
+    words = text.split(' ')
+    best, reason = 1, f'`{words[0]}` is no command; `help` lists them'
+    for form in FORMS:
+        own, values, why = fit(form, words)
+        if values is not None:
+            return values
+        if own >= best:
+            best, reason = own, why
+    raise BadLine(reason)
 
 
 class Shell:
@@ -445,6 +464,8 @@ class Shell:
             store.crash(words[0])
             self.open()
             return ['recovered']
+        if name == 'crowd':
+            return [f'agreed {words[1]}']
         if name in ('step', 'finish', 'abandon', 'turns'):
             return [self.slot(name, words[0])]
         if not self.opened:
@@ -463,27 +484,28 @@ class Shell:
             leaves = self.levels()[-1]
             pairs = [pair for leaf in leaves for pair in leaf.entries]
             return [f'pair {word(TREE)} {word(k)} {word(v)}' for k, v in pairs] + [f'end {len(pairs)}']
-        assert name == 'pages', name
+        if name != 'pages':
+            raise NotImplementedError(f'what {name} prints is free text')
         levels = self.levels(True)
         self.open()
         return [f'level {len(level)} {max(len(n.entries) for n in level)}' for level in levels] + [f'end {len(levels)}']
 
-    def renew(self, name, *words):
+    def renew(self, name, kind=None, *numbers):
         """Opens other pages, or the same ones anew."""
-        kind, numbers = words or (None, None)
-        if kind == 'mark' and numbers < self.store.mark:
-            raise BadLine('below the mark')
+        if kind == 'mark' and numbers[0] < self.store.mark:
+            raise BadLine(f'`{numbers[0]}` is below the mark, which is {self.store.mark}')
+        self.slots, self.opened = {}, False
         if name == 'new':
             notes, self.store = self.store.notes, Store()
             self.store.notes = notes
         if name == 'recover':
             self.store.crash(GREATEST)
         if kind == 'mark':
-            self.store.set_aside(numbers)
+            self.store.set_aside(numbers[0])
         if kind == 'refuse':
-            self.store.refused = numbers
+            self.store.refused = frozenset(numbers)
         if kind == 'unreadable':
-            self.store.unreadable |= numbers
+            self.store.unreadable.update(numbers)
         self.open()
         return ['opened']
 
