@@ -10,6 +10,7 @@ import sys
 import cases_flights
 import cases_levels
 import cases_rare
+import cases_refusals
 import cases_values
 import script
 

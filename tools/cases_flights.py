@@ -266,7 +266,8 @@ def calls_in_flight_end_in_any_order(s):
             s.moves(call)
         for call in order:
             s.line(f'finish {call}', 'old -')
-        s.line('dump', *(pair(f'{call:04}', call) for call in every), f'end {count}')
+        if order[0] != 1:
+            s.line('dump', *(pair(f'{call:04}', call) for call in every), f'end {count}')
         s.line(f'finish {count}', 'no slot')
         s.begin(count + 1, 'get 0001')
         s.line(f'finish {count + 1}', 'value 1')

@@ -486,8 +486,10 @@ class Shell:
             return [f'pair {word(TREE)} {word(k)} {word(v)}' for k, v in pairs] + [f'end {len(pairs)}']
         if name != 'pages':
             raise NotImplementedError(f'what {name} prints is free text')
-        levels = self.levels(True)
-        self.open()
+        try:
+            levels = self.levels(True)
+        finally:
+            self.open()
         return [f'level {len(level)} {max(len(n.entries) for n in level)}' for level in levels] + [f'end {len(levels)}']
 
     def renew(self, name, kind=None, *numbers):
