@@ -3,8 +3,10 @@
 
     cases.py            writes all files
     cases.py NAME ..    writes these
+    cases.py names      writes none, but the names of all that are there into the words and the output of the check
 
-What is printed comes from the oracle; see script.py for what it is compared with.
+What is printed comes from the oracle; see script.py for what it is compared with. A case stops the script where the oracle
+does not print what the case spells out.
 """
 import sys
 import cases_flights

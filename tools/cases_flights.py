@@ -512,3 +512,43 @@ def a_crash_keeps_the_removal_with_the_ninth_action(s):
         for k in '%0a', '%07%08', '%00':
             s.line(f'get {k}', f'value {k}')
         s.holds(*both(11))
+
+
+# A crowd, step by step.
+
+def mixed(number):
+    """The next number of a sequence that looks random."""
+    for shift in 13, -7, 17:
+        number ^= (number << shift if shift > 0 else number >> -shift) % 2**64
+    return number
+
+
+@case
+def eight_calls_step_by_step(s):
+    """Eight calls in flight over sixty keys, in an order that looks random: every step, every flush, and every page is as the
+    rules have it. The tree grows and shrinks in turn; now and then a call is given up, the pages are counted, or a crash keeps
+    some of the actions."""
+    number = 88172645463325252
+    for life in range(24):
+        slots = []
+        for _ in range(90):
+            number = mixed(number)
+            kind, k = number >> 40 & 7, f'{(number >> 8) % 60:02}'
+            grows = 6 if life % 8 < 4 else 1
+            if len(slots) < 8:
+                call = f'insert {k} {number >> 24 & 3}' if kind < grows else f'get {k}' if kind == 7 else f'remove {k}'
+                slots.append(s.shell.begun + 1)
+                s.begin(slots[-1], call)
+                continue
+            at = number % 8
+            if number >> 50 & 31 == 0:
+                s.line(f'abandon {slots.pop(at)}', 'abandoned')
+            elif number >> 50 & 31 == 1:
+                s.ask('flush')
+            elif s.ask(f'step {slots[at]}') != ['moved']:
+                slots.pop(at)
+        s.ask('dump')
+        if life % 3 == 2:
+            s.ask('pages')
+        else:
+            s.ask(f'crash {number % 40}')

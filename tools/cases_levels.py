@@ -109,7 +109,7 @@ def removals_that_are_given_up_after_each_stage_of_a_merge_keep_the_map(s):
         k = short(left)
         if meets_merge(s, k):
             s.line('reopen', 'opened')
-            if left < 96 or left % 512 < 8:
+            if left < 64 or left % 1024 < 8:
                 changes += removed_at_last(s, k)
             else:
                 changes += removed_in_strides(s, k)
@@ -124,21 +124,23 @@ def removals_that_are_given_up_after_each_stage_of_a_merge_keep_the_map(s):
 @case
 def crashes_amid_merges_keep_the_map(s):
     """A crash ends each life of a tree that had four levels, and keeps none to six of its actions. Each life removes the
-    greatest key that is left, which may merge pages."""
+    greatest key that is left, which may merge pages; then it is asked for."""
     for number in range(KEYS):
         s.insert(short(number))
     s.line('crash 18446744073709551615', 'recovered')
-    left, life = KEYS, 0
+    left, life, merged = KEYS, 0, True
     while left > 1:
         life += 1
         k = short(left - 1)
-        there = s.plain.pairs.get(k.encode()) is not None
-        s.line(f'get {k}', f'value {k if there else "-"}')
+        there = k.encode() in s.plain.pairs
+        if merged:
+            s.line(f'get {k}', f'value {k if there else "-"}')
         left -= not there
         if not there and (left in (1024, 512, 256, 128) or left < 40):
             dumps(s, short, left)
         if left > 1:
             s.remove(short(left - 1))
+            merged = len(s.store.recent) > 1
         s.line(f'crash {life % 7}', 'recovered')
     s.pages((1, 1), (1, 1), (1, 1), (1, 1))
     expect(life < 10000, life)

@@ -104,7 +104,7 @@ def a_long_page_is_reached_by_next(s):
     s.goes_on(2, 1, 1, 1)
     s.holds(*keys)
     s.ask('turns 2')
-    s.line('finish 2', f'old {numbered(66)}')
+    s.to_end(2, f'old {numbered(66)}')
     keys.remove(numbered(66))
     s.holds(*keys)
     s.ask('pages')
@@ -136,7 +136,7 @@ def a_merging_child_that_gets_one_of_its_own_waits_for_it(s):
     s.note('It reads the root and two indexes, and is decided by the leaf.')
     s.goes_on(2, 0, 0, 0)
     s.line('step 2', f'value {numbered(512)}')
-    s.line('finish 1', f'old {numbered(530)}')
+    s.to_end(1, f'old {numbered(530)}')
     s.holds(*numbers(0, 530), *numbers(576, 712))
     s.reaches('merging child has one of its own')
 
@@ -153,9 +153,9 @@ def two_removals(s, one, two):
 
 
 def both_end(s):
-    """Both removals end, in either order of what is left of them."""
-    s.line('finish 1', 'old %0a')
-    s.line('finish 2', 'old %09')
+    """Both removals end, the second first."""
+    s.to_end(2, 'old %09')
+    s.to_end(1, 'old %0a')
     s.holds(*below(9))
     s.pages((1, 1), (1, 9))
 
@@ -254,7 +254,7 @@ def a_receive_that_is_stale_goes_to_the_same_page_again(s):
     s.goes_on(2, 0, 1, 1)
     s.reaches('split for a merge')
     s.holds(*both(11))
-    s.line('finish 2', 'old %0a')
+    s.to_end(2, 'old %0a')
     s.holds(*both(10))
 
 
@@ -274,8 +274,8 @@ def a_split_for_a_merge_that_comes_too_late(s):
     s.reaches('split for a merge', 'split for a merge is stale')
     s.goes_on(2, 1)
     s.holds(*both(11))
-    s.line('finish 1', 'old %0a')
-    s.line('finish 2', 'old %09')
+    s.to_end(1, 'old %0a')
+    s.to_end(2, 'old %09')
     s.holds(*both(9))
     s.pages((1, 2), (2, 10))
 
@@ -354,9 +354,9 @@ def the_search_finds_a_page_that_merges_or_none(s):
             s.goes_on(3, 0, 1, 1, 1)
         s.goes_on(1, 0)
         s.reaches(reached)
-        s.line('finish 1', 'old %12')
-        s.line('finish 2', 'value %10')
-        s.line('finish 3', 'value %10')
+        s.to_end(1, 'old %12')
+        s.to_end(2, 'value %10')
+        s.to_end(3, 'value %10')
         s.holds(*below(8), '%10', '%11')
         s.pages((1, 1), (1, 10))
 
@@ -375,8 +375,8 @@ def a_walk_finds_a_page_that_merges_or_none(s):
         s.ask('flush')
         s.goes_on(1, 0)
         s.reaches(reached)
-        s.line('finish 1', 'value %09')
-        s.line('finish 2', 'old %0a')
+        s.to_end(1, 'value %09')
+        s.to_end(2, 'old %0a')
         s.holds(*below(10))
         s.pages((1, 1), (1, 10))
 
@@ -476,8 +476,8 @@ def a_walk_goes_on_by_next_twice(s):
     s.goes_on(4, 3)
     s.goes_on(5, 0)
     s.reaches('post is stale', 'next a second time, the unsplit parent kept')
-    s.line('finish 4', 'value %10')
-    s.line('finish 5', 'value %05')
+    s.to_end(4, 'value %10')
+    s.to_end(5, 'value %05')
     s.holds(*keys)
     s.pages((1, 4), (4, 9))
 

@@ -157,6 +157,14 @@ class Script:
             self.moves(slot)
             self.did(count)
 
+    def to_end(self, slot, answer):
+        """The call takes its steps to the last one, which answers this. All is flushed after each, to see what it did."""
+        self.ask('flush')
+        while self.ask(f'step {slot}') == ['moved']:
+            self.ask('flush')
+        expect(self.wanted[-1] == answer, self.name, slot, self.wanted[-1], answer)
+        self.ask('flush')
+
     def insert(self, *keys):
         """New keys, each with itself as its value."""
         for k in keys:
