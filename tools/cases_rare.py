@@ -3,7 +3,7 @@ split, of a hoist and of a merge. Each case says which of these it reaches, and 
 from cases_flights import BEHIND_SEVEN, below, both, eight_and_three, seventeen, seventeen_and_three
 from cases_levels import numbered
 from oracle import value_of
-from script import case, expect, key, word
+from script import case, expect, word
 
 
 def numbers(first, end):

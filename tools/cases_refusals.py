@@ -1,7 +1,8 @@
 """Store calls that are refused, pages that cannot be read, openings that are refused, crashes amid every stage."""
-from cases_flights import BEHIND_SEVEN, below, both, eight_and_three, seventeen, seventeen_and_three
-from cases_levels import numbered, short
-from script import GREATEST, case, expect, key, pair
+from cases_flights import below, both, eight_and_three, seventeen, seventeen_and_three
+from cases_levels import short
+from oracle import Shell
+from script import case, expect, pair
 
 
 @case
@@ -463,23 +464,22 @@ def calls_are_refused_while_others_are_in_flight(s):
 def a_crash_amid_every_stage(s):
     """The insert that makes the most actions of those that grow three levels, and the removal that makes the most of those
     that shrink them: a crash at each of their actions, then all is read, and the call is made again."""
+    shell = Shell()
+
     def most(lines):
         """Of these lines the one that does the most actions, and how many."""
         counts = []
         for line in lines:
-            s.shell.run('flush')
-            s.shell.run(line)
-            counts.append((len(s.store.recent), line))
+            shell.run('flush')
+            shell.run(line)
+            counts.append((len(shell.store.recent), line))
         return max(counts)
 
     grow = [f'insert {short(n)} {short(n)}' for n in range(150)]
     shrink = [f'remove {short(n)}' for n in range(149, 0, -1)]
-    begin = len(s.text), s.shell.line
-    s.shell.run('new')
     grown, inserts = most(grow)
     shrunk, removes = most(shrink)
     expect((grown, shrunk) == (8, 11), grown, shrunk)
-    s.shell.line = begin[1]
 
     def keys(lines):
         gone = {line.split()[1] for line in lines if line.startswith('remove')}

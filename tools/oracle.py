@@ -307,8 +307,6 @@ def post(store, parent, at, pid):
     if parent.node.get(at) is None:
         ok, _ = store.change(parent, parent.node.put(at, pid))
         store.notes['post is stale'] += not ok
-    else:
-        store.notes['post has nothing to do'] += 1
     yield
 
 
@@ -433,7 +431,7 @@ class Shell:
     """Runs lines, one after the other, over a store of its own."""
 
     def __init__(self):
-        self.store, self.line, self.opens = Store(), 0, True
+        self.store, self.line = Store(), 0
         self.open()
 
     def open(self):
