@@ -173,24 +173,24 @@ def two_inserts_race(s):
 def two_inserts_race_in_every_order(s):
     """Two inserts at one key take six steps in each of 64 orders, from an empty store and from what the race before left.
     Whichever is decided last has its value there then."""
-    wins = 0
+    wins, stands = 0, '-'
     for fresh in True, False:
         s.new()
         for number in range(64):
             s.note(f'order {number:06b}, from the last digit on')
             if fresh:
                 s.new()
+                stands = '-'
             else:
                 s.line('reopen', 'opened')
             s.begin(1, 'insert a 1')
             s.begin(2, 'insert a 2')
-            last = None
             for step in range(6):
                 slot = 2 if number >> step & 1 else 1
                 if s.ask(f'step {slot}')[0].startswith('old'):
-                    last = slot
-            wins += fresh and last == 2
-            s.line('get a', f'value {last}' if fresh and last else s.ask('get a')[0])
+                    stands = slot
+            wins += fresh and stands == 2
+            s.line('get a', f'value {stands}')
     expect(0 < wins < 64, 'one insert wins every race')
 
 

@@ -601,7 +601,7 @@ def a_session_ends_at_quit(s):
 
 
 @case
-def a_line_end_lacks_at_the_end(s):
+def a_bad_line_may_be_the_last(s):
     """A bad line may be the last, without a line end."""
     s.line('get a', 'value -')
     s.line('get', 'bad line 3: `get` takes K, one word')
