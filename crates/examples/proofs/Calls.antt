@@ -209,32 +209,30 @@ module _ {P M : Type 0} (store : P → Store) (meant : M → Merge) where
       go outcome.NoSuchSlot t = (tt, ap maps_at t)
 
   -- an insert was decided, and then a get of its key ended
-  pub inserted_got : (old a middle b new : MachineValue P M) (one two : ℕ) (tree : Tree) (key value put_key put_value get_key : Key) (reply : Reply) (o : Outcome) → put_key ≡ key → put_value ≡ value → get_key ≡ key
-      → Reaches store meant old (step.Begin tree (Insert put_key put_value)) (outcome.Begun one) a → Finishes store meant a one (outcome.Decided reply) middle
-      → Reaches store meant middle (step.Begin tree (Get get_key)) (outcome.Begun two) b → Finishes store meant b two o new
+  pub inserted_got : (old a middle new : MachineValue P M) (slot : ℕ) (tree : Tree) (key value : Key) (put : Call) (reply : Reply) (o : Outcome) → put ≡ Insert key value
+      → Reaches store meant old (step.Begin tree put) (outcome.Begun slot) a → Finishes store meant a slot (outcome.Decided reply) middle
+      → ReadsAs (found_in (maps_now store meant middle.db tree.name) key) o → maps_now store meant new.db ≡ maps_now store meant middle.db
       → ReadsAs (Some value) o × PutsOne (maps_now store meant old.db) (maps_now store meant new.db) tree.name key value
-  inserted_got old a middle b new one two tree key value put_key put_value get_key reply o e1 e2 e3 r f s g =
-      let put : PutsOne (maps_now store meant old.db) (maps_now store meant middle.db) tree.name key value =
-      subst (λ k. PutsOne (maps_now store meant old.db) (maps_now store meant middle.db) tree.name k value) e1
-      (subst (λ v. PutsOne (maps_now store meant old.db) (maps_now store meant middle.db) tree.name put_key v) e2 (inserted old a middle one tree put_key put_value reply r f)) in
-      let read = got middle b new two tree get_key o s g in (
-        subst (λ v. ReadsAs v o) (ap (found_in (maps_now store meant middle.db tree.name)) e3 ∙ put.here) read.0,
-        subst (λ m. PutsOne (maps_now store meant old.db) m tree.name key value) (sym read.1) put,
+  inserted_got old a middle new slot tree key value put reply o e b f reads same =
+      let puts : PutsOne (maps_now store meant old.db) (maps_now store meant middle.db) tree.name key value =
+      inserted old a middle slot tree key value reply (subst (λ c. Reaches store meant old (step.Begin tree c) (outcome.Begun slot) a) e b) f in (
+        subst (λ v. ReadsAs v o) puts.here reads,
+        subst (λ m. PutsOne (maps_now store meant old.db) m tree.name key value) (sym same) puts,
       )
 
   -- two inserts at one key, each in its slot: what is known between their steps
 
   -- both have begun, and no map has changed
-  pub races_begin : (start a m : MachineValue P M) (one two : ℕ) (tree : Tree) (key first second key_one value_one key_two value_two : Key) → key_one ≡ key → value_one ≡ first → key_two ≡ key → value_two ≡ second
-      → Reaches store meant start (step.Begin tree (Insert key_one value_one)) (outcome.Begun one) a → Reaches store meant a (step.Begin tree (Insert key_two value_two)) (outcome.Begun two) m
+  pub races_begin : (start a m : MachineValue P M) (one two : ℕ) (tree : Tree) (key first second : Key) (put_one put_two : Call) → put_one ≡ Insert key first → put_two ≡ Insert key second
+      → Reaches store meant start (step.Begin tree put_one) (outcome.Begun one) a → Reaches store meant a (step.Begin tree put_two) (outcome.Begun two) m
       → Means (slots_at m) one tree (Insert key first) × Means (slots_at m) two tree (Insert key second) × (maps_now store meant m.db ≡ maps_now store meant start.db)
-  races_begin start a m one two tree key first second k v l w e1 e2 e3 e4 r s =
+  races_begin start a m one two tree key first second put_one put_two e1 e2 r s =
       let off : one ≢ two = λ same. greater one (same ∙ s.is.step.told.0.next ∙ ap (λ (z : State). z.slots_given + 1) r.is.step.told.0.is) in
-      let earlier : Means (slots_at m) one tree (Insert k v) =
-      subst (λ (z : State). Means z.slots one tree (Insert k v)) (sym s.is.step.told.0.is) (means_after (slots_at a) two _ one tree (Insert k v) (begun_means start a tree (Insert k v) one r) (λ f e same. absurd (off same))) in (
-        subst (λ q. Means (slots_at m) one tree (Insert q first)) e1 (subst (λ q. Means (slots_at m) one tree (Insert k q)) e2 earlier),
-        subst (λ q. Means (slots_at m) two tree (Insert q second)) e3 (subst (λ q. Means (slots_at m) two tree (Insert l q)) e4 (begun_means a m tree (Insert l w) two s)),
-        ap maps_at (begun_keeps a m tree (Insert l w) two s ∙ begun_keeps start a tree (Insert k v) one r),
+      let earlier : Means (slots_at m) one tree put_one =
+      subst (λ (z : State). Means z.slots one tree put_one) (sym s.is.step.told.0.is) (means_after (slots_at a) two _ one tree put_one (begun_means start a tree put_one one r) (λ f e same. absurd (off same))) in (
+        subst (Means (slots_at m) one tree) e1 earlier,
+        subst (Means (slots_at m) two tree) e2 (begun_means a m tree put_two two s),
+        ap maps_at (begun_keeps a m tree put_two two s ∙ begun_keeps start a tree put_one one r),
       )
     where
       greater : (n : ℕ) → n ≡ n + 1 → ⊥

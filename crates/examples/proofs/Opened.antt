@@ -14,8 +14,6 @@ use Rattle.sled.specs.declared.TheConstants.{DEFAULT_TREE}
 use Rattle.sled.specs.Opens.{or_empty, with_default, RefusesOpen, Opens}
 use Rattle.sled.specs.Sound.{IsDb}
 use Rattle.sled.specs.Values.{DbValue, numbers_of, named}
-use Rattle.sled_pages.specs.Crash.{MayLeave, Crashes}
-use Rattle.tree_laws.specs.Crashes.{IsWhole}
 use Rattle.sled_model.specs.declared.outcome.Outcome.{Outcome}
 use Rattle.examples.specs.Reads.{ReadsAs, found_in, maps_now}
 
@@ -77,28 +75,8 @@ refused_again before after trees given e is r = elim r.again.grows [ inl g ↦ g
 pub opened_maps : {P N : Type 0} (store : P → Store) (before : Store) (trees : List (Key × ℕ)) (given : ℕ) (called : Key) (new : DbValue P N) → IsDb before trees given → Opens store before called new → trees_of (now (store new.pages)) ≡ trees_of (now before)
 opened_maps store before trees given called new is o = o.maps ∙ present before trees given is
 
-now_left : (before left : Store) (keep : ℕ) → Crashes keep before left → now left ≡ left.base
-now_left before left keep c = ap now c.is ∙ sym (ap (λ (s : Store). s.base) c.is)
-
--- what a crash leaves of a database's pages has the shape of a forest
-pub left_well : (before left : Store) (trees : List (Key × ℕ)) (given : ℕ) (keep : ℕ) → IsDb before trees given → MayLeave before left.base → Crashes keep before left → IsWhole (now left)
-left_well before left trees given keep is may c = subst IsWhole (sym (now_left before left keep c)) (is.safe.whole left.base may.is)
-
--- .. and no open group
-pub left_calm : (before left : Store) (keep : ℕ) → Crashes keep before left → (now left).in_group ≡ false
-left_calm before left keep c = ap (λ s. (now s).in_group) c.is ∙ c.sealed
-
-pub crashed_well : {X E : Type 0} (store : X → Store) (before : Store) (trees : List (Key × ℕ)) (given keep : ℕ) (r : Result X E) → IsDb before trees given → IfOk r (λ left. Crashes keep before (store left)) → IfOk r (λ left. MayLeave before (store left).base) → IfOk r (λ left. IsWhole (now (store left)))
-crashed_well store before trees given keep (Ok left) is c may = left_well before (store left) trees given keep is may c
-crashed_well store before trees given keep (Err e) is c may = tt
-
-pub crashed_calm : {X E : Type 0} (store : X → Store) (before : Store) (keep : ℕ) (r : Result X E) → IfOk r (λ left. Crashes keep before (store left)) → IfOk r (λ left. (now (store left)).in_group ≡ false)
-crashed_calm store before keep (Ok left) c = left_calm before (store left) keep c
-crashed_calm store before keep (Err e) c = tt
-
 -- a get on the second database reads what the first had
-pub read_again : {P M N : Type 0} (store : P → Store) (meant : M → Merge) (other : N → Merge) (old : DbValue P M) (new newer : DbValue P N) (name key : Key) (r : Result Outcome Error) → HasMapsOf store old new → newer ≡ new → name ≡ DEFAULT_TREE.now
-    → IfOk r (ReadsAs (found_in (maps_now store other newer name) key)) → IfOk r (ReadsAs (found_in (maps_now store meant old DEFAULT_TREE.now) key))
-read_again store meant other old new newer name key r has is named reads =
-    subst (λ m. IfOk r (ReadsAs (found_in m key)))
-    (ap (λ d. maps_now store other d name) is ∙ (ap (maps_now store other new) named ∙ ap (λ (ms : Maps). ms DEFAULT_TREE.now) (has.same meant other))) reads
+pub read_again : {P M N : Type 0} (store : P → Store) (meant : M → Merge) (other : N → Merge) (old : DbValue P M) (new newer : DbValue P N) (key : Key) (r : Result Outcome Error) → HasMapsOf store old new → newer ≡ new
+    → IfOk r (ReadsAs (found_in (maps_now store other newer DEFAULT_TREE.now) key)) → IfOk r (ReadsAs (found_in (maps_now store meant old DEFAULT_TREE.now) key))
+read_again store meant other old new newer key r has is reads =
+    subst (λ m. IfOk r (ReadsAs (found_in m key))) (ap (λ d. maps_now store other d DEFAULT_TREE.now) is ∙ ap (λ (ms : Maps). ms DEFAULT_TREE.now) (has.same meant other)) reads

@@ -5,6 +5,7 @@ ghost use Rattle.sled_pages.specs.Crash.{Crashes};
 ghost use Rattle.sled_pages.specs.Memory.{store_of};
 ghost use Rattle.tree_laws.specs.Contents.{trees_of};
 ghost use Rattle.tree_laws.specs.Crashes.{IsWhole};
+ghost use Rattle.sled_model.specs.declared.call.Call.TheVariants as call;
 ghost use Rattle.sled.specs.declared.TheConstants.{DEFAULT_TREE};
 ghost use Rattle.examples.specs.Reads.{ReadsAs, PutsOne, maps_now, later, found_in};
 
@@ -14,6 +15,14 @@ use sled_machine::Machine;
 use sled_model::{Call, MergeOperator, Outcome, Tree};
 use sled_pages::{Error, IVec, MemPages, Pages, Result};
 use std::alloc::Global;
+
+// The insert of copies of a key and a value.
+fn insert_of(key: &IVec, value: &IVec) -> Result<Call>
+    ensures { IfOk result (λ made. made ≡ call.Insert key.now value.now) }
+{
+    let key = key.clone()?;
+    Ok(Call::Insert(key, value.clone()?))
+}
 
 /// Inserts a pair into a tree, and gets its key then: how the get came out, or `None` where the insert was not decided, which
 /// changes no map.
@@ -27,12 +36,16 @@ pub fn insert_then_get<P: Pages, M: MergeOperator>(
     ensures reads { IfOk result (λ got. IfSome got (ReadsAs (Some value.now))) }
     ensures puts { IfOk result (λ got. IfSome got (λ _. PutsOne (maps_now P.store M.meant machine.old.db) (maps_now P.store M.meant machine.new.db) tree.now.name key.now value.now)) }
 {
-    let slot = machine.begin(tree, Call::Insert(key.clone()?, value.clone()?))?;
-    let Outcome::Decided(_) = machine.finish(slot) else {
-        return Ok(None);
-    };
-    let slot = machine.begin(tree, Call::Get(key.clone()?))?;
-    Ok(Some(machine.finish(slot)))
+    let slot = machine.begin(tree, insert_of(key, value)?)?;
+    match machine.finish(slot) {
+        Outcome::Decided(reply) => drop(reply),
+        outcome => {
+            drop(outcome);
+            return Ok(None);
+        }
+    }
+    let got = get(machine, tree, key)?;
+    Ok(Some(got))
 }
 
 /// The same on a new database of this name over an empty store in memory, in its default tree.
@@ -45,8 +58,17 @@ pub fn insert_then_get_in_new(
     ensures { IfOk result (λ got. IfSome got (ReadsAs (Some value.now))) }
 {
     let mut machine = new_machine(alloc, name)?;
-    let tree = machine.db().default_tree()?;
-    insert_then_get(&mut machine, &tree, key, value)
+    let tree = match machine.db().default_tree() {
+        Ok(tree) => tree,
+        Err(e) => {
+            drop(machine);
+            return Err(e);
+        }
+    };
+    let got = insert_then_get(&mut machine, &tree, key, value);
+    drop(tree);
+    drop(machine);
+    got
 }
 
 // Which of two calls was decided last, after a step of the one or the other.
@@ -72,8 +94,8 @@ pub fn race<P: Pages, M: MergeOperator>(
     ensures none { IfOk result (λ last. MatchOption last (maps_now P.store M.meant machine.new.db ≡ maps_now P.store M.meant machine.old.db) (λ _. Unit {0})) }
     ensures last { IfOk result (λ last. IfSome last (λ is_second. PutsOne (maps_now P.store M.meant machine.old.db) (maps_now P.store M.meant machine.new.db) tree.now.name key.now (if is_second then second.now else first.now))) }
 {
-    let one = machine.begin(tree, Call::Insert(key.clone()?, first.clone()?))?;
-    let two = machine.begin(tree, Call::Insert(key.clone()?, second.clone()?))?;
+    let one = machine.begin(tree, insert_of(key, first)?)?;
+    let two = machine.begin(tree, insert_of(key, second)?)?;
     let mut last = None;
     for is_second in order {
         let slot = if *is_second { two } else { one };
@@ -93,6 +115,17 @@ pub fn get<P: Pages, M: MergeOperator>(
 {
     let slot = machine.begin(tree, Call::Get(key.clone()?))?;
     Ok(machine.finish(slot))
+}
+
+// Gets a key of the default tree.
+fn get_in_default<P: Pages, M: MergeOperator>(
+    machine: &mut Machine<P, M>,
+    key: &IVec,
+) -> Result<Outcome>
+    ensures { IfOk result (ReadsAs (found_in (maps_now P.store M.meant machine.old.db DEFAULT_TREE.now) key.now)) }
+{
+    let tree = machine.db().default_tree()?;
+    get(machine, &tree, key)
 }
 
 /// Ends a machine, opens its pages again under a name, and ends that database too: the pages. The calls in flight are given
@@ -123,11 +156,15 @@ pub fn reopen_then_get<P: Pages, M: MergeOperator>(
 {
     let db = match Db::open(alloc, machine.into_db().into_pages(), name) {
         Ok(db) => db,
-        Err((_, e)) => return Err(e),
+        Err((pages, e)) => {
+            drop(pages);
+            return Err(e);
+        }
     };
-    let tree = db.default_tree()?;
     let mut machine = Machine::new(db);
-    get(&mut machine, &tree, key)
+    let got = get_in_default(&mut machine, key);
+    drop(machine);
+    got
 }
 
 /// Ends a database, and crashes its pages so that they keep this many actions at most: what is left can be opened again.

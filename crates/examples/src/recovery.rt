@@ -28,15 +28,28 @@ pub fn survive(
 {
     let db = match Db::open(alloc, pages, name) {
         Ok(db) => db,
-        Err((_, e)) => return Err(e),
+        Err((pages, e)) => {
+            drop(pages);
+            return Err(e);
+        }
     };
     db.audit();
     let mut machine = Machine::new(db);
-    let outcomes = machine.run(steps)?;
+    let outcomes = match machine.run(steps) {
+        Ok(outcomes) => outcomes,
+        Err(e) => {
+            drop(machine);
+            return Err(e);
+        }
+    };
     machine.audit();
     let left = crash_pages(machine.into_db().into_pages(), keep)?;
     match Db::open(alloc, left, name) {
         Ok(db) => Ok((outcomes, db.into_pages())),
-        Err((_, e)) => Err(e),
+        Err((left, e)) => {
+            drop(left);
+            drop(outcomes);
+            Err(e)
+        }
     }
 }

@@ -8,8 +8,7 @@ use Rattle.examples.proofs.callers.race.Goals.{then-is_second, else-is_second}
 
 pub loop-is_second-init : goal.loop-is_second-init
 loop-is_second-init g c =
-    races_begin g.P.Pages.store g.M.MergeOperator.meant _ _ _ _ _ _ _ _ _ _ _ _ _ c.in_ok-clone.ensures.ok c.in_ok-clone-2.ensures.ok c.in_ok-clone-3.ensures.ok c.in_ok-clone-4.ensures.ok
-    c.in_ok-one.ensures.ok c.in_ok-two.ensures.ok
+    races_begin g.P.Pages.store g.M.MergeOperator.meant _ _ _ _ _ _ _ _ _ _ _ c.in_ok-insert_of.ensures c.in_ok-insert_of-2.ensures c.in_ok-one.ensures.ok c.in_ok-two.ensures.ok
 
 pub loop-is_second-preserved : goal.loop-is_second-preserved
 loop-is_second-preserved g c =
