@@ -16,7 +16,7 @@ fn text_of(value: &IVec) -> &str {
     str::from_utf8(value.as_ref()).unwrap_or("no text")
 }
 
-// An outcome in words. A value is its own text, and so is why a call is refused.
+// An outcome in a word. A value is its own text, and so is why a call is refused.
 fn told(outcome: &Outcome) -> &str {
     match outcome {
         Outcome::Begun(_) => "begun",
@@ -25,8 +25,7 @@ fn told(outcome: &Outcome) -> &str {
         Outcome::Decided(Reply::Value(None)) => "none",
         Outcome::Refused(Error::Unsupported(why) | Error::ReportableBug(why)) => why,
         Outcome::Refused(Error::CollectionNotFound(name)) => text_of(name),
-        Outcome::Abandoned => "given up",
-        Outcome::NoSuchSlot => "no slot",
+        Outcome::NoSuchSlot => "absent",
         _ => "other",
     }
 }

@@ -1,12 +1,13 @@
 //! Calls of a database and of a machine, and the examples.
 use super::{bytes, told};
 use examples::{
-    fly, get, insert_then_get, insert_then_get_in_new, new_machine, race, reopen, reopen_then_get, survive,
+    fly, get, insert_then_get, insert_then_get_in_new, new_machine, race, reopen, reopen_then_get,
+    survive,
 };
 use sled::{DEFAULT_TREE, Db, empty_pages};
 use sled_machine::Machine;
 use sled_model::{Call, Outcome, Slot, Step, Tree, Whole};
-use sled_pages::{Error, IVec, Pages, texts};
+use sled_pages::{Error, Pages, Result as Told, texts};
 use sled_tree::{Flight, Went};
 use std::alloc::Global;
 use std::process::Abort;
@@ -16,30 +17,33 @@ fn insert(alloc: Global, value: &str) -> Result<Call, Fail> {
     Ok(Call::Insert(bytes(alloc, "a")?, bytes(alloc, value)?))
 }
 
-fn tree(alloc: Global, database: &str, name: &str, number: u64) -> Result<Tree, Fail> {
-    Ok(Tree { database: bytes(alloc, database)?, name: bytes(alloc, name)?, number })
+fn outcome_of(answer: Told<Slot>) -> Outcome {
+    answer.map_or_else(Outcome::Refused, Outcome::Begun)
 }
 
 #[test]
 fn trees_that_are_not_the_databases_own_are_refused(rt: HostRuntime) -> Result<(), Fail> {
     let mut machine = new_machine(rt.alloc(), b"db")?;
-    for (database, name, number, wanted) in [
+    for (first, second, number, wanted) in [
         ("db", DEFAULT_TREE, 7, DEFAULT_TREE),
         ("db", "none", 1, "none"),
         ("other", DEFAULT_TREE, 1, texts::HANDLE_OF_ANOTHER_DATABASE),
         ("other", "none", 1, texts::HANDLE_OF_ANOTHER_DATABASE),
         ("db", DEFAULT_TREE, 1, "begun"),
     ] {
-        let tree = tree(rt.alloc(), database, name, number)?;
-        let checked = match machine.db().check(&tree) {
-            Ok(()) => Outcome::Begun(Slot(1)),
-            Err(e) => Outcome::Refused(e),
+        let (database, name) = (bytes(rt.alloc(), first)?, bytes(rt.alloc(), second)?);
+        let tree = Tree {
+            database,
+            name,
+            number,
         };
-        let begun = match machine.begin(&tree, insert(rt.alloc(), "1")?) {
-            Ok(slot) => Outcome::Begun(slot),
-            Err(e) => Outcome::Refused(e),
-        };
-        assert_eq!(rt; (told(&checked), told(&begun)), (wanted, wanted), "{name}");
+        let checked = outcome_of(machine.db().check(&tree).map(|()| Slot(1)));
+        let begun = outcome_of(machine.begin(&tree, insert(rt.alloc(), "1")?));
+        assert_eq!(rt;
+            (told(&checked), told(&begun)),
+            (wanted, wanted),
+            "{second}"
+        );
     }
     Ok(())
 }
@@ -56,8 +60,10 @@ fn a_call_of_a_million_turns_is_refused(rt: HostRuntime) -> Result<(), Fail> {
         let other = machine.begin(&tree, insert(rt.alloc(), value)?)?;
         machine.finish(other);
         let missed = machine.step(slot);
+        if round % 1000 == 0 {
+            machine.whole(Whole::Flush);
+        }
         assert_eq!(rt; (told(&read), told(&missed)), ("moved", "moved"), "{round}");
-        machine.whole(Whole::Flush);
     }
     assert_eq!(rt; machine.turns(slot), Some(1_000_000));
     assert_eq!(rt; told(&machine.step(slot)), texts::WALK_PASSED_TURNS);
@@ -77,31 +83,34 @@ fn a_call_flies_without_a_machine(rt: HostRuntime) -> Result<(), Fail> {
     Ok(())
 }
 
-// A letter for what is done, and the slot or the value; and how each comes out.
-const STEPS: [&[u8; 2]; 18] = [b"i1", b"i2", b"s1", b"s2", b"s2", b"s1", b"f0", b"s1", b"s1", b"s1", b"g0", b"g0", b"a3", b"a3", b"s3", b"s5", b"s4", b"s4"];
-const OUTCOMES: [&str; 18] = ["begun", "begun", "moved", "moved", "none", "moved", "other", "moved", "2", "no slot", "begun", "begun", "given up", "no slot", "no slot", "no slot", "1", "no slot"];
+// What is done: two inserts begin, slots go on or are given up, all is flushed, and gets begin. And how each of these comes out.
+const STEPS: &str = "1 2 s1 s2 s2 s1 f s1 s1 s1 g g a3 a3 s3 s5 s4 s4";
+
+const OUTCOMES: &str = "begun begun moved moved none moved other moved 2 absent \
+    begun begun other absent absent absent 1 absent ";
 
 fn steps(alloc: Global, tree: &Tree) -> Result<Vec<Step>, Fail> {
     let mut list = Vec::new(alloc);
-    for [letter, digit] in STEPS {
-        let slot = Slot(digit.wrapping_sub(b'0') as u64);
-        let key = bytes(alloc, "a")?;
-        list.push(match letter {
-            b'i' => Step::Begin(tree.clone()?, Call::Insert(key, IVec::from_slice(alloc, &[*digit])?)),
-            b'g' => Step::Begin(tree.clone()?, Call::Get(key)),
-            b's' => Step::Step(slot),
-            b'a' => Step::Abandon(slot),
-            _ => Step::Whole(Whole::Flush),
+    for word in STEPS.split(' ') {
+        list.push(match word.as_bytes() {
+            [b's', digit] => Step::Step(Slot(digit.wrapping_sub(b'0') as u64)),
+            [b'a', digit] => Step::Abandon(Slot(digit.wrapping_sub(b'0') as u64)),
+            b"g" => Step::Begin(tree.clone()?, Call::Get(bytes(alloc, "a")?)),
+            b"f" => Step::Whole(Whole::Flush),
+            _ => Step::Begin(tree.clone()?, insert(alloc, word)?),
         })?;
     }
     Ok(list)
 }
 
-fn come_out(rt: &impl Abort, outcomes: &[Outcome]) {
-    assert_eq!(rt; outcomes.len(), OUTCOMES.len());
-    for i in 0..OUTCOMES.len() {
-        assert_eq!(rt; told(&outcomes[i]), OUTCOMES[i], "{i}");
+fn come_out(rt: &impl Abort, alloc: Global, outcomes: &[Outcome]) -> Result<(), Fail> {
+    let mut text = String::new(alloc);
+    for outcome in outcomes {
+        text.push_str(told(outcome))?;
+        text.push(' ')?;
     }
+    assert_eq!(rt; text.as_str(), OUTCOMES);
+    Ok(())
 }
 
 // A crash keeps what was flushed, and of the rest as many actions as it is told.
@@ -109,15 +118,16 @@ fn come_out(rt: &impl Abort, outcomes: &[Outcome]) {
 fn a_list_of_steps_comes_out_as_listed_and_survives(rt: HostRuntime) -> Result<(), Fail> {
     let mut machine = new_machine(rt.alloc(), b"db")?;
     let list = steps(rt.alloc(), &machine.db().default_tree()?)?;
-    come_out(&rt, machine.run(list.as_slice())?.as_slice());
+    come_out(&rt, rt.alloc(), machine.run(list.as_slice())?.as_slice())?;
     for (keep, wanted) in [(0, "2"), (1, "1"), (9, "1")] {
         let pages = empty_pages(rt.alloc());
         let (outcomes, pages) = survive(rt.alloc(), pages, b"db", list.as_slice(), keep)?;
-        come_out(&rt, outcomes.as_slice());
+        come_out(&rt, rt.alloc(), outcomes.as_slice())?;
         let Ok(db) = Db::open(rt.alloc(), pages, b"db") else {
             return Err(Fail::from(Error::NoMemory));
         };
-        let read = reopen_then_get(rt.alloc(), Machine::new(db), b"db", &bytes(rt.alloc(), "a")?)?;
+        let key = bytes(rt.alloc(), "a")?;
+        let read = reopen_then_get(rt.alloc(), Machine::new(db), b"db", &key)?;
         assert_eq!(rt; told(&read), wanted, "{keep}");
     }
     Ok(())
@@ -127,25 +137,24 @@ fn a_list_of_steps_comes_out_as_listed_and_survives(rt: HostRuntime) -> Result<(
 fn whoever_is_decided_last_wins_in_each_order(rt: HostRuntime) -> Result<(), Fail> {
     let mut machine = new_machine(rt.alloc(), b"db")?;
     let tree = machine.db().default_tree()?;
-    let (key, one, two) = (bytes(rt.alloc(), "a")?, bytes(rt.alloc(), "1")?, bytes(rt.alloc(), "2")?);
+    let key = bytes(rt.alloc(), "a")?;
+    let (one, two) = (bytes(rt.alloc(), "1")?, bytes(rt.alloc(), "2")?);
     let mut wins = 0u32;
     for number in 0..64u32 {
         let order = [1, 2, 4, 8, 16, 32].map(|digit| number & digit != 0);
-        let last = race(&mut machine, &tree, &key, &one, &two, &order)?;
-        let wanted = match last {
-            Some(true) => "2",
-            Some(false) => "1",
-            None => "none was decided",
+        let Some(is_second) = race(&mut machine, &tree, &key, &one, &two, &order)? else {
+            return Err(Fail::from(Error::Closed));
         };
+        let wanted = if is_second { "2" } else { "1" };
         assert_eq!(rt; told(&get(&mut machine, &tree, &key)?), wanted, "{number}");
-        wins = wins.wrapping_add((last == Some(true)) as u32);
+        wins = wins.wrapping_add(is_second as u32);
     }
     assert!(rt; wins > 0 && wins < 64);
     Ok(())
 }
 
 #[test]
-fn what_was_inserted_is_read_in_a_new_database_and_after_a_reopen(rt: HostRuntime) -> Result<(), Fail> {
+fn what_was_inserted_is_read_in_new_databases(rt: HostRuntime) -> Result<(), Fail> {
     let (key, value) = (bytes(rt.alloc(), "a")?, bytes(rt.alloc(), "1")?);
     let read = insert_then_get_in_new(rt.alloc(), b"db", &key, &value)?;
     assert_eq!(rt; read.as_ref().map(told), Some("1"));

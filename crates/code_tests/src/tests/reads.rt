@@ -29,45 +29,59 @@ impl<'a> Pages for Counting<'a> {
         self.reads.fetch_add(1, Ordering::Relaxed);
         self.inner.read(alloc, pid)
     }
+
     fn allocate(&mut self, node: Node) -> Told<(Pid, Version)> {
         self.inner.allocate(node)
     }
+
     fn link(&mut self, pid: Pid, version: Version, link: Link) -> Changed<Version, Version> {
         self.inner.link(pid, version, link)
     }
+
     fn replace(&mut self, pid: Pid, version: Version, node: Node) -> Changed<Version, Version> {
         self.inner.replace(pid, version, node)
     }
+
     fn free(&mut self, pid: Pid, version: Version) -> Changed<(), Version> {
         self.inner.free(pid, version)
     }
+
     fn root(&self, name: &[u8]) -> Option<Pid> {
         self.inner.root(name)
     }
+
     fn roots(&self, alloc: Global) -> Told<Vec<(IVec, Pid)>> {
         self.inner.roots(alloc)
     }
+
     fn cas_root(&mut self, name: &[u8], old: Option<Pid>, new: Option<Pid>) -> Changed<(), Pid> {
         self.inner.cas_root(name, old, new)
     }
+
     fn begin_group(&mut self) -> Told<()> {
         self.inner.begin_group()
     }
+
     fn seal_group(&mut self) -> Told<()> {
         self.inner.seal_group()
     }
+
     fn in_group(&self) -> bool {
         self.inner.in_group()
     }
+
     fn flush(&mut self) -> Told<usize> {
         self.inner.flush()
     }
+
     fn set_aside(&mut self, upto: u64) -> Told<()> {
         self.inner.set_aside(upto)
     }
+
     fn mark(&self) -> u64 {
         self.inner.mark()
     }
+
     fn was_recovered(&self) -> bool {
         self.inner.was_recovered()
     }
@@ -109,14 +123,17 @@ fn reads_of<M: MergeOperator>(
     };
     let slot = machine.begin(tree, call)?;
     reads.store(0, Ordering::Relaxed);
-    let found = matches!(machine.finish(slot), Outcome::Decided(Reply::Value(Some(value))) if value == key);
+    let found =
+        matches!(machine.finish(slot), Outcome::Decided(Reply::Value(Some(value))) if value == key);
     assert_eq!(rt; found, is_there);
     Ok(reads.load(Ordering::Relaxed))
 }
 
 // How many keys there are, how many of them are looked for, and what the numbers of the keys begin with.
 const KEYS: u64 = 100_000;
+
 const SOUGHT: u64 = 2_000;
+
 const SEED: u64 = 88172645463325252;
 
 // The next number of a sequence that looks random.
