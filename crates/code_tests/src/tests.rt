@@ -1,6 +1,7 @@
 //! What the tests share.
 mod calls;
 mod reads;
+mod streams;
 mod types;
 
 use sled_model::{Outcome, Reply};

@@ -1,14 +1,7 @@
 //! Runs commands on a database over pages in memory: reads them line by line, and prints how each came out.
 #![tactic(auto)]
 
-mod command;
-mod print;
-mod serve;
-mod session;
-#[cfg(test)]
-mod tests;
-mod words;
-
+use sled_lines::serve::serve;
 use std::io::{BufReader, BufWriter};
 use std::process::ExitCode;
 
@@ -20,5 +13,5 @@ fn main(rt: HostRuntime) -> ExitCode {
     ) else {
         return ExitCode::from(2);
     };
-    ExitCode::from(serve::serve(alloc, &mut input, &mut output))
+    ExitCode::from(serve(alloc, &mut input, &mut output))
 }

@@ -1,0 +1,5 @@
+mod Spelling
+mod Numbers
+mod Lines
+mod Shortest
+mod Reading

@@ -1,0 +1,38 @@
+-- Laws of the words of a line.
+use Rattle.std.proofs.Common.{◌≡◌, ℕ, ◌+◌, ◌<◌, ◌≤◌, ◌==◌, false, List, [], ◌∷◌, ◌++◌, length, take, drop, get_or, All, None, refl, ap, ◌∙◌, sym, arith, add-one, take-append-drop}
+use Rattle.std.proofs.Math.Seq.{drop-cons}
+use Rattle.std.proofs.lemmas.List.Splits.{slice_split_at, slice_split_none, length-slice_split}
+use Rattle.std.proofs.lemmas.List.{take_all}
+use Rattle.std.proofs.lemmas.Bool.{eq-eqb}
+use Rattle.sled_lines.specs.declared.command.Command.{Command}
+use Rattle.sled_lines.specs.Command.{alone, one_of}
+use Rattle.sled_lines.specs.Words.{words_of}
+
+-- the first space ends the first word
+pub words_of-space : (line : List ℕ) (at : ℕ) → at < length line → get_or line at 0 ≡ 32 → All (λ b. (b == 32) ≡ false) (take at line) → words_of line ≡ take at line ∷ words_of (drop (at + 1) line)
+words_of-space line at inside space before =
+    let rest : drop at line ≡ get_or line at 0 ∷ drop (at + 1) line = rw (add-one, drop-cons line at 0 inside) refl in
+    let whole : take at line ++ (get_or line at 0 ∷ drop (at + 1) line) ≡ line = rw (← rest) (take-append-drop at line) in
+    sym (ap words_of whole) ∙ slice_split_at (λ b. b == 32) (take at line) (get_or line at 0) (drop (at + 1) line) before (eq-eqb _ _ space)
+
+not_alone : (command : Command) (words : List (List ℕ)) → 0 < length words → alone command words ≡ None
+not_alone command [] some = absurd (omega arith)
+not_alone command (word ∷ words) some = refl
+
+-- a line has a word, if only an empty one
+pub alone-words_of : (command : Command) (line : List ℕ) → alone command (words_of line) ≡ None
+alone-words_of command line = not_alone command (words_of line) (omega (arith, length-slice_split (λ b. b == 32) line))
+
+-- with no space the line is one word
+pub words_of-one : (line : List ℕ) (at : ℕ) → length line ≤ at → All (λ b. (b == 32) ≡ false) (take at line) → words_of line ≡ line ∷ []
+words_of-one line at past before =
+    let all : take at line ≡ line = take_all at line past in
+    slice_split_none (λ b. b == 32) line (rw all at before)
+
+one_of-more_by : (word : List ℕ) (words : List (List ℕ)) → 0 < length words → one_of (word ∷ words) ≡ None
+one_of-more_by word [] some = absurd (omega arith)
+one_of-more_by word (next ∷ words) some = refl
+
+-- a word and a line are more than one word
+pub one_of-more : (word line : List ℕ) → one_of (word ∷ words_of line) ≡ None
+one_of-more word line = one_of-more_by word (words_of line) (omega (arith, length-slice_split (λ b. b == 32) line))

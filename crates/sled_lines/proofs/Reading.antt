@@ -1,0 +1,152 @@
+-- How a text is read line by line.
+use Rattle.std.proofs.Common.{◌≡◌, ℕ, suc, ◌+◌, ◌-◌, ◌<◌, ◌==◌, ◌&&◌, Bool, true, false, List, [], ◌∷◌, ◌++◌, length, get_or, take, nat_lt, Option, Some, None, IfSome, IsSome, is_some, refl, sym, subst, ap, ◌∙◌, arith, if◌then◌else◌}
+use Rattle.std.proofs.lemmas.Bool.{cond-true, cond-false, eqb-true, lt-ltb}
+use Rattle.std.specs.Io.BufRead.{take_through, drop_through, ends_with_byte, strip_last, first_piece, DropsThrough}
+use Rattle.std.specs.List.{slice_split, onto_first}
+use Rattle.std.proofs.lemmas.List.Splits.{slice_split-cons_yes, slice_split-cons_no, length-slice_split}
+use Rattle.std.specs.Str.{bytes_eq}
+use Rattle.sled_lines.specs.declared.command.Command.{Command}
+use Rattle.sled_lines.specs.Command.{command_of}
+use Rattle.sled_lines.specs.Serve.{without_last, lines_of, first_bad, bad_left}
+
+nil_not_cons : {X : Type 0} {x : X} {xs : List X} → [] ≡ x ∷ xs → ⊥
+nil_not_cons e = cc
+
+not_both : true ≡ false → ⊥
+not_both e = cc
+
+-- a line ends by its last byte alone
+ends-cons : (x y : ℕ) (ys : List ℕ) → ends_with_byte 10 (x ∷ y ∷ ys) ≡ ends_with_byte 10 (y ∷ ys)
+ends-cons x y ys =
+    let long : length (x ∷ y ∷ ys) - 1 ≡ suc (length ys) = omega arith in
+    let short : length (y ∷ ys) - 1 ≡ length ys = omega arith in
+    let some_long : nat_lt 0 (length (x ∷ y ∷ ys)) ≡ true = lt-ltb 0 (length (x ∷ y ∷ ys)) (omega arith) in
+    let some_short : nat_lt 0 (length (y ∷ ys)) ≡ true = lt-ltb 0 (length (y ∷ ys)) (omega arith) in
+    ap (λ m. nat_lt 0 (length (x ∷ y ∷ ys)) && (get_or (x ∷ y ∷ ys) m 0 == 10)) long
+    ∙ (ap (λ b. b && (get_or (y ∷ ys) (length ys) 0 == 10)) (some_long ∙ sym some_short)
+    ∙ sym (ap (λ m. nat_lt 0 (length (y ∷ ys)) && (get_or (y ∷ ys) m 0 == 10)) short))
+
+strip_by : (x y : ℕ) (ys : List ℕ) (ends : Bool) → ends_with_byte 10 (y ∷ ys) ≡ ends → strip_last 10 (x ∷ y ∷ ys) ≡ x ∷ strip_last 10 (y ∷ ys)
+strip_by x y ys true e =
+    let long : length (x ∷ y ∷ ys) - 1 ≡ suc (length ys) = omega arith in
+    let short : length (y ∷ ys) - 1 ≡ length ys = omega arith in
+    cond-true _ _ _ (ends-cons x y ys ∙ e) ∙ (ap (λ m. take m (x ∷ y ∷ ys)) long ∙ (ap (λ m. x ∷ take m (y ∷ ys)) (sym short) ∙ ap (λ l. x ∷ l) (sym (cond-true _ _ _ e))))
+strip_by x y ys false e = cond-false _ _ _ (ends-cons x y ys ∙ e) ∙ ap (λ l. x ∷ l) (sym (cond-false _ _ _ e))
+
+strip_last-cons : (x y : ℕ) (ys : List ℕ) → strip_last 10 (x ∷ y ∷ ys) ≡ x ∷ strip_last 10 (y ∷ ys)
+strip_last-cons x y ys = strip_by x y ys (ends_with_byte 10 (y ∷ ys)) refl
+
+one_part : (x : ℕ) (p l : List ℕ) (ls : List (List ℕ)) (nothing : Bool) → bytes_eq p [] ≡ nothing → without_last (p ∷ []) ≡ l ∷ ls → without_last (onto_first x (p ∷ [])) ≡ (x ∷ l) ∷ ls
+one_part x p l ls true is e = absurd (nil_not_cons (sym (cond-true _ _ _ is) ∙ e))
+one_part x p l ls false is e = ap (onto_first x) (sym (cond-false _ _ _ is) ∙ e)
+
+-- a byte in front of the first line
+lines_onto : (x : ℕ) (parts : List (List ℕ)) (l : List ℕ) (ls : List (List ℕ)) → without_last parts ≡ l ∷ ls → without_last (onto_first x parts) ≡ (x ∷ l) ∷ ls
+lines_onto x [] l ls e = absurd (nil_not_cons e)
+lines_onto x (p ∷ []) l ls e = one_part x p l ls (bytes_eq p []) refl e
+lines_onto x (p ∷ q ∷ parts) l ls e = ap (onto_first x) e
+
+empty_first : (parts : List (List ℕ)) → 0 < length parts → without_last ([] ∷ parts) ≡ [] ∷ without_last parts
+empty_first [] some = absurd (omega arith)
+empty_first (p ∷ parts) some = refl
+
+-- what a line has in front of its end
+piece_onto : (x y : ℕ) (ys : List ℕ) (is : Bool) → (y == 10) ≡ is → strip_last 10 (x ∷ take_through 10 (y ∷ ys)) ≡ x ∷ strip_last 10 (take_through 10 (y ∷ ys))
+piece_onto x y ys true is =
+    let through : take_through 10 (y ∷ ys) ≡ y ∷ [] = cond-true _ _ _ is in
+    rw through (strip_last-cons x y [])
+piece_onto x y ys false is =
+    let through : take_through 10 (y ∷ ys) ≡ y ∷ take_through 10 ys = cond-false _ _ _ is in
+    rw through (strip_last-cons x y (take_through 10 ys))
+
+next_end : (x : ℕ) (xs : List ℕ) → (x == 10) ≡ true → lines_of (x ∷ xs) ≡ first_piece 10 (x ∷ xs) ∷ lines_of (drop_through 10 (x ∷ xs))
+next_end x xs is =
+    let through : take_through 10 (x ∷ xs) ≡ x ∷ [] = cond-true _ _ _ is in
+    let after : drop_through 10 (x ∷ xs) ≡ xs = cond-true _ _ _ is in
+    let piece : strip_last 10 (x ∷ []) ≡ [] = ap (λ b. strip_last 10 (b ∷ [])) (eqb-true x 10 is) in
+    ap without_last (slice_split-cons_yes (λ b. b == 10) x xs is)
+    ∙ (empty_first (slice_split (λ b. b == 10) xs) (omega (arith, length-slice_split (λ b. b == 10) xs))
+    ∙ (ap (λ l. l ∷ lines_of xs) (sym piece ∙ ap (strip_last 10) (sym through)) ∙ ap (λ t. first_piece 10 (x ∷ xs) ∷ lines_of t) (sym after)))
+
+next_last : (x : ℕ) → (x == 10) ≡ false → lines_of (x ∷ []) ≡ first_piece 10 (x ∷ []) ∷ lines_of (drop_through 10 (x ∷ []))
+next_last x is =
+    let through : take_through 10 (x ∷ []) ≡ x ∷ [] = cond-false _ _ _ is in
+    let after : drop_through 10 (x ∷ []) ≡ [] = cond-false _ _ _ is in
+    let stays : strip_last 10 (x ∷ []) ≡ x ∷ [] = cond-false _ _ _ is in
+    ap without_last (slice_split-cons_no (λ b. b == 10) x [] is)
+    ∙ (ap (λ l. l ∷ []) (sym stays ∙ ap (strip_last 10) (sym through)) ∙ ap (λ t. first_piece 10 (x ∷ []) ∷ lines_of t) (sym after))
+
+next_more : (x y : ℕ) (ys : List ℕ) → (x == 10) ≡ false → lines_of (y ∷ ys) ≡ first_piece 10 (y ∷ ys) ∷ lines_of (drop_through 10 (y ∷ ys)) → lines_of (x ∷ y ∷ ys) ≡ first_piece 10 (x ∷ y ∷ ys) ∷ lines_of (drop_through 10 (x ∷ y ∷ ys))
+next_more x y ys is before =
+    let through : take_through 10 (x ∷ y ∷ ys) ≡ x ∷ take_through 10 (y ∷ ys) = cond-false _ _ _ is in
+    let after : drop_through 10 (x ∷ y ∷ ys) ≡ drop_through 10 (y ∷ ys) = cond-false _ _ _ is in
+    ap without_last (slice_split-cons_no (λ b. b == 10) x (y ∷ ys) is)
+    ∙ (lines_onto x (slice_split (λ b. b == 10) (y ∷ ys)) (first_piece 10 (y ∷ ys)) (lines_of (drop_through 10 (y ∷ ys))) before
+    ∙ (ap (λ l. l ∷ lines_of (drop_through 10 (y ∷ ys))) (sym (piece_onto x y ys (y == 10) refl) ∙ ap (strip_last 10) (sym through))
+    ∙ ap (λ t. first_piece 10 (x ∷ y ∷ ys) ∷ lines_of t) (sym after)))
+
+next_by : (x : ℕ) (xs : List ℕ) (is : Bool) → (x == 10) ≡ is → ((y : ℕ) (ys : List ℕ) → xs ≡ y ∷ ys → lines_of (y ∷ ys) ≡ first_piece 10 (y ∷ ys) ∷ lines_of (drop_through 10 (y ∷ ys))) → lines_of (x ∷ xs) ≡ first_piece 10 (x ∷ xs) ∷ lines_of (drop_through 10 (x ∷ xs))
+next_by x xs true is before = next_end x xs is
+next_by x [] false is before = next_last x is
+next_by x (y ∷ ys) false is before = next_more x y ys is (before y ys refl)
+
+-- a text begins with its first line
+pub lines_of-cons : (x : ℕ) (xs : List ℕ) → lines_of (x ∷ xs) ≡ first_piece 10 (x ∷ xs) ∷ lines_of (drop_through 10 (x ∷ xs))
+lines_of-cons x [] = next_by x [] (x == 10) refl (λ y ys e. absurd (nil_not_cons e))
+lines_of-cons x (y ∷ ys) = next_by x (y ∷ ys) (x == 10) refl (λ z zs e. subst (λ t. lines_of t ≡ first_piece 10 t ∷ lines_of (drop_through 10 t)) e (lines_of-cons y ys))
+
+-- ---- a line that was read
+
+bad_by : (n : ℕ) (line : List ℕ) (lines : List (List ℕ)) (c : Option Command) → command_of line ≡ c → first_bad n (line ∷ lines) ≡ (if is_some c then first_bad (n + 1) lines else Some n)
+bad_by n line lines c e = ap (λ o. if is_some o then first_bad (n + 1) lines else Some n) e
+
+-- what was read is the text's beginning
+through_from : (left : Option (List ℕ)) (front line : List ℕ) → front ≡ [] → IfSome left (λ text. line ≡ front ++ take_through 10 text) → IfSome left (λ text. line ≡ take_through 10 text)
+through_from None front line none is = tt
+through_from (Some text) front line none is = is ∙ ap (λ f. f ++ take_through 10 text) none
+
+bad_at : (n : ℕ) (left : Option (List ℕ)) (line : List ℕ) → IfSome left (λ text. line ≡ take_through 10 text) → 0 < length line → command_of (strip_last 10 line) ≡ None → IfSome (bad_left n left) (λ bad. bad ≡ Some (n + 1))
+bad_at n None line is some odd = tt
+bad_at n (Some []) line is some odd = absurd (omega (arith, ap length is))
+bad_at n (Some (x ∷ xs)) line is some odd =
+    ap (first_bad (n + 1)) (lines_of-cons x xs) ∙ bad_by (n + 1) (first_piece 10 (x ∷ xs)) (lines_of (drop_through 10 (x ∷ xs))) None (ap (λ l. command_of (strip_last 10 l)) (sym is) ∙ odd)
+
+good_at : (n : ℕ) (left after : Option (List ℕ)) (line : List ℕ) (c : Command) → IfSome left (λ text. line ≡ take_through 10 text) → 0 < length line → DropsThrough left after 10 → command_of (strip_last 10 line) ≡ Some c → IfSome (bad_left n left) (λ bad. bad_left (n + 1) after ≡ Some bad)
+good_at n None after line c is some rest reads = tt
+good_at n (Some []) after line c is some rest reads = absurd (omega (arith, ap length is))
+good_at n (Some (x ∷ xs)) after line c is some rest reads =
+    ap (bad_left (n + 1)) rest
+    ∙ ap Some (sym (ap (first_bad (n + 1)) (lines_of-cons x xs) ∙ bad_by (n + 1) (first_piece 10 (x ∷ xs)) (lines_of (drop_through 10 (x ∷ xs))) (Some c) (ap (λ l. command_of (strip_last 10 l)) (sym is) ∙ reads)))
+
+-- the line as it was read, its bytes as they were parsed, and its number
+pub reads_bad : (n m : ℕ) (left : Option (List ℕ)) (front line slice text : List ℕ) → m ≡ n + 1 → front ≡ [] → IfSome left (λ t. line ≡ front ++ take_through 10 t) → 0 < length line
+    → slice ≡ line → text ≡ strip_last 10 slice → command_of text ≡ None → IfSome (bad_left n left) (λ bad. bad ≡ Some m)
+reads_bad n m left front line slice text next none is some same ends odd =
+    let read : command_of (strip_last 10 line) ≡ None = ap (λ l. command_of (strip_last 10 l)) (sym same) ∙ (ap command_of (sym ends) ∙ odd) in
+    subst (λ k. IfSome (bad_left n left) (λ bad. bad ≡ Some k)) (sym next) (bad_at n left line (through_from left front line none is) some read)
+
+pub reads_command : (n m : ℕ) (left after : Option (List ℕ)) (front line slice text : List ℕ) (c : Command) → m ≡ n + 1 → front ≡ [] → IfSome left (λ t. line ≡ front ++ take_through 10 t) → 0 < length line
+    → DropsThrough left after 10 → slice ≡ line → text ≡ strip_last 10 slice → command_of text ≡ Some c → IfSome (bad_left n left) (λ bad. bad_left m after ≡ Some bad)
+reads_command n m left after front line slice text c next none is some rest same ends reads =
+    let read : command_of (strip_last 10 line) ≡ Some c = ap (λ l. command_of (strip_last 10 l)) (sym same) ∙ (ap command_of (sym ends) ∙ reads) in
+    subst (λ k. IfSome (bad_left n left) (λ bad. bad_left k after ≡ Some bad)) (sym next) (good_at n left after line c (through_from left front line none is) some rest read)
+
+-- ---- over several lines
+
+pub bad_kept : (a b c : Option (Option ℕ)) → IfSome a (λ bad. b ≡ Some bad) → IfSome b (λ bad. c ≡ Some bad) → IfSome a (λ bad. c ≡ Some bad)
+bad_kept None b c first next = tt
+bad_kept (Some bad) b c first next = subst (λ x. IfSome x (λ bad. c ≡ Some bad)) first next
+
+pub bad_told : (a b : Option (Option ℕ)) (told : Option ℕ) → IfSome a (λ bad. b ≡ Some bad) → IfSome b (λ bad. bad ≡ told) → IfSome a (λ bad. bad ≡ told)
+bad_told None b told first next = tt
+bad_told (Some bad) b told first next = subst (λ x. IfSome x (λ bad. bad ≡ told)) first next
+
+pub bad_same : (a : Option (Option ℕ)) → IfSome a (λ bad. a ≡ Some bad)
+bad_same None = tt
+bad_same (Some bad) = refl
+
+pub bad_some : (a b : Option (Option ℕ)) (n : ℕ) → IfSome a (λ bad. b ≡ Some bad) → IfSome b (λ bad. bad ≡ Some n) → IfSome a (λ bad. IsSome bad)
+bad_some None b n first next = tt
+bad_some (Some bad) b n first next =
+    let told : bad ≡ Some n = subst (λ x. IfSome x (λ bad. bad ≡ Some n)) first next in
+    subst (λ x. IsSome x) (sym told) refl

@@ -1,0 +1,77 @@
+-- Lines: how outcomes are printed.
+use Rattle.std.specs.Prelude.{ℕ, List, [], ◌∷◌, ◌++◌, Ok, Err, codes, decimal}
+use Rattle.sled_pages.specs.Order.{Key}
+use Rattle.sled_pages.specs.declared.error.Error.{Error}
+use Rattle.sled_pages.specs.declared.error.Error.TheVariants.{CollectionNotFound, Unsupported, ReportableBug, Io, Corruption, NoMemory, FullQueue, Closed}
+use Rattle.sled_model.specs.declared.call.Call.{Call}
+use Rattle.sled_model.specs.declared.call.Call.TheVariants.{Get, Insert, Remove, CompareAndSwap}
+use Rattle.sled_model.specs.declared.reply.Reply.{Reply}
+use Rattle.sled_model.specs.declared.reply.Reply.TheVariants.{Value, Swapped, Number}
+use Rattle.sled_model.specs.declared.reply.CompareAndSwapError.{CompareAndSwapError}
+use Rattle.sled_model.specs.declared.outcome.Outcome.{Outcome}
+use Rattle.sled_model.specs.declared.outcome.Outcome.TheVariants.{Begun, Moved, Decided, Refused, Abandoned, NoSuchSlot}
+use Rattle.sled_lines.specs.Words.{printed, word_of}
+use Rattle.sled_lines.specs.declared.print.Shown.{Shown}
+use Rattle.sled_lines.specs.declared.print.Shown.TheVariants as shown
+
+-- each line ends so
+abbrev pub end : List ℕ
+end = 10 ∷ []
+
+-- a get shows the value that stands, an insert and a removal the one that stood; a swap replies no such value
+abbrev pub shown_of : Call → Shown
+shown_of (Get key) = shown.Value
+shown_of (Insert key value) = shown.Old
+shown_of (Remove key) = shown.Old
+shown_of (CompareAndSwap key old new) = shown.Value
+
+abbrev pub name_of : Shown → List ℕ
+name_of shown.Value = codes "value "
+name_of shown.Old = codes "old "
+
+-- a value that was not swapped: the one that stands, and the one that was to be set
+abbrev pub conflict_line : CompareAndSwapError → List ℕ
+conflict_line conflict = codes "conflict " ++ word_of conflict.current ++ codes " " ++ word_of conflict.proposed ++ end
+
+abbrev pub reply_line : Shown → Reply → List ℕ
+reply_line show (Value bytes) = name_of show ++ word_of bytes ++ end
+reply_line show (Swapped (Ok done)) = codes "swapped" ++ end
+reply_line show (Swapped (Err conflict)) = conflict_line conflict
+reply_line show (Number n) = codes "flushed " ++ decimal n ++ end
+
+-- errors are numbered in the order of their variants
+abbrev pub error_number : Error → ℕ
+error_number (CollectionNotFound name) = 1
+error_number (Unsupported text) = 2
+error_number (ReportableBug text) = 3
+error_number (Io fault) = 4
+error_number (Corruption fault) = 5
+error_number NoMemory = 6
+error_number FullQueue = 7
+error_number Closed = 8
+
+abbrev pub refused_line : Error → List ℕ
+refused_line e = codes "refused E" ++ decimal (error_number e) ++ end
+
+abbrev pub slot_line : ℕ → List ℕ
+slot_line n = codes "slot " ++ decimal n ++ end
+
+abbrev pub outcome_line : Shown → Outcome → List ℕ
+outcome_line show (Begun slot) = slot_line slot
+outcome_line show Moved = codes "moved" ++ end
+outcome_line show (Decided reply) = reply_line show reply
+outcome_line show (Refused e) = refused_line e
+outcome_line show Abandoned = codes "abandoned" ++ end
+outcome_line show NoSuchSlot = codes "no slot" ++ end
+
+abbrev pub pair_line : Key → Key → Key → List ℕ
+pair_line tree key value = codes "pair " ++ printed tree ++ codes " " ++ printed key ++ codes " " ++ printed value ++ end
+
+abbrev pub end_line : ℕ → List ℕ
+end_line n = codes "end " ++ decimal n ++ end
+
+abbrev pub recovered_line : List ℕ
+recovered_line = codes "recovered" ++ end
+
+abbrev pub bad_line : ℕ → List ℕ
+bad_line n = codes "bad line " ++ decimal n ++ end

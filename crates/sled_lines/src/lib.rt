@@ -1,0 +1,9 @@
+//! Lines that ask for calls on a database over pages in memory, and the lines that they print.
+#![tactic(auto)]
+
+pub mod command;
+pub mod input;
+pub mod print;
+pub mod serve;
+pub mod session;
+pub mod words;

@@ -1,0 +1,190 @@
+//! Lines: how outcomes are printed. Each function adds one line. It is refused with `NoMemory` alone, and a beginning of
+//! the line may stand there then.
+ghost use Rattle.std.specs.Prelude.{◌≡◌, ◌++◌, OnOk, IfErr, decimal};
+ghost use Rattle.std.specs.Option.{option_copied};
+ghost use Rattle.sled_pages.specs.declared.error.Error.TheVariants.{NoMemory};
+ghost use Rattle.sled_lines.specs.Words.{word_of};
+ghost use Rattle.sled_lines.specs.Print.{end, shown_of, name_of, conflict_line, reply_line, error_number, refused_line, slot_line, outcome_line, pair_line, end_line, recovered_line, bad_line};
+
+use crate::words::push_word;
+use sled_model::{Call, CompareAndSwapError, Outcome, Reply};
+use sled_pages::{Error, IVec, Result};
+use std::io::Write;
+
+/// What the value in a call's reply is.
+#[derive(Clone, Copy)]
+pub enum Shown {
+    /// The value that stands.
+    Value,
+    /// The value that stood.
+    Old,
+}
+
+impl Shown {
+    /// What the value in the reply to a call is.
+    pub fn of(call: &Call) -> Shown
+        ensures { result ≡ shown_of call.now }
+    {
+        match call {
+            Call::Get(_) | Call::CompareAndSwap(_, _, _) => Shown::Value,
+            Call::Insert(_, _) | Call::Remove(_) => Shown::Old,
+        }
+    }
+}
+
+/// Adds text.
+pub fn push_text(out: &mut Vec<u8>, text: &[u8]) -> Result<()>
+    ensures ok { OnOk result (out.new.items ≡ out.old.items ++ text.now) }
+    ensures err { IfErr result (λ e. e ≡ NoMemory) }
+{
+    out.extend_from_slice(text)?;
+    Ok(())
+}
+
+/// Adds a number in decimal.
+pub fn push_number(out: &mut Vec<u8>, number: u64) -> Result<()>
+    ensures ok { OnOk result (out.new.items ≡ out.old.items ++ decimal number) }
+    ensures err { IfErr result (λ e. e ≡ NoMemory) }
+{
+    match write!(out, "{number}") {
+        Ok(()) => Ok(()),
+        Err(_) => Err(Error::NoMemory),
+    }
+}
+
+/// Adds a line that is a name and a number.
+pub fn push_numbered(out: &mut Vec<u8>, name: &[u8], number: u64) -> Result<()>
+    ensures ok { OnOk result (out.new.items ≡ out.old.items ++ (name.now ++ decimal number ++ end)) }
+    ensures err { IfErr result (λ e. e ≡ NoMemory) }
+{
+    push_text(out, name)?;
+    push_number(out, number)?;
+    push_text(out, b"\n")
+}
+
+// Adds the word of a byte string, or `-` for none.
+fn push_value(out: &mut Vec<u8>, value: Option<&IVec>) -> Result<()>
+    ensures ok { OnOk result (out.new.items ≡ out.old.items ++ word_of (option_copied value.entry)) }
+    ensures err { IfErr result (λ e. e ≡ NoMemory) }
+{
+    match value {
+        Some(bytes) => push_word(out, bytes.as_ref()),
+        None => push_text(out, b"-"),
+    }
+}
+
+// Adds the line of a value that was not swapped.
+fn push_conflict(out: &mut Vec<u8>, conflict: &CompareAndSwapError) -> Result<()>
+    ensures ok { OnOk result (out.new.items ≡ out.old.items ++ conflict_line conflict.now) }
+    ensures err { IfErr result (λ e. e ≡ NoMemory) }
+{
+    push_text(out, b"conflict ")?;
+    push_value(out, conflict.current.as_ref())?;
+    push_text(out, b" ")?;
+    push_value(out, conflict.proposed.as_ref())?;
+    push_text(out, b"\n")
+}
+
+// Adds the line of a reply.
+fn push_reply(out: &mut Vec<u8>, shown: Shown, reply: &Reply) -> Result<()>
+    ensures ok { OnOk result (out.new.items ≡ out.old.items ++ reply_line shown reply.now) }
+    ensures err { IfErr result (λ e. e ≡ NoMemory) }
+{
+    match reply {
+        Reply::Value(value) => {
+            match shown {
+                Shown::Value => push_text(out, b"value ")?,
+                Shown::Old => push_text(out, b"old ")?,
+            }
+            push_value(out, value.as_ref())?;
+            push_text(out, b"\n")
+        }
+        Reply::Swapped(Ok(())) => push_text(out, b"swapped\n"),
+        Reply::Swapped(Err(conflict)) => push_conflict(out, conflict),
+        Reply::Number(number) => push_numbered(out, b"flushed ", *number),
+    }
+}
+
+fn error_number(error: &Error) -> u64
+    ensures { result ≡ error_number error.now }
+{
+    match error {
+        Error::CollectionNotFound(_) => 1,
+        Error::Unsupported(_) => 2,
+        Error::ReportableBug(_) => 3,
+        Error::Io(_) => 4,
+        Error::Corruption(_) => 5,
+        Error::NoMemory => 6,
+        Error::FullQueue => 7,
+        Error::Closed => 8,
+    }
+}
+
+/// Adds the line of a refusal.
+pub fn push_refused(out: &mut Vec<u8>, error: &Error) -> Result<()>
+    ensures ok { OnOk result (out.new.items ≡ out.old.items ++ refused_line error.now) }
+    ensures err { IfErr result (λ e. e ≡ NoMemory) }
+{
+    push_numbered(out, b"refused E", error_number(error))
+}
+
+/// Adds the line of the slot that a call took, by the program's own number for it.
+pub fn push_slot(out: &mut Vec<u8>, number: u64) -> Result<()>
+    ensures ok { OnOk result (out.new.items ≡ out.old.items ++ slot_line number) }
+    ensures err { IfErr result (λ e. e ≡ NoMemory) }
+{
+    push_numbered(out, b"slot ", number)
+}
+
+/// Adds the line of an outcome.
+pub fn push_outcome(out: &mut Vec<u8>, shown: Shown, outcome: &Outcome) -> Result<()>
+    ensures ok { OnOk result (out.new.items ≡ out.old.items ++ outcome_line shown outcome.now) }
+    ensures err { IfErr result (λ e. e ≡ NoMemory) }
+{
+    match outcome {
+        Outcome::Begun(slot) => push_slot(out, slot.0),
+        Outcome::Moved => push_text(out, b"moved\n"),
+        Outcome::Decided(reply) => push_reply(out, shown, reply),
+        Outcome::Refused(error) => push_refused(out, error),
+        Outcome::Abandoned => push_text(out, b"abandoned\n"),
+        Outcome::NoSuchSlot => push_text(out, b"no slot\n"),
+    }
+}
+
+/// Adds the line of a pair of the tree of this name.
+pub fn push_pair(out: &mut Vec<u8>, tree: &[u8], key: &[u8], value: &[u8]) -> Result<()>
+    ensures ok { OnOk result (out.new.items ≡ out.old.items ++ pair_line tree.now key.now value.now) }
+    ensures err { IfErr result (λ e. e ≡ NoMemory) }
+{
+    push_text(out, b"pair ")?;
+    push_word(out, tree)?;
+    push_text(out, b" ")?;
+    push_word(out, key)?;
+    push_text(out, b" ")?;
+    push_word(out, value)?;
+    push_text(out, b"\n")
+}
+
+/// Adds the line at the end of so many pairs.
+pub fn push_end(out: &mut Vec<u8>, pairs: u64) -> Result<()>
+    ensures ok { OnOk result (out.new.items ≡ out.old.items ++ end_line pairs) }
+    ensures err { IfErr result (λ e. e ≡ NoMemory) }
+{
+    push_numbered(out, b"end ", pairs)
+}
+
+/// Adds the line of a crash and what came after it.
+pub fn push_recovered(out: &mut Vec<u8>) -> Result<()>
+    ensures ok { OnOk result (out.new.items ≡ out.old.items ++ recovered_line) }
+    ensures err { IfErr result (λ e. e ≡ NoMemory) }
+{
+    push_text(out, b"recovered\n")
+}
+
+/// Adds the line that tells of the first line that could not be read, by its number from 1.
+pub fn push_bad_line(out: &mut Vec<u8>, number: u64) -> Result<()>
+    ensures ok { OnOk result (out.new.items ≡ out.old.items ++ bad_line number) }
+    ensures err { IfErr result (λ e. e ≡ NoMemory) }
+{
+    push_numbered(out, b"bad line ", number)
+}

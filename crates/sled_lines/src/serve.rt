@@ -1,0 +1,223 @@
+//! The program as a function: from the lines that it reads to those that it prints.
+ghost use Rattle.std.specs.Prelude.{◌≡◌, ◌≤◌, false, IfOk, IfSome};
+ghost use Rattle.sled_pages.specs.Store.{now};
+ghost use Rattle.sled_pages.specs.Memory.{store_of};
+ghost use Rattle.tree_laws.specs.Crashes.{IsWhole, IsCrashWhole};
+ghost use Rattle.sled_lines.specs.Serve.{Reads, Ends, Ran, IsStatus, bad_left};
+
+use crate::command::{Command, parse};
+use crate::input::{Stopped, read_line, without_end};
+use crate::print::{push_bad_line, push_recovered};
+use crate::session::{Session, write};
+use sled::{Db, crash_pages, empty_pages};
+use sled_pages::MemPages;
+use std::alloc::Global;
+use std::io::{BufRead, Write};
+
+// The name that the database is opened under.
+const DATABASE: &[u8] = b"sledrun";
+
+// How a session ends.
+#[derive(Clone, Copy)]
+enum End {
+    // There are no more lines.
+    NoLine,
+    // A line could not be read.
+    BadLine,
+    // A crash is to keep so many actions.
+    Crash(u64),
+}
+
+// What is read next.
+#[derive(Drop)]
+enum Line {
+    NoLine,
+    BadLine,
+    Crash(u64),
+    Command(Command),
+}
+
+// The line and what it prints, the number of the line, and how many bytes the reader holds behind it.
+#[derive(Drop)]
+struct Buffers {
+    line: Vec<u8>,
+    out: Vec<u8>,
+    number: u64,
+    left: usize,
+}
+
+// Reads the next line.
+fn next_line<R: BufRead, W: Write>(
+    alloc: Global,
+    input: &mut R,
+    output: &mut W,
+    buffers: &mut Buffers,
+) -> Result<Line, Stopped>
+    ensures { IfOk result (Reads (bad_left buffers.old.number (R.remaining input.old)) (bad_left buffers.new.number (R.remaining input.new)) buffers.new.number) }
+{
+    if read_line(input, output, &mut buffers.line, &mut buffers.left)? == 0 {
+        return Ok(Line::NoLine);
+    }
+    let Some(number) = buffers.number.checked_add(1) else {
+        return Err(Stopped);
+    };
+    buffers.number = number;
+    match parse(alloc, without_end(buffers.line.as_slice()))? {
+        Some(Command::Crash(keep)) => Ok(Line::Crash(keep)),
+        Some(command) => Ok(Line::Command(command)),
+        None => Ok(Line::BadLine),
+    }
+}
+
+// Prints which line could not be read.
+fn tell_bad<W: Write>(number: u64, output: &mut W, out: &mut Vec<u8>) -> Result<(), Stopped> {
+    push_bad_line(out, number)?;
+    write(output, out)
+}
+
+// Runs a command, and prints how it came out.
+fn answer<W: Write>(
+    session: &mut Session,
+    command: Command,
+    output: &mut W,
+    out: &mut Vec<u8>,
+) -> Result<(), Stopped> {
+    session.run(command, output, out)?;
+    write(output, out)
+}
+
+// Runs lines up to a crash or the last of them.
+fn lines<R: BufRead, W: Write>(
+    alloc: Global,
+    session: &mut Session,
+    input: &mut R,
+    output: &mut W,
+    buffers: &mut Buffers,
+) -> Result<End, Stopped>
+    ensures { IfOk result (Ends (bad_left buffers.old.number (R.remaining input.old)) (bad_left buffers.new.number (R.remaining input.new)) buffers.new.number) }
+{
+    for _ in 0..u64::MAX {
+        match next_line(alloc, input, output, buffers)? {
+            Line::NoLine => return Ok(End::NoLine),
+            Line::BadLine => {
+                tell_bad(buffers.number, output, &mut buffers.out)?;
+                return Ok(End::BadLine);
+            }
+            Line::Crash(keep) => return Ok(End::Crash(keep)),
+            Line::Command(command) => answer(session, command, output, &mut buffers.out)?,
+        }
+    }
+    Err(Stopped)
+}
+
+// Prints whether the pages of a session are what a crash left.
+fn tell_recovered<W: Write>(
+    session: &Session,
+    output: &mut W,
+    out: &mut Vec<u8>,
+) -> Result<(), Stopped> {
+    if session.db().was_recovered() {
+        push_recovered(out)?;
+    }
+    write(output, out)
+}
+
+// Opens the pages, tells if they are what a crash left, and runs lines up to a crash or the last of them: how that ended,
+// and the pages.
+fn live<R: BufRead, W: Write>(
+    alloc: Global,
+    pages: MemPages,
+    input: &mut R,
+    output: &mut W,
+    buffers: &mut Buffers,
+) -> Result<(End, MemPages), Stopped>
+    requires well { IsWhole (now (store_of pages)) }
+    requires calm { (now (store_of pages)).in_group ≡ false }
+    ensures whole { IfOk result (λ ended. IsCrashWhole (store_of ended.1)) }
+    ensures bad { IfOk result (λ ended. Ends (bad_left buffers.old.number (R.remaining input.old)) (bad_left buffers.new.number (R.remaining input.new)) buffers.new.number ended.0) }
+{
+    let db = match Db::open(alloc, pages, DATABASE) {
+        Ok(db) => db,
+        Err(refused) => {
+            drop(refused);
+            return Err(Stopped);
+        }
+    };
+    let mut session = match Session::over(alloc, db) {
+        Ok(session) => session,
+        Err(refused) => {
+            drop(refused);
+            return Err(Stopped);
+        }
+    };
+    if let Err(stopped) = tell_recovered(&session, output, &mut buffers.out) {
+        drop(session);
+        return Err(stopped);
+    }
+    match lines(alloc, &mut session, input, output, buffers) {
+        Ok(end) => Ok((end, session.into_db().into_pages())),
+        Err(stopped) => {
+            drop(session);
+            Err(stopped)
+        }
+    }
+}
+
+// Opens pages from crash to crash: whether every line could be read.
+fn run_from<R: BufRead, W: Write>(
+    alloc: Global,
+    input: &mut R,
+    output: &mut W,
+    buffers: &mut Buffers,
+) -> Result<bool, Stopped>
+    ensures { IfOk result (Ran (bad_left buffers.old.number (R.remaining input.old))) }
+{
+    let mut pages = empty_pages(alloc);
+    for _ in 0..u64::MAX {
+        let (end, left) = live(alloc, pages, input, output, buffers)?;
+        match end {
+            End::Crash(keep) => {
+                let keep = usize::try_from(keep).unwrap_or(usize::MAX);
+                pages = crash_pages(left, keep)?;
+            }
+            End::NoLine => {
+                drop(left);
+                return Ok(true);
+            }
+            End::BadLine => {
+                drop(left);
+                return Ok(false);
+            }
+        }
+    }
+    drop(pages);
+    Err(Stopped)
+}
+
+// Whether every line could be read.
+fn run<R: BufRead, W: Write>(alloc: Global, input: &mut R, output: &mut W) -> Result<bool, Stopped>
+    ensures { IfOk result (Ran (bad_left 0 (R.remaining input.old))) }
+{
+    let mut buffers = Buffers {
+        line: Vec::new(alloc),
+        out: Vec::new(alloc),
+        number: 0,
+        left: 0,
+    };
+    let read = run_from(alloc, input, output, &mut buffers)?;
+    output.flush()?;
+    Ok(read)
+}
+
+/// Runs the lines of the input, and prints what each of them came to. Answers the exit status: 0 at the end, 1 at the first
+/// line that cannot be read, after `bad line N`, and 2 where a read or a write failed or there was no memory.
+pub fn serve<R: BufRead, W: Write>(alloc: Global, input: &mut R, output: &mut W) -> u8
+    ensures status { result ≤ 2 }
+    ensures bad { IfSome (bad_left 0 (R.remaining input.old)) (λ bad. IsStatus bad result) }
+{
+    match run(alloc, input, output) {
+        Ok(true) => 0,
+        Ok(false) => 1,
+        Err(_) => 2,
+    }
+}

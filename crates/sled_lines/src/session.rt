@@ -1,0 +1,200 @@
+//! A session: a database over pages in memory from its opening to a crash or the end.
+ghost use Rattle.std.specs.Prelude.{◌≡◌, false, IfErr};
+ghost use Rattle.sled_pages.specs.Store.{now};
+ghost use Rattle.sled_pages.specs.Memory.{store_of};
+ghost use Rattle.tree_laws.specs.Crashes.{IsWhole, IsCrashWhole};
+
+use crate::command::Command;
+use crate::input::Stopped;
+use crate::print::{Shown, push_end, push_outcome, push_pair};
+use sled::{Collection, Db};
+use sled_machine::Machine;
+use sled_model::{Call, Outcome, Slot, Tree, Whole};
+use sled_pages::{Error, IVec, MemPages};
+use std::alloc::Global;
+use std::io::Write;
+
+// So many bytes of lines are gathered before they are written.
+const GATHERED: usize = 4096;
+
+// What is done with a call in flight.
+#[derive(Clone, Copy)]
+enum Act {
+    Step,
+    Finish,
+    Abandon,
+}
+
+/// A machine over pages in memory, the current tree, and the slots that the lines began.
+#[derive(Drop)]
+pub struct Session {
+    machine: Machine<MemPages>,
+    tree: Tree,
+    // The slot that each `begin` took, in order, and what the value in its reply is.
+    slots: Vec<(Slot, Shown)>,
+}
+
+impl Session {
+    /// A session over a database, whose default tree is current. Where that is refused it gives the pages back.
+    pub fn over(alloc: Global, db: Db<MemPages>) -> Result<Session, (MemPages, Error)>
+        ensures whole { IfErr result (λ e. IsCrashWhole (store_of e.0)) }
+        ensures well { IfErr result (λ e. IsWhole (now (store_of e.0))) }
+        ensures calm { IfErr result (λ e. (now (store_of e.0)).in_group ≡ false) }
+    {
+        match db.default_tree() {
+            Ok(tree) => Ok(Session {
+                machine: Machine::new(db),
+                tree,
+                slots: Vec::new(alloc),
+            }),
+            Err(e) => Err((db.into_pages(), e)),
+        }
+    }
+
+    /// The database.
+    pub fn db(&self) -> &Db<MemPages> {
+        self.machine.db()
+    }
+
+    /// The current tree.
+    pub fn tree(&self) -> &Tree {
+        &self.tree
+    }
+
+    /// The database. The calls in flight are given up.
+    pub fn into_db(self) -> Db<MemPages> {
+        let Session {
+            machine,
+            tree,
+            slots,
+        } = self;
+        drop(slots);
+        drop(tree);
+        machine.into_db()
+    }
+
+    /// How often the call of this number went on so far, if it is in flight.
+    pub fn turns(&self, number: u64) -> Option<u64> {
+        let (slot, _) = self.slot(number)?;
+        self.machine.turns(slot)
+    }
+
+    // The slot that the `begin` of this number took, and what the value in its reply is.
+    fn slot(&self, number: u64) -> Option<(Slot, Shown)> {
+        let place = usize::try_from(number.checked_sub(1)?).ok()?;
+        self.slots.get(place).copied()
+    }
+
+    // A call from its begin to its end.
+    fn point(&mut self, call: Call) -> (Shown, Outcome) {
+        let shown = Shown::of(&call);
+        let outcome = match self.machine.begin(&self.tree, call) {
+            Ok(slot) => self.machine.finish(slot),
+            Err(error) => Outcome::Refused(error),
+        };
+        (shown, outcome)
+    }
+
+    // A call takes a slot, which is printed by its number among those that lines began.
+    fn begin(&mut self, call: Call) -> Result<(Shown, Outcome), Stopped> {
+        let shown = Shown::of(&call);
+        if self.slots.reserve(1).is_err() {
+            drop(call);
+            return Err(Stopped);
+        }
+        let outcome = match self.machine.begin(&self.tree, call) {
+            Ok(slot) => {
+                self.slots.push((slot, shown))?;
+                Outcome::Begun(Slot(self.slots.len() as u64))
+            }
+            Err(error) => Outcome::Refused(error),
+        };
+        Ok((shown, outcome))
+    }
+
+    // Does something with the call in the slot of this number.
+    fn act(&mut self, number: u64, act: Act) -> (Shown, Outcome) {
+        let Some((slot, shown)) = self.slot(number) else {
+            return (Shown::Value, Outcome::NoSuchSlot);
+        };
+        let outcome = match act {
+            Act::Step => self.machine.step(slot),
+            Act::Finish => self.machine.finish(slot),
+            Act::Abandon => self.machine.abandon(slot),
+        };
+        (shown, outcome)
+    }
+
+    fn dump<W: Write>(&self, output: &mut W, out: &mut Vec<u8>) -> Result<(), Stopped> {
+        match self.machine.db().export() {
+            Ok(trees) => write_trees(output, out, trees.as_slice()),
+            Err(error) => show(out, Shown::Value, Outcome::Refused(error)),
+        }
+    }
+
+    /// Runs a command, and adds what it prints; of many lines the first ones are written already. A crash ends the session,
+    /// so it is not for this call, which passes it over.
+    pub fn run<W: Write>(
+        &mut self,
+        command: Command,
+        output: &mut W,
+        out: &mut Vec<u8>,
+    ) -> Result<(), Stopped> {
+        let (shown, outcome) = match command {
+            Command::Point(call) => self.point(call),
+            Command::Begin(call) => self.begin(call)?,
+            Command::Step(number) => self.act(number, Act::Step),
+            Command::Finish(number) => self.act(number, Act::Finish),
+            Command::Abandon(number) => self.act(number, Act::Abandon),
+            Command::Flush => (Shown::Value, self.machine.whole(Whole::Flush)),
+            Command::Crash(_) => return Ok(()),
+            Command::Dump => return self.dump(output, out),
+        };
+        show(out, shown, outcome)
+    }
+}
+
+// Adds the line of an outcome.
+fn show(out: &mut Vec<u8>, shown: Shown, outcome: Outcome) -> Result<(), Stopped> {
+    let pushed = push_outcome(out, shown, &outcome);
+    drop(outcome);
+    Ok(pushed?)
+}
+
+/// Writes the lines that were gathered.
+pub fn write<W: Write>(output: &mut W, out: &mut Vec<u8>) -> Result<(), Stopped> {
+    output.write_all(out.as_slice())?;
+    out.clear();
+    Ok(())
+}
+
+// Adds the lines of a tree's pairs.
+fn write_pairs<W: Write>(
+    output: &mut W,
+    out: &mut Vec<u8>,
+    tree: &[u8],
+    pairs: &[(IVec, IVec)],
+) -> Result<(), Stopped> {
+    for pair in pairs {
+        push_pair(out, tree, pair.0.as_ref(), pair.1.as_ref())?;
+        if out.len() >= GATHERED {
+            write(output, out)?;
+        }
+    }
+    Ok(())
+}
+
+// Adds the lines of all pairs.
+fn write_trees<W: Write>(
+    output: &mut W,
+    out: &mut Vec<u8>,
+    trees: &[Collection],
+) -> Result<(), Stopped> {
+    let mut count = 0u64;
+    for tree in trees {
+        write_pairs(output, out, tree.1.as_slice(), tree.2.as_slice())?;
+        count = count.saturating_add(tree.2.len() as u64);
+    }
+    push_end(out, count)?;
+    Ok(())
+}

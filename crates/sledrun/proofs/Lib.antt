@@ -1,6 +1,0 @@
-mod Spelling
-mod Numbers
-mod Lines
-mod Shortest
-mod Stores
-mod Reading

@@ -1,7 +1,0 @@
-use Rattle.std.proofs.Common.{◌≡◌, Some, IfSome}
-use Rattle.sledrun.specs.Serve.{bad_left}
-use Rattle.sledrun.proofs.serve.live.Given as goal
-
--- the first bad line is still to be read
-abbrev pub invariant-loop : goal.invariant-loop
-invariant-loop g l = IfSome (bad_left l.fn.buffers.number (g.R.Read.remaining l.fn.input)) (λ bad. bad_left l.buffers.number (g.R.Read.remaining l.input) ≡ Some bad)

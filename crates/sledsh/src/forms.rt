@@ -1,0 +1,311 @@
+//! The forms of the lines, what a line asks for, and why a line has none of them.
+
+use sled_lines::command::{self, parse};
+use sled_lines::print::push_text;
+use sled_lines::words::{first_word, read_number, read_value, read_word};
+use sled_pages::Result;
+use std::alloc::Global;
+
+/// The form of each command, and behind two spaces what it does. In a form K, V, OLD and NEW are byte strings, other words in
+/// capitals are numbers, and `..` stands for more of the word before it.
+pub const HELP: &str = "insert K V  sets the value at a key, and prints the one that stood there
+get K  prints the value at a key
+remove K  takes a key out, and prints the value that stood there
+cas K OLD NEW  sets the value at a key to NEW where it is OLD; - is no value
+begin insert K V  begins the same call in a slot, which is printed
+begin get K  begins a get in a slot
+begin remove K  begins a removal in a slot
+begin cas K OLD NEW  begins a swap in a slot
+step N  does one step of the call in a slot
+finish N  does the steps of the call in a slot to its end
+abandon N  gives the call in a slot up
+turns N  prints how often the call in a slot went on so far
+flush  makes all durable
+crash N  a crash that keeps N actions since the last flush, and an opening
+dump  prints all pairs
+new  an empty store, opened
+new refuse N ..  the same, where the store refuses its calls of these numbers
+reopen  opens the store again
+reopen refuse N ..  the same, where the store refuses its calls of these numbers
+reopen unreadable PID ..  the same, where these pages cannot be read
+reopen mark N  the same, where ids up to N are set aside
+recover  a crash that keeps all actions, and an opening
+recover refuse N ..  the same, where the store left refuses its calls of these numbers
+recovered  prints whether the store is what a crash left
+pages  prints how many pages each level of the tree has, and the most entries of one of them
+crowd SEED CALLS  runs CALLS calls, eight at once, beside a plain program, and compares
+help  prints these lines
+quit  ends
+";
+
+/// What a line asks for.
+#[derive(Drop)]
+pub enum Command {
+    Ask(Ask),
+    Change(Change),
+    Quit,
+}
+
+/// What leaves the pages where they are.
+#[derive(Drop)]
+pub enum Ask {
+    /// What `sledrun` knows too.
+    Line(command::Command),
+    /// How often the call of this number went on.
+    Turns(u64),
+    /// Whether the store is what a crash left.
+    Recovered,
+    /// The lines that there are.
+    Help,
+}
+
+/// What is done between two openings, or beside the database.
+#[derive(Drop)]
+pub enum Change {
+    /// A crash that keeps so many actions.
+    Crash(u64),
+    /// A crash that keeps all; the store left refuses these calls.
+    Recover(Vec<u64>),
+    /// An empty store that refuses these calls.
+    New(Vec<u64>),
+    /// The store is opened again.
+    Reopen,
+    /// The same; it refuses these calls.
+    Refuse(Vec<u64>),
+    /// The same; these pages cannot be read.
+    Unreadable(Vec<u64>),
+    /// The same; ids up to this one are set aside.
+    Mark(u64),
+    /// The same; the levels of the tree are printed.
+    Pages,
+    /// Calls from this seed, so many, beside the plain program.
+    Crowd(u64, u64),
+}
+
+// Why a line does not have a form.
+#[derive(Clone, Copy)]
+enum Misfit<'a> {
+    // Its first word is another.
+    Name,
+    // It ends where the form has another word of the command's.
+    Short,
+    // This word of the command's is another.
+    Other(&'a [u8]),
+    // It has too few words or too many.
+    Count,
+    Number(&'a [u8]),
+    Bytes(&'a [u8]),
+}
+
+// Why a word is not what a form has in its place.
+fn odd<'a>(alloc: Global, part: &[u8], word: &'a [u8]) -> Result<Option<Misfit<'a>>> {
+    let misfit = match part {
+        b"K" | b"V" if read_word(alloc, word)?.is_none() => Misfit::Bytes(word),
+        b"OLD" | b"NEW" if read_value(alloc, word)?.is_none() => Misfit::Bytes(word),
+        b"N" | b"PID" | b"SEED" | b"CALLS" if read_number(word).is_none() => Misfit::Number(word),
+        _ => return Ok(None),
+    };
+    Ok(Some(misfit))
+}
+
+// Whether a part of a form is one of the command's own words.
+fn is_own(part: &[u8]) -> bool {
+    part.iter().all(|byte| byte.is_ascii_lowercase())
+}
+
+// How a line differs from a form, and how many of the command's own words it has.
+#[derive(Clone, Copy)]
+struct Fit<'a> {
+    own: usize,
+    misfit: Option<Misfit<'a>>,
+}
+
+// Compares the words of a line with those of a form.
+fn compare<'a>(alloc: Global, form: &[u8], line: &'a [u8]) -> Result<Fit<'a>> {
+    let mut own = 0usize;
+    let mut odd_word = None;
+    let (mut parts, mut words) = (Some(form), Some(line));
+    let mut last = form;
+    for _ in 0..u64::MAX {
+        let misfit = match (parts, words) {
+            (None, None) | (Some(b".."), None) => {
+                return Ok(Fit {
+                    own,
+                    misfit: odd_word,
+                });
+            }
+            (None, Some(_)) => Misfit::Count,
+            (Some(parts), None) if is_own(first_word(parts).0) => Misfit::Short,
+            (Some(_), None) => Misfit::Count,
+            (Some(rest), Some(line)) => {
+                let (part, others) = first_word(rest);
+                let (word, more) = first_word(line);
+                words = more;
+                if part != b"..".as_slice() {
+                    parts = others;
+                    last = part;
+                }
+                if !is_own(part) {
+                    if odd_word.is_none() {
+                        odd_word = odd(alloc, last, word)?;
+                    }
+                    continue;
+                }
+                if part == word {
+                    own = own.saturating_add(1);
+                    continue;
+                }
+                if own == 0 {
+                    Misfit::Name
+                } else {
+                    Misfit::Other(word)
+                }
+            }
+        };
+        return Ok(Fit {
+            own,
+            misfit: Some(misfit),
+        });
+    }
+    Ok(Fit {
+        own,
+        misfit: Some(Misfit::Count),
+    })
+}
+
+// The part of a text before two spaces.
+fn form_of(text: &[u8]) -> &[u8] {
+    for (at, pair) in text.windows(2).enumerate() {
+        if pair == b"  ".as_slice() {
+            return &text[..at];
+        }
+    }
+    text
+}
+
+// The words of a form that are the command's own, and the others.
+fn parted(form: &[u8]) -> (&[u8], &[u8]) {
+    for (at, byte) in form.iter().enumerate() {
+        if byte.is_ascii_uppercase() {
+            return (&form[..at.saturating_sub(1)], &form[at..]);
+        }
+    }
+    (form, b"")
+}
+
+fn count(words: &[u8]) -> &'static [u8] {
+    if words.is_empty() {
+        return b"no words";
+    }
+    if words.ends_with(b"..") {
+        return b"one word or more";
+    }
+    match words.iter().filter(|byte| **byte == b' ').count() {
+        0 => b"one word",
+        1 => b"two words",
+        _ => b"three words",
+    }
+}
+
+fn push_quoted(out: &mut Vec<u8>, word: &[u8], rest: &[u8]) -> Result<()> {
+    push_text(out, b"`")?;
+    push_text(out, word)?;
+    push_text(out, b"` ")?;
+    push_text(out, rest)
+}
+
+// Adds the reason why a line does not have a form.
+fn push_reason(out: &mut Vec<u8>, form: &[u8], line: &[u8], misfit: Misfit<'_>) -> Result<()> {
+    let name = first_word(line).0;
+    match misfit {
+        Misfit::Name => push_quoted(out, name, b"is no command; `help` lists them"),
+        Misfit::Short => push_quoted(out, line, b"takes a word more; `help` lists which"),
+        Misfit::Other(word) => {
+            push_quoted(out, word, b"does not follow `")?;
+            push_text(out, name)?;
+            push_text(out, b"`; `help` lists what does")
+        }
+        Misfit::Count => {
+            let (own, others) = parted(form);
+            push_quoted(out, own, b"takes ")?;
+            if !others.is_empty() {
+                push_text(out, others)?;
+                push_text(out, b", ")?;
+            }
+            push_text(out, count(others))
+        }
+        Misfit::Number(word) => push_quoted(
+            out,
+            word,
+            b"is no number: decimal digits without leading zeros",
+        ),
+        Misfit::Bytes(word) => push_quoted(
+            out,
+            word,
+            b"is no byte string: % and two lower-case hexadecimal digits stand for a byte",
+        ),
+    }
+}
+
+// The numbers among the words of a line.
+fn numbers(alloc: Global, line: &[u8]) -> Result<Vec<u64>> {
+    let mut numbers = Vec::new(alloc);
+    for word in line.split(|byte| *byte == b' ') {
+        if let Some(number) = read_number(word) {
+            numbers.push(number)?;
+        }
+    }
+    Ok(numbers)
+}
+
+// What a line of this form changes, if it does; the numbers in it are these.
+fn change_of(form: &[u8], told: Vec<u64>) -> Option<Change> {
+    match (form, told.as_slice()) {
+        (b"crash N", [keep]) => Some(Change::Crash(*keep)),
+        (b"recover" | b"recover refuse N ..", _) => Some(Change::Recover(told)),
+        (b"new" | b"new refuse N ..", _) => Some(Change::New(told)),
+        (b"reopen", _) => Some(Change::Reopen),
+        (b"reopen refuse N ..", _) => Some(Change::Refuse(told)),
+        (b"reopen unreadable PID ..", _) => Some(Change::Unreadable(told)),
+        (b"reopen mark N", [upto]) => Some(Change::Mark(*upto)),
+        (b"pages", _) => Some(Change::Pages),
+        (b"crowd SEED CALLS", [seed, calls]) => Some(Change::Crowd(*seed, *calls)),
+        _ => None,
+    }
+}
+
+// The command of a line that has this form.
+fn made(alloc: Global, form: &[u8], line: &[u8]) -> Result<Option<Command>> {
+    let told = numbers(alloc, line)?;
+    let ask = match (form, told.as_slice()) {
+        (b"quit", _) => return Ok(Some(Command::Quit)),
+        (b"turns N", [number]) => Ask::Turns(*number),
+        (b"recovered", _) => Ask::Recovered,
+        (b"help", _) => Ask::Help,
+        _ => match change_of(form, told) {
+            Some(change) => return Ok(Some(Command::Change(change))),
+            None => match parse(alloc, line)? {
+                Some(command) => Ask::Line(command),
+                None => return Ok(None),
+            },
+        },
+    };
+    Ok(Some(Command::Ask(ask)))
+}
+
+/// What a line asks for; `None` where it cannot be read, and then the reason is added.
+pub fn read(alloc: Global, line: &[u8], out: &mut Vec<u8>) -> Result<Option<Command>> {
+    let (mut best, mut own, mut why) = (line, 0, Misfit::Name);
+    for text in HELP.as_bytes().split(|byte| *byte == b'\n') {
+        let form = form_of(text);
+        let fits = compare(alloc, form, line)?;
+        let Some(misfit) = fits.misfit else {
+            return made(alloc, form, line);
+        };
+        if fits.own > 0 && fits.own >= own {
+            (best, own, why) = (form, fits.own, misfit);
+        }
+    }
+    push_reason(out, best, line, why)?;
+    Ok(None)
+}

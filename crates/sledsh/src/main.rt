@@ -1,0 +1,54 @@
+//! A shell over the database: reads lines, and prints how each came out. It runs files of lines too, and compares what they
+//! print with what was expected. What it prints is not proved: it is safe, and it ends.
+#![tactic(auto)]
+
+mod check;
+mod crowd;
+mod forms;
+mod levels;
+mod plain;
+mod shell;
+mod store;
+
+use check::check;
+use shell::run;
+use sled_lines::input::Stopped;
+use std::io::{BufReader, BufWriter, IsTerminal, Write};
+use std::process::ExitCode;
+use std::{env, fs};
+
+// Runs standard input as a session: whether each line could be read.
+fn run_input(rt: &HostRuntime, output: &mut impl Write) -> Result<bool, Stopped> {
+    let mut input = BufReader::new(rt.alloc(), rt.reader())?;
+    run(rt.alloc(), &mut input, output, rt.stdin().is_terminal())
+}
+
+// Runs each file as a session of its own: whether each line could be read.
+fn run_files(rt: &HostRuntime, names: &[String], output: &mut impl Write) -> Result<bool, Stopped> {
+    let mut read = true;
+    for name in names {
+        let mut input = BufReader::new(rt.alloc(), fs::open(rt, name.as_str())?)?;
+        read &= run(rt.alloc(), &mut input, output, false)?;
+    }
+    Ok(read)
+}
+
+fn run_all(rt: &HostRuntime) -> Result<bool, Stopped> {
+    let mut output = BufWriter::new(rt.alloc(), std::io::writer(rt))?;
+    let names: Vec<String> = env::args(rt)?.skip(1).collect(rt.alloc())?;
+    let passed = match names.as_slice() {
+        [] => run_input(rt, &mut output)?,
+        [first, names @ ..] if first.as_str() == "check" => check(rt, names, &mut output)?,
+        names => run_files(rt, names, &mut output)?,
+    };
+    output.flush()?;
+    Ok(passed)
+}
+
+fn main(rt: HostRuntime) -> ExitCode {
+    match run_all(&rt) {
+        Ok(true) => ExitCode::from(0),
+        Ok(false) => ExitCode::from(1),
+        Err(_) => ExitCode::from(2),
+    }
+}

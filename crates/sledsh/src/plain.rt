@@ -1,0 +1,118 @@
+//! A plain program beside the machine: a list of pairs and a list of calls in flight, slow and short enough to read.
+ghost use Rattle.std.specs.Prelude.{◌≤◌, IfErr, length};
+
+use sled_model::{Call, Decision, Effect, Outcome, Slot};
+use sled_pages::{IVec, Result};
+use std::alloc::Global;
+use std::cmp::Ordering;
+
+/// Pairs that ascend by key.
+pub type Pairs = Vec<(IVec, IVec)>;
+
+/// The same pairs.
+pub fn copied(alloc: Global, pairs: &[(IVec, IVec)]) -> Result<Pairs> {
+    let mut copy = Vec::new(alloc);
+    for pair in pairs {
+        copy.push((pair.0.clone()?, pair.1.clone()?))?;
+    }
+    Ok(copy)
+}
+
+// The place of a key: where it stands, or where it would go.
+fn place(pairs: &[(IVec, IVec)], key: &IVec) -> std::result::Result<usize, usize>
+    ensures { IfErr result (λ i. i ≤ length pairs.now) }
+{
+    for i in 0..pairs.len() {
+        match key.cmp(&pairs[i].0) {
+            Ordering::Less => return Err(i),
+            Ordering::Equal => return Ok(i),
+            Ordering::Greater => {}
+        }
+    }
+    Err(pairs.len())
+}
+
+fn value_at(pairs: &[(IVec, IVec)], key: &IVec) -> Result<Option<IVec>> {
+    for pair in pairs {
+        if *key == pair.0 {
+            return Ok(Some(pair.1.clone()?));
+        }
+    }
+    Ok(None)
+}
+
+fn put(pairs: &mut Pairs, key: &IVec, value: IVec) -> Result<()> {
+    match place(pairs.as_slice(), key) {
+        Ok(i) => {
+            if let Some(pair) = pairs.get_mut(i) {
+                pair.1 = value;
+            }
+        }
+        Err(i) => pairs.insert(i, (key.clone()?, value))?,
+    }
+    Ok(())
+}
+
+fn call_in(flights: &[(u64, Call)], slot: u64) -> Option<&Call> {
+    for flight in flights {
+        if flight.0 == slot {
+            return Some(&flight.1);
+        }
+    }
+    None
+}
+
+/// Pairs, and the calls in flight by slot.
+#[derive(Drop)]
+pub struct Plain {
+    pub pairs: Pairs,
+    flights: Vec<(u64, Call)>,
+    pub given: u64,
+}
+
+impl Plain {
+    /// These pairs, and no call in flight.
+    pub fn new(alloc: Global, pairs: Pairs) -> Plain {
+        Plain {
+            pairs,
+            flights: Vec::new(alloc),
+            given: 0,
+        }
+    }
+
+    /// A call takes the next slot.
+    pub fn begin(&mut self, call: Call) -> Result<Outcome> {
+        self.given = self.given.saturating_add(1);
+        self.flights.push((self.given, call))?;
+        Ok(Outcome::Begun(Slot(self.given)))
+    }
+
+    /// A step of the call in the slot, which decides or not.
+    pub fn step(&mut self, slot: Slot, decides: bool) -> Result<Outcome> {
+        let Some(call) = call_in(self.flights.as_slice(), slot.0) else {
+            return Ok(Outcome::NoSuchSlot);
+        };
+        if !decides {
+            return Ok(Outcome::Moved);
+        }
+        let value = value_at(self.pairs.as_slice(), call.key())?;
+        let Decision { effect, reply } = call.decide(value)?;
+        let key = call.key();
+        match effect {
+            Effect::Nothing => {}
+            Effect::Set(value) => put(&mut self.pairs, key, value)?,
+            Effect::Remove => self.pairs.retain(|pair| *key != pair.0),
+        }
+        self.flights.retain(|flight| flight.0 != slot.0);
+        Ok(Outcome::Decided(reply))
+    }
+
+    /// The call in the slot is given up.
+    pub fn abandon(&mut self, slot: Slot) -> Outcome {
+        if call_in(self.flights.as_slice(), slot.0).is_none() {
+            return Outcome::NoSuchSlot;
+        }
+        self.flights.retain(|flight| flight.0 != slot.0);
+        Outcome::Abandoned
+    }
+}
