@@ -2,7 +2,7 @@
 use sled::{Db, empty_pages};
 use sled_machine::Machine;
 use sled_model::{Call, MergeOperator, Outcome, Reply, Tree};
-use sled_pages::{Error, IVec, Link, MemPages, Node, Pages, Pid, Result as Told, Version, View};
+use sled_pages::{IVec, Link, MemPages, Node, Pages, Pid, Result as Told, Version, View};
 use std::alloc::Global;
 use std::ops::Bound;
 use std::process::Abort;
@@ -107,9 +107,9 @@ fn levels_of(alloc: Global, pages: &MemPages) -> Result<u64, Fail> {
 }
 
 // How many pages a call at the key of this number reads: a get that finds the key, or an insert of it where it is not there.
-fn reads_of<M: MergeOperator>(
+fn reads_of<P: Pages, M: MergeOperator>(
     rt: &impl Abort,
-    machine: &mut Machine<Counting<'_>, M>,
+    machine: &mut Machine<P, M>,
     tree: &Tree,
     reads: &AtomicU64,
     number: u64,
@@ -123,8 +123,10 @@ fn reads_of<M: MergeOperator>(
     };
     let slot = machine.begin(tree, call)?;
     reads.store(0, Ordering::Relaxed);
-    let found =
-        matches!(machine.finish(slot), Outcome::Decided(Reply::Value(Some(value))) if value == key);
+    let found = match machine.finish(slot) {
+        Outcome::Decided(Reply::Value(value)) => value == Some(key),
+        _ => !is_there,
+    };
     assert_eq!(rt; found, is_there);
     Ok(reads.load(Ordering::Relaxed))
 }
@@ -145,21 +147,21 @@ fn mixed(number: u64) -> u64 {
 
 // A tree of random keys has five levels, of which a get reads a page each. An insert splits each level once at most, and reads its
 // way from the root anew after each split: 5 + 5 + 4 + 3 + 2 + 1. All together read less than half a page more each than five.
-#[test]
-fn a_call_reads_few_more_pages_than_there_are_levels(rt: HostRuntime) -> Result<(), Fail> {
-    let reads = &AtomicU64::new(0);
-    let inner = empty_pages(rt.alloc());
-    let Ok(db) = Db::open(rt.alloc(), Counting { inner, reads }, b"db") else {
-        return Err(Fail::from(Error::NoMemory));
-    };
-    assert_eq!(rt; reads.load(Ordering::Relaxed), 0);
+fn reads_are_few<M: MergeOperator>(
+    rt: &impl Abort,
+    alloc: Global,
+    db: Db<Counting<'_>, M>,
+    reads: &AtomicU64,
+) -> Result<(), Fail> {
     let tree = db.default_tree()?;
     let mut machine = Machine::new(db);
-    let (mut number, mut most, mut all) = (SEED, 0, 0u64);
+    let mut most = 0u64;
+    let mut all = 0u64;
+    let mut number = SEED;
     for _ in 0..KEYS {
         number = mixed(number);
-        let count = reads_of(&rt, &mut machine, &tree, reads, number, false)?;
-        most = count.max(most);
+        let count = reads_of(rt, &mut machine, &tree, reads, number, false)?;
+        most = most.max(count);
         all = all.wrapping_add(count);
     }
     assert!(rt; most <= 20 && all / (KEYS / 2) <= 10, "{most} {all}");
@@ -167,10 +169,27 @@ fn a_call_reads_few_more_pages_than_there_are_levels(rt: HostRuntime) -> Result<
     for _ in 0..SOUGHT {
         number = mixed(number);
         // A get too splits a page that it finds too long: the second counts.
-        reads_of(&rt, &mut machine, &tree, reads, number, true)?;
-        assert_eq!(rt; reads_of(&rt, &mut machine, &tree, reads, number, true)?, 5);
+        reads_of(rt, &mut machine, &tree, reads, number, true)?;
+        let count = reads_of(rt, &mut machine, &tree, reads, number, true)?;
+        assert_eq!(rt; count, 5);
     }
     let pages = machine.into_db().into_pages();
-    assert_eq!(rt; levels_of(rt.alloc(), &pages.inner)?, 5);
+    assert_eq!(rt; levels_of(alloc, &pages.inner)?, 5);
     Ok(())
+}
+
+#[test]
+fn a_call_reads_few_more_pages_than_there_are_levels(rt: HostRuntime) -> Result<(), Fail> {
+    let reads = AtomicU64::new(0);
+    let pages = Counting {
+        inner: empty_pages(rt.alloc()),
+        reads: &reads,
+    };
+    match Db::open(rt.alloc(), pages, b"db") {
+        Ok(db) => {
+            assert_eq!(rt; reads.load(Ordering::Relaxed), 0);
+            reads_are_few(&rt, rt.alloc(), db, &reads)
+        }
+        Err((_, e)) => Err(Fail::from(e)),
+    }
 }

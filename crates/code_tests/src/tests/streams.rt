@@ -1,25 +1,26 @@
 //! Readers and writers that fail, and a reader that waits for each answer.
 use sled_lines::serve::serve;
+use std::alloc::Global;
 use std::io::{self, BufRead, Read, Write};
 use std::sync::atomic::{AtomicU64, Ordering};
 use std::test::Fail;
 
 // A reader that gives one line at a time. It fails where a line is not answered yet, and at its end if it is cut.
 #[derive(Drop)]
-struct Lines<'a> {
+struct Lines<'a, 'b> {
     rest: &'a [u8],
     is_cut: bool,
     given: u64,
-    answers: &'a AtomicU64,
+    answers: &'b AtomicU64,
 }
 
-impl<'a> Read for Lines<'a> {
+impl<'a, 'b> Read for Lines<'a, 'b> {
     fn read(&mut self, buf: &mut [u8]) -> io::Result<usize> {
         self.rest.read(buf)
     }
 }
 
-impl<'a> BufRead for Lines<'a> {
+impl<'a, 'b> BufRead for Lines<'a, 'b> {
     fn fill_buf(&mut self) -> io::Result<&[u8]> {
         let is_over = self.rest.is_empty() && self.is_cut;
         if is_over || self.answers.load(Ordering::SeqCst) < self.given {
@@ -63,6 +64,24 @@ impl<'a> Write for Page<'a> {
     }
 }
 
+// The exit status, and how many lines were written.
+fn served(alloc: Global, rest: &[u8], is_cut: bool, room: usize, flushes: bool) -> (u8, u64) {
+    let answers = AtomicU64::new(0);
+    let mut input = Lines {
+        rest,
+        is_cut,
+        given: 0,
+        answers: &answers,
+    };
+    let mut output = Page {
+        room,
+        flushes,
+        answers: &answers,
+    };
+    let ended = serve(alloc, &mut input, &mut output);
+    (ended, answers.load(Ordering::SeqCst))
+}
+
 #[test]
 fn reads_and_writes_that_fail(rt: HostRuntime) -> Result<(), Fail> {
     for (rest, is_cut, room, flushes, status, lines) in [
@@ -74,24 +93,8 @@ fn reads_and_writes_that_fail(rt: HostRuntime) -> Result<(), Fail> {
         (b"get a\n", false, 16, false, 2, 1),
         (b"bad\n", false, 16, false, 2, 1),
     ] {
-        let answers = &AtomicU64::new(0);
-        let mut input = Lines {
-            rest,
-            is_cut,
-            given: 0,
-            answers,
-        };
-        let mut output = Page {
-            room,
-            flushes,
-            answers,
-        };
-        let ended = serve(rt.alloc(), &mut input, &mut output);
-        assert_eq!(rt;
-            (ended, answers.load(Ordering::SeqCst)),
-            (status, lines),
-            "{rest:?}"
-        );
+        let (ended, answers) = served(rt.alloc(), rest, is_cut, room, flushes);
+        assert_eq!(rt; (ended, answers), (status, lines), "{rest:?}");
     }
     Ok(())
 }
