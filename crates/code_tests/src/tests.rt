@@ -4,13 +4,23 @@ mod reads;
 mod streams;
 mod types;
 
-use sled_model::{Outcome, Reply};
+use sled_model::{Outcome, Reply, Tree};
 use sled_pages::{Error, IVec};
 use std::alloc::Global;
 use std::test::Fail;
 
 fn bytes(alloc: Global, text: &str) -> Result<IVec, Fail> {
     Ok(IVec::from_slice(alloc, text.as_bytes())?)
+}
+
+fn tree_of(alloc: Global, database: &str, name: &str, number: u64) -> Result<Tree, Fail> {
+    let database = bytes(alloc, database)?;
+    let name = bytes(alloc, name)?;
+    Ok(Tree {
+        database,
+        name,
+        number,
+    })
 }
 
 fn text_of(value: &IVec) -> &str {

@@ -1,9 +1,9 @@
-//! What values are: their order, their equality, their clones, their hashes and their texts.
-use super::bytes;
+//! What values are: their order, their equality, their clones and their texts.
+use super::{bytes, tree_of};
 use sled_model::{Call, CompareAndSwapError, Event, Tree, Whole};
 use sled_pages::{Error, Fault, IVec};
+use std::alloc::Global;
 use std::fmt::Write;
-use std::hash::{DefaultHasher, Hash, Hasher};
 use std::process::Abort;
 use std::test::Fail;
 
@@ -24,32 +24,23 @@ fn ascend<T: Ord>(rt: &impl Abort, items: &[(T, T)]) {
     }
 }
 
-fn hash_of<T: Hash>(value: &T) -> u64 {
-    let mut hasher = DefaultHasher::new();
-    value.hash(&mut hasher);
-    hasher.finish()
-}
-
-#[test]
-fn byte_strings(rt: HostRuntime) -> Result<(), Fail> {
-    let mut all = Vec::new(rt.alloc());
-    let long = [5; 5000];
-    for text in [
-        b"".as_slice(),
-        b"\x00",
-        &long[..22],
-        &long[..23],
-        long.as_slice(),
-        b"\xff",
-        b"\xff\x00",
-    ] {
-        let string = IVec::from_slice(rt.alloc(), text)?;
-        assert!(rt; string.as_ref() == text && string.len() == text.len());
-        assert_eq!(rt; hash_of(&string), hash_of(&text));
-        let copy = string.clone()?;
-        all.push((string, copy))?;
-    }
-    ascend(&rt, all.as_slice());
+fn add_event(
+    rt: &impl Abort,
+    alloc: Global,
+    all: &mut Vec<(Event, Event)>,
+    name: &str,
+    text: &str,
+) -> Result<(), Fail> {
+    let key = bytes(alloc, name)?;
+    let event = if text.is_empty() {
+        Event::Remove { key }
+    } else {
+        let value = bytes(alloc, text)?;
+        Event::Insert { key, value }
+    };
+    assert!(rt; event.key().as_ref() == name.as_bytes());
+    let copy = event.clone()?;
+    all.push((event, copy))?;
     Ok(())
 }
 
@@ -57,17 +48,33 @@ fn byte_strings(rt: HostRuntime) -> Result<(), Fail> {
 fn events(rt: HostRuntime) -> Result<(), Fail> {
     let mut all = Vec::new(rt.alloc());
     for (name, text) in [("a", "b"), ("b", "a"), ("b", "b"), ("a", ""), ("b", "")] {
-        let (key, value) = (bytes(rt.alloc(), name)?, bytes(rt.alloc(), text)?);
-        let event = if text.is_empty() {
-            Event::Remove { key }
-        } else {
-            Event::Insert { key, value }
-        };
-        assert!(rt; event.key().as_ref() == name.as_bytes());
-        let copy = event.clone()?;
-        all.push((event, copy))?;
+        add_event(&rt, rt.alloc(), &mut all, name, text)?;
     }
     ascend(&rt, all.as_slice());
+    Ok(())
+}
+
+fn value_of(alloc: Global, text: &str) -> Result<Option<IVec>, Fail> {
+    if text == "-" {
+        return Ok(None);
+    }
+    Ok(Some(bytes(alloc, text)?))
+}
+
+fn add_conflict(
+    rt: &impl Abort,
+    alloc: Global,
+    all: &mut Vec<(CompareAndSwapError, CompareAndSwapError)>,
+    stands: &str,
+    text: &str,
+) -> Result<(), Fail> {
+    let current = value_of(alloc, stands)?;
+    let proposed = value_of(alloc, text)?;
+    let conflict = CompareAndSwapError { current, proposed };
+    let copy = conflict.clone()?;
+    let shown = format!(in alloc; "{copy}")?;
+    assert_eq!(rt; shown.as_str(), "Compare and swap conflict");
+    all.push((conflict, copy))?;
     Ok(())
 }
 
@@ -75,22 +82,14 @@ fn events(rt: HostRuntime) -> Result<(), Fail> {
 fn conflicts(rt: HostRuntime) -> Result<(), Fail> {
     let mut all = Vec::new(rt.alloc());
     for (stands, text) in [
-        (false, ""),
-        (false, "b"),
-        (true, ""),
-        (true, "a"),
-        (true, "b"),
+        ("-", "-"),
+        ("-", ""),
+        ("-", "b"),
+        ("", "-"),
+        ("a", "z"),
+        ("b", "a"),
     ] {
-        let (first, second) = (bytes(rt.alloc(), text)?, bytes(rt.alloc(), text)?);
-        let current = if stands { Some(first) } else { None };
-        let conflict = CompareAndSwapError {
-            current,
-            proposed: Some(second),
-        };
-        let shown = format!(in rt.alloc(); "{conflict}")?;
-        assert_eq!(rt; shown.as_str(), "Compare and swap conflict");
-        let copy = conflict.clone()?;
-        all.push((conflict, copy))?;
+        add_conflict(&rt, rt.alloc(), &mut all, stands, text)?;
     }
     ascend(&rt, all.as_slice());
     Ok(())
@@ -99,60 +98,101 @@ fn conflicts(rt: HostRuntime) -> Result<(), Fail> {
 const TEXTS: &str = "collection not found; unsupported: one; reportable bug: two; io fault 3; \
     corruption 4; no memory; queue full; closed; ";
 
+fn error_of(alloc: Global, number: u64) -> Result<Error, Fail> {
+    Ok(match number {
+        0 => Error::CollectionNotFound(bytes(alloc, "t")?),
+        1 => Error::Unsupported("one"),
+        2 => Error::ReportableBug("two"),
+        3 => Error::Io(Fault(3)),
+        4 => Error::Corruption(Fault(4)),
+        5 => Error::NoMemory,
+        6 => Error::FullQueue,
+        _ => Error::Closed,
+    })
+}
+
+fn add_error(
+    alloc: Global,
+    all: &mut Vec<(Error, Error)>,
+    text: &mut String,
+    number: u64,
+) -> Result<(), Fail> {
+    let error = error_of(alloc, number)?;
+    write!(text, "{error}; ")?;
+    let copy = error.clone()?;
+    all.push((error, copy))?;
+    Ok(())
+}
+
 #[test]
 fn errors(rt: HostRuntime) -> Result<(), Fail> {
     let mut all = Vec::new(rt.alloc());
     let mut text = String::new(rt.alloc());
     for number in 0..8u64 {
-        let error = match number {
-            0 => Error::CollectionNotFound(bytes(rt.alloc(), "t")?),
-            1 => Error::Unsupported("one"),
-            2 => Error::ReportableBug("two"),
-            3 => Error::Io(Fault(3)),
-            4 => Error::Corruption(Fault(4)),
-            5 => Error::NoMemory,
-            6 => Error::FullQueue,
-            _ => Error::Closed,
-        };
-        write!(text, "{error}; ")?;
-        let copy = error.clone()?;
-        all.push((error, copy))?;
+        add_error(rt.alloc(), &mut all, &mut text, number)?;
     }
     assert_eq!(rt; text.as_str(), TEXTS);
     are_apart(&rt, all.as_slice());
     Ok(())
 }
 
+fn call_of(alloc: Global, number: u64) -> Result<Call, Fail> {
+    let key = bytes(alloc, "a")?;
+    let value = value_of(alloc, "b")?;
+    Ok(match (number, value) {
+        (0, _) => Call::Get(key),
+        (1, Some(value)) => Call::Insert(key, value),
+        (2, value) => Call::CompareAndSwap(key, None, value),
+        (3, value) => Call::CompareAndSwap(key, value, None),
+        _ => Call::Remove(key),
+    })
+}
+
+fn add_call(
+    rt: &impl Abort,
+    alloc: Global,
+    all: &mut Vec<(Call, Call)>,
+    number: u64,
+) -> Result<(), Fail> {
+    let call = call_of(alloc, number)?;
+    assert!(rt; call.key().as_ref() == b"a".as_slice());
+    let copy = call.clone()?;
+    all.push((call, copy))?;
+    Ok(())
+}
+
 #[test]
-fn calls_and_trees(rt: HostRuntime) -> Result<(), Fail> {
-    let mut calls = Vec::new(rt.alloc());
+fn calls(rt: HostRuntime) -> Result<(), Fail> {
+    let mut all = Vec::new(rt.alloc());
     for number in 0..5u64 {
-        let (key, value) = (bytes(rt.alloc(), "a")?, bytes(rt.alloc(), "b")?);
-        let call = match number {
-            0 => Call::Get(key),
-            1 => Call::Insert(key, value),
-            2 => Call::Remove(key),
-            3 => Call::CompareAndSwap(key, None, Some(value)),
-            _ => Call::CompareAndSwap(key, Some(value), None),
-        };
-        assert!(rt; call.key().as_ref() == b"a".as_slice());
-        let copy = call.clone()?;
-        calls.push((call, copy))?;
+        add_call(&rt, rt.alloc(), &mut all, number)?;
     }
-    are_apart(&rt, calls.as_slice());
+    are_apart(&rt, all.as_slice());
     assert!(rt; Whole::Flush.clone()? == Whole::Flush);
-    let mut trees = Vec::new(rt.alloc());
-    for (first, second, number) in [("a", "b", 1), ("a", "b", 2), ("a", "a", 1), ("b", "b", 1)] {
-        let (database, name) = (bytes(rt.alloc(), first)?, bytes(rt.alloc(), second)?);
-        let tree = Tree {
-            database,
-            name,
-            number,
-        };
-        assert!(rt; tree.name().as_ref() == second.as_bytes());
-        let copy = tree.clone()?;
-        trees.push((tree, copy))?;
+    Ok(())
+}
+
+fn add_tree(
+    rt: &impl Abort,
+    alloc: Global,
+    all: &mut Vec<(Tree, Tree)>,
+    database: &str,
+    name: &str,
+    number: u64,
+) -> Result<(), Fail> {
+    let tree = tree_of(alloc, database, name, number)?;
+    assert!(rt; tree.name().as_ref() == name.as_bytes());
+    let copy = tree.clone()?;
+    all.push((tree, copy))?;
+    Ok(())
+}
+
+#[test]
+fn trees(rt: HostRuntime) -> Result<(), Fail> {
+    let mut all = Vec::new(rt.alloc());
+    for (database, name, number) in [("a", "b", 1), ("a", "b", 2), ("a", "a", 1), ("b", "b", 1)] {
+        add_tree(&rt, rt.alloc(), &mut all, database, name, number)?;
     }
-    are_apart(&rt, trees.as_slice());
+    are_apart(&rt, all.as_slice());
     Ok(())
 }
