@@ -2,14 +2,24 @@
 
 use crate::shell::run;
 use sled_lines::input::Stopped;
+use std::alloc::Global;
 use std::fs;
 use std::io::{self, ErrorKind, Write};
 
-// The bytes of a file, or `None` where it is missing.
-fn bytes_of(rt: &HostRuntime, name: &str) -> Result<Option<Vec<u8>>, Stopped> {
-    match fs::read(rt, name) {
+// The bytes of the file of this name and ending, or `None` where it is missing, which is told.
+fn bytes_of<W: Write>(
+    rt: &HostRuntime,
+    name: &str,
+    ending: &str,
+    output: &mut W,
+) -> Result<Option<Vec<u8>>, Stopped> {
+    let path = format!(in rt.alloc(); "{name}{ending}")?;
+    match fs::read(rt, path.as_str()) {
         Ok(bytes) => Ok(Some(bytes)),
-        Err(e) if e.kind() == ErrorKind::NotFound => Ok(None),
+        Err(e) if e.kind() == ErrorKind::NotFound => {
+            writeln!(output, "{name}{ending} is missing")?;
+            Ok(None)
+        }
         Err(_) => Err(Stopped),
     }
 }
@@ -43,26 +53,35 @@ fn tell<W: Write>(output: &mut W, printed: &[u8], expected: &[u8]) -> io::Result
     Ok(())
 }
 
-// Runs a file of lines: whether it prints what is expected.
-fn check_one<W: Write>(rt: &HostRuntime, name: &str, output: &mut W) -> Result<bool, Stopped> {
-    write!(output, "{name}: ")?;
-    let Some(lines) = bytes_of(rt, format!(in rt.alloc(); "{name}.lines")?.as_str())? else {
-        writeln!(output, "{name}.lines is missing")?;
-        return Ok(false);
-    };
-    let Some(expected) = bytes_of(rt, format!(in rt.alloc(); "{name}.expected")?.as_str())? else {
-        writeln!(output, "{name}.expected is missing")?;
-        return Ok(false);
-    };
-    let (mut input, mut printed) = (lines.as_slice(), Vec::new(rt.alloc()));
-    let _ = run(rt.alloc(), &mut input, &mut printed, false)?;
-    if printed.as_slice() != expected.as_slice() {
-        tell(output, printed.as_slice(), expected.as_slice())?;
+// What lines print.
+fn printed_by(alloc: Global, lines: &[u8]) -> Result<Vec<u8>, Stopped> {
+    let (mut input, mut printed) = (lines, Vec::new(alloc));
+    let _ = run(alloc, &mut input, &mut printed, false)?;
+    Ok(printed)
+}
+
+// Tells whether what was printed is what was expected.
+fn judge<W: Write>(printed: &[u8], expected: &[u8], output: &mut W) -> io::Result<bool> {
+    if printed != expected {
+        tell(output, printed, expected)?;
         return Ok(false);
     }
     let count = expected.iter().filter(|byte| **byte == b'\n').count();
     writeln!(output, "{count} lines as expected")?;
     Ok(true)
+}
+
+// Runs a file of lines: whether it prints what is expected.
+fn check_one<W: Write>(rt: &HostRuntime, name: &str, output: &mut W) -> Result<bool, Stopped> {
+    write!(output, "{name}: ")?;
+    let printed = match bytes_of(rt, name, ".lines", output)? {
+        Some(lines) => printed_by(rt.alloc(), lines.as_slice())?,
+        None => return Ok(false),
+    };
+    match bytes_of(rt, name, ".expected", output)? {
+        Some(expected) => Ok(judge(printed.as_slice(), expected.as_slice(), output)?),
+        None => Ok(false),
+    }
 }
 
 /// Runs files of lines, each as a session of its own: whether all print what is expected.

@@ -248,6 +248,64 @@ fn push_reason(out: &mut Vec<u8>, form: &[u8], line: &[u8], misfit: Misfit<'_>) 
     }
 }
 
+// The commands that `sledrun` does not know, and a crash.
+#[derive(Clone, Copy)]
+enum Kind {
+    Crash,
+    Recover,
+    New,
+    Reopen,
+    Refuse,
+    Unreadable,
+    Mark,
+    Pages,
+    Crowd,
+    Turns,
+    Recovered,
+    Help,
+    Quit,
+}
+
+// The command of a form that changes the pages.
+fn changing(form: &[u8]) -> Option<Kind> {
+    if form.starts_with(b"crash ") {
+        Some(Kind::Crash)
+    } else if form.starts_with(b"new") {
+        Some(Kind::New)
+    } else if form.starts_with(b"reopen refuse") {
+        Some(Kind::Refuse)
+    } else if form.starts_with(b"reopen unreadable") {
+        Some(Kind::Unreadable)
+    } else if form.starts_with(b"reopen mark") {
+        Some(Kind::Mark)
+    } else if form.starts_with(b"reopen") {
+        Some(Kind::Reopen)
+    } else {
+        None
+    }
+}
+
+// The command of a form.
+fn kind_of(form: &[u8]) -> Option<Kind> {
+    if form.starts_with(b"recovered") {
+        Some(Kind::Recovered)
+    } else if form.starts_with(b"recover") {
+        Some(Kind::Recover)
+    } else if form.starts_with(b"pages") {
+        Some(Kind::Pages)
+    } else if form.starts_with(b"crowd") {
+        Some(Kind::Crowd)
+    } else if form.starts_with(b"turns") {
+        Some(Kind::Turns)
+    } else if form.starts_with(b"help") {
+        Some(Kind::Help)
+    } else if form.starts_with(b"quit") {
+        Some(Kind::Quit)
+    } else {
+        changing(form)
+    }
+}
+
 // The numbers among the words of a line.
 fn numbers(alloc: Global, line: &[u8]) -> Result<Vec<u64>> {
     let mut numbers = Vec::new(alloc);
@@ -259,39 +317,44 @@ fn numbers(alloc: Global, line: &[u8]) -> Result<Vec<u64>> {
     Ok(numbers)
 }
 
-// What a line of this form changes, if it does; the numbers in it are these.
-fn change_of(form: &[u8], told: Vec<u64>) -> Option<Change> {
-    match (form, told.as_slice()) {
-        (b"crash N", [keep]) => Some(Change::Crash(*keep)),
-        (b"recover" | b"recover refuse N ..", _) => Some(Change::Recover(told)),
-        (b"new" | b"new refuse N ..", _) => Some(Change::New(told)),
-        (b"reopen", _) => Some(Change::Reopen),
-        (b"reopen refuse N ..", _) => Some(Change::Refuse(told)),
-        (b"reopen unreadable PID ..", _) => Some(Change::Unreadable(told)),
-        (b"reopen mark N", [upto]) => Some(Change::Mark(*upto)),
-        (b"pages", _) => Some(Change::Pages),
-        (b"crowd SEED CALLS", [seed, calls]) => Some(Change::Crowd(*seed, *calls)),
-        _ => None,
+// The last number of a line, and the one before it; 0 where there is none.
+fn last_numbers(line: &[u8]) -> (u64, u64) {
+    let (mut before, mut last) = (0, 0);
+    for word in line.split(|byte| *byte == b' ') {
+        if let Some(number) = read_number(word) {
+            (before, last) = (last, number);
+        }
     }
+    (before, last)
+}
+
+// The command of a line of this kind.
+fn made(alloc: Global, kind: Kind, line: &[u8]) -> Result<Command> {
+    let (before, last) = last_numbers(line);
+    let change = match kind {
+        Kind::Turns => return Ok(Command::Ask(Ask::Turns(last))),
+        Kind::Recovered => return Ok(Command::Ask(Ask::Recovered)),
+        Kind::Help => return Ok(Command::Ask(Ask::Help)),
+        Kind::Quit => return Ok(Command::Quit),
+        Kind::Crash => Change::Crash(last),
+        Kind::Recover => Change::Recover(numbers(alloc, line)?),
+        Kind::New => Change::New(numbers(alloc, line)?),
+        Kind::Reopen => Change::Reopen,
+        Kind::Refuse => Change::Refuse(numbers(alloc, line)?),
+        Kind::Unreadable => Change::Unreadable(numbers(alloc, line)?),
+        Kind::Mark => Change::Mark(last),
+        Kind::Pages => Change::Pages,
+        Kind::Crowd => Change::Crowd(before, last),
+    };
+    Ok(Command::Change(change))
 }
 
 // The command of a line that has this form.
-fn made(alloc: Global, form: &[u8], line: &[u8]) -> Result<Option<Command>> {
-    let told = numbers(alloc, line)?;
-    let ask = match (form, told.as_slice()) {
-        (b"quit", _) => return Ok(Some(Command::Quit)),
-        (b"turns N", [number]) => Ask::Turns(*number),
-        (b"recovered", _) => Ask::Recovered,
-        (b"help", _) => Ask::Help,
-        _ => match change_of(form, told) {
-            Some(change) => return Ok(Some(Command::Change(change))),
-            None => match parse(alloc, line)? {
-                Some(command) => Ask::Line(command),
-                None => return Ok(None),
-            },
-        },
-    };
-    Ok(Some(Command::Ask(ask)))
+fn command_of(alloc: Global, form: &[u8], line: &[u8]) -> Result<Option<Command>> {
+    match kind_of(form) {
+        Some(kind) => Ok(Some(made(alloc, kind, line)?)),
+        None => Ok(parse(alloc, line)?.map(|line| Command::Ask(Ask::Line(line)))),
+    }
 }
 
 /// What a line asks for; `None` where it cannot be read, and then the reason is added.
@@ -304,7 +367,7 @@ pub fn read(alloc: Global, line: &[u8], out: &mut Vec<u8>) -> Result<Option<Comm
         }
         let fits = compare(alloc, form, line)?;
         let Some(misfit) = fits.misfit else {
-            return made(alloc, form, line);
+            return command_of(alloc, form, line);
         };
         if fits.own > 0 && fits.own >= own {
             (best, own, why) = (form, fits.own, misfit);

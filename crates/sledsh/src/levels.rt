@@ -4,18 +4,45 @@ use sled_lines::print::{push_number, push_numbered, push_refused, push_text};
 use sled_pages::{Data, Node, Pages, Pid, Result};
 use std::alloc::Global;
 
-// How many entries a page has, and what is under its first pointer.
-fn entries(alloc: Global, node: &Node) -> Result<(usize, Option<Pid>)> {
+// What a page has: how many entries, the page under its first pointer, and the next one.
+#[derive(Clone, Copy)]
+struct Seen {
+    entries: usize,
+    under: Option<Pid>,
+    next: Option<Pid>,
+}
+
+fn look(alloc: Global, node: &Node) -> Result<Seen> {
+    let next = node.next;
     match &node.content {
-        Data::Leaf(leaf) => Ok((leaf.len(), None)),
+        Data::Leaf(leaf) => Ok(Seen {
+            entries: leaf.len(),
+            under: None,
+            next,
+        }),
         Data::Index(index) => {
             let pointers = index.pairs(alloc)?;
-            match pointers.first() {
-                Some(pointer) => Ok((pointers.len(), Some(pointer.1))),
-                None => Ok((0, None)),
-            }
+            let under = match pointers.first() {
+                Some(pointer) => Some(pointer.1),
+                None => None,
+            };
+            Ok(Seen {
+                entries: pointers.len(),
+                under,
+                next,
+            })
         }
     }
+}
+
+// What the page of this number has, if there is one.
+fn page<P: Pages>(alloc: Global, pages: &P, pid: Pid) -> Result<Option<Seen>> {
+    let Some(view) = pages.read(alloc, pid)? else {
+        return Ok(None);
+    };
+    let found = look(alloc, &view.node);
+    drop(view);
+    Ok(Some(found?))
 }
 
 // Adds the line of the level that begins with a page, and answers the first page of the level below.
@@ -25,22 +52,23 @@ fn push_level<P: Pages>(
     first: Pid,
     out: &mut Vec<u8>,
 ) -> Result<Option<Pid>> {
-    let (mut count, mut most, mut below) = (0u64, 0, None);
+    let mut count = 0u64;
+    let mut most = 0usize;
+    let mut below = None;
     let mut cursor = Some(first);
     for _ in 0..u64::MAX {
         let Some(pid) = cursor else {
             break;
         };
-        let Some(view) = pages.read(alloc, pid)? else {
+        let Some(found) = page(alloc, pages, pid)? else {
             break;
         };
-        let (has, under) = entries(alloc, &view.node)?;
-        if pid == first {
-            below = under;
+        if count == 0 {
+            below = found.under;
         }
         count = count.saturating_add(1);
-        most = has.max(most);
-        cursor = view.node.next;
+        most = found.entries.max(most);
+        cursor = found.next;
     }
     push_text(out, b"level ")?;
     push_number(out, count)?;
