@@ -11,7 +11,7 @@ use examples::{
 use sled::{DEFAULT_TREE, Db, empty_pages};
 use sled_machine::Machine;
 use sled_model::{Call, MergeOperator, Outcome, Slot, Step, Tree, Whole};
-use sled_pages::{Error, MemPages, Pages, Result as Told, texts};
+use sled_pages::{Error, IVec, MemPages, Pages, Result as Told, texts};
 use sled_tree::{Flight, Went};
 use std::alloc::Global;
 use std::process::Abort;
@@ -55,7 +55,9 @@ fn foreign_trees(
         ("db", DEFAULT_TREE, 1, "begun"),
     ] {
         let tree = tree_of(alloc, database, name, number)?;
-        is_told_of(rt, alloc, machine, &tree, wanted)?;
+        let ended = is_told_of(rt, alloc, machine, &tree, wanted);
+        drop(tree);
+        ended?;
     }
     Ok(())
 }
@@ -145,18 +147,28 @@ const STEPS: &str = "1 2 s1 s2 s2 s1 f s1 s1 s1 g g a3 a3 s3 s5 s4 s4";
 const OUTCOMES: &str = "begun begun moved moved none moved other moved 2 absent \
     begun begun other absent absent absent 1 absent";
 
-fn steps(alloc: Global, tree: &Tree) -> Result<Vec<Step>, Fail> {
-    let mut list = Vec::new(alloc);
-    for word in STEPS.split(' ') {
-        list.push(match word.as_bytes() {
-            [b's', digit] => Step::Step(Slot(digit.wrapping_sub(b'0') as u64)),
-            [b'a', digit] => Step::Abandon(Slot(digit.wrapping_sub(b'0') as u64)),
-            b"g" => Step::Begin(tree.clone()?, Call::Get(bytes(alloc, "a")?)),
-            b"f" => Step::Whole(Whole::Flush),
-            _ => Step::Begin(tree.clone()?, insert(alloc, word)?),
-        })?;
+fn step_of(alloc: Global, tree: &Tree, word: &str) -> Result<Step, Fail> {
+    let call = match word.as_bytes() {
+        [b's', digit] => return Ok(Step::Step(Slot(digit.wrapping_sub(b'0') as u64))),
+        [b'a', digit] => return Ok(Step::Abandon(Slot(digit.wrapping_sub(b'0') as u64))),
+        b"f" => return Ok(Step::Whole(Whole::Flush)),
+        b"g" => Call::Get(bytes(alloc, "a")?),
+        _ => insert(alloc, word)?,
+    };
+    match tree.clone() {
+        Ok(tree) => Ok(Step::Begin(tree, call)),
+        Err(e) => {
+            drop(call);
+            Err(Fail::from(e))
+        }
     }
-    Ok(list)
+}
+
+fn add_steps(alloc: Global, tree: &Tree, list: &mut Vec<Step>) -> Result<(), Fail> {
+    for word in STEPS.split(' ') {
+        list.push(step_of(alloc, tree, word)?)?;
+    }
+    Ok(())
 }
 
 fn is_told(rt: &impl Abort, outcome: &Outcome, wanted: &str) {
@@ -173,73 +185,115 @@ fn come_out(rt: &impl Abort, outcomes: &[Outcome]) {
     assert_eq!(rt; i, outcomes.len());
 }
 
+// What is read in a database that was opened anew.
+fn reads_again(
+    rt: &impl Abort,
+    alloc: Global,
+    db: Db<MemPages>,
+    key: &IVec,
+    wanted: &str,
+) -> Result<(), Fail> {
+    let read = reopen_then_get(alloc, Machine::new(db), b"db", key)?;
+    is_told(rt, &read, wanted);
+    drop(read);
+    Ok(())
+}
+
 // The steps on a new database, a crash that keeps so many actions, and what is read then.
 fn survives(
     rt: &impl Abort,
     alloc: Global,
     list: &[Step],
+    key: &IVec,
     keep: usize,
     wanted: &str,
 ) -> Result<(), Fail> {
     let (outcomes, pages) = survive(alloc, empty_pages(alloc), b"db", list, keep)?;
     come_out(rt, outcomes.as_slice());
     drop(outcomes);
-    let Ok(db) = Db::open(alloc, pages, b"db") else {
-        return Err(Fail::from(Error::NoMemory));
-    };
-    let read = reopen_then_get(alloc, Machine::new(db), b"db", &bytes(alloc, "a")?)?;
-    is_told(rt, &read, wanted);
-    drop(read);
-    Ok(())
+    match Db::open(alloc, pages, b"db") {
+        Ok(db) => reads_again(rt, alloc, db, key, wanted),
+        Err((pages, e)) => {
+            drop(pages);
+            Err(Fail::from(e))
+        }
+    }
 }
 
-fn run_steps(rt: &impl Abort, alloc: Global, list: &[Step]) -> Result<(), Fail> {
-    let mut machine = new_machine(alloc, b"db")?;
+fn run_steps(rt: &impl Abort, machine: &mut Machine<MemPages>, list: &[Step]) -> Result<(), Fail> {
     let outcomes = machine.run(list)?;
     come_out(rt, outcomes.as_slice());
+    drop(outcomes);
     Ok(())
 }
 
 // A crash keeps what was flushed, and of the rest as many actions as it is told.
-#[test]
-fn a_list_of_steps_comes_out_as_listed_and_survives(rt: HostRuntime) -> Result<(), Fail> {
-    let tree = tree_of(rt.alloc(), "db", DEFAULT_TREE, 1)?;
-    let list = steps(rt.alloc(), &tree)?;
-    run_steps(&rt, rt.alloc(), list.as_slice())?;
+fn all_survive(rt: &impl Abort, alloc: Global, list: &[Step]) -> Result<(), Fail> {
+    let mut machine = new_machine(alloc, b"db")?;
+    let ran = run_steps(rt, &mut machine, list);
+    drop(machine);
+    ran?;
+    let key = bytes(alloc, "a")?;
     for (keep, wanted) in [(0, "2"), (1, "1"), (9, "1")] {
-        survives(&rt, rt.alloc(), list.as_slice(), keep, wanted)?;
+        survives(rt, alloc, list, &key, keep, wanted)?;
     }
     Ok(())
+}
+
+fn list_of(alloc: Global, list: &mut Vec<Step>) -> Result<(), Fail> {
+    let tree = tree_of(alloc, "db", DEFAULT_TREE, 1)?;
+    add_steps(alloc, &tree, list)
+}
+
+#[test]
+fn a_list_of_steps_comes_out_as_listed_and_survives(rt: HostRuntime) -> Result<(), Fail> {
+    let mut list = Vec::new(rt.alloc());
+    match list_of(rt.alloc(), &mut list) {
+        Ok(()) => {
+            let ended = all_survive(&rt, rt.alloc(), list.as_slice());
+            drop(list);
+            ended
+        }
+        Err(e) => {
+            drop(list);
+            Err(e)
+        }
+    }
+}
+
+// A key, and two values for it.
+type Row = (IVec, IVec, IVec);
+
+fn row(alloc: Global) -> Result<Row, Fail> {
+    Ok((bytes(alloc, "a")?, bytes(alloc, "1")?, bytes(alloc, "2")?))
 }
 
 // The steps of the two go in the order that the digits of a number say: whether the second was decided last.
 fn race_once(
     rt: &impl Abort,
-    alloc: Global,
     machine: &mut Machine<MemPages>,
     tree: &Tree,
+    row: &Row,
     number: u32,
 ) -> Result<bool, Fail> {
-    let (key, one, two) = (bytes(alloc, "a")?, bytes(alloc, "1")?, bytes(alloc, "2")?);
     let order = [1, 2, 4, 8, 16, 32].map(|digit| number & digit != 0);
-    let is_second = race(machine, tree, &key, &one, &two, &order)?;
+    let is_second = race(machine, tree, &row.0, &row.1, &row.2, &order)?;
     assert!(rt; is_second.is_some(), "{number}");
-    let wanted = if is_second == Some(true) { "2" } else { "1" };
-    let read = get(machine, tree, &key)?;
-    is_told(rt, &read, wanted);
+    let read = get(machine, tree, &row.0)?;
+    is_told(rt, &read, if is_second == Some(true) { "2" } else { "1" });
     drop(read);
     Ok(is_second == Some(true))
 }
 
 fn races(
     rt: &impl Abort,
-    alloc: Global,
     machine: &mut Machine<MemPages>,
     tree: &Tree,
+    row: &Row,
 ) -> Result<(), Fail> {
     let mut wins = 0u32;
     for number in 0..64u32 {
-        let is_second = race_once(rt, alloc, machine, tree, number)?;
+        let is_second = race_once(rt, machine, tree, row, number)?;
         wins = wins.wrapping_add(is_second as u32);
     }
     assert!(rt; wins > 0 && wins < 64);
@@ -248,15 +302,20 @@ fn races(
 
 #[test]
 fn whoever_is_decided_last_wins_in_each_order(rt: HostRuntime) -> Result<(), Fail> {
-    let mut machine = new_machine(rt.alloc(), b"db")?;
+    let row = row(rt.alloc())?;
     let tree = tree_of(rt.alloc(), "db", DEFAULT_TREE, 1)?;
-    races(&rt, rt.alloc(), &mut machine, &tree)
+    let mut machine = new_machine(rt.alloc(), b"db")?;
+    let ended = races(&rt, &mut machine, &tree, &row);
+    drop(machine);
+    ended
 }
 
-// What was inserted is read, if it was decided.
-fn reads_one(rt: &impl Abort, read: Option<Outcome>) {
-    assert_eq!(rt; read.as_ref().map(told), Some("1"));
-    drop(read);
+// What was inserted is read.
+fn reads_one(rt: &impl Abort, read: &Option<Outcome>) {
+    match read {
+        Some(outcome) => is_told(rt, outcome, "1"),
+        None => assert!(rt; false, "no get was decided"),
+    }
 }
 
 fn reopens(rt: &impl Abort, alloc: Global, machine: Machine<MemPages>) -> Result<(), Fail> {
@@ -269,23 +328,37 @@ fn reopens(rt: &impl Abort, alloc: Global, machine: Machine<MemPages>) -> Result
     Ok(())
 }
 
+fn reads_inserted(
+    rt: &impl Abort,
+    machine: &mut Machine<MemPages>,
+    tree: &Tree,
+    row: &Row,
+) -> Result<(), Fail> {
+    let read = insert_then_get(machine, tree, &row.0, &row.1)?;
+    reads_one(rt, &read);
+    drop(read);
+    Ok(())
+}
+
 #[test]
-fn what_was_inserted_is_read_in_new_databases(rt: HostRuntime) -> Result<(), Fail> {
-    let (key, value) = (bytes(rt.alloc(), "a")?, bytes(rt.alloc(), "1")?);
-    reads_one(
-        &rt,
-        insert_then_get_in_new(rt.alloc(), b"db", &key, &value)?,
-    );
+fn what_was_inserted_is_read_in_a_new_database(rt: HostRuntime) -> Result<(), Fail> {
+    let row = row(rt.alloc())?;
+    let read = insert_then_get_in_new(rt.alloc(), b"db", &row.0, &row.1)?;
+    reads_one(&rt, &read);
+    drop(read);
+    Ok(())
+}
+
+#[test]
+fn a_database_can_be_opened_again(rt: HostRuntime) -> Result<(), Fail> {
+    let row = row(rt.alloc())?;
     let tree = tree_of(rt.alloc(), "db", DEFAULT_TREE, 1)?;
     let mut machine = new_machine(rt.alloc(), b"db")?;
-    match insert_then_get(&mut machine, &tree, &key, &value) {
-        Ok(read) => {
-            reads_one(&rt, read);
-            reopens(&rt, rt.alloc(), machine)
-        }
+    match reads_inserted(&rt, &mut machine, &tree, &row) {
+        Ok(()) => reopens(&rt, rt.alloc(), machine),
         Err(e) => {
             drop(machine);
-            Err(Fail::from(e))
+            Err(e)
         }
     }
 }

@@ -1,8 +1,9 @@
 //! How many pages a call reads, by a store that counts its reads.
-use sled::{Db, empty_pages};
+use super::tree_of;
+use sled::{DEFAULT_TREE, Db, empty_pages};
 use sled_machine::Machine;
-use sled_model::{Call, MergeOperator, Outcome, Reply, Tree};
-use sled_pages::{IVec, Link, MemPages, Node, Pages, Pid, Result as Told, Version, View};
+use sled_model::{Call, MergeOperator, Outcome, Reply, Slot, Tree};
+use sled_pages::{Error, IVec, Link, MemPages, Node, Pages, Pid, Result as Told, Version, View};
 use std::alloc::Global;
 use std::ops::Bound;
 use std::process::Abort;
@@ -92,7 +93,7 @@ impl<'a> Pages for Counting<'a> {
 }
 
 // How many levels the default tree has.
-fn levels_of(alloc: Global, pages: &MemPages) -> Result<u64, Fail> {
+fn levels_of(alloc: Global, pages: &MemPages) -> Told<u64> {
     let mut next = pages.root(b"__sled__default");
     for level in 0..64u64 {
         let Some(pid) = next else {
@@ -106,29 +107,40 @@ fn levels_of(alloc: Global, pages: &MemPages) -> Result<u64, Fail> {
     Ok(64)
 }
 
-// How many pages a call at the key of this number reads: a get that finds the key, or an insert of it where it is not there.
+fn key_of(alloc: Global, number: u64) -> Result<IVec, Fail> {
+    Ok(IVec::from_slice(alloc, &number.to_be_bytes())?)
+}
+
+fn insert_of(alloc: Global, number: u64) -> Result<Call, Fail> {
+    let (key, value) = (key_of(alloc, number)?, key_of(alloc, number)?);
+    Ok(Call::Insert(key, value))
+}
+
+// Whether the call was decided, with the key of this number in its reply, or with none.
+fn is_value(outcome: &Outcome, number: Option<u64>) -> bool {
+    match (outcome, number) {
+        (Outcome::Decided(Reply::Value(Some(value))), Some(number)) => {
+            value.as_ref() == number.to_be_bytes().as_slice()
+        }
+        (Outcome::Decided(Reply::Value(None)), None) => true,
+        _ => false,
+    }
+}
+
+// How many pages the rest of the call reads.
 fn reads_of<P: Pages, M: MergeOperator>(
     rt: &impl Abort,
     machine: &mut Machine<P, M>,
-    tree: &Tree,
     reads: &AtomicU64,
-    number: u64,
-    is_there: bool,
-) -> Result<u64, Fail> {
-    let key = IVec::from_slice(machine.db().allocator(), &number.to_be_bytes())?;
-    let call = if is_there {
-        Call::Get(key.clone()?)
-    } else {
-        Call::Insert(key.clone()?, key.clone()?)
-    };
-    let slot = machine.begin(tree, call)?;
+    slot: Slot,
+    wanted: Option<u64>,
+) -> u64 {
     reads.store(0, Ordering::Relaxed);
-    let found = match machine.finish(slot) {
-        Outcome::Decided(Reply::Value(value)) => value == Some(key),
-        _ => !is_there,
-    };
-    assert_eq!(rt; found, is_there);
-    Ok(reads.load(Ordering::Relaxed))
+    let outcome = machine.finish(slot);
+    let is_wanted = is_value(&outcome, wanted);
+    drop(outcome);
+    assert!(rt; is_wanted);
+    reads.load(Ordering::Relaxed)
 }
 
 // How many keys there are, how many of them are looked for, and what the numbers of the keys begin with.
@@ -145,39 +157,59 @@ fn mixed(number: u64) -> u64 {
     number ^ (number << 17)
 }
 
-// A tree of random keys has five levels, of which a get reads a page each. An insert splits each level once at most, and reads its
-// way from the root anew after each split: 5 + 5 + 4 + 3 + 2 + 1. All together read less than half a page more each than five.
-fn reads_are_few<M: MergeOperator>(
+// Inserts all keys. Each level splits once at most, and after each split the call reads its way from the root anew:
+// 5 + 5 + 4 + 3 + 2 + 1. All together read less than half a page more each than there are levels.
+fn put_all<P: Pages, M: MergeOperator>(
     rt: &impl Abort,
     alloc: Global,
-    db: Db<Counting<'_>, M>,
+    machine: &mut Machine<P, M>,
+    tree: &Tree,
     reads: &AtomicU64,
 ) -> Result<(), Fail> {
-    let tree = db.default_tree()?;
-    let mut machine = Machine::new(db);
-    let mut most = 0u64;
-    let mut all = 0u64;
-    let mut number = SEED;
+    let (mut most, mut all, mut number) = (0u64, 0u64, SEED);
     for _ in 0..KEYS {
         number = mixed(number);
-        let count = reads_of(rt, &mut machine, &tree, reads, number, false)?;
+        let slot = machine.begin(tree, insert_of(alloc, number)?)?;
+        let count = reads_of(rt, machine, reads, slot, None);
         most = most.max(count);
         all = all.wrapping_add(count);
     }
     assert!(rt; most <= 20 && all / (KEYS / 2) <= 10, "{most} {all}");
-    number = SEED;
-    for _ in 0..SOUGHT {
-        number = mixed(number);
-        // A get too splits a page that it finds too long: the second counts.
-        reads_of(rt, &mut machine, &tree, reads, number, true)?;
-        let count = reads_of(rt, &mut machine, &tree, reads, number, true)?;
-        assert_eq!(rt; count, 5);
-    }
-    let pages = machine.into_db().into_pages();
-    assert_eq!(rt; levels_of(alloc, &pages.inner)?, 5);
     Ok(())
 }
 
+// Finds the first keys. A get too splits a page that it finds too long, so each key is looked for twice, and the second counts.
+fn find_first<P: Pages, M: MergeOperator>(
+    rt: &impl Abort,
+    alloc: Global,
+    machine: &mut Machine<P, M>,
+    tree: &Tree,
+    reads: &AtomicU64,
+) -> Result<(), Fail> {
+    let mut number = SEED;
+    for round in 0..2 * SOUGHT {
+        if round % 2 == 0 {
+            number = mixed(number);
+        }
+        let slot = machine.begin(tree, Call::Get(key_of(alloc, number)?))?;
+        let count = reads_of(rt, machine, reads, slot, Some(number));
+        assert!(rt; round % 2 == 0 || count == 5, "{count}");
+    }
+    Ok(())
+}
+
+fn reads_are_few<P: Pages, M: MergeOperator>(
+    rt: &impl Abort,
+    alloc: Global,
+    machine: &mut Machine<P, M>,
+    reads: &AtomicU64,
+) -> Result<(), Fail> {
+    let tree = tree_of(alloc, "db", DEFAULT_TREE, 1)?;
+    put_all(rt, alloc, machine, &tree, reads)?;
+    find_first(rt, alloc, machine, &tree, reads)
+}
+
+// A tree of random keys has five levels, of which a get reads a page each. To open reads none.
 #[test]
 fn a_call_reads_few_more_pages_than_there_are_levels(rt: HostRuntime) -> Result<(), Fail> {
     let reads = AtomicU64::new(0);
@@ -185,11 +217,16 @@ fn a_call_reads_few_more_pages_than_there_are_levels(rt: HostRuntime) -> Result<
         inner: empty_pages(rt.alloc()),
         reads: &reads,
     };
-    match Db::open(rt.alloc(), pages, b"db") {
-        Ok(db) => {
-            assert_eq!(rt; reads.load(Ordering::Relaxed), 0);
-            reads_are_few(&rt, rt.alloc(), db, &reads)
-        }
-        Err((_, e)) => Err(Fail::from(e)),
-    }
+    let Ok(db) = Db::open(rt.alloc(), pages, b"db") else {
+        return Err(Fail::from(Error::NoMemory));
+    };
+    assert_eq!(rt; reads.load(Ordering::Relaxed), 0);
+    let mut machine = Machine::new(db);
+    let ended = reads_are_few(&rt, rt.alloc(), &mut machine, &reads);
+    let pages = machine.into_db().into_pages();
+    let levels = levels_of(rt.alloc(), &pages.inner);
+    drop(pages);
+    ended?;
+    assert_eq!(rt; levels?, 5);
+    Ok(())
 }

@@ -2,25 +2,26 @@
 use sled_lines::serve::serve;
 use std::alloc::Global;
 use std::io::{self, BufRead, Read, Write};
+use std::sync::Arc;
 use std::sync::atomic::{AtomicU64, Ordering};
 use std::test::Fail;
 
 // A reader that gives one line at a time. It fails where a line is not answered yet, and at its end if it is cut.
 #[derive(Drop)]
-struct Lines<'a, 'b> {
+struct Lines<'a> {
     rest: &'a [u8],
     is_cut: bool,
     given: u64,
-    answers: &'b AtomicU64,
+    answers: Arc<AtomicU64>,
 }
 
-impl<'a, 'b> Read for Lines<'a, 'b> {
+impl<'a> Read for Lines<'a> {
     fn read(&mut self, buf: &mut [u8]) -> io::Result<usize> {
         self.rest.read(buf)
     }
 }
 
-impl<'a, 'b> BufRead for Lines<'a, 'b> {
+impl<'a> BufRead for Lines<'a> {
     fn fill_buf(&mut self) -> io::Result<&[u8]> {
         let is_over = self.rest.is_empty() && self.is_cut;
         if is_over || self.answers.load(Ordering::SeqCst) < self.given {
@@ -38,13 +39,13 @@ impl<'a, 'b> BufRead for Lines<'a, 'b> {
 
 // A writer that takes so many bytes and then fails, and may fail at a flush. It counts the lines.
 #[derive(Drop)]
-struct Page<'a> {
+struct Page {
     room: usize,
     flushes: bool,
-    answers: &'a AtomicU64,
+    answers: Arc<AtomicU64>,
 }
 
-impl<'a> Write for Page<'a> {
+impl Write for Page {
     fn write(&mut self, buf: &[u8]) -> io::Result<usize> {
         if self.room < buf.len() {
             return Err(io::Error::from(io::ErrorKind::Other));
@@ -65,21 +66,27 @@ impl<'a> Write for Page<'a> {
 }
 
 // The exit status, and how many lines were written.
-fn served(alloc: Global, rest: &[u8], is_cut: bool, room: usize, flushes: bool) -> (u8, u64) {
-    let answers = AtomicU64::new(0);
+fn served(
+    alloc: Global,
+    rest: &[u8],
+    is_cut: bool,
+    room: usize,
+    flushes: bool,
+) -> Result<(u8, u64), Fail> {
+    let answers = Arc::new(alloc, AtomicU64::new(0))?;
     let mut input = Lines {
         rest,
         is_cut,
         given: 0,
-        answers: &answers,
+        answers: Arc::try_clone(&answers)?,
     };
     let mut output = Page {
         room,
         flushes,
-        answers: &answers,
+        answers: Arc::try_clone(&answers)?,
     };
     let ended = serve(alloc, &mut input, &mut output);
-    (ended, answers.load(Ordering::SeqCst))
+    Ok((ended, answers.load(Ordering::SeqCst)))
 }
 
 #[test]
@@ -93,7 +100,7 @@ fn reads_and_writes_that_fail(rt: HostRuntime) -> Result<(), Fail> {
         (b"get a\n", false, 16, false, 2, 1),
         (b"bad\n", false, 16, false, 2, 1),
     ] {
-        let (ended, answers) = served(rt.alloc(), rest, is_cut, room, flushes);
+        let (ended, answers) = served(rt.alloc(), rest, is_cut, room, flushes)?;
         assert_eq!(rt; (ended, answers), (status, lines), "{rest:?}");
     }
     Ok(())

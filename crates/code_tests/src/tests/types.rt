@@ -156,9 +156,16 @@ fn add_call(
 ) -> Result<(), Fail> {
     let call = call_of(alloc, number)?;
     assert!(rt; call.key().as_ref() == b"a".as_slice());
-    let copy = call.clone()?;
-    all.push((call, copy))?;
-    Ok(())
+    match call.clone() {
+        Ok(copy) => {
+            all.push((call, copy))?;
+            Ok(())
+        }
+        Err(e) => {
+            drop(call);
+            Err(Fail::from(e))
+        }
+    }
 }
 
 #[test]
