@@ -14,22 +14,36 @@ use sled_model::MergeOperator;
 use sled_pages::{Data, Error, IVec, Node, Pages, Pid, Result};
 use std::alloc::Global;
 
+// The first pointer of an index, if it has one; a leaf has none.
+fn first_pointer(alloc: Global, node: &Node) -> Result<Option<Pid>>
+    ensures ok { IfOk result (λ child. child ≡ first_of (Some node.now)) }
+    ensures err { IfErr result (λ e. e ≡ NoMemory) }
+{
+    match &node.content {
+        Data::Leaf(_) => Ok(None),
+        Data::Index(index) => {
+            let pointers = index.pairs(alloc)?;
+            let child = match pointers.first() {
+                Some(pointer) => Some(pointer.1),
+                None => None,
+            };
+            drop(pointers);
+            Ok(child)
+        }
+    }
+}
+
 // The page under the first pointer of a page, if there is the page and a pointer.
 fn first_child<P: Pages>(alloc: Global, pages: &P, pid: Pid) -> Result<Option<Pid>>
     ensures ok { IfOk result (λ child. child ≡ first_of (nodes_of (now (P.store pages.now)) pid)) }
     ensures err { IfErr result (RefusesRead (P.store pages.now)) }
 {
-    let Some(view) = pages.read(alloc, pid)? else {
-        return Ok(None);
-    };
-    match &view.node.content {
-        Data::Leaf(_) => Ok(None),
-        Data::Index(index) => {
-            let pointers = index.pairs(alloc)?;
-            match pointers.first() {
-                Some(pointer) => Ok(Some(pointer.1)),
-                None => Ok(None),
-            }
+    match pages.read(alloc, pid)? {
+        None => Ok(None),
+        Some(view) => {
+            let child = first_pointer(alloc, &view.node);
+            drop(view);
+            child
         }
     }
 }
@@ -74,7 +88,11 @@ fn read_pairs<P: Pages>(
 {
     match pages.read(alloc, pid)? {
         None => Ok((Vec::new(alloc), None)),
-        Some(view) => node_pairs_and_next(alloc, &view.node),
+        Some(view) => {
+            let read = node_pairs_and_next(alloc, &view.node);
+            drop(view);
+            read
+        }
     }
 }
 

@@ -97,10 +97,15 @@ impl<P: Pages> Db<P> {
         };
         let name = match IVec::from_slice(alloc, name) {
             Ok(name) => name,
-            Err(e) => return Err((pages, e)),
+            Err(e) => {
+                drop(trees);
+                return Err((pages, e));
+            }
         };
         law_given(&pages);
         if let Err(e) = pages.flush() {
+            drop(trees);
+            drop(name);
             return Err((pages, e));
         }
         let trees_given = trees.len() as u64;

@@ -5,4 +5,3 @@ pub mod State
 pub mod Refusal
 pub mod Steps
 pub mod Runs
-pub mod Plain

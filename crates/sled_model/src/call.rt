@@ -2,12 +2,13 @@
 ghost use Rattle.std.specs.Prelude.{◌≡◌, IfOk, IfErr};
 ghost use Rattle.sled_pages.specs.declared.error.Error.TheVariants.{NoMemory};
 ghost use Rattle.sled_model.specs.Answer.{key_of};
+ghost use Rattle.sled_model.specs.declared.call.Call.TheVariants.{Insert, CompareAndSwap};
 
 use crate::reply::clone_value;
 use sled_pages::{IVec, Result};
 
 /// A call on one key of a tree. It takes effect at one step, its deciding step.
-#[derive(Debug, Drop, PartialEq, Eq)]
+#[derive(Drop, PartialEq, Eq)]
 pub enum Call {
     /// The value at a key.
     Get(IVec),
@@ -20,7 +21,7 @@ pub enum Call {
 }
 
 /// A call that is one step of the machine as a whole.
-#[derive(Debug, Drop, PartialEq, Eq)]
+#[derive(Drop, PartialEq, Eq)]
 pub enum Whole {
     /// Makes all that was decided durable. Replies with the store's number.
     Flush,
@@ -46,13 +47,47 @@ impl Call {
     {
         match self {
             Call::Get(key) => Ok(Call::Get(key.clone()?)),
-            Call::Insert(key, value) => Ok(Call::Insert(key.clone()?, value.clone()?)),
+            Call::Insert(key, value) => copied_insert(key, value),
             Call::Remove(key) => Ok(Call::Remove(key.clone()?)),
-            Call::CompareAndSwap(key, old, new) => Ok(Call::CompareAndSwap(
-                key.clone()?,
-                clone_value(old)?,
-                clone_value(new)?,
-            )),
+            Call::CompareAndSwap(key, old, new) => copied_swap(key, old, new),
+        }
+    }
+}
+
+// The call that sets a copy of a value at a copy of a key.
+fn copied_insert(key: &IVec, value: &IVec) -> Result<Call>
+    ensures ok { IfOk result (λ call. call ≡ Insert key.now value.now) }
+    ensures err { IfErr result (λ e. e ≡ NoMemory) }
+{
+    let key = key.clone()?;
+    match value.clone() {
+        Ok(value) => Ok(Call::Insert(key, value)),
+        Err(e) => {
+            drop(key);
+            Err(e)
+        }
+    }
+}
+
+// The call that swaps copies of two values at a copy of a key.
+fn copied_swap(key: &IVec, old: &Option<IVec>, new: &Option<IVec>) -> Result<Call>
+    ensures ok { IfOk result (λ call. call ≡ CompareAndSwap key.now old.now new.now) }
+    ensures err { IfErr result (λ e. e ≡ NoMemory) }
+{
+    let key = key.clone()?;
+    let old = match clone_value(old) {
+        Ok(old) => old,
+        Err(e) => {
+            drop(key);
+            return Err(e);
+        }
+    };
+    match clone_value(new) {
+        Ok(new) => Ok(Call::CompareAndSwap(key, old, new)),
+        Err(e) => {
+            drop(key);
+            drop(old);
+            Err(e)
         }
     }
 }

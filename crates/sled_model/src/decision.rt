@@ -8,7 +8,7 @@ use crate::{Call, CompareAndSwapError, Reply};
 use sled_pages::{IVec, Result};
 
 /// What becomes of the value at a key.
-#[derive(Debug, Drop, PartialEq, Eq)]
+#[derive(Drop, PartialEq, Eq)]
 pub enum Effect {
     /// It stays, and subscribers learn of nothing.
     Nothing,
@@ -19,7 +19,7 @@ pub enum Effect {
 }
 
 /// What becomes of the value at the key of a call, and the call's reply.
-#[derive(Debug, Drop, PartialEq, Eq)]
+#[derive(Drop, PartialEq, Eq)]
 pub struct Decision {
     pub effect: Effect,
     pub reply: Reply,

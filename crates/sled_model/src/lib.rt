@@ -9,7 +9,6 @@ mod decision;
 mod event;
 mod operator;
 mod outcome;
-pub mod plain;
 mod reply;
 mod tree;
 

@@ -4,7 +4,7 @@ use sled_pages::Error;
 use std::marker::Model;
 
 /// Names a call in flight. Slots are numbered from 1, in order of the begins that succeeded.
-#[derive(Clone, Copy, Debug, PartialEq, Eq)]
+#[derive(Clone, Copy, PartialEq, Eq)]
 pub struct Slot(pub u64);
 
 impl Model for Slot {
@@ -18,7 +18,7 @@ impl Model for Slot {
 }
 
 /// One step of the machine.
-#[derive(Debug, Drop)]
+#[derive(Drop)]
 pub enum Step {
     /// A call on a tree takes a slot.
     Begin(Tree, Call),
@@ -31,7 +31,7 @@ pub enum Step {
 }
 
 /// How a step came out. `Decided`, `Refused` and `Abandoned` end the slot.
-#[derive(Debug, Drop)]
+#[derive(Drop)]
 pub enum Outcome {
     /// The call took this slot.
     Begun(Slot),

@@ -34,7 +34,7 @@ impl Display for CompareAndSwapError {
 }
 
 /// What a decided call answers.
-#[derive(Debug, Drop, PartialEq, Eq)]
+#[derive(Drop, PartialEq, Eq)]
 pub enum Reply {
     /// The value that stands or stood at the key, if any.
     Value(Option<IVec>),

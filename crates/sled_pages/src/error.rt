@@ -56,14 +56,14 @@ impl Error {
 impl Display for Error {
     fn fmt<W: Write>(&self, f: &mut Formatter<W>) -> fmt::Result {
         match self {
-            Error::CollectionNotFound(_) => write!(f, "collection not found"),
+            Error::CollectionNotFound(_) => f.write_str("collection not found"),
             Error::Unsupported(text) => write!(f, "unsupported: {text}"),
             Error::ReportableBug(text) => write!(f, "reportable bug: {text}"),
             Error::Io(fault) => write!(f, "io fault {}", fault.0),
             Error::Corruption(fault) => write!(f, "corruption {}", fault.0),
-            Error::NoMemory => write!(f, "no memory"),
-            Error::FullQueue => write!(f, "queue full"),
-            Error::Closed => write!(f, "closed"),
+            Error::NoMemory => f.write_str("no memory"),
+            Error::FullQueue => f.write_str("queue full"),
+            Error::Closed => f.write_str("closed"),
         }
     }
 }

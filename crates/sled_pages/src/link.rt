@@ -6,7 +6,7 @@ use crate::error::Result;
 use crate::{IVec, Pid};
 
 ///! Changes of one page.
-#[derive(Debug, Drop)]
+#[derive(Drop)]
 pub enum Link {
     /// A leaf has the value at the key.
     Set(IVec, IVec),

@@ -349,12 +349,15 @@ impl Pages for MemPages {
 
     fn allocate(&mut self, node: Node) -> Result<(Pid, Version)> {
         if let Err(e) = self.start_version() {
+            drop(node);
             return Err(e);
         }
         if !self.slots.has_number() {
+            drop(node);
             return Err(fault(&mut self.faults, USED_UP));
         }
         if let Err(e) = self.slots.reserve() {
+            drop(node);
             return Err(e);
         }
         let version = Version(self.next_version);
@@ -372,17 +375,26 @@ impl Pages for MemPages {
         link: Link,
     ) -> Result<std::result::Result<Version, Option<Version>>> {
         if let Err(e) = self.start_version() {
+            drop(link);
             return Err(e);
         }
         if let Err(present) = self.tested(pid, version) {
+            drop(link);
             return Ok(Err(present));
         }
         let mut node = match self.copied(self.alloc, pid) {
             Ok(Some(page)) => page.node,
-            Ok(None) => return Ok(Err(None)),
-            Err(e) => return Err(e),
+            Ok(None) => {
+                drop(link);
+                return Ok(Err(None));
+            }
+            Err(e) => {
+                drop(link);
+                return Err(e);
+            }
         };
         if let Err(e) = node.apply(link) {
+            drop(node);
             return Err(e);
         }
         Ok(Ok(self.commit_node(pid, node)))
@@ -395,9 +407,11 @@ impl Pages for MemPages {
         node: Node,
     ) -> Result<std::result::Result<Version, Option<Version>>> {
         if let Err(e) = self.start_version() {
+            drop(node);
             return Err(e);
         }
         if let Err(present) = self.tested(pid, version) {
+            drop(node);
             return Ok(Err(present));
         }
         Ok(Ok(self.commit_node(pid, node)))

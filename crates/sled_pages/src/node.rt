@@ -1,5 +1,5 @@
 //! One page of a tree: a leaf of pairs or an index of pointers.
-ghost use Rattle.std.specs.Prelude.{◌≡◌, nat_le, true, ◌<◌, ◌≤◌, ◌++◌, ◌↔◌, IsTrue, if◌then◌else◌, is_none, length, IfOk, IfErr, OnOk, OnErr};
+ghost use Rattle.std.specs.Prelude.{◌≡◌, nat_le, true, ◌<◌, ◌≤◌, ◌++◌, ◌↔◌, IsTrue, false, None, if◌then◌else◌, is_none, length, IfOk, IfErr, OnOk, OnErr};
 ghost use Rattle.sled_pages.specs.declared.error.Error.TheVariants.{NoMemory};
 ghost use Rattle.std.specs.FinMap.Entries.{put, find};
 ghost use Rattle.std.specs.Option.{option_copied};
@@ -13,7 +13,7 @@ ghost use Rattle.sled_pages.specs.Posting.{IsOpen, IsIndex, Posts};
 
 use crate::among::{first_place, last_place, place_of};
 use crate::error::Result;
-use crate::pairs::{put_pair, take_out, value_at};
+use crate::pairs::{clone_pair, put_pair, take_out, value_at};
 use crate::{IVec, Link, Pid};
 use std::alloc::Global;
 use std::marker::Model;
@@ -25,7 +25,7 @@ const MOST: usize = 16;
 const FEW: usize = 3;
 
 /// A leaf's pairs of a key and a value. Contracts see it as the list of them.
-#[derive(Debug, Drop)]
+#[derive(Drop)]
 pub struct Leaf {
     pairs: Vec<(IVec, IVec)>,
 }
@@ -39,7 +39,7 @@ impl Model for Leaf {
 }
 
 /// An index's pairs of a key and a page number. Contracts see it as the list of them.
-#[derive(Debug, Drop)]
+#[derive(Drop)]
 pub struct Index {
     pointers: Vec<(IVec, Pid)>,
 }
@@ -53,7 +53,7 @@ impl Model for Index {
 }
 
 /// What a node holds.
-#[derive(Debug, Drop)]
+#[derive(Drop)]
 pub enum Data {
     /// Pairs of a key and a value.
     Leaf(Leaf),
@@ -62,7 +62,7 @@ pub enum Data {
 }
 
 /// One page of a tree. It covers the keys from `lo` on that are below `hi`; an empty `hi` is no upper bound.
-#[derive(Debug, Drop)]
+#[derive(Drop)]
 pub struct Node {
     /// The least key that the page covers.
     pub lo: IVec,
@@ -90,9 +90,7 @@ fn copy_pairs(alloc: Global, pairs: &[(IVec, IVec)]) -> Result<Vec<(IVec, IVec)>
 {
     let mut copy = Vec::with_capacity(alloc, pairs.len())?;
     for pair in pairs {
-        let key = pair.0.clone()?;
-        let value = pair.1.clone()?;
-        copy.push((key, value))?;
+        copy.push(clone_pair(&pair.0, &pair.1)?)?;
     }
     Ok(copy)
 }
@@ -102,9 +100,7 @@ fn add_pairs(pairs: &mut Vec<(IVec, IVec)>, more: &[(IVec, IVec)]) -> Result<()>
     ensures err { IfErr result (λ e. e ≡ NoMemory) }
 {
     for pair in more {
-        let key = pair.0.clone()?;
-        let value = pair.1.clone()?;
-        pairs.push((key, value))?;
+        pairs.push(clone_pair(&pair.0, &pair.1)?)?;
     }
     Ok(())
 }
@@ -224,7 +220,7 @@ impl Leaf {
         ensures err { IfErr result (λ e. e ≡ NoMemory) }
     {
         match first_place(self.pairs.as_slice(), bound) {
-            Some(i) => Ok(Some((self.pairs[i].0.clone()?, self.pairs[i].1.clone()?))),
+            Some(i) => Ok(Some(clone_pair(&self.pairs[i].0, &self.pairs[i].1)?)),
             None => Ok(None),
         }
     }
@@ -235,7 +231,7 @@ impl Leaf {
         ensures err { IfErr result (λ e. e ≡ NoMemory) }
     {
         match last_place(self.pairs.as_slice(), bound) {
-            Some(i) => Ok(Some((self.pairs[i].0.clone()?, self.pairs[i].1.clone()?))),
+            Some(i) => Ok(Some(clone_pair(&self.pairs[i].0, &self.pairs[i].1)?)),
             None => Ok(None),
         }
     }
@@ -452,6 +448,21 @@ impl Data {
             Data::Index(index) => index.first_key(alloc),
         }
     }
+
+    // An open node of these entries.
+    fn between(self, bounds: (IVec, IVec), next: Option<Pid>) -> Node
+        ensures { result ≡ record { lo = bounds.0; hi = bounds.1; next = next; merging = false; merging_child = None; content = self } }
+    {
+        let (lo, hi) = bounds;
+        Node {
+            lo,
+            hi,
+            next,
+            merging: false,
+            merging_child: None,
+            content: self,
+        }
+    }
 }
 
 impl Node {
@@ -492,15 +503,18 @@ impl Node {
         ensures cause { IfErr result (λ e. e ≡ NoMemory) }
     {
         match link {
-            Link::Set(key, value) => {
-                if let Data::Leaf(leaf) = &mut self.content {
-                    leaf.set(key, value)?;
+            Link::Set(key, value) => match &mut self.content {
+                Data::Leaf(leaf) => leaf.set(key, value)?,
+                Data::Index(_) => {
+                    drop(key);
+                    drop(value);
                 }
-            }
+            },
             Link::Del(key) => {
                 if let Data::Leaf(leaf) = &mut self.content {
                     leaf.del(&key);
                 }
+                drop(key);
             }
             Link::ParentMergeIntention(child) => {
                 if let Data::Index(_) = &self.content {
@@ -529,24 +543,38 @@ impl Node {
         ensures err { IfErr result (λ e. e ≡ NoMemory) }
     {
         let (left, right) = self.content.halves(alloc)?;
-        let hi = right.first_key(alloc)?;
-        let left = Node {
-            lo: self.lo.clone()?,
-            hi: hi.clone()?,
-            next: None,
-            merging: false,
-            merging_child: None,
-            content: left,
+        match self.bounds_of_halves(alloc, &right) {
+            Ok((lower, upper)) => Ok((left.between(lower, None), right.between(upper, self.next))),
+            Err(e) => {
+                drop(left);
+                drop(right);
+                Err(e)
+            }
+        }
+    }
+
+    // The bounds of the left half and of the right one, which has these entries.
+    fn bounds_of_halves(&self, alloc: Global, right: &Data) -> Result<((IVec, IVec), (IVec, IVec))>
+        ensures left { IfOk result (λ bounds. bounds.0 ≡ (self.now.lo, first_key_of right.now)) }
+        ensures right { IfOk result (λ bounds. bounds.1 ≡ (first_key_of right.now, self.now.hi)) }
+        ensures err { IfErr result (λ e. e ≡ NoMemory) }
+    {
+        let middle = right.first_key(alloc)?;
+        let lower = match clone_pair(&self.lo, &middle) {
+            Ok(bounds) => bounds,
+            Err(e) => {
+                drop(middle);
+                return Err(e);
+            }
         };
-        let right = Node {
-            lo: hi,
-            hi: self.hi.clone()?,
-            next: self.next,
-            merging: false,
-            merging_child: None,
-            content: right,
-        };
-        Ok((left, right))
+        match self.hi.clone() {
+            Ok(hi) => Ok((lower, (middle, hi))),
+            Err(e) => {
+                drop(lower);
+                drop(middle);
+                Err(e)
+            }
+        }
     }
 
     /// The node with the entries, the `hi` and the `next` of the node behind it, which is of the same kind and begins where

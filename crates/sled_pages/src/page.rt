@@ -2,14 +2,14 @@
 use crate::{Node, Pid, Version};
 
 /// A page: its version and its node.
-#[derive(Debug, Drop)]
+#[derive(Drop)]
 pub struct Page {
     pub version: Version,
     pub node: Node,
 }
 
 /// A page as it was read: its number, its version then and its node then.
-#[derive(Debug, Drop)]
+#[derive(Drop)]
 pub struct View {
     pub pid: Pid,
     pub version: Version,

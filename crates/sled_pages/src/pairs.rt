@@ -28,6 +28,21 @@ fn place<V>(pairs: &[(IVec, V)], key: &IVec) -> std::result::Result<usize, usize
     Err(pairs.len())
 }
 
+// The same key and value.
+pub fn clone_pair(key: &IVec, value: &IVec) -> Result<(IVec, IVec)>
+    ensures ok { IfOk result (λ copy. copy ≡ (key.now, value.now)) }
+    ensures err { IfErr result (λ e. e ≡ NoMemory) }
+{
+    let key = key.clone()?;
+    match value.clone() {
+        Ok(value) => Ok((key, value)),
+        Err(e) => {
+            drop(key);
+            Err(e)
+        }
+    }
+}
+
 // Puts a pair in its place.
 pub fn put_pair<V: Drop>(pairs: &mut Vec<(IVec, V)>, key: IVec, value: V) -> Result<()>
     ensures ok { OnOk result (pairs.new.items ≡ put (slice_cmp nat_cmp) key value pairs.old.items) }

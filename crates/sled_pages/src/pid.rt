@@ -2,7 +2,7 @@
 use std::marker::Model;
 
 /// The number of a page, from 1. A store never gives one twice, not after a crash either.
-#[derive(Clone, Copy, Debug, PartialEq, Eq)]
+#[derive(Clone, Copy, PartialEq, Eq)]
 pub struct Pid(pub u64);
 
 impl Model for Pid {
@@ -16,7 +16,7 @@ impl Model for Pid {
 }
 
 /// The version of a page. Every change of a page gives it one that the store never gave before.
-#[derive(Clone, Copy, Debug, PartialEq, Eq)]
+#[derive(Clone, Copy, PartialEq, Eq)]
 pub struct Version(pub u64);
 
 impl Model for Version {

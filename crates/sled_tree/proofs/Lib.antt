@@ -5,3 +5,4 @@ pub mod Passing
 pub mod Acting
 pub mod Splits
 pub mod Merges
+pub mod Families

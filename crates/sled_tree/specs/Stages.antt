@@ -73,6 +73,24 @@ pub record IsConfirm (m : Moment) (w : Forest) (j : Job) (a : Confirm) : Type 0 
   pub node : Node
   pub confirming : IsConfirmingOf m w j.tree.name j.tree.number a.parent a.child a.version node
 
+-- the stage is one of a merge
+abbrev pub IsOfMerge : Stage → Type 0
+IsOfMerge stage.Root = ⊥
+IsOfMerge (stage.Walk a) = ⊥
+IsOfMerge (stage.Act v) = ⊥
+IsOfMerge (stage.Split a) = ⊥
+IsOfMerge (stage.Shorten a) = ⊥
+IsOfMerge (stage.Post a) = ⊥
+IsOfMerge (stage.Hoist a) = ⊥
+IsOfMerge (stage.Crown a) = ⊥
+IsOfMerge (stage.Free a) = ⊥
+IsOfMerge (stage.Intend a) = Unit {0}
+IsOfMerge (stage.Child a) = Unit {0}
+IsOfMerge (stage.Cap a) = Unit {0}
+IsOfMerge (stage.Seek a) = Unit {0}
+IsOfMerge (stage.Receive a) = Unit {0}
+IsOfMerge (stage.Confirm a) = Unit {0}
+
 -- what a call knows at its stage
 abbrev pub IsStage : Moment → Forest → Job → Stage → Type 0
 IsStage m w j stage.Root = Unit {0}

@@ -4,17 +4,35 @@ ghost use Rattle.sled_pages.specs.Store.{now};
 ghost use Rattle.sled_pages.specs.declared.error.Error.TheVariants.{NoMemory};
 ghost use Rattle.sled_tree.specs.Moves.{Moves};
 ghost use Rattle.sled_tree.specs.Passing.{Passes};
-ghost use Rattle.sled_tree.specs.Change.{IsChangeOf};
+ghost use Rattle.sled_tree.specs.Change.{IsChangeOf, link_of};
 
 use crate::flight::{Job, Next, Stage};
 use sled_model::{Decision, Effect, Reply};
-use sled_pages::{Link, Node, Pages, Result, View};
+use sled_pages::{IVec, Link, Node, Pages, Result, View};
 
 // A link, and the reply of the call that makes it.
 #[derive(Drop)]
 pub(crate) struct Change {
     pub(crate) link: Link,
     pub(crate) reply: Reply,
+}
+
+// The link that has an effect at a key; without an effect there is none.
+fn link_for(key: &IVec, effect: Effect) -> Result<Option<Link>>
+    ensures ok { IfOk result (λ link. link_of effect key.now ≡ link) }
+    ensures err { IfErr result (λ e. e ≡ NoMemory) }
+{
+    match effect {
+        Effect::Nothing => Ok(None),
+        Effect::Set(value) => match key.clone() {
+            Ok(key) => Ok(Some(Link::Set(key, value))),
+            Err(e) => {
+                drop(value);
+                Err(e)
+            }
+        },
+        Effect::Remove => Ok(Some(Link::Del(key.clone()?))),
+    }
 }
 
 // Prepares the call's change of its leaf: all that wants memory comes before the link, after which nothing is refused.
@@ -24,16 +42,16 @@ fn prepare(job: &Job, node: &Node) -> Result<Option<Change>>
 {
     let key = job.call.key();
     let Decision { effect, reply } = job.call.decide(node.get(key.as_ref())?)?;
-    match effect {
-        Effect::Nothing => Ok(None),
-        Effect::Set(value) => Ok(Some(Change {
-            link: Link::Set(key.clone()?, value),
-            reply,
-        })),
-        Effect::Remove => Ok(Some(Change {
-            link: Link::Del(key.clone()?),
-            reply,
-        })),
+    match link_for(key, effect) {
+        Ok(Some(link)) => Ok(Some(Change { link, reply })),
+        Ok(None) => {
+            drop(reply);
+            Ok(None)
+        }
+        Err(e) => {
+            drop(reply);
+            Err(e)
+        }
     }
 }
 

@@ -3,6 +3,7 @@ ghost use Rattle.std.specs.Prelude.{◌<◌};
 ghost use Rattle.sled_pages.specs.Store.{now};
 ghost use Rattle.sled_tree.specs.Moves.{Moves, Advances};
 ghost use Rattle.sled_tree.specs.Passing.{Passes, GoesFurther};
+ghost use Rattle.sled_tree.specs.Stages.{IsOfMerge};
 
 use crate::act::act;
 use crate::flight::{Flight, Job, Next, Stage, Went};
@@ -29,12 +30,24 @@ fn step<P: Pages>(pages: &mut P, alloc: Global, job: &Job, stage: Stage) -> Next
         Stage::Hoist(pair) => hoist(pages, alloc, job, pair),
         Stage::Crown(root) => crown(pages, job, root),
         Stage::Free(own) => free(pages, job, own),
+        _ => step_of_merge(pages, alloc, job, stage),
+    }
+}
+
+// The same, of the stages of a merge.
+fn step_of_merge<P: Pages>(pages: &mut P, alloc: Global, job: &Job, stage: Stage) -> Next
+    requires { IsOfMerge stage }
+    ensures moves { Moves job.now (P.store pages.old) stage result (P.store pages.new) }
+    ensures passes { Passes job.now (now (P.store pages.old)) stage result (now (P.store pages.new)) }
+{
+    match stage {
         Stage::Intend(merge) => intend(pages, job, merge),
         Stage::Child(merge) => read_child(pages, alloc, job, merge),
         Stage::Cap(child) => cap(pages, job, child),
         Stage::Seek(search) => seek(pages, alloc, job, search),
         Stage::Receive(child) => receive(pages, alloc, job, child),
         Stage::Confirm(child) => confirm(pages, job, child),
+        _ => unreachable!(),
     }
 }
 

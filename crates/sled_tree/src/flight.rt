@@ -6,14 +6,14 @@ use sled_model::{Call, Reply, Tree};
 use sled_pages::{Error, IVec, Node, Pid, Version, View};
 
 /// What a call in flight is to do. It stays as it is.
-#[derive(Debug, Drop)]
+#[derive(Drop)]
 pub struct Job {
     pub tree: Tree,
     pub call: Call,
 }
 
 /// A walk to the leaf of the call's key.
-#[derive(Debug, Drop)]
+#[derive(Drop)]
 pub struct Walk {
     /// The page that is read next.
     pub cursor: Pid,
@@ -26,7 +26,7 @@ pub struct Walk {
 }
 
 /// Where the right half of a split gets its pointer.
-#[derive(Debug, Drop)]
+#[derive(Drop)]
 pub enum Posting {
     /// In this index.
     Parent(View),
@@ -37,14 +37,14 @@ pub enum Posting {
 }
 
 /// A page that is to be split.
-#[derive(Debug, Drop)]
+#[derive(Drop)]
 pub struct Split {
     pub page: View,
     pub posting: Posting,
 }
 
 /// A split whose right half is a new page. The page that is split is to become the left half.
-#[derive(Debug, Drop)]
+#[derive(Drop)]
 pub struct Shorten {
     pub page: View,
     pub posting: Posting,
@@ -58,7 +58,7 @@ pub struct Shorten {
 }
 
 /// A page that is to get a pointer in an index.
-#[derive(Debug, Drop)]
+#[derive(Drop)]
 pub struct Post {
     pub parent: View,
     /// Where the page begins.
@@ -67,7 +67,7 @@ pub struct Post {
 }
 
 /// Two pages that are to get a new root over them.
-#[derive(Debug, Drop)]
+#[derive(Drop)]
 pub struct Hoist {
     /// The root now.
     pub left: Pid,
@@ -77,7 +77,7 @@ pub struct Hoist {
 }
 
 /// A new page that is to become the root.
-#[derive(Debug, Drop)]
+#[derive(Drop)]
 pub struct Crown {
     /// The root now.
     pub old: Pid,
@@ -87,14 +87,14 @@ pub struct Crown {
 }
 
 /// A page that is no part of any tree, and is to be freed.
-#[derive(Debug, Drop)]
+#[derive(Drop)]
 pub struct Own {
     pub pid: Pid,
     pub version: Version,
 }
 
 /// A merge of a page into the one before it.
-#[derive(Debug, Drop)]
+#[derive(Drop)]
 pub struct Merge {
     /// The index whose merging child the page is, or is to be.
     pub parent: View,
@@ -105,7 +105,7 @@ pub struct Merge {
 }
 
 /// A merge whose child was read, and is to be capped.
-#[derive(Debug, Drop)]
+#[derive(Drop)]
 pub struct Cap {
     pub merge: Merge,
     /// The child's version, and its node.
@@ -114,7 +114,7 @@ pub struct Cap {
 }
 
 /// A merge whose child is capped: the page that leads to it is looked for.
-#[derive(Debug, Drop)]
+#[derive(Drop)]
 pub struct Seek {
     pub merge: Merge,
     /// The child's version, and its node, neither of which changes any more.
@@ -125,7 +125,7 @@ pub struct Seek {
 }
 
 /// A merge whose child is to be received.
-#[derive(Debug, Drop)]
+#[derive(Drop)]
 pub struct Receive {
     pub merge: Merge,
     /// The child's version, and its node, neither of which changes any more.
@@ -136,7 +136,7 @@ pub struct Receive {
 }
 
 /// A merge whose child was received: the pointer to it is to go.
-#[derive(Debug, Drop)]
+#[derive(Drop)]
 pub struct Confirm {
     pub parent: View,
     /// The child, and its version.
@@ -145,7 +145,7 @@ pub struct Confirm {
 }
 
 /// Where a call in flight stands: what its next step does.
-#[derive(Debug, Drop)]
+#[derive(Drop)]
 pub enum Stage {
     /// It reads the root.
     Root,
@@ -180,7 +180,7 @@ pub enum Stage {
 }
 
 /// A call in flight: what it is to do, where it stands, and how many of its steps went on so far.
-#[derive(Debug, Drop)]
+#[derive(Drop)]
 pub struct Flight {
     pub job: Job,
     pub stage: Stage,
@@ -201,7 +201,7 @@ impl Flight {
 }
 
 /// What comes after a page action.
-#[derive(Debug, Drop)]
+#[derive(Drop)]
 pub enum Next {
     /// The call goes on from this stage.
     Go(Stage),
@@ -212,7 +212,7 @@ pub enum Next {
 }
 
 /// How a step of a call in flight came out.
-#[derive(Debug, Drop)]
+#[derive(Drop)]
 pub enum Went {
     /// The call goes on.
     Moved,

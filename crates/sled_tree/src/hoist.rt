@@ -1,5 +1,5 @@
 //! A new root over the old one and the page beside it: it is made, and then it is set.
-ghost use Rattle.std.specs.Prelude.{◌≡◌, IfOk, IfErr};
+ghost use Rattle.std.specs.Prelude.{◌≡◌, [], ◌∷◌, IfOk, IfErr};
 ghost use Rattle.sled_pages.specs.declared.error.Error.TheVariants.{NoMemory};
 ghost use Rattle.tree_laws.specs.Stages.{IsOver};
 ghost use Rattle.sled_tree.specs.Moves.{Moves};
@@ -8,27 +8,63 @@ use crate::flight::{Crown, Hoist, Job, Next, Own, Stage};
 use sled_pages::{Data, IVec, Index, Node, Pages, Pid, Result, law_given};
 use std::alloc::Global;
 
+// Two pointers: to the root now, and to the page beside it.
+fn pointers_to(alloc: Global, left: Pid, at: &IVec, right: Pid) -> Result<Index>
+    ensures ok { IfOk result (λ index. index ≡ ([], left) ∷ (at.now, right) ∷ []) }
+    ensures err { IfErr result (λ e. e ≡ NoMemory) }
+{
+    let first = IVec::from_slice(alloc, &[])?;
+    let second = match at.clone() {
+        Ok(second) => second,
+        Err(e) => {
+            drop(first);
+            return Err(e);
+        }
+    };
+    let pointers = [(first, left), (second, right)];
+    let index = Index::from_pairs(alloc, &pointers);
+    drop(pointers);
+    index
+}
+
 // An index over the whole range of keys with two pointers.
 fn root_over(alloc: Global, left: Pid, at: &IVec, right: Pid) -> Result<Node>
     ensures ok { IfOk result (λ node. IsOver node left at.now right) }
     ensures err { IfErr result (λ e. e ≡ NoMemory) }
 {
-    let pointers = [(IVec::from_slice(alloc, &[])?, left), (at.clone()?, right)];
-    Ok(Node {
-        lo: IVec::from_slice(alloc, &[])?,
-        hi: IVec::from_slice(alloc, &[])?,
-        next: None,
-        merging: false,
-        merging_child: None,
-        content: Data::Index(Index::from_pairs(alloc, &pointers)?),
-    })
+    let lo = IVec::from_slice(alloc, &[])?;
+    let hi = match IVec::from_slice(alloc, &[]) {
+        Ok(hi) => hi,
+        Err(e) => {
+            drop(lo);
+            return Err(e);
+        }
+    };
+    match pointers_to(alloc, left, at, right) {
+        Ok(index) => Ok(Node {
+            lo,
+            hi,
+            next: None,
+            merging: false,
+            merging_child: None,
+            content: Data::Index(index),
+        }),
+        Err(e) => {
+            drop(lo);
+            drop(hi);
+            Err(e)
+        }
+    }
 }
 
 // Makes the new root.
 pub(crate) fn hoist<P: Pages>(pages: &mut P, alloc: Global, job: &Job, hoist: Hoist) -> Next
     ensures { Moves job.now (P.store pages.old) (Stage.Hoist hoist) result (P.store pages.new) }
 {
-    let root = match root_over(alloc, hoist.left, &hoist.at, hoist.right) {
+    let Hoist { left, at, right } = hoist;
+    let over = root_over(alloc, left, &at, right);
+    drop(at);
+    let root = match over {
         Err(e) => return Next::Refused(e),
         Ok(root) => root,
     };
@@ -38,7 +74,7 @@ pub(crate) fn hoist<P: Pages>(pages: &mut P, alloc: Global, job: &Job, hoist: Ho
     };
     law_given(pages);
     Next::Go(Stage::Crown(Crown {
-        old: hoist.left,
+        old: left,
         new,
         version,
     }))

@@ -7,9 +7,11 @@ ghost use Rattle.std.specs.Prelude.{◌≡◌, ◌≢◌, ◌↔◌, ◌⊎◌, 
 ghost use Rattle.sled_pages.specs.Order.{UpTo};
 ghost use Rattle.sled_tree.specs.Moves.{Moves};
 ghost use Rattle.sled_tree.specs.Moves.{Begins, Helps, ReadsChild, Looks};
+ghost use Rattle.sled_tree.specs.declared.flight.Next.TheVariants.{Go};
+ghost use Rattle.sled_tree.specs.declared.flight.Stage.TheVariants as stage;
 
 use crate::flight::{Cap, Confirm, Job, Merge, Next, Own, Posting, Receive, Seek, Split, Stage};
-use sled_pages::{IVec, Link, Node, Pages, Pid, View};
+use sled_pages::{Link, Pages, Pid, View};
 use std::alloc::Global;
 
 // A page merges into the one before it, where its parent can have it for its merging child.
@@ -17,10 +19,14 @@ pub(crate) fn begin(parent: View, child: Pid) -> Next
     ensures { Begins parent child result }
 {
     if !parent.node.can_merge_child() {
+        drop(parent);
         return Next::Go(Stage::Root);
     }
     match parent.node.pointer_before(child) {
-        None => Next::Go(Stage::Root),
+        None => {
+            drop(parent);
+            Next::Go(Stage::Root)
+        }
         Some(before) => Next::Go(Stage::Intend(Merge {
             parent,
             child,
@@ -40,8 +46,14 @@ pub(crate) fn intend<P: Pages>(pages: &mut P, job: &Job, merge: Merge) -> Next
     } = merge;
     let View { pid, version, node } = parent;
     match pages.link(pid, version, Link::ParentMergeIntention(child)) {
-        Err(e) => Next::Refused(e),
-        Ok(Err(_)) => Next::Go(Stage::Root),
+        Err(e) => {
+            drop(node);
+            Next::Refused(e)
+        }
+        Ok(Err(_)) => {
+            drop(node);
+            Next::Go(Stage::Root)
+        }
         Ok(Ok(version)) => {
             let mut node = node;
             node.merging_child = Some(child);
@@ -59,7 +71,10 @@ pub(crate) fn help(view: View, child: Pid) -> Next
     ensures { Helps view child result }
 {
     match view.node.pointer_before(child) {
-        None => Next::Go(Stage::Root),
+        None => {
+            drop(view);
+            Next::Go(Stage::Root)
+        }
         Some(before) => Next::Go(Stage::Child(Merge {
             parent: view,
             child,
@@ -73,8 +88,14 @@ pub(crate) fn read_child<P: Pages>(pages: &P, alloc: Global, job: &Job, merge: M
     ensures { Moves job.now (P.store pages.now) (Stage.Child merge) result (P.store pages.now) }
 {
     match pages.read(alloc, merge.child) {
-        Err(e) => Next::Refused(e),
-        Ok(None) => Next::Go(Stage::Root),
+        Err(e) => {
+            drop(merge);
+            Next::Refused(e)
+        }
+        Ok(None) => {
+            drop(merge);
+            Next::Go(Stage::Root)
+        }
         Ok(Some(view)) => at_child(job, merge, view),
     }
 }
@@ -94,6 +115,7 @@ fn at_child(job: &Job, merge: Merge, view: View) -> Next
         }));
     }
     if let Some(child) = view.node.merging_child {
+        drop(merge);
         return help(view, child);
     }
     let View { version, node, .. } = view;
@@ -114,9 +136,20 @@ pub(crate) fn cap<P: Pages>(pages: &mut P, job: &Job, cap: Cap) -> Next
         node,
     } = cap;
     match pages.link(merge.child, version, Link::ChildMergeCap) {
-        Err(e) => Next::Refused(e),
-        Ok(Err(None)) => Next::Go(Stage::Root),
-        Ok(Err(Some(_))) => Next::Go(Stage::Child(merge)),
+        Err(e) => {
+            drop(merge);
+            drop(node);
+            Next::Refused(e)
+        }
+        Ok(Err(None)) => {
+            drop(merge);
+            drop(node);
+            Next::Go(Stage::Root)
+        }
+        Ok(Err(Some(_))) => {
+            drop(node);
+            Next::Go(Stage::Child(merge))
+        }
         Ok(Ok(version)) => {
             let mut node = node;
             node.merging = true;
@@ -131,19 +164,19 @@ pub(crate) fn cap<P: Pages>(pages: &mut P, job: &Job, cap: Cap) -> Next
     }
 }
 
-// Whether the node goes on at the page.
-fn leads_to(node: &Node, pid: Pid) -> bool
-    ensures { IsTrue result ↔ (node.now.next ≡ Some pid) }
+// Whether the page goes on at the merging child.
+fn leads_to(view: &View, seek: &Seek) -> bool
+    ensures { IsTrue result ↔ (view.now.node.next ≡ Some seek.now.merge.child) }
 {
-    node.next == Some(pid)
+    view.node.next == Some(seek.merge.child)
 }
 
-// Whether the node reaches to the key or beyond it.
+// Whether the page reaches to where the merging child begins, or beyond it.
 #[tactic(auto, unfolding(sled_pages::specs::Order::key_cmp))]
-fn reaches(node: &Node, key: &IVec) -> bool
-    ensures { IsTrue result ↔ ((node.now.hi ≡ []) ⊎ UpTo key.now node.now.hi) }
+fn reaches(view: &View, seek: &Seek) -> bool
+    ensures { IsTrue result ↔ ((view.now.node.hi ≡ []) ⊎ UpTo seek.now.node.lo view.now.node.hi) }
 {
-    node.hi.len() == 0 || key.as_ref().cmp(node.hi.as_ref()).is_le()
+    view.node.hi.len() == 0 || seek.node.lo.as_ref().cmp(view.node.hi.as_ref()).is_le()
 }
 
 // Reads the cursor of the search for the page before the merging child.
@@ -151,8 +184,14 @@ pub(crate) fn seek<P: Pages>(pages: &P, alloc: Global, job: &Job, seek: Seek) ->
     ensures { Moves job.now (P.store pages.now) (Stage.Seek seek) result (P.store pages.now) }
 {
     match pages.read(alloc, seek.cursor) {
-        Err(e) => Next::Refused(e),
-        Ok(None) => Next::Go(Stage::Root),
+        Err(e) => {
+            drop(seek);
+            Next::Refused(e)
+        }
+        Ok(None) => {
+            drop(seek);
+            Next::Go(Stage::Root)
+        }
         Ok(Some(view)) => at_cursor(job, seek, view),
     }
 }
@@ -162,9 +201,12 @@ fn at_cursor(job: &Job, seek: Seek, view: View) -> Next
     ensures { Looks job.now seek view result }
 {
     if view.node.merging {
+        drop(view);
+        drop(seek);
         return Next::Go(Stage::Root);
     }
     if let Some(child) = view.node.merging_child {
+        drop(seek);
         return help(view, child);
     }
     compare(job, seek, view)
@@ -176,43 +218,89 @@ fn compare(job: &Job, seek: Seek, view: View) -> Next
     requires free { view.node.merging_child ≡ None }
     ensures { Looks job.now seek view result }
 {
+    if leads_to(&view, &seek) {
+        return meet(job, seek, view);
+    }
+    if reaches(&view, &seek) {
+        drop(view);
+        return done(seek);
+    }
+    match view.node.next {
+        None => {
+            drop(view);
+            drop(seek);
+            Next::Go(Stage::Root)
+        }
+        Some(cursor) => {
+            drop(view);
+            further(seek, cursor)
+        }
+    }
+}
+
+// The page before the merging child: it receives the child, or is split first.
+fn meet(job: &Job, seek: Seek, view: View) -> Next
+    requires awake { view.node.merging ≡ false }
+    requires free { view.node.merging_child ≡ None }
+    requires leads { view.node.next ≡ Some seek.merge.child }
+    ensures { Looks job.now seek view result }
+{
+    if view.node.should_split() {
+        drop(seek);
+        return Next::Go(Stage::Split(Split {
+            page: view,
+            posting: Posting::Nowhere,
+        }));
+    }
     let Seek {
         merge,
         version,
         node,
         ..
     } = seek;
-    if leads_to(&view.node, merge.child) {
-        if view.node.should_split() {
-            return Next::Go(Stage::Split(Split {
-                page: view,
-                posting: Posting::Nowhere,
-            }));
-        }
-        return Next::Go(Stage::Receive(Receive {
-            merge,
-            version,
-            node,
-            left: view,
-        }));
-    }
-    if reaches(&view.node, &node.lo) {
-        let Merge { parent, child, .. } = merge;
-        return Next::Go(Stage::Confirm(Confirm {
-            parent,
-            child,
-            version,
-        }));
-    }
-    match view.node.next {
-        None => Next::Go(Stage::Root),
-        Some(cursor) => Next::Go(Stage::Seek(Seek {
-            merge,
-            version,
-            node,
-            cursor,
-        })),
-    }
+    Next::Go(Stage::Receive(Receive {
+        merge,
+        version,
+        node,
+        left: view,
+    }))
+}
+
+// The child was received before.
+fn done(seek: Seek) -> Next
+    ensures { result ≡ Go (stage.Confirm (record { parent = seek.merge.parent; child = seek.merge.child; version = seek.version })) }
+{
+    let Seek {
+        merge,
+        version,
+        node,
+        ..
+    } = seek;
+    drop(node);
+    let Merge { parent, child, .. } = merge;
+    Next::Go(Stage::Confirm(Confirm {
+        parent,
+        child,
+        version,
+    }))
+}
+
+// The search goes on at the next page.
+fn further(seek: Seek, cursor: Pid) -> Next
+    ensures { result ≡ Go (stage.Seek (record seek { cursor = cursor })) }
+{
+    let Seek {
+        merge,
+        version,
+        node,
+        ..
+    } = seek;
+    Next::Go(Stage::Seek(Seek {
+        merge,
+        version,
+        node,
+        cursor,
+    }))
 }
 
 // The page before the merging child receives it.
@@ -225,20 +313,36 @@ pub(crate) fn receive<P: Pages>(pages: &mut P, alloc: Global, job: &Job, receive
         node,
         left,
     } = receive;
-    let both = match left.node.receive_merge(alloc, &node) {
-        Err(e) => return Next::Refused(e),
+    let (cursor, seen) = (left.pid, left.version);
+    let received = left.node.receive_merge(alloc, &node);
+    drop(left);
+    let both = match received {
+        Err(e) => {
+            drop(merge);
+            drop(node);
+            return Next::Refused(e);
+        }
         Ok(both) => both,
     };
-    match pages.replace(left.pid, left.version, both) {
-        Err(e) => Next::Refused(e),
-        Ok(Err(None)) => Next::Go(Stage::Root),
+    match pages.replace(cursor, seen, both) {
+        Err(e) => {
+            drop(merge);
+            drop(node);
+            Next::Refused(e)
+        }
+        Ok(Err(None)) => {
+            drop(merge);
+            drop(node);
+            Next::Go(Stage::Root)
+        }
         Ok(Err(Some(_))) => Next::Go(Stage::Seek(Seek {
             merge,
             version,
             node,
-            cursor: left.pid,
+            cursor,
         })),
         Ok(Ok(_)) => {
+            drop(node);
             let Merge { parent, child, .. } = merge;
             Next::Go(Stage::Confirm(Confirm {
                 parent,
@@ -258,7 +362,13 @@ pub(crate) fn confirm<P: Pages>(pages: &mut P, job: &Job, confirm: Confirm) -> N
         child,
         version,
     } = confirm;
-    match pages.link(parent.pid, parent.version, Link::ParentMergeConfirm) {
+    let View {
+        pid,
+        version: seen,
+        node,
+    } = parent;
+    drop(node);
+    match pages.link(pid, seen, Link::ParentMergeConfirm) {
         Err(e) => Next::Refused(e),
         Ok(Err(_)) => Next::Go(Stage::Root),
         Ok(Ok(_)) => Next::Go(Stage::Free(Own {

@@ -4,7 +4,7 @@
 ghost use Rattle.sled_tree.specs.Moves.{Moves};
 
 use crate::flight::{Hoist, Job, Next, Own, Post, Posting, Shorten, Split, Stage};
-use sled_pages::{Pages, law_given};
+use sled_pages::{Pages, View, law_given};
 use std::alloc::Global;
 
 // Makes the right half.
@@ -12,26 +12,41 @@ pub(crate) fn halve<P: Pages>(pages: &mut P, alloc: Global, job: &Job, split: Sp
     ensures { Moves job.now (P.store pages.old) (Stage.Split split) result (P.store pages.new) }
 {
     if !split.page.node.should_split() {
+        drop(split);
         return Next::Go(Stage::Root);
     }
     let (left, right) = match split.page.node.split(alloc) {
-        Err(e) => return Next::Refused(e),
+        Err(e) => {
+            drop(split);
+            return Next::Refused(e);
+        }
         Ok(halves) => halves,
     };
     let at = match right.lo.clone() {
-        Err(e) => return Next::Refused(e),
+        Err(e) => {
+            drop(left);
+            drop(right);
+            drop(split);
+            return Next::Refused(e);
+        }
         Ok(at) => at,
     };
     let (right, version) = match pages.allocate(right) {
-        Err(e) => return Next::Refused(e),
+        Err(e) => {
+            drop(at);
+            drop(left);
+            drop(split);
+            return Next::Refused(e);
+        }
         Ok(given) => given,
     };
     law_given(pages);
+    let Split { page, posting } = split;
     let mut left = left;
     left.next = Some(right);
     Next::Go(Stage::Shorten(Shorten {
-        page: split.page,
-        posting: split.posting,
+        page,
+        posting,
         left,
         at,
         right,
@@ -51,24 +66,41 @@ pub(crate) fn shorten<P: Pages>(pages: &mut P, job: &Job, split: Shorten) -> Nex
         right,
         version,
     } = split;
-    match pages.replace(page.pid, page.version, left) {
-        Err(e) => Next::Refused(e),
-        Ok(Err(_)) => Next::Go(Stage::Free(Own {
-            pid: right,
-            version,
-        })),
+    let (pid, seen) = (page.pid, page.version);
+    drop(page);
+    match pages.replace(pid, seen, left) {
+        Err(e) => {
+            drop(posting);
+            drop(at);
+            Next::Refused(e)
+        }
+        Ok(Err(_)) => {
+            drop(posting);
+            drop(at);
+            Next::Go(Stage::Free(Own {
+                pid: right,
+                version,
+            }))
+        }
         Ok(Ok(_)) => match posting {
             Posting::Parent(parent) => Next::Go(Stage::Post(Post {
                 parent,
                 at,
                 pid: right,
             })),
-            Posting::Root => Next::Go(Stage::Hoist(Hoist {
-                left: page.pid,
-                at,
-                right,
-            })),
-            Posting::Nowhere => Next::Go(Stage::Root),
+            Posting::Root => {
+                drop(posting);
+                Next::Go(Stage::Hoist(Hoist {
+                    left: pid,
+                    at,
+                    right,
+                }))
+            }
+            Posting::Nowhere => {
+                drop(posting);
+                drop(at);
+                Next::Go(Stage::Root)
+            }
         },
     }
 }
@@ -78,13 +110,24 @@ pub(crate) fn post<P: Pages>(pages: &mut P, job: &Job, post: Post) -> Next
     ensures { Moves job.now (P.store pages.old) (Stage.Post post) result (P.store pages.new) }
 {
     let Post { parent, at, pid } = post;
-    let mut node = parent.node;
+    let View {
+        pid: index,
+        version,
+        node,
+    } = parent;
+    let mut node = node;
     match node.parent_split(at, pid) {
-        Err(e) => return Next::Refused(e),
-        Ok(false) => return Next::Go(Stage::Root),
+        Err(e) => {
+            drop(node);
+            return Next::Refused(e);
+        }
+        Ok(false) => {
+            drop(node);
+            return Next::Go(Stage::Root);
+        }
         Ok(true) => {}
     }
-    match pages.replace(parent.pid, parent.version, node) {
+    match pages.replace(index, version, node) {
         Err(e) => Next::Refused(e),
         Ok(_) => Next::Go(Stage::Root),
     }

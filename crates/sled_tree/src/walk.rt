@@ -20,7 +20,7 @@ use std::alloc::Global;
 use std::ops::Bound;
 
 // How a walk came to a page.
-#[derive(Debug, Drop)]
+#[derive(Drop)]
 pub(crate) struct Way {
     // the index that it came through; none for the root
     pub(crate) parent: Option<View>,
@@ -75,8 +75,14 @@ pub(crate) fn read_cursor<P: Pages>(pages: &P, alloc: Global, job: &Job, walk: W
     ensures passes { Passes job.now (now (P.store pages.now)) (Stage.Walk walk) result (now (P.store pages.now)) }
 {
     match pages.read(alloc, walk.cursor) {
-        Err(e) => Next::Refused(e),
-        Ok(None) => Next::Go(Stage::Root),
+        Err(e) => {
+            drop(walk);
+            Next::Refused(e)
+        }
+        Ok(None) => {
+            drop(walk);
+            Next::Go(Stage::Root)
+        }
         Ok(Some(view)) => arrive(
             job,
             view,
@@ -95,9 +101,12 @@ fn arrive(job: &Job, view: View, way: Way) -> Next
     ensures passes { PassesOn job.now view way result }
 {
     if view.node.merging {
+        drop(view);
+        drop(way);
         return Next::Go(Stage::Root);
     }
     if let Some(child) = view.node.merging_child {
+        drop(way);
         return help(view, child);
     }
     if view.node.should_split() {
@@ -107,6 +116,8 @@ fn arrive(job: &Job, view: View, way: Way) -> Next
         return go_on(job, view, way);
     }
     if !covers(&view.node, job.call.key().as_ref()) {
+        drop(view);
+        drop(way);
         return Next::Go(Stage::Root);
     }
     at_key(job, view, way)
@@ -140,23 +151,36 @@ fn go_on(job: &Job, view: View, way: Way) -> Next
     ensures { Arrives job.now view way result }
 {
     let View { pid, node, .. } = view;
-    let Node { hi, next, .. } = node;
+    let Node {
+        lo,
+        hi,
+        next,
+        content,
+        ..
+    } = node;
+    drop(lo);
+    drop(content);
+    let Way { parent, .. } = way;
     let Some(next) = next else {
+        drop(hi);
+        drop(parent);
         return Next::Go(Stage::Root);
     };
-    let Way { parent, .. } = way;
     match parent {
         None => Next::Go(Stage::Hoist(Hoist {
             left: pid,
             at: hi,
             right: next,
         })),
-        Some(parent) => Next::Go(Stage::Walk(Walk {
-            cursor: next,
-            parent,
-            first: true,
-            unsplit: true,
-        })),
+        Some(parent) => {
+            drop(hi);
+            Next::Go(Stage::Walk(Walk {
+                cursor: next,
+                parent,
+                first: true,
+                unsplit: true,
+            }))
+        }
     }
 }
 
@@ -189,10 +213,20 @@ fn post(job: &Job, view: View, way: Way) -> Next
     ensures { Arrives job.now view way result }
 {
     let View { pid, node, .. } = view;
-    let Node { lo, .. } = node;
+    let Node {
+        lo,
+        hi,
+        content,
+        ..
+    } = node;
+    drop(hi);
+    drop(content);
     let Way { parent, .. } = way;
     match parent {
-        None => Next::Go(Stage::Root),
+        None => {
+            drop(lo);
+            Next::Go(Stage::Root)
+        }
         Some(parent) => Next::Go(Stage::Post(Post {
             parent,
             at: lo,
@@ -210,10 +244,12 @@ fn merge(job: &Job, view: View, way: Way) -> Next
     requires pointed { way.unsplit ≡ false }
     ensures { Arrives job.now view way result }
 {
+    let pid = view.pid;
+    drop(view);
     let Way { parent, .. } = way;
     match parent {
         None => Next::Go(Stage::Root),
-        Some(parent) => begin(parent, view.pid),
+        Some(parent) => begin(parent, pid),
     }
 }
 
@@ -227,8 +263,12 @@ fn go_down(job: &Job, view: View, way: Way) -> Next
     ensures arrives { Arrives job.now view way result }
     ensures passes { PassesOn job.now view way result }
 {
+    drop(way);
     match view.node.pointer(Bound::Included(job.call.key().as_ref())) {
-        None => Next::Go(Stage::Root),
+        None => {
+            drop(view);
+            Next::Go(Stage::Root)
+        }
         Some((cursor, first)) => Next::Go(Stage::Walk(Walk {
             cursor,
             parent: view,
@@ -248,15 +288,31 @@ fn at_leaf(job: &Job, view: View, way: Way) -> Next
     ensures arrives { Arrives job.now view way result }
     ensures passes { PassesOn job.now view way result }
 {
+    drop(way);
     let value = match view.node.get(job.call.key().as_ref()) {
-        Err(e) => return Next::Refused(e),
+        Err(e) => {
+            drop(view);
+            return Next::Refused(e);
+        }
         Ok(value) => value,
     };
-    match job.call.decide(value) {
-        Err(e) => Next::Refused(e),
-        Ok(Decision { effect, reply }) => match effect {
-            Effect::Nothing => Next::Decided(reply),
-            _ => Next::Go(Stage::Act(view)),
-        },
+    let Decision { effect, reply } = match job.call.decide(value) {
+        Err(e) => {
+            drop(view);
+            return Next::Refused(e);
+        }
+        Ok(decision) => decision,
+    };
+    match &effect {
+        Effect::Nothing => {
+            drop(effect);
+            drop(view);
+            Next::Decided(reply)
+        }
+        _ => {
+            drop(effect);
+            drop(reply);
+            Next::Go(Stage::Act(view))
+        }
     }
 }

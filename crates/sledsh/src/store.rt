@@ -127,12 +127,12 @@ fn crashed(pages: MemPages, keep: usize) -> Result<Kept, Stopped>
     })
 }
 
-// Raises the mark of a store, if it is lower.
+// Sets the mark of a store, unless that would lower it.
 fn raise_mark(pages: &mut MemPages, upto: u64) -> Result<(), Error>
     ensures base { (store_of pages.new).base ≡ (store_of pages.old).base }
     ensures recent { (store_of pages.new).recent ≡ (store_of pages.old).recent }
 {
-    if upto > pages.mark() {
+    if upto >= pages.mark() {
         pages.set_aside(upto)?;
     }
     Ok(())

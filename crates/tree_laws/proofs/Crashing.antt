@@ -3,7 +3,7 @@ use Rattle.std.proofs.Common.{◌≡◌, ℕ, ◌+◌, true, false, cond, List, 
 use Rattle.sled_pages.specs.In.{In}
 use Rattle.sled_pages.specs.State.{State, Action, PageBecomes, after, after_all}
 use Rattle.std.proofs.lemmas.List.{map-append}
-use Rattle.sled_pages.specs.Store.{Store, now, acted, flushed, ActsAt, Allocates}
+use Rattle.sled_pages.specs.Store.{Store, now, acted, flushed, Allocates}
 use Rattle.sled_pages.specs.declared.node.Node.{Node}
 use Rattle.sled_pages.specs.Crash.{left_from, states_left}
 use Rattle.sled_pages.specs.Facts.{after_last}
@@ -250,9 +250,6 @@ adds_acted act a = record { base = refl; recent = refl; actions = refl }
 
 pub adds_is : {act : Action} {a b : Store} → b ≡ acted act a → Adds act a b
 adds_is {act} {a} e = subst (λ z. Adds act a z) (sym e) (adds_acted act a)
-
-pub adds_at : {act : Action} {version : ℕ} {a b : Store} → ActsAt act version a b → Adds act a b
-adds_at {act} {version} {a} e = subst (λ z. Adds act a z) (sym e.is) (record { base = refl; recent = refl; actions = refl })
 
 pub adds_page : {node : Node} {pid version : ℕ} {a b : Store} → Allocates node pid version a b → Adds (PageBecomes pid (Some (record { version = version; node = node }))) a b
 adds_page {node} {pid} {version} {a} e = subst (λ z. Adds (PageBecomes pid (Some (record { version = version; node = node }))) a z) (sym e.is) (record { base = refl; recent = refl; actions = refl })

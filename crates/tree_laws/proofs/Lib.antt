@@ -37,4 +37,3 @@ pub mod Pictures
 pub mod Faulty
 pub mod Ways
 pub mod Refuted
-pub mod Dividing

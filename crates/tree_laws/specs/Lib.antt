@@ -15,4 +15,3 @@ pub mod MapLaws
 pub mod PathLaws
 pub mod Images
 pub mod FalseLaws
-pub mod Dividing

@@ -234,8 +234,6 @@ mod paths;
 mod splits;
 mod stages;
 mod steps;
-#[cfg(test)]
-mod tests;
 
 pub use actions::{law_del, law_drop, law_empty, law_hoist, law_plant, law_set};
 pub use crashes::{

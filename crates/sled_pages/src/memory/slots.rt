@@ -12,7 +12,7 @@ use std::alloc::Global;
 use std::collections::BTreeMap;
 
 /// A page as it is kept.
-#[derive(Debug, Drop)]
+#[derive(Drop)]
 pub struct Slot {
     pub version: Version,
     pub node: Node,
@@ -94,7 +94,7 @@ impl Slots {
                 version: Version(next),
                 node,
             };
-            foreign.insert(pid.0, Some(slot))?;
+            drop(foreign.insert(pid.0, Some(slot))?);
             next += 1;
         }
         Ok((foreign, last, next))
@@ -129,7 +129,10 @@ impl Slots {
             match self.foreign.insert(pid.0, slot) {
                 Ok(Some(old)) => old,
                 Ok(None) => None,
-                Err(_) => None,
+                Err(slot) => {
+                    drop(slot);
+                    None
+                }
             }
         } else {
             std::mem::replace(&mut self.own[(pid.0 - self.last - 1) as usize], slot)

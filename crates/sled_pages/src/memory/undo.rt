@@ -3,7 +3,7 @@ use super::slots::Slot;
 use crate::{IVec, Pid};
 
 /// What stood there before an action.
-#[derive(Debug, Drop)]
+#[derive(Drop)]
 pub enum Undo {
     /// The slot of a page.
     UndoSlot(Pid, Option<Slot>),

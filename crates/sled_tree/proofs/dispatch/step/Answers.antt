@@ -1,4 +1,5 @@
 use Rattle.sled_tree.proofs.Passing.{passes_nowhere}
+use Rattle.sled_tree.proofs.Families.{of_merge}
 use Rattle.sled_tree.proofs.dispatch.step.Goals as goal
 
 pub returns-in-Split-clause-passes : goal.returns-in-Split-clause-passes
@@ -19,20 +20,5 @@ returns-in-Crown-clause-passes g c = passes_nowhere _ _ _ _ _ _ c.in-Crown.is (�
 pub returns-in-Free-clause-passes : goal.returns-in-Free-clause-passes
 returns-in-Free-clause-passes g c = passes_nowhere _ _ _ _ _ _ c.in-Free.is (λ path k. k)
 
-pub returns-in-Intend-clause-passes : goal.returns-in-Intend-clause-passes
-returns-in-Intend-clause-passes g c = passes_nowhere _ _ _ _ _ _ c.in-Intend.is (λ path k. k)
-
-pub returns-in-Child-clause-passes : goal.returns-in-Child-clause-passes
-returns-in-Child-clause-passes g c = passes_nowhere _ _ _ _ _ _ c.in-Child.is (λ path k. k)
-
-pub returns-in-Cap-clause-passes : goal.returns-in-Cap-clause-passes
-returns-in-Cap-clause-passes g c = passes_nowhere _ _ _ _ _ _ c.in-Cap.is (λ path k. k)
-
-pub returns-in-Seek-clause-passes : goal.returns-in-Seek-clause-passes
-returns-in-Seek-clause-passes g c = passes_nowhere _ _ _ _ _ _ c.in-Seek.is (λ path k. k)
-
-pub returns-in-Receive-clause-passes : goal.returns-in-Receive-clause-passes
-returns-in-Receive-clause-passes g c = passes_nowhere _ _ _ _ _ _ c.in-Receive.is (λ path k. k)
-
-pub returns-in-Confirm-clause-passes : goal.returns-in-Confirm-clause-passes
-returns-in-Confirm-clause-passes g c = passes_nowhere _ _ _ _ _ _ c.in-Confirm.is (λ path k. k)
+pub step_of_merge-requires : goal.step_of_merge-requires
+step_of_merge-requires g c = (c.type_bounds.send-P, of_merge _ c.in_default.not-Root c.in_default.not-Walk c.in_default.not-Act c.in_default.not-Split c.in_default.not-Shorten c.in_default.not-Post c.in_default.not-Hoist c.in_default.not-Crown c.in_default.not-Free)

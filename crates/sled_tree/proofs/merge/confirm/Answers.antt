@@ -8,5 +8,5 @@ returns-in-Err g c = refused _ _ _ _ _ c.in-Err.ensures.err
 pub returns-in-Ok-Err : goal.returns-in-Ok-Err
 returns-in-Ok-Err g c = stale _ _ _ _ (λ q i. i) (rw c.in-Ok-Err.field-0-is at c.in-Ok-Err.ensures.ok)
 
-pub returns : goal.returns
-returns g c = confirms _ _ _ _ _ (rw c.in-Ok-Ok.field-0-is at c.in-Ok-Ok.ensures.ok)
+pub returns-in-Ok-Ok : goal.returns-in-Ok-Ok
+returns-in-Ok-Ok g c = confirms _ _ _ _ _ (rw c.in-Ok-Ok.field-0-is at c.in-Ok-Ok.ensures.ok)

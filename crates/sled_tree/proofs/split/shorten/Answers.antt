@@ -11,5 +11,5 @@ returns-in-Parent g c = shortens_below _ _ _ _ _ (rw c.in-Ok-Ok.field-0-is at c.
 pub returns-in-Root : goal.returns-in-Root
 returns-in-Root g c = shortens_root _ _ _ _ _ (rw c.in-Ok-Ok.field-0-is at c.in-Ok-Ok.ensures.ok) c.in-Root.is
 
-pub returns : goal.returns
-returns g c = shortens_only _ _ _ _ _ (rw c.in-Ok-Ok.field-0-is at c.in-Ok-Ok.ensures.ok)
+pub returns-in-Nowhere : goal.returns-in-Nowhere
+returns-in-Nowhere g c = shortens_only _ _ _ _ _ (rw c.in-Ok-Ok.field-0-is at c.in-Ok-Ok.ensures.ok)

@@ -1,0 +1,5 @@
+pub mod Keys
+pub mod Calls
+pub mod Opened
+pub mod Surviving
+pub mod Runs

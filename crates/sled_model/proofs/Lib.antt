@@ -1,3 +1,0 @@
-mod Put
-mod Places
-mod Follow

@@ -1,4 +1,0 @@
-pub mod Keys
-pub mod Calls
-pub mod Opened
-pub mod Surviving

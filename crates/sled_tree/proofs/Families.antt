@@ -1,0 +1,54 @@
+-- Which stages are those of a merge.
+use Rattle.std.proofs.Common.{◌≡◌, refl}
+use Rattle.sled_pages.specs.declared.page.View.{View}
+use Rattle.sled_tree.specs.declared.flight.Cap.{Cap}
+use Rattle.sled_tree.specs.declared.flight.Confirm.{Confirm}
+use Rattle.sled_tree.specs.declared.flight.Crown.{Crown}
+use Rattle.sled_tree.specs.declared.flight.Hoist.{Hoist}
+use Rattle.sled_tree.specs.declared.flight.Merge.{Merge}
+use Rattle.sled_tree.specs.declared.flight.Own.{Own}
+use Rattle.sled_tree.specs.declared.flight.Post.{Post}
+use Rattle.sled_tree.specs.declared.flight.Receive.{Receive}
+use Rattle.sled_tree.specs.declared.flight.Seek.{Seek}
+use Rattle.sled_tree.specs.declared.flight.Shorten.{Shorten}
+use Rattle.sled_tree.specs.declared.flight.Split.{Split}
+use Rattle.sled_tree.specs.declared.flight.Walk.{Walk}
+use Rattle.sled_tree.specs.declared.flight.Stage.{Stage}
+use Rattle.sled_tree.specs.declared.flight.Stage.TheVariants as stage
+use Rattle.sled_tree.specs.Stages.{IsOfMerge}
+
+-- a stage that is none of these is of a merge
+pub of_merge : (s : Stage) → (s ≡ stage.Root → ⊥) → ((a : Walk) → s ≡ stage.Walk a → ⊥) → ((a : View) → s ≡ stage.Act a → ⊥) → ((a : Split) → s ≡ stage.Split a → ⊥) → ((a : Shorten) → s ≡ stage.Shorten a → ⊥) → ((a : Post) → s ≡ stage.Post a → ⊥) → ((a : Hoist) → s ≡ stage.Hoist a → ⊥) → ((a : Crown) → s ≡ stage.Crown a → ⊥) → ((a : Own) → s ≡ stage.Free a → ⊥) → IsOfMerge s
+of_merge stage.Root root walk act split shorten post hoist crown free = absurd (root refl)
+of_merge (stage.Walk a) root walk act split shorten post hoist crown free = absurd (walk a refl)
+of_merge (stage.Act a) root walk act split shorten post hoist crown free = absurd (act a refl)
+of_merge (stage.Split a) root walk act split shorten post hoist crown free = absurd (split a refl)
+of_merge (stage.Shorten a) root walk act split shorten post hoist crown free = absurd (shorten a refl)
+of_merge (stage.Post a) root walk act split shorten post hoist crown free = absurd (post a refl)
+of_merge (stage.Hoist a) root walk act split shorten post hoist crown free = absurd (hoist a refl)
+of_merge (stage.Crown a) root walk act split shorten post hoist crown free = absurd (crown a refl)
+of_merge (stage.Free a) root walk act split shorten post hoist crown free = absurd (free a refl)
+of_merge (stage.Intend a) root walk act split shorten post hoist crown free = tt
+of_merge (stage.Child a) root walk act split shorten post hoist crown free = tt
+of_merge (stage.Cap a) root walk act split shorten post hoist crown free = tt
+of_merge (stage.Seek a) root walk act split shorten post hoist crown free = tt
+of_merge (stage.Receive a) root walk act split shorten post hoist crown free = tt
+of_merge (stage.Confirm a) root walk act split shorten post hoist crown free = tt
+
+-- and one of a merge is one of these
+pub no_other : (s : Stage) → IsOfMerge s → ((a : Merge) → s ≡ stage.Intend a → ⊥) → ((a : Merge) → s ≡ stage.Child a → ⊥) → ((a : Cap) → s ≡ stage.Cap a → ⊥) → ((a : Seek) → s ≡ stage.Seek a → ⊥) → ((a : Receive) → s ≡ stage.Receive a → ⊥) → ((a : Confirm) → s ≡ stage.Confirm a → ⊥) → ⊥
+no_other stage.Root of intend child cap seek receive confirm = of
+no_other (stage.Walk a) of intend child cap seek receive confirm = of
+no_other (stage.Act a) of intend child cap seek receive confirm = of
+no_other (stage.Split a) of intend child cap seek receive confirm = of
+no_other (stage.Shorten a) of intend child cap seek receive confirm = of
+no_other (stage.Post a) of intend child cap seek receive confirm = of
+no_other (stage.Hoist a) of intend child cap seek receive confirm = of
+no_other (stage.Crown a) of intend child cap seek receive confirm = of
+no_other (stage.Free a) of intend child cap seek receive confirm = of
+no_other (stage.Intend a) of intend child cap seek receive confirm = intend a refl
+no_other (stage.Child a) of intend child cap seek receive confirm = child a refl
+no_other (stage.Cap a) of intend child cap seek receive confirm = cap a refl
+no_other (stage.Seek a) of intend child cap seek receive confirm = seek a refl
+no_other (stage.Receive a) of intend child cap seek receive confirm = receive a refl
+no_other (stage.Confirm a) of intend child cap seek receive confirm = confirm a refl

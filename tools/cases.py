@@ -1,0 +1,20 @@
+#!/usr/bin/env python3
+"""Writes the files of lines in crates/sledsh/data with what they should print, and the check of them all.
+
+    cases.py            writes all files
+    cases.py NAME ..    writes these
+    cases.py names      writes none, but the names of all that are there into the words and the output of the check
+
+What is printed comes from the oracle; see script.py for what it is compared with. A case stops the script where the oracle
+does not print what the case spells out.
+"""
+import sys
+import cases_flights
+import cases_levels
+import cases_rare
+import cases_refusals
+import cases_values
+import script
+
+if __name__ == '__main__':
+    script.write_all(sys.argv[1:])

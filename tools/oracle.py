@@ -1,0 +1,568 @@
+#!/usr/bin/env python3
+"""What lines for the shell should print: a model of it that shares nothing with the program.
+
+It is written from the rules alone: what a store of pages keeps and what a crash leaves of it, how a page splits and merges,
+which one page action each step of a call in flight does, what a line says and how an answer is spelled. The expected lines
+in crates/sledsh/data come from here or are spelled out in cases.py, and where they are spelled out they must be the same.
+
+    oracle.py FILE ..       prints what the lines of these files should print
+    oracle.py               .. the lines of the standard input
+
+A store is a picture of the pages at the last flush and the list of actions since; a page never changes, an action puts
+another in its place. A call in flight is a generator: it yields after each step that goes on, and returns its answer. What
+is seldom reached is noted by name in `Store.notes`, so that cases can say what they reach.
+"""
+import re
+import sys
+from collections import Counter, namedtuple
+from dataclasses import dataclass, replace
+
+TREE = b'__sled__default'
+GREATEST = 2**64 - 1
+
+
+class Refused(Exception):
+    """A call that is refused, by its number."""
+
+
+class BadLine(Exception):
+    """A line that cannot be read, and why."""
+
+
+# Words.
+
+def word(value):
+    """A byte string, or none, as it is printed."""
+    if value is None:
+        return '-'
+    if value in (b'', b'-'):
+        return '%2d' if value else '%'
+    return ''.join(chr(b) if 33 <= b <= 126 and b != 37 else f'%{b:02x}' for b in value)
+
+
+def value_of(text):
+    """The byte string that a word spells."""
+    if text == '%':
+        return b''
+    if text == '-' or not re.fullmatch('(?:[!-$&-~]|%[0-9a-f]{2})+', text):
+        raise BadLine(f'`{text}` is no byte string: % and two lower-case hexadecimal digits stand for a byte')
+    return bytes(int(p[1:], 16) if len(p) > 1 else ord(p) for p in re.findall('%..|.', text))
+
+
+def optional(text):
+    """The byte string that a word spells, or none."""
+    return None if text == '-' else value_of(text)
+
+
+def number_of(text):
+    """The number that a word spells."""
+    if not re.fullmatch('0|[1-9][0-9]*', text) or int(text) > GREATEST:
+        raise BadLine(f'`{text}` is no number: decimal digits without leading zeros')
+    return int(text)
+
+
+# Pages.
+
+@dataclass(frozen=True)
+class Node:
+    lo: bytes = b''
+    hi: bytes = b''                 # empty: no bound
+    next: int | None = None
+    merging: bool = False
+    child: int | None = None        # the merging child
+    leaf: bool = True
+    entries: tuple = ()             # of a leaf keys and values, of an index keys and page numbers; ascending
+
+    def ends_before(self, key):
+        return self.hi != b'' and self.hi <= key
+
+    def should_split(self):
+        return len(self.entries) > 16 and not self.merging and self.child is None
+
+    def should_merge(self):
+        return len(self.entries) <= 3 and not self.merging and self.child is None
+
+    def can_merge_child(self):
+        return not self.leaf and not self.merging and self.child is None
+
+    def get(self, key):
+        return next((v for k, v in self.entries if k == key), None)
+
+    def put(self, key, value):
+        """With this entry, or without one at this key."""
+        below = tuple(e for e in self.entries if e[0] < key)
+        above = tuple(e for e in self.entries if e[0] > key)
+        return replace(self, entries=below + (() if value is None else ((key, value),)) + above)
+
+    def pointer(self, key):
+        """The last page at or below the key, and whether it is the first of all."""
+        at = max(i for i, e in enumerate(self.entries) if e[0] <= key)
+        return self.entries[at][1], at == 0
+
+    def before(self, pid):
+        """The page of the pointer before the one to this page."""
+        pids = [p for _, p in self.entries]
+        return pids[pids.index(pid) - 1] if pid in pids[1:] else None
+
+    def split(self):
+        half = len(self.entries) // 2
+        right = replace(self, lo=self.entries[half][0], entries=self.entries[half:])
+        return replace(self, hi=right.lo, entries=self.entries[:half]), right
+
+    def receive(self, child):
+        return replace(self, hi=child.hi, next=child.next, entries=self.entries + child.entries)
+
+    def confirm(self):
+        return replace(self, child=None, entries=tuple(e for e in self.entries if e[1] != self.child))
+
+
+View = namedtuple('View', 'pid version node')
+
+
+class Store:
+    """Pages in memory: the state at the last flush, and the changing actions since."""
+
+    def __init__(self):
+        self.pages, self.roots = {}, {}                 # now
+        self.base, self.recent = ({}, {}), []           # at the last flush; the actions since: (what, where, new)
+        self.pids = self.versions = self.mark = 0
+        self.recovered = False
+        self.notes = Counter()
+        self.forget()
+
+    def forget(self):
+        """No call was made yet and none is to be refused."""
+        self.calls, self.refused, self.unreadable = 0, frozenset(), set()
+
+    def made(self):
+        """A numbered call is made, which may be one to be refused."""
+        self.calls += 1
+        if self.calls in self.refused:
+            raise Refused(4)
+
+    def do(self, what, where, new):
+        """Does a changing action."""
+        self.recent.append((what, where, new))
+        self.apply((self.pages, self.roots), self.recent[-1])
+
+    @staticmethod
+    def apply(state, action):
+        what, where, new = action
+        if new is None:
+            del state[what][where]
+        else:
+            state[what][where] = new
+
+    def read(self, pid):
+        if pid in self.unreadable:
+            raise Refused(4)
+        return self.pages.get(pid)
+
+    def allocate(self, node):
+        self.made()
+        self.pids += 1
+        self.versions += 1
+        self.do(0, self.pids, View(self.pids, self.versions, node))
+        return self.pages[self.pids]
+
+    def change(self, view, node):
+        """Puts the node in the place of a page that is still as it was seen (none: frees it): whether it was so, and the
+        page now."""
+        self.made()
+        now = self.pages.get(view.pid)
+        if now is None or now.version != view.version:
+            return False, now
+        self.versions += 1
+        self.do(0, view.pid, node and View(view.pid, self.versions, node))
+        return True, self.pages.get(view.pid)
+
+    def swap_root(self, old, new):
+        self.made()
+        if self.roots.get(TREE) != old:
+            return False
+        self.do(1, TREE, new)
+        return True
+
+    def flush(self):
+        self.made()
+        for action in self.recent:
+            self.apply(self.base, action)
+        count, self.recent = len(self.recent), []
+        return count
+
+    def set_aside(self, upto):
+        self.made()
+        self.mark = upto
+
+    def crash(self, keep):
+        """Goes back to what a crash leaves that keeps so many of the actions since the last flush."""
+        for action in self.recent[:keep]:
+            self.apply(self.base, action)
+        self.recent = []
+        self.pages, self.roots = dict(self.base[0]), dict(self.base[1])
+        self.recovered = True
+        self.forget()
+
+
+# Calls in flight.
+
+def decide(call, old):
+    """Whether a call changes anything where this value stands, the value that it leaves, and the line of its answer."""
+    name, _, *values = call
+    if name == 'get':
+        return False, old, f'value {word(old)}'
+    if name == 'insert':
+        return old != values[0], values[0], f'old {word(old)}'
+    if name == 'remove':
+        return old is not None, None, f'old {word(old)}'
+    if old != values[0]:
+        return False, old, f'conflict {word(old)} {word(values[1])}'
+    return True, values[1], 'swapped'
+
+
+def fly(store, call):
+    """One call in flight."""
+    while True:
+        answer = yield from walk(store, call)
+        if answer is not None:
+            return answer
+
+
+def walk(store, call):
+    """From the root to the leaf of the key; no answer where the call starts over."""
+    key = call[1]
+    pid, parent, first, unsplit = store.roots[TREE], None, True, 0
+    while True:
+        view = store.read(pid)
+        if view is None or view.node.merging:
+            store.notes['walk meets ' + ('a merging page' if view else 'no page')] += 1
+            yield
+            return
+        node = view.node
+        assert node.lo <= key, 'no walk comes to a page above its key'
+        if node.child is not None:
+            yield
+            yield from merge(store, view, node.child)
+            return
+        if node.should_split():
+            store.notes['walk passes a long page on the right of which its key lies'] += node.ends_before(key)
+            store.notes['long page by next'] += unsplit > 0
+            yield
+            yield from split(store, view, parent)
+            return
+        if node.ends_before(key):
+            store.notes['next a second time, the unsplit parent kept'] += unsplit == 1
+            yield
+            if parent is None:
+                yield from hoist(store, pid, node.next, node.hi)
+                return
+            pid, first, unsplit = node.next, True, unsplit + 1
+            continue
+        if unsplit:
+            yield
+            yield from post(store, parent, node.lo, pid)
+            return
+        if node.should_merge() and not first and parent.node.can_merge_child():
+            yield
+            ok, parent = store.change(parent, replace(parent.node, child=pid))
+            store.notes['intention is stale'] += not ok
+            yield
+            if ok:
+                yield from merge(store, parent, pid)
+            return
+        if node.leaf:
+            break
+        yield
+        parent = view
+        pid, first = node.pointer(key)
+    changes, value, answer = decide(call, node.get(key))
+    if not changes:
+        return answer
+    yield
+    if store.change(view, node.put(key, value))[0]:
+        return answer
+    store.notes['change is stale'] += 1
+    yield
+
+
+def split(store, view, parent, posting=True):
+    """Splits a page; a merge that wants it split posts no pointer."""
+    left, right = view.node.split()
+    new = store.allocate(right)
+    yield
+    ok, _ = store.change(view, replace(left, next=new.pid))
+    store.notes['split' + ('' if posting else ' for a merge') + ('' if ok else ' is stale')] += 1
+    yield
+    if not ok:
+        store.change(new, None)
+        yield
+    elif posting and parent is None:
+        yield from hoist(store, view.pid, new.pid, right.lo)
+    elif posting:
+        yield from post(store, parent, right.lo, new.pid)
+
+
+def post(store, parent, at, pid):
+    """Puts the pointer to a page into its parent, where there is none."""
+    if parent.node.get(at) is None:
+        ok, _ = store.change(parent, parent.node.put(at, pid))
+        store.notes['post is stale'] += not ok
+    yield
+
+
+def hoist(store, left, right, at):
+    """A new root over the old one and the page beside it."""
+    new = store.allocate(Node(leaf=False, entries=((b'', left), (at, right))))
+    yield
+    ok = store.swap_root(left, new.pid)
+    store.notes['hoist is stale'] += not ok
+    yield
+    if not ok:
+        store.change(new, None)
+        yield
+
+
+def merge(store, parent, child):
+    """Goes on with the merge of a child into the page before it, from what the pages show."""
+    seen = None
+    while seen is None or not seen.node.merging:        # until the child is seen capped
+        seen = store.read(child)
+        store.notes['merging child is gone'] += seen is None
+        store.notes['merging child has one of its own'] += seen is not None and seen.node.child is not None
+        yield
+        if seen is None:
+            return
+        if seen.node.child is not None:
+            yield from merge(store, seen, seen.node.child)
+            return
+        if seen.node.merging:
+            break
+        ok, now = store.change(seen, replace(seen.node, merging=True))
+        store.notes['cap ' + ('is stale' if now else 'finds no page')] += not ok
+        yield
+        if now is None:
+            return
+        if ok:
+            seen = now
+    cursor, received = parent.node.before(child), False
+    while not received:                                  # until the page before it has what the child holds
+        left = store.read(cursor)
+        if left is None or left.node.merging:
+            store.notes['search meets ' + ('a merging page' if left else 'no page')] += 1
+            yield
+            return
+        node = left.node
+        leads, beyond = node.next == child, node.hi == b'' or node.hi >= seen.node.lo
+        store.notes['search meets a page with a merging child'] += node.child is not None
+        store.notes['search finds the child received'] += node.child is None and beyond and not leads
+        store.notes['search passes a long page'] += node.should_split() and not beyond
+        yield
+        if node.child is not None:
+            yield from merge(store, left, node.child)
+            return
+        if leads and node.should_split():
+            yield from split(store, left, None, posting=False)
+            return
+        if leads:
+            received, now = store.change(left, node.receive(seen.node))
+            store.notes['receive ' + ('is stale' if now else 'finds no page')] += not received
+            yield
+            if now is None:
+                return
+        elif beyond:
+            received = True
+        else:
+            cursor = node.next
+    ok, _ = store.change(parent, parent.node.confirm())
+    store.notes['confirmation is stale'] += not ok
+    yield
+    if ok:
+        store.change(seen, None)
+        yield
+
+
+# The shell.
+
+FORMS = """insert K V; get K; remove K; cas K OLD NEW; begin insert K V; begin get K; begin remove K; begin cas K OLD NEW
+step N; finish N; abandon N; turns N; flush; crash N; dump; new; new refuse N ..; reopen; reopen refuse N ..
+reopen unreadable PID ..; reopen mark N; recover; recover refuse N ..; recovered; pages; crowd SEED CALLS; help; quit"""
+FORMS = [form.split(' ') for form in re.split('; |\n', FORMS)]
+POINT = ('insert', 'get', 'remove', 'cas')
+READERS = {'K': value_of, 'V': value_of, 'OLD': optional, 'NEW': optional}
+
+
+def fit(form, words):
+    """How many of the shell's own words of a form a line has, what its other words stand for, and else why it has not the
+    form."""
+    own = [part for part in form if part.islower()]
+    has = [word == part for word, part in zip(words, own)]
+    if not all(has):
+        at = has.index(False)
+        return at, None, f'`{words[at]}` does not follow `{words[0]}`; `help` lists what does'
+    if len(words) < len(own):
+        return len(has), None, f'`{" ".join(words)}` takes a word more; `help` lists which'
+    parts, words = form[len(own):], words[len(own):]
+    if parts[-1:] == ['..']:
+        parts = parts[:-1] + parts[:1] * (len(words) - 1)
+    if len(parts) != len(words):
+        told = ' '.join(form[len(own):])
+        count = 'one word or more' if '..' in form else ('no words', 'one word', 'two words', 'three words')[len(parts)]
+        return len(own), None, f'`{" ".join(own)}` takes {told}{told and ", "}{count}'
+    try:
+        return len(own), own + [READERS.get(part, number_of)(word) for part, word in zip(parts, words)], None
+    except BadLine as why:
+        return len(own), None, str(why)
+
+
+def read_line(text):
+    """The words of a line: the shell's own, and what the others stand for."""
+    words = text.split(' ')
+    best, reason = 1, f'`{words[0]}` is no command; `help` lists them'
+    for form in FORMS:
+        own, values, why = fit(form, words)
+        if values is not None:
+            return values
+        if own >= best:
+            best, reason = own, why
+    raise BadLine(reason)
+
+
+class Shell:
+    """Runs lines, one after the other, over a store of its own."""
+
+    def __init__(self):
+        self.store, self.line = Store(), 0
+        self.open()
+
+    def open(self):
+        """Opens the pages: an empty store gets a leaf without pairs, and all is flushed. Slots end."""
+        self.slots, self.begun, self.opened = {}, 0, False
+        if TREE not in self.store.roots:
+            self.store.swap_root(None, self.store.allocate(Node()).pid)
+        self.store.flush()
+        self.opened = True
+
+    def run(self, text):
+        """What a line prints, as a list of lines."""
+        self.line += 1
+        if text == '' or text[0] == '#':
+            return []
+        try:
+            return self.do(*read_line(text))
+        except BadLine as why:
+            return [f'bad line {self.line}: {why}']
+        except Refused as refusal:
+            return [f'refused E{refusal}']
+
+    def do(self, name, *words):
+        store = self.store
+        if name in ('new', 'reopen', 'recover'):
+            return self.renew(name, *words)
+        if name == 'crash':
+            store.crash(words[0])
+            self.open()
+            return ['recovered']
+        if name == 'crowd':
+            return [f'agreed {words[1]}']
+        if name in ('step', 'finish', 'abandon', 'turns'):
+            return [self.slot(name, words[0])]
+        if not self.opened:
+            raise Refused(8)
+        if name in POINT:
+            return [self.advance([fly(store, (name,) + words), 0], True)]
+        if name == 'begin':
+            self.begun += 1
+            self.slots[self.begun] = [fly(store, words), 0]
+            return [f'slot {self.begun}']
+        if name == 'flush':
+            return [f'flushed {store.flush()}']
+        if name == 'recovered':
+            return ['yes' if store.recovered else 'no']
+        if name == 'dump':
+            leaves = self.levels()[-1]
+            pairs = [pair for leaf in leaves for pair in leaf.entries]
+            return [f'pair {word(TREE)} {word(k)} {word(v)}' for k, v in pairs] + [f'end {len(pairs)}']
+        if name != 'pages':
+            raise NotImplementedError(f'what {name} prints is free text')
+        try:
+            levels = self.levels(True)
+        finally:
+            self.open()
+        return [f'level {len(level)} {max(len(n.entries) for n in level)}' for level in levels] + [f'end {len(levels)}']
+
+    def renew(self, name, kind=None, *numbers):
+        """Opens other pages, or the same ones anew."""
+        if kind == 'mark' and numbers[0] < self.store.mark:
+            raise BadLine(f'`{numbers[0]}` is below the mark, which is {self.store.mark}')
+        self.slots, self.opened = {}, False
+        if name == 'new':
+            notes, self.store = self.store.notes, Store()
+            self.store.notes = notes
+        if name == 'recover':
+            self.store.crash(GREATEST)
+        if kind == 'mark':
+            self.store.set_aside(numbers[0])
+        if kind == 'refuse':
+            self.store.refused = frozenset(numbers)
+        if kind == 'unreadable':
+            self.store.unreadable.update(numbers)
+        self.open()
+        return ['opened']
+
+    def slot(self, name, number):
+        if number not in self.slots:
+            return 'no slot'
+        if name == 'turns':
+            return f'number {self.slots[number][1]}'
+        if name == 'abandon':
+            del self.slots[number]
+            return 'abandoned'
+        try:
+            answer = self.advance(self.slots[number], name == 'finish')
+        except Refused:
+            del self.slots[number]
+            raise
+        if answer != 'moved':
+            del self.slots[number]
+        return answer
+
+    @staticmethod
+    def advance(flight, to_its_end):
+        """Does a step of a call in flight, or all of them."""
+        call, answer = flight[0], 'moved'
+        try:
+            while answer == 'moved':
+                next(call)
+                flight[1] += 1
+                if not to_its_end:
+                    return 'moved'
+        except StopIteration as end:
+            return end.value
+
+    def levels(self, whole=False):
+        """The pages of each level, from the root down. Only the last one is read as a whole where nothing else is asked."""
+        levels, pid = [], self.store.roots[TREE]
+        while pid is not None:
+            first = self.store.read(pid).node
+            level, node = [first], first
+            while node.next is not None and (whole or node.leaf):
+                node = self.store.read(node.next).node
+                level.append(node)
+            levels.append(level)
+            pid = None if first.leaf else first.entries[0][1]
+        return levels
+
+
+def main():
+    texts = [open(name, 'rb').read() for name in sys.argv[1:]] or [sys.stdin.buffer.read()]
+    for text in texts:
+        shell = Shell()
+        for line in text.decode('latin-1').removesuffix('\n').split('\n'):
+            if line == 'quit':
+                break
+            for printed in shell.run(line):
+                print(printed)
+
+
+if __name__ == '__main__':
+    main()

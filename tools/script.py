@@ -1,0 +1,225 @@
+"""Files of lines: how the cases write them.
+
+A case writes lines and what each of them must print. The oracle runs each line as it is written; where the case spells out
+what is printed, the oracle must print the same, and everything is compared with a plain dictionary beside it: what each call
+answers, what each dump has, and that a crash leaves the pairs of some moment since the last flush.
+"""
+import os
+import re
+import sys
+from oracle import GREATEST, Shell, read_line, word
+
+DATA = os.path.join(os.path.dirname(os.path.abspath(__file__)), '..', 'crates', 'sledsh', 'data')
+CASES = []
+
+
+def case(function):
+    """A function that writes the file of its name; its first words say what the file shows."""
+    CASES.append(function)
+    return function
+
+
+def expect(yes, *what):
+    """A case is wrong, or the oracle is."""
+    if not yes:
+        raise SystemExit(' '.join(map(str, what)))
+
+
+def key(number):
+    """The word for a byte string of one byte."""
+    return word(bytes([number]))
+
+
+def pair(k, v=None):
+    """What a dump prints of a pair; a key alone has itself as its value."""
+    return f'pair __sled__default {k} {k if v is None else v}'
+
+
+class Plain:
+    """The pairs as a dictionary, the calls in flight, and what was changed since the last flush."""
+
+    def __init__(self):
+        self.pairs, self.calls, self.changes = {}, {}, []
+
+    def answer(self, call):
+        """What a call answers that is decided now."""
+        name, key, *values = call
+        old = self.pairs.get(key)
+        if name == 'get':
+            return f'value {word(old)}'
+        if name == 'cas' and old != values[0]:
+            return f'conflict {word(old)} {word(values[1])}'
+        new = None if name == 'remove' else values[-1]
+        if new != old:
+            self.changes.append((key, old))
+        self.set(key, new)
+        return 'swapped' if name == 'cas' else f'old {word(old)}'
+
+    def set(self, key, value):
+        self.pairs.pop(key, None)
+        if value is not None:
+            self.pairs[key] = value
+
+    def is_left(self, pairs, keep):
+        """A crash left these pairs, and kept so many actions: they are those of a moment since the last flush."""
+        while self.pairs != pairs or len(self.changes) > keep:
+            expect(self.changes, 'no moment had these pairs')
+            self.set(*self.changes.pop())
+
+    def meets(self, words, printed, shell):
+        """Compares what a line printed with what it must."""
+        name, last = words[0], printed[-1] if printed else ''
+        if last.startswith('refused'):
+            return
+        if name in ('insert', 'get', 'remove', 'cas'):
+            expect(last == self.answer(words), words, last)
+        elif name == 'begin':
+            self.calls[int(last[5:])] = words[1:]
+        elif name in ('step', 'finish') and last not in ('moved', 'no slot'):
+            expect(last == self.answer(self.calls[words[1]]), words, last)
+        elif name == 'dump':
+            wanted = [pair(word(k), word(v)) for k, v in sorted(self.pairs.items())]
+            expect(printed == wanted + [f'end {len(wanted)}'], 'dump', printed)
+        elif name == 'flush':
+            expect(int(last[8:]) >= len(self.changes), words, last)
+            self.changes = []
+        elif name in ('crash', 'recover'):
+            leaves = shell.levels()[-1]
+            self.is_left({k: v for leaf in leaves for k, v in leaf.entries}, words[1] if name == 'crash' else GREATEST)
+            self.calls, self.changes = {}, []
+        elif name in ('reopen', 'pages'):
+            self.calls, self.changes = {}, []
+
+
+class Script:
+    """One file of lines."""
+
+    def __init__(self, name, sentence):
+        self.name, self.shell, self.plain = name, Shell(), Plain()
+        self.text, self.wanted = [], []
+        self.reached = dict(self.shell.store.notes)
+        self.note(sentence)
+
+    @property
+    def store(self):
+        return self.shell.store
+
+    def note(self, sentence):
+        """A comment in the file."""
+        for line in sentence.strip().split('\n'):
+            self.ask('# ' + line.strip())
+
+    def ask(self, line):
+        """A line that prints what the oracle says."""
+        printed = self.shell.run(line)
+        self.text.append(line)
+        self.wanted += printed
+        if line and line[0] != '#' and not (printed and printed[0].startswith('bad line')):
+            words = read_line(line)
+            if words[0] == 'new':
+                self.plain = Plain()
+            self.plain.meets(words, printed, self.shell)
+        return printed
+
+    def line(self, line, *wanted):
+        """A line that prints these lines."""
+        printed = self.ask(line)
+        expect(printed == list(wanted), f'{self.name}: {line}\n  the oracle:', printed, '\n  the case:', list(wanted))
+
+    def rows(self, text):
+        """Lines and what they print: between them two spaces or more; what follows spaces alone is printed by the line
+        above."""
+        rows = []
+        for row in text.strip('\n').rstrip().split('\n'):
+            line, *printed = re.split('  +', row.strip())
+            if rows and re.match(' {20}', row):
+                rows[-1][1].append(line)
+            else:
+                rows.append((line, printed))
+        for line, printed in rows:
+            self.line(line, *printed)
+
+    def new(self, *refused):
+        """An empty store."""
+        self.line('new' + (' refuse ' + ' '.join(map(str, refused)) if refused else ''), 'opened')
+
+    def moves(self, slot, count=1):
+        for _ in range(count):
+            self.line(f'step {slot}', 'moved')
+
+    def did(self, actions):
+        """So many actions were done since the last flush."""
+        self.line('flush', f'flushed {actions}')
+
+    def goes_on(self, slot, *actions):
+        """The call goes on in each of these steps, and does so many actions in each."""
+        for count in actions:
+            self.moves(slot)
+            self.did(count)
+
+    def to_end(self, slot, answer):
+        """The call takes its steps to the last one, which answers this. All is flushed after each, to see what it did."""
+        self.ask('flush')
+        while self.ask(f'step {slot}') == ['moved']:
+            self.ask('flush')
+        expect(self.wanted[-1] == answer, self.name, slot, self.wanted[-1], answer)
+        self.ask('flush')
+
+    def insert(self, *keys):
+        """New keys, each with itself as its value."""
+        for k in keys:
+            self.line(f'insert {k} {k}', 'old -')
+
+    def remove(self, *keys):
+        """Keys that have themselves as their values."""
+        for k in keys:
+            self.line(f'remove {k}', f'old {k}')
+
+    def begin(self, slot, call):
+        self.line(f'begin {call}', f'slot {slot}')
+
+    def holds(self, *keys):
+        """These keys are there, each with itself as its value."""
+        self.line('dump', *(pair(k) for k in keys), f'end {len(keys)}')
+
+    def pages(self, *levels):
+        """So many pages, and the most entries of one, on each level from the root down."""
+        self.line('pages', *(f'level {count} {most}' for count, most in levels), f'end {len(levels)}')
+
+    def reaches(self, *names):
+        """Since the last time it was asked each of these seldom things has happened."""
+        now = self.store.notes
+        for name in names:
+            expect(now[name] > self.reached.get(name, 0), f'{self.name}: not reached: {name}; but', self.news())
+        self.reached = dict(now)
+
+    def news(self):
+        return {n: c for n, c in self.store.notes.items() if c > self.reached.get(n, 0)}
+
+    def write(self, folder):
+        with open(os.path.join(folder, self.name + '.lines'), 'wb') as file:
+            file.write(('\n'.join(self.text) + self.end).encode('latin-1'))
+        with open(os.path.join(folder, self.name + '.expected'), 'wb') as file:
+            file.write(''.join(line + '\n' for line in self.wanted).encode('latin-1'))
+
+    end = '\n'
+
+
+def write_all(only=()):
+    """Writes the files of all cases, and the words and the output of the check of all of them."""
+    os.makedirs(DATA, exist_ok=True)
+    for function in CASES:
+        if only and function.__name__ not in only:
+            continue
+        script = Script(function.__name__, ' '.join(function.__doc__.split()))
+        function(script)
+        script.write(DATA)
+        seldom = ', '.join(sorted(n for n, c in script.store.notes.items() if c))
+        print(f'{script.name}: {len(script.text)} lines; {seldom}', file=sys.stderr)
+    names = sorted(name[:-6] for name in os.listdir(DATA) if name.endswith('.lines'))
+    with open(os.path.join(DATA, '..', 'args'), 'w') as file:
+        file.write(''.join(w + '\n' for w in ['check'] + names))
+    with open(os.path.join(DATA, '..', 'stdout'), 'w') as file:
+        for name in names:
+            count = open(os.path.join(DATA, name + '.expected'), 'rb').read().count(b'\n')
+            file.write(f'{name}: {count} lines as expected\n')
