@@ -9,7 +9,7 @@ use crate::input::Stopped;
 use crate::print::{Shown, push_end, push_outcome, push_pair};
 use sled::{Collection, Db};
 use sled_machine::Machine;
-use sled_model::{Call, Outcome, Slot, Tree, Whole};
+use sled_model::{Call, MergeOperator, Outcome, Slot, Tree, Whole};
 use sled_pages::{Error, IVec, MemPages};
 use std::alloc::Global;
 use std::io::Write;
@@ -27,16 +27,16 @@ enum Act {
 
 /// A machine over pages in memory, the current tree, and the slots that the lines began.
 #[derive(Drop)]
-pub struct Session {
-    machine: Machine<MemPages>,
+pub struct Session<M = Box<dyn MergeOperator + Send>> {
+    machine: Machine<MemPages, M>,
     tree: Tree,
     // The slot that each `begin` took, in order, and what the value in its reply is.
     slots: Vec<(Slot, Shown)>,
 }
 
-impl Session {
+impl<M: MergeOperator> Session<M> {
     /// A session over a database, whose default tree is current. Where that is refused it gives the pages back.
-    pub fn over(alloc: Global, db: Db<MemPages>) -> Result<Session, (MemPages, Error)>
+    pub fn over(alloc: Global, db: Db<MemPages, M>) -> Result<Session<M>, (MemPages, Error)>
         ensures whole { IfErr result (λ e. IsCrashWhole (store_of e.0)) }
         ensures well { IfErr result (λ e. IsWhole (now (store_of e.0))) }
         ensures calm { IfErr result (λ e. (now (store_of e.0)).in_group ≡ false) }
@@ -52,7 +52,7 @@ impl Session {
     }
 
     /// The database.
-    pub fn db(&self) -> &Db<MemPages> {
+    pub fn db(&self) -> &Db<MemPages, M> {
         self.machine.db()
     }
 
@@ -62,7 +62,7 @@ impl Session {
     }
 
     /// The database. The calls in flight are given up.
-    pub fn into_db(self) -> Db<MemPages> {
+    pub fn into_db(self) -> Db<MemPages, M> {
         let Session {
             machine,
             tree,

@@ -49,6 +49,29 @@ struct Shell {
     refused: Option<Error>,
 }
 
+fn push_turns(out: &mut Vec<u8>, turns: Option<u64>) -> sled_pages::Result<()> {
+    match turns {
+        Some(turns) => push_numbered(out, b"number ", turns),
+        None => push_text(out, b"no slot\n"),
+    }
+}
+
+// Answers at a database.
+fn answer<W: Write>(
+    session: &mut Session,
+    ask: Ask,
+    output: &mut W,
+    out: &mut Vec<u8>,
+) -> Result<(), Stopped> {
+    match ask {
+        Ask::Line(command) => session.run(command, output, out),
+        Ask::Turns(number) => Ok(push_turns(out, session.turns(number))?),
+        Ask::Recovered if session.db().was_recovered() => Ok(push_text(out, b"yes\n")?),
+        Ask::Recovered => Ok(push_text(out, b"no\n")?),
+        Ask::Help => Ok(push_text(out, HELP.as_bytes())?),
+    }
+}
+
 impl Shell {
     // Adds the line of one that cannot be read.
     fn tell_bad(&mut self, why: &[u8]) -> Result<(), Stopped> {
@@ -112,31 +135,6 @@ impl Shell {
         Ok(Command::Quit)
     }
 
-    fn turns(&mut self, turns: Option<u64>) -> sled_pages::Result<()> {
-        match turns {
-            Some(turns) => push_numbered(&mut self.out, b"number ", turns),
-            None => push_text(&mut self.out, b"no slot\n"),
-        }
-    }
-
-    // Answers at a database.
-    fn answer<W: Write>(
-        &mut self,
-        session: &mut Session,
-        ask: Ask,
-        output: &mut W,
-    ) -> Result<(), Stopped> {
-        match ask {
-            Ask::Line(command) => session.run(command, output, &mut self.out),
-            Ask::Turns(number) => Ok(self.turns(session.turns(number))?),
-            Ask::Recovered if session.db().was_recovered() => {
-                Ok(push_text(&mut self.out, b"yes\n")?)
-            }
-            Ask::Recovered => Ok(push_text(&mut self.out, b"no\n")?),
-            Ask::Help => Ok(push_text(&mut self.out, HELP.as_bytes())?),
-        }
-    }
-
     // Answers where there is none.
     fn answer_shut(&mut self, ask: Ask) -> Result<(), Stopped> {
         let answered = match &ask {
@@ -167,7 +165,7 @@ impl Shell {
                     push_refused(&mut self.out, &Error::Closed)?;
                 }
                 (Command::Change(change), _) => return Ok(Some(change)),
-                (Command::Ask(ask), State::Open(session)) => self.answer(session, ask, output)?,
+                (Command::Ask(ask), State::Open(session)) => answer(session, ask, output, &mut self.out)?,
                 (Command::Ask(ask), State::Shut(_)) => self.answer_shut(ask)?,
             }
         }
