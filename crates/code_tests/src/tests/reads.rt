@@ -106,6 +106,14 @@ fn levels_of(alloc: Global, pages: &MemPages) -> Result<u64, Fail> {
     Ok(64)
 }
 
+// Whether the call was decided with this value in its reply.
+fn is_value(outcome: &Outcome, wanted: Option<&IVec>) -> bool {
+    match outcome {
+        Outcome::Decided(Reply::Value(value)) => value.as_ref() == wanted,
+        _ => false,
+    }
+}
+
 // How many pages a call at the key of this number reads: a get that finds the key, or an insert of it where it is not there.
 fn reads_of<P: Pages, M: MergeOperator>(
     rt: &impl Abort,
@@ -123,11 +131,9 @@ fn reads_of<P: Pages, M: MergeOperator>(
     };
     let slot = machine.begin(tree, call)?;
     reads.store(0, Ordering::Relaxed);
-    let found = match machine.finish(slot) {
-        Outcome::Decided(Reply::Value(value)) => value == Some(key),
-        _ => !is_there,
-    };
-    assert_eq!(rt; found, is_there);
+    let outcome = machine.finish(slot);
+    let wanted = if is_there { Some(&key) } else { None };
+    assert!(rt; is_value(&outcome, wanted), "{number}");
     Ok(reads.load(Ordering::Relaxed))
 }
 

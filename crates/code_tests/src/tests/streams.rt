@@ -1,29 +1,30 @@
 //! Readers and writers that fail, and a reader that waits for each answer.
 use sled_lines::serve::serve;
-use std::alloc::Global;
 use std::io::{self, BufRead, Read, Write};
 use std::sync::atomic::{AtomicU64, Ordering};
 use std::test::Fail;
 
+// How many lines were written.
+static ANSWERS: AtomicU64 = AtomicU64::new(0);
+
 // A reader that gives one line at a time. It fails where a line is not answered yet, and at its end if it is cut.
 #[derive(Drop)]
-struct Lines<'a, 'b> {
+struct Lines<'a> {
     rest: &'a [u8],
     is_cut: bool,
     given: u64,
-    answers: &'b AtomicU64,
 }
 
-impl<'a, 'b> Read for Lines<'a, 'b> {
+impl<'a> Read for Lines<'a> {
     fn read(&mut self, buf: &mut [u8]) -> io::Result<usize> {
         self.rest.read(buf)
     }
 }
 
-impl<'a, 'b> BufRead for Lines<'a, 'b> {
+impl<'a> BufRead for Lines<'a> {
     fn fill_buf(&mut self) -> io::Result<&[u8]> {
         let is_over = self.rest.is_empty() && self.is_cut;
-        if is_over || self.answers.load(Ordering::SeqCst) < self.given {
+        if is_over || ANSWERS.load(Ordering::SeqCst) < self.given {
             return Err(io::Error::from(io::ErrorKind::Other));
         }
         let line = self.rest.split_inclusive(|byte| *byte == b'\n').next();
@@ -38,20 +39,19 @@ impl<'a, 'b> BufRead for Lines<'a, 'b> {
 
 // A writer that takes so many bytes and then fails, and may fail at a flush. It counts the lines.
 #[derive(Drop)]
-struct Page<'a> {
+struct Page {
     room: usize,
     flushes: bool,
-    answers: &'a AtomicU64,
 }
 
-impl<'a> Write for Page<'a> {
+impl Write for Page {
     fn write(&mut self, buf: &[u8]) -> io::Result<usize> {
         if self.room < buf.len() {
             return Err(io::Error::from(io::ErrorKind::Other));
         }
         self.room -= buf.len();
         let lines = buf.iter().filter(|byte| **byte == b'\n').count();
-        self.answers.fetch_add(lines as u64, Ordering::SeqCst);
+        ANSWERS.fetch_add(lines as u64, Ordering::SeqCst);
         Ok(buf.len())
     }
 
@@ -62,24 +62,6 @@ impl<'a> Write for Page<'a> {
             Err(io::Error::from(io::ErrorKind::Other))
         }
     }
-}
-
-// The exit status, and how many lines were written.
-fn served(alloc: Global, rest: &[u8], is_cut: bool, room: usize, flushes: bool) -> (u8, u64) {
-    let answers = AtomicU64::new(0);
-    let mut input = Lines {
-        rest,
-        is_cut,
-        given: 0,
-        answers: &answers,
-    };
-    let mut output = Page {
-        room,
-        flushes,
-        answers: &answers,
-    };
-    let ended = serve(alloc, &mut input, &mut output);
-    (ended, answers.load(Ordering::SeqCst))
 }
 
 #[test]
@@ -93,8 +75,18 @@ fn reads_and_writes_that_fail(rt: HostRuntime) -> Result<(), Fail> {
         (b"get a\n", false, 16, false, 2, 1),
         (b"bad\n", false, 16, false, 2, 1),
     ] {
-        let (ended, answers) = served(rt.alloc(), rest, is_cut, room, flushes);
-        assert_eq!(rt; (ended, answers), (status, lines), "{rest:?}");
+        ANSWERS.store(0, Ordering::SeqCst);
+        let mut input = Lines {
+            rest,
+            is_cut,
+            given: 0,
+        };
+        let ended = serve(rt.alloc(), &mut input, &mut Page { room, flushes });
+        assert_eq!(rt;
+            (ended, ANSWERS.load(Ordering::SeqCst)),
+            (status, lines),
+            "{rest:?}"
+        );
     }
     Ok(())
 }
