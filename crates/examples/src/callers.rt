@@ -10,7 +10,7 @@ ghost use Rattle.sled.specs.declared.TheConstants.{DEFAULT_TREE};
 ghost use Rattle.examples.specs.Reads.{ReadsAs, PutsOne, maps_now, later, found_in};
 
 use crate::single::new_machine;
-use sled::{DEFAULT_TREE, Db, crash_pages};
+use sled::{DEFAULT_TREE, Db, crash_pages, empty_pages};
 use sled_machine::Machine;
 use sled_model::{Call, MergeOperator, Outcome, Tree};
 use sled_pages::{Error, IVec, MemPages, Pages, Result};
@@ -57,7 +57,13 @@ pub fn insert_then_get_in_new(
 ) -> Result<Option<Outcome>>
     ensures { IfOk result (λ got. IfSome got (ReadsAs (Some value.now))) }
 {
-    let mut machine = new_machine(alloc, name)?;
+    let mut machine = match Db::open(alloc, empty_pages(alloc), name) {
+        Ok(db) => new_machine(db),
+        Err((pages, e)) => {
+            drop(pages);
+            return Err(e);
+        }
+    };
     let tree = match machine.db().default_tree() {
         Ok(tree) => tree,
         Err(e) => {

@@ -3,7 +3,6 @@ ghost use Rattle.std.specs.Prelude.{◌≡◌, IfOk, IfErr, OnOk, OnErr, None, [
 ghost use Rattle.std.specs.Option.{option_map};
 ghost use Rattle.sled_pages.specs.declared.error.Error.TheVariants.{NoMemory};
 ghost use Rattle.sled_pages.specs.Store.{now};
-ghost use Rattle.sled_pages.specs.Memory.{store_of, empty_store};
 ghost use Rattle.sled_model.specs.Refusal.{must_refuse_of};
 ghost use Rattle.sled_model.specs.declared.outcome.Outcome.TheVariants as outcome;
 ghost use Rattle.sled_model.specs.declared.outcome.Step.TheVariants as step;
@@ -13,28 +12,23 @@ ghost use Rattle.sled.specs.declared.TheConstants.{DEFAULT_TREE};
 ghost use Rattle.sled.specs.Calls.{IsHandle, MustBeRefused};
 ghost use Rattle.sled.specs.Export.{collections};
 ghost use Rattle.sled.specs.Flights.{IsKnown, Flies};
-ghost use Rattle.sled.specs.Opens.{Opens};
 ghost use Rattle.sled.specs.Values.{db_state, moment};
 ghost use Rattle.sled_machine.specs.Values.{slots_of};
 ghost use Rattle.sled_machine.specs.Crash.{Reaches, Finishes, Performs};
 
-use sled::{Collection, Db, empty_pages};
+use sled::{Collection, Db};
 use sled_machine::Machine;
 use sled_model::{Call, MergeOperator, Outcome, Slot, Step, Tree, Whole};
-use sled_pages::{MemPages, Pages, Result};
+use sled_pages::{Pages, Result};
 use sled_tree::{Flight, Went};
-use std::alloc::Global;
 
-/// A machine over a new database of this name, whose store is empty and in memory.
-pub fn new_machine(alloc: Global, name: &[u8]) -> Result<Machine<MemPages>>
-    ensures opened { IfOk result (λ machine. Opens store_of empty_store name.now machine.db) }
-    ensures idle { IfOk result (λ machine. machine.flights ≡ []) }
-    ensures unused { IfOk result (λ machine. machine.slots_given ≡ 0) }
+/// A machine over a database, on which no call is in flight.
+pub fn new_machine<P: Pages, M: MergeOperator>(db: Db<P, M>) -> Machine<P, M>
+    ensures db { result.db ≡ db }
+    ensures idle { result.flights ≡ [] }
+    ensures unused { result.slots_given ≡ 0 }
 {
-    match Db::open(alloc, empty_pages(alloc), name) {
-        Ok(db) => Ok(Machine::new(db)),
-        Err((_, e)) => Err(e),
-    }
+    Machine::new(db)
 }
 
 /// Flushes a machine's database and ends it: its pages, of which a crash then takes nothing. The calls in flight are given up.

@@ -36,6 +36,20 @@ fn show<W: Write>(output: &mut W, line: Option<&[u8]>) -> io::Result<()> {
     }
 }
 
+// Writes a line that was printed, and the one that was expected.
+fn tell_line<W: Write>(
+    output: &mut W,
+    number: u64,
+    line: Option<&[u8]>,
+    other: Option<&[u8]>,
+) -> io::Result<()> {
+    write!(output, "line {number} is ")?;
+    show(output, line)?;
+    output.write_all(b" and not ")?;
+    show(output, other)?;
+    output.write_all(b"\n")
+}
+
 // Writes the first line that was printed and not expected.
 fn tell<W: Write>(output: &mut W, printed: &[u8], expected: &[u8]) -> io::Result<()> {
     let mut lines = printed.split(|byte| *byte == b'\n');
@@ -43,11 +57,7 @@ fn tell<W: Write>(output: &mut W, printed: &[u8], expected: &[u8]) -> io::Result
     for number in 1..u64::MAX {
         let (line, other) = (lines.next(), wanted.next());
         if line != other {
-            write!(output, "line {number} is ")?;
-            show(output, line)?;
-            output.write_all(b" and not ")?;
-            show(output, other)?;
-            return output.write_all(b"\n");
+            return tell_line(output, number, line, other);
         }
     }
     Ok(())
@@ -71,12 +81,23 @@ fn judge<W: Write>(printed: &[u8], expected: &[u8], output: &mut W) -> io::Resul
     Ok(true)
 }
 
+// What the file of lines of this name prints, if there is one.
+fn printed_for<W: Write>(
+    rt: &HostRuntime,
+    name: &str,
+    output: &mut W,
+) -> Result<Option<Vec<u8>>, Stopped> {
+    match bytes_of(rt, name, ".lines", output)? {
+        Some(lines) => Ok(Some(printed_by(rt.alloc(), lines.as_slice())?)),
+        None => Ok(None),
+    }
+}
+
 // Runs a file of lines: whether it prints what is expected.
 fn check_one<W: Write>(rt: &HostRuntime, name: &str, output: &mut W) -> Result<bool, Stopped> {
     write!(output, "{name}: ")?;
-    let printed = match bytes_of(rt, name, ".lines", output)? {
-        Some(lines) => printed_by(rt.alloc(), lines.as_slice())?,
-        None => return Ok(false),
+    let Some(printed) = printed_for(rt, name, output)? else {
+        return Ok(false);
     };
     match bytes_of(rt, name, ".expected", output)? {
         Some(expected) => Ok(judge(printed.as_slice(), expected.as_slice(), output)?),

@@ -150,40 +150,61 @@ impl Crowd {
         Err(Halt::Differed)
     }
 
+    // Tells how one side came out, and how the other.
+    fn tell(&mut self, did: &[u8], slot: Slot, is: &[u8], wanted: &[u8]) -> Run<()> {
+        push_text(&mut self.out, b"differed: ")?;
+        push_text(&mut self.out, did)?;
+        push_number(&mut self.out, slot.0)?;
+        push_text(&mut self.out, b" came out as `")?;
+        push_text(&mut self.out, without_end(is))?;
+        push_text(&mut self.out, b"` and not `")?;
+        push_text(&mut self.out, without_end(wanted))?;
+        push_text(&mut self.out, b"`\n")?;
+        Err(Halt::Differed)
+    }
+
     // Compares how both sides came out.
     fn same(&mut self, did: &[u8], slot: Slot, one: Outcome, other: Outcome) -> Run<()> {
         let (mut is, mut wanted) = (Vec::new(self.alloc), Vec::new(self.alloc));
-        let pushed = push_outcome(&mut is, Shown::Value, &one);
+        let is_pushed = push_outcome(&mut is, Shown::Value, &one).is_ok();
         drop(one);
-        let other_pushed = push_outcome(&mut wanted, Shown::Value, &other);
+        let are_pushed = is_pushed && push_outcome(&mut wanted, Shown::Value, &other).is_ok();
         drop(other);
-        pushed?;
-        other_pushed?;
+        if !are_pushed {
+            return Err(Halt::Stopped);
+        }
         if is.as_slice() == wanted.as_slice() {
             return Ok(());
         }
-        let mut what = Vec::new(self.alloc);
-        push_text(&mut what, did)?;
-        push_number(&mut what, slot.0)?;
-        push_text(&mut what, b" came out as `")?;
-        push_text(&mut what, without_end(is.as_slice()))?;
-        push_text(&mut what, b"` and not `")?;
-        push_text(&mut what, without_end(wanted.as_slice()))?;
-        push_text(&mut what, b"`")?;
-        self.differed(what.as_slice())
+        self.tell(did, slot, is.as_slice(), wanted.as_slice())
+    }
+
+    // The call of the present number begins on the one side.
+    fn begun(&mut self, side: &mut Side, life: Life) -> Run<Outcome> {
+        let call = chosen(self.alloc, self.number, life)?;
+        match side.machine.begin(&side.tree, call) {
+            Ok(slot) => Ok(Outcome::Begun(slot)),
+            Err(error) => Ok(Outcome::Refused(error)),
+        }
+    }
+
+    // .. and on the other.
+    fn begun_plain(&mut self, life: Life) -> Run<Outcome> {
+        let call = chosen(self.alloc, self.number, life)?;
+        Ok(self.plain.begin(call)?)
     }
 
     // Begins the call of the present number on both sides.
     fn begin(&mut self, side: &mut Side, life: Life) -> Run<Slot> {
         self.left = self.left.saturating_sub(1);
-        let one = match side
-            .machine
-            .begin(&side.tree, chosen(self.alloc, self.number, life)?)
-        {
-            Ok(slot) => Outcome::Begun(slot),
-            Err(error) => Outcome::Refused(error),
+        let one = self.begun(side, life)?;
+        let other = match self.begun_plain(life) {
+            Ok(other) => other,
+            Err(halt) => {
+                drop(one);
+                return Err(halt);
+            }
         };
-        let other = self.plain.begin(chosen(self.alloc, self.number, life)?)?;
         let slot = Slot(self.plain.given);
         self.same(b"begin ", slot, one, other)?;
         Ok(slot)
@@ -193,7 +214,13 @@ impl Crowd {
     fn step(&mut self, side: &mut Side, slot: Slot, life: Life) -> Run<bool> {
         let one = side.machine.step(slot);
         let decided = matches!(&one, Outcome::Decided(_));
-        let other = self.plain.step(slot, decided)?;
+        let other = match self.plain.step(slot, decided) {
+            Ok(other) => other,
+            Err(error) => {
+                drop(one);
+                return Err(Halt::from(error));
+            }
+        };
         self.same(b"step ", slot, one, other)?;
         if decided && life.steps <= 50 {
             self.note()?;
@@ -208,9 +235,12 @@ impl Crowd {
     }
 
     fn flush(&mut self, side: &mut Side) -> Run<()> {
-        let Outcome::Decided(Reply::Number(_)) = side.machine.whole(Whole::Flush) else {
+        let outcome = side.machine.whole(Whole::Flush);
+        let is_flushed = matches!(&outcome, Outcome::Decided(Reply::Number(_)));
+        drop(outcome);
+        if !is_flushed {
             return self.differed(b"a flush was refused");
-        };
+        }
         self.maps.clear();
         self.note()
     }
@@ -227,13 +257,21 @@ impl Crowd {
             return self.differed(b"an export was refused");
         };
         let is_one = all.len() == 1;
-        match all.pop() {
-            Some((kind, name, pairs))
-                if is_one
-                    && kind.as_slice() == b"tree".as_slice()
-                    && name.as_slice() == DEFAULT_TREE.as_bytes() => { Ok(pairs) }
-            _ => self.differed(b"an export has other trees"),
+        let last = all.pop();
+        drop(all);
+        let Some((kind, name, pairs)) = last else {
+            return self.differed(b"an export has no tree");
+        };
+        let is_default = is_one
+            && kind.as_slice() == b"tree".as_slice()
+            && name.as_slice() == DEFAULT_TREE.as_bytes();
+        drop(kind);
+        drop(name);
+        if is_default {
+            return Ok(pairs);
         }
+        drop(pairs);
+        self.differed(b"an export has other trees")
     }
 
     // Both have the same pairs.
@@ -245,26 +283,32 @@ impl Crowd {
         self.differed(b"the pairs")
     }
 
-    // Steps of eight calls. One that was decided makes room for another, and now and then one is given up.
+    // One of eight calls takes a step. One that was decided makes room for another, and now and then one is given up.
+    fn turn(&mut self, side: &mut Side, slot: Slot, life: Life) -> Run<Slot> {
+        let decided = self.step(side, slot, life)?;
+        let given_up = !decided && (self.number >> 50) % 64 == 0;
+        if given_up {
+            self.abandon(side, slot)?;
+        }
+        if (decided || given_up) && self.left > 0 {
+            return self.begin(side, life);
+        }
+        Ok(slot)
+    }
+
+    // Steps of eight calls.
     fn eight(&mut self, side: &mut Side, life: Life) -> Run<()> {
         let mut slots = [Slot(0); 8];
-        for i in 0..8usize {
+        for slot in slots.iter_mut() {
             self.number = mixed(self.number);
             if self.left > 0 {
-                slots[i] = self.begin(side, life)?;
+                *slot = self.begin(side, life)?;
             }
         }
         for step in 0..life.steps {
             self.number = mixed(self.number);
             let i = (self.number % 8) as usize;
-            let decided = self.step(side, slots[i], life)?;
-            let given_up = !decided && (self.number >> 50) % 64 == 0;
-            if given_up {
-                self.abandon(side, slots[i])?;
-            }
-            if (decided || given_up) && self.left > 0 {
-                slots[i] = self.begin(side, life)?;
-            }
+            slots[i] = self.turn(side, slots[i], life)?;
             if step % 20 == 0 {
                 self.same_pairs(side)?;
             }

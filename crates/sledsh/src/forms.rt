@@ -97,15 +97,31 @@ enum Misfit<'a> {
     Bytes(&'a [u8]),
 }
 
+fn is_bytes(alloc: Global, word: &[u8]) -> Result<bool> {
+    Ok(read_word(alloc, word)?.is_some())
+}
+
+fn is_value(alloc: Global, word: &[u8]) -> Result<bool> {
+    Ok(read_value(alloc, word)?.is_some())
+}
+
+// Whether a part of a form is one of these.
+fn is_one_of(part: &[u8], names: &[&[u8]]) -> bool {
+    names.iter().any(|name| *name == part)
+}
+
 // Why a word is not what a form has in its place.
 fn odd<'a>(alloc: Global, part: &[u8], word: &'a [u8]) -> Result<Option<Misfit<'a>>> {
-    let misfit = match part {
-        b"K" | b"V" if read_word(alloc, word)?.is_none() => Misfit::Bytes(word),
-        b"OLD" | b"NEW" if read_value(alloc, word)?.is_none() => Misfit::Bytes(word),
-        b"N" | b"PID" | b"SEED" | b"CALLS" if read_number(word).is_none() => Misfit::Number(word),
-        _ => return Ok(None),
-    };
-    Ok(Some(misfit))
+    if is_one_of(part, &[b"K", b"V"]) && !is_bytes(alloc, word)? {
+        return Ok(Some(Misfit::Bytes(word)));
+    }
+    if is_one_of(part, &[b"OLD", b"NEW"]) && !is_value(alloc, word)? {
+        return Ok(Some(Misfit::Bytes(word)));
+    }
+    if is_one_of(part, &[b"N", b"PID", b"SEED", b"CALLS"]) && read_number(word).is_none() {
+        return Ok(Some(Misfit::Number(word)));
+    }
+    Ok(None)
 }
 
 // Whether a part of a form is one of the command's own words.

@@ -33,14 +33,22 @@ fn run_files(rt: &HostRuntime, names: &[String], output: &mut impl Write) -> Res
     Ok(read)
 }
 
+fn run_names(rt: &HostRuntime, names: &[String], output: &mut impl Write) -> Result<bool, Stopped> {
+    match names {
+        [] => run_input(rt, output),
+        [first, names @ ..] if first.as_str() == "check" => check(rt, names, output),
+        names => run_files(rt, names, output),
+    }
+}
+
+fn names_of(rt: &HostRuntime) -> Result<Vec<String>, Stopped> {
+    Ok(env::args(rt)?.skip(1).collect(rt.alloc())?)
+}
+
 fn run_all(rt: &HostRuntime) -> Result<bool, Stopped> {
+    let names = names_of(rt)?;
     let mut output = BufWriter::new(rt.alloc(), std::io::writer(rt))?;
-    let names: Vec<String> = env::args(rt)?.skip(1).collect(rt.alloc())?;
-    let passed = match names.as_slice() {
-        [] => run_input(rt, &mut output)?,
-        [first, names @ ..] if first.as_str() == "check" => check(rt, names, &mut output)?,
-        names => run_files(rt, names, &mut output)?,
-    };
+    let passed = run_names(rt, names.as_slice(), &mut output)?;
     output.flush()?;
     Ok(passed)
 }

@@ -98,10 +98,17 @@ impl Plain {
         let value = value_at(self.pairs.as_slice(), call.key())?;
         let Decision { effect, reply } = call.decide(value)?;
         let key = call.key();
-        match effect {
-            Effect::Nothing => {}
-            Effect::Set(value) => put(&mut self.pairs, key, value)?,
-            Effect::Remove => self.pairs.retain(|pair| *key != pair.0),
+        let done = match effect {
+            Effect::Nothing => Ok(()),
+            Effect::Set(value) => put(&mut self.pairs, key, value),
+            Effect::Remove => {
+                self.pairs.retain(|pair| *key != pair.0);
+                Ok(())
+            }
+        };
+        if let Err(e) = done {
+            drop(reply);
+            return Err(e);
         }
         self.flights.retain(|flight| flight.0 != slot.0);
         Ok(Outcome::Decided(reply))

@@ -159,14 +159,16 @@ impl Shell {
         output: &mut W,
     ) -> Result<Option<Change>, Stopped> {
         for _ in 0..u64::MAX {
-            match (self.next(input, output)?, &mut *state) {
-                (Command::Quit, _) => break,
-                (Command::Change(Change::Pages), State::Shut(_)) => {
+            match self.next(input, output)? {
+                Command::Quit => break,
+                Command::Change(Change::Pages) if matches!(&*state, State::Shut(_)) => {
                     push_refused(&mut self.out, &Error::Closed)?;
                 }
-                (Command::Change(change), _) => return Ok(Some(change)),
-                (Command::Ask(ask), State::Open(session)) => answer(session, ask, output, &mut self.out)?,
-                (Command::Ask(ask), State::Shut(_)) => self.answer_shut(ask)?,
+                Command::Change(change) => return Ok(Some(change)),
+                Command::Ask(ask) => match state {
+                    State::Open(session) => answer(session, ask, output, &mut self.out)?,
+                    State::Shut(_) => self.answer_shut(ask)?,
+                },
             }
         }
         Ok(None)
@@ -218,18 +220,19 @@ impl Shell {
             }
         };
         for _ in 0..u64::MAX {
-            let change = match self.lines(&mut state, input, output) {
+            match self.lines(&mut state, input, output) {
                 Ok(Some(Change::Crowd(seed, calls))) => {
-                    match run_calls(self.alloc, seed, calls, &mut self.out) {
-                        Ok(()) => continue,
-                        Err(stopped) => Err(stopped),
+                    if let Err(stopped) = run_calls(self.alloc, seed, calls, &mut self.out) {
+                        drop(state);
+                        return Err(stopped);
                     }
                 }
                 Ok(change) => return Ok((state.into_kept(), change)),
-                Err(stopped) => Err(stopped),
-            };
-            drop(state);
-            return change;
+                Err(stopped) => {
+                    drop(state);
+                    return Err(stopped);
+                }
+            }
         }
         drop(state);
         Err(Stopped)

@@ -5,8 +5,7 @@ ghost use Rattle.sled.specs.Flights.{IsKnown};
 
 use super::{bytes, told, tree_of};
 use examples::{
-    fly, get, insert_then_get, insert_then_get_in_new, new_machine, race, reopen, reopen_then_get,
-    survive,
+    fly, get, insert_then_get, insert_then_get_in_new, race, reopen, reopen_then_get, survive,
 };
 use sled::{DEFAULT_TREE, Db, empty_pages};
 use sled_machine::Machine;
@@ -19,6 +18,17 @@ use std::test::Fail;
 
 fn insert(alloc: Global, value: &str) -> Result<Call, Fail> {
     Ok(Call::Insert(bytes(alloc, "a")?, bytes(alloc, value)?))
+}
+
+// A machine over a new database.
+fn new_machine(alloc: Global, name: &[u8]) -> Told<Machine<MemPages>> {
+    match Db::open(alloc, empty_pages(alloc), name) {
+        Ok(db) => Ok(examples::new_machine(db)),
+        Err((pages, e)) => {
+            drop(pages);
+            Err(e)
+        }
+    }
 }
 
 fn outcome_of(answer: Told<Slot>) -> Outcome {
@@ -95,6 +105,13 @@ fn overtaken(
     Ok(())
 }
 
+fn is_refused(rt: &impl Abort, machine: &mut Machine<MemPages>, slot: Slot) {
+    assert_eq!(rt; machine.turns(slot), Some(1_000_000));
+    let refused = machine.step(slot);
+    is_told(rt, &refused, texts::WALK_PASSED_TURNS);
+    drop(refused);
+}
+
 fn a_million_turns(
     rt: &impl Abort,
     alloc: Global,
@@ -105,19 +122,22 @@ fn a_million_turns(
     for round in 0..500_000u64 {
         overtaken(rt, alloc, machine, tree, slot, round)?;
     }
-    assert_eq!(rt; machine.turns(slot), Some(1_000_000));
-    let refused = machine.step(slot);
-    is_told(rt, &refused, texts::WALK_PASSED_TURNS);
-    drop(refused);
+    is_refused(rt, machine, slot);
     Ok(())
+}
+
+fn turns_in(rt: &impl Abort, alloc: Global, tree: &Tree) -> Result<(), Fail> {
+    let mut machine = new_machine(alloc, b"db")?;
+    let ended = a_million_turns(rt, alloc, &mut machine, tree);
+    drop(machine);
+    ended
 }
 
 // Its millionth turn is made, and then it is refused.
 #[test]
 fn a_call_of_a_million_turns_is_refused(rt: HostRuntime) -> Result<(), Fail> {
-    let mut machine = new_machine(rt.alloc(), b"db")?;
     let tree = tree_of(rt.alloc(), "db", DEFAULT_TREE, 1)?;
-    a_million_turns(&rt, rt.alloc(), &mut machine, &tree)
+    turns_in(&rt, rt.alloc(), &tree)
 }
 
 // The first two steps of a call, or the first alone where the call ends with it.
@@ -132,12 +152,29 @@ fn two_steps<M: MergeOperator>(db: &mut Db<MemPages, M>, flight: &mut Flight) ->
 
 #[test]
 fn a_call_flies_without_a_machine(rt: HostRuntime) -> Result<(), Fail> {
-    let mut db = new_machine(rt.alloc(), b"db")?.into_db();
     let tree = tree_of(rt.alloc(), "db", DEFAULT_TREE, 1)?;
-    let mut flight = Flight::new(tree, insert(rt.alloc(), "1")?);
+    let call = match insert(rt.alloc(), "1") {
+        Ok(call) => call,
+        Err(e) => {
+            drop(tree);
+            return Err(e);
+        }
+    };
+    let mut flight = Flight::new(tree, call);
+    let machine = match new_machine(rt.alloc(), b"db") {
+        Ok(machine) => machine,
+        Err(e) => {
+            drop(flight);
+            return Err(Fail::from(e));
+        }
+    };
+    let mut db = machine.into_db();
     let went = two_steps(&mut db, &mut flight);
-    assert!(rt; matches!(&went, Went::Decided(_)));
+    drop(db);
+    drop(flight);
+    let is_decided = matches!(&went, Went::Decided(_));
     drop(went);
+    assert!(rt; is_decided);
     Ok(())
 }
 
@@ -300,14 +337,22 @@ fn races(
     Ok(())
 }
 
+fn races_in(rt: &impl Abort, alloc: Global, tree: &Tree, row: &Row) -> Result<(), Fail> {
+    let mut machine = new_machine(alloc, b"db")?;
+    let ended = races(rt, &mut machine, tree, row);
+    drop(machine);
+    ended
+}
+
+fn races_of(rt: &impl Abort, alloc: Global, row: &Row) -> Result<(), Fail> {
+    let tree = tree_of(alloc, "db", DEFAULT_TREE, 1)?;
+    races_in(rt, alloc, &tree, row)
+}
+
 #[test]
 fn whoever_is_decided_last_wins_in_each_order(rt: HostRuntime) -> Result<(), Fail> {
     let row = row(rt.alloc())?;
-    let tree = tree_of(rt.alloc(), "db", DEFAULT_TREE, 1)?;
-    let mut machine = new_machine(rt.alloc(), b"db")?;
-    let ended = races(&rt, &mut machine, &tree, &row);
-    drop(machine);
-    ended
+    races_of(&rt, rt.alloc(), &row)
 }
 
 // What was inserted is read.
@@ -349,16 +394,24 @@ fn what_was_inserted_is_read_in_a_new_database(rt: HostRuntime) -> Result<(), Fa
     Ok(())
 }
 
-#[test]
-fn a_database_can_be_opened_again(rt: HostRuntime) -> Result<(), Fail> {
-    let row = row(rt.alloc())?;
-    let tree = tree_of(rt.alloc(), "db", DEFAULT_TREE, 1)?;
-    let mut machine = new_machine(rt.alloc(), b"db")?;
-    match reads_inserted(&rt, &mut machine, &tree, &row) {
-        Ok(()) => reopens(&rt, rt.alloc(), machine),
+fn reopens_in(rt: &impl Abort, alloc: Global, tree: &Tree, row: &Row) -> Result<(), Fail> {
+    let mut machine = new_machine(alloc, b"db")?;
+    match reads_inserted(rt, &mut machine, tree, row) {
+        Ok(()) => reopens(rt, alloc, machine),
         Err(e) => {
             drop(machine);
             Err(e)
         }
     }
+}
+
+fn reopens_of(rt: &impl Abort, alloc: Global, row: &Row) -> Result<(), Fail> {
+    let tree = tree_of(alloc, "db", DEFAULT_TREE, 1)?;
+    reopens_in(rt, alloc, &tree, row)
+}
+
+#[test]
+fn a_database_can_be_opened_again(rt: HostRuntime) -> Result<(), Fail> {
+    let row = row(rt.alloc())?;
+    reopens_of(&rt, rt.alloc(), &row)
 }

@@ -3,7 +3,7 @@ use super::tree_of;
 use sled::{DEFAULT_TREE, Db, empty_pages};
 use sled_machine::Machine;
 use sled_model::{Call, MergeOperator, Outcome, Reply, Slot, Tree};
-use sled_pages::{Error, IVec, Link, MemPages, Node, Pages, Pid, Result as Told, Version, View};
+use sled_pages::{IVec, Link, MemPages, Node, Pages, Pid, Result as Told, Version, View};
 use std::alloc::Global;
 use std::ops::Bound;
 use std::process::Abort;
@@ -93,7 +93,7 @@ impl<'a> Pages for Counting<'a> {
 }
 
 // How many levels the default tree has.
-fn levels_of(alloc: Global, pages: &MemPages) -> Told<u64> {
+fn levels_of<P: Pages>(alloc: Global, pages: &P) -> Told<u64> {
     let mut next = pages.root(b"__sled__default");
     for level in 0..64u64 {
         let Some(pid) = next else {
@@ -209,6 +209,22 @@ fn reads_are_few<P: Pages, M: MergeOperator>(
     find_first(rt, alloc, machine, &tree, reads)
 }
 
+// The calls on an open database, and how many levels its tree has then.
+fn levels_after<P: Pages, M: MergeOperator>(
+    rt: &impl Abort,
+    alloc: Global,
+    db: Db<P, M>,
+    reads: &AtomicU64,
+) -> Result<u64, Fail> {
+    let mut machine = Machine::new(db);
+    let ended = reads_are_few(rt, alloc, &mut machine, reads);
+    let pages = machine.into_db().into_pages();
+    let levels = levels_of(alloc, &pages);
+    drop(pages);
+    ended?;
+    Ok(levels?)
+}
+
 // A tree of random keys has five levels, of which a get reads a page each. To open reads none.
 #[test]
 fn a_call_reads_few_more_pages_than_there_are_levels(rt: HostRuntime) -> Result<(), Fail> {
@@ -217,16 +233,16 @@ fn a_call_reads_few_more_pages_than_there_are_levels(rt: HostRuntime) -> Result<
         inner: empty_pages(rt.alloc()),
         reads: &reads,
     };
-    let Ok(db) = Db::open(rt.alloc(), pages, b"db") else {
-        return Err(Fail::from(Error::NoMemory));
-    };
-    assert_eq!(rt; reads.load(Ordering::Relaxed), 0);
-    let mut machine = Machine::new(db);
-    let ended = reads_are_few(&rt, rt.alloc(), &mut machine, &reads);
-    let pages = machine.into_db().into_pages();
-    let levels = levels_of(rt.alloc(), &pages.inner);
-    drop(pages);
-    ended?;
-    assert_eq!(rt; levels?, 5);
-    Ok(())
+    match Db::open(rt.alloc(), pages, b"db") {
+        Ok(db) => {
+            assert_eq!(rt; reads.load(Ordering::Relaxed), 0);
+            let levels = levels_after(&rt, rt.alloc(), db, &reads)?;
+            assert_eq!(rt; levels, 5);
+            Ok(())
+        }
+        Err((pages, e)) => {
+            drop(pages);
+            Err(Fail::from(e))
+        }
+    }
 }

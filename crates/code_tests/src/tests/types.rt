@@ -24,31 +24,68 @@ fn ascend<T: Ord>(rt: &impl Abort, items: &[(T, T)]) {
     }
 }
 
+fn add_string(alloc: Global, all: &mut Vec<(IVec, IVec)>, text: &[u8]) -> Result<(), Fail> {
+    let string = IVec::from_slice(alloc, text)?;
+    match string.clone() {
+        Ok(copy) => {
+            all.push((string, copy))?;
+            Ok(())
+        }
+        Err(e) => {
+            drop(string);
+            Err(Fail::from(e))
+        }
+    }
+}
+
+#[test]
+fn byte_strings(rt: HostRuntime) -> Result<(), Fail> {
+    let mut all = Vec::new(rt.alloc());
+    for text in [b"".as_slice(), b"\x00", b"\xff", b"\xff\x00", b"\xff\xff"] {
+        add_string(rt.alloc(), &mut all, text)?;
+    }
+    ascend(&rt, all.as_slice());
+    Ok(())
+}
+
+fn event_of(alloc: Global, name: &str, text: &str) -> Result<Event, Fail> {
+    let key = bytes(alloc, name)?;
+    if text.is_empty() {
+        return Ok(Event::Remove { key });
+    }
+    match bytes(alloc, text) {
+        Ok(value) => Ok(Event::Insert { key, value }),
+        Err(e) => {
+            drop(key);
+            Err(e)
+        }
+    }
+}
+
 fn add_event(
     rt: &impl Abort,
-    alloc: Global,
     all: &mut Vec<(Event, Event)>,
+    event: Event,
     name: &str,
-    text: &str,
 ) -> Result<(), Fail> {
-    let key = bytes(alloc, name)?;
-    let event = if text.is_empty() {
-        Event::Remove { key }
-    } else {
-        let value = bytes(alloc, text)?;
-        Event::Insert { key, value }
-    };
     assert!(rt; event.key().as_ref() == name.as_bytes());
-    let copy = event.clone()?;
-    all.push((event, copy))?;
-    Ok(())
+    match event.clone() {
+        Ok(copy) => {
+            all.push((event, copy))?;
+            Ok(())
+        }
+        Err(e) => {
+            drop(event);
+            Err(Fail::from(e))
+        }
+    }
 }
 
 #[test]
 fn events(rt: HostRuntime) -> Result<(), Fail> {
     let mut all = Vec::new(rt.alloc());
     for (name, text) in [("a", "b"), ("b", "a"), ("b", "b"), ("a", ""), ("b", "")] {
-        add_event(&rt, rt.alloc(), &mut all, name, text)?;
+        add_event(&rt, &mut all, event_of(rt.alloc(), name, text)?, name)?;
     }
     ascend(&rt, all.as_slice());
     Ok(())
@@ -61,21 +98,31 @@ fn value_of(alloc: Global, text: &str) -> Result<Option<IVec>, Fail> {
     Ok(Some(bytes(alloc, text)?))
 }
 
-fn add_conflict(
-    rt: &impl Abort,
-    alloc: Global,
-    all: &mut Vec<(CompareAndSwapError, CompareAndSwapError)>,
-    stands: &str,
-    text: &str,
-) -> Result<(), Fail> {
+fn conflict_of(alloc: Global, stands: &str, text: &str) -> Result<CompareAndSwapError, Fail> {
     let current = value_of(alloc, stands)?;
-    let proposed = value_of(alloc, text)?;
-    let conflict = CompareAndSwapError { current, proposed };
-    let copy = conflict.clone()?;
-    let shown = format!(in alloc; "{copy}")?;
-    assert_eq!(rt; shown.as_str(), "Compare and swap conflict");
-    all.push((conflict, copy))?;
-    Ok(())
+    match value_of(alloc, text) {
+        Ok(proposed) => Ok(CompareAndSwapError { current, proposed }),
+        Err(e) => {
+            drop(current);
+            Err(e)
+        }
+    }
+}
+
+fn add_conflict(
+    all: &mut Vec<(CompareAndSwapError, CompareAndSwapError)>,
+    conflict: CompareAndSwapError,
+) -> Result<(), Fail> {
+    match conflict.clone() {
+        Ok(copy) => {
+            all.push((conflict, copy))?;
+            Ok(())
+        }
+        Err(e) => {
+            drop(conflict);
+            Err(Fail::from(e))
+        }
+    }
 }
 
 #[test]
@@ -89,9 +136,12 @@ fn conflicts(rt: HostRuntime) -> Result<(), Fail> {
         ("a", "z"),
         ("b", "a"),
     ] {
-        add_conflict(&rt, rt.alloc(), &mut all, stands, text)?;
+        add_conflict(&mut all, conflict_of(rt.alloc(), stands, text)?)?;
     }
     ascend(&rt, all.as_slice());
+    assert!(rt; !all.is_empty());
+    let shown = format!(in rt.alloc(); "{}", all[0].1)?;
+    assert_eq!(rt; shown.as_str(), "Compare and swap conflict");
     Ok(())
 }
 
