@@ -20,7 +20,7 @@ use Rattle.sled_pages.specs.Update.{put_at, put_name}
 use Rattle.sled_pages.specs.declared.node.Node.{Node}
 use Rattle.sled_pages.specs.declared.memory.slots.Slot.{Slot}
 use Rattle.sled_pages.specs.declared.memory.undo.Undo.{Undo}
-use Rattle.sled_pages.specs.declared.memory.undo.Undo.TheVariants.{UndoSlot, UndoRoot, UndoGroup}
+use Rattle.sled_pages.specs.declared.memory.undo.Undo.TheVariants.{UndoSlot, UndoLink, UndoRoot, UndoGroup}
 use Rattle.sled_pages.specs.State.{State, Action, PageBecomes, RootBecomes, GroupBegins, GroupEnds}
 use Rattle.sled_pages.specs.Store.{Store, now, acted, flushed, Allocates, ActsAt}
 use Rattle.sled_pages.specs.Table.{Table, page_of, pages_of, roots_of, state_of, undone, undoes, base_of, recent_of, has_place, IsKept, slot_given, undo_given, AreBelow}
@@ -50,15 +50,15 @@ one_more log u t t' a e f =
     ap (λ r. recent_of r t') (reverse-append log (u ∷ []))
     ∙ (ap (λ r. recent_of (reverse log) r ++ undoes u t' ∷ []) e ∙ ap (λ b. recent_of (reverse log) t ++ b ∷ []) f)
 
-meaning_acted : (t t' : Table) (log log' : List Undo) (u : Undo) (a : Action) (n f : ℕ) (un : List ℕ) (mk : ℕ) (rc : Bool) (places places' : ℕ → Bool) (nv : ℕ) →
+pub meaning_acted : (t t' : Table) (log log' : List Undo) (u : Undo) (a : Action) (n f : ℕ) (un : List ℕ) (mk : ℕ) (rc : Bool) (places places' : ℕ → Bool) (nv : ℕ) →
     log' ≡ log ++ u ∷ [] → undone u t' ≡ t → undoes u t' ≡ a → places' ≡ places → meaning t' log' (n + 1) f un mk rc places' nv ≡ acted a (meaning t log n f un mk rc places nv)
 meaning_acted t t' log log' u a n f un mk rc places places' nv l back is h = rw l (made_is _ _ _ _ _ _ _ _ _ _ _ _ h (ap state_of (base_kept log u t t' back)) (one_more log u t t' a back is))
 
 -- a slot put over, and then the old one put back
-back_put : {X : Type 0} (f : ℕ → X) (p : ℕ) (a : X) → put_at (put_at f p a) p (f p) ≡ f
+pub back_put : {X : Type 0} (f : ℕ → X) (p : ℕ) (a : X) → put_at (put_at f p a) p (f p) ≡ f
 back_put f p a = sym (one_place f (put_at f p a) p (f p) refl (λ q h. sym (put_elsewhere f p q a h)))
 
-abbrev with_slots : (Key → Option ℕ) → Bool → (ℕ → Option Slot) → Table
+abbrev pub with_slots : (Key → Option ℕ) → Bool → (ℕ → Option Slot) → Table
 with_slots roots g slots = record { slots = slots; roots = roots; in_group = g }
 
 abbrev with_roots : (ℕ → Option Slot) → Bool → (Key → Option ℕ) → Table
@@ -104,10 +104,11 @@ all_weaker p q h (x ∷ xs) e = both _ _ (h x (first _ _ e)) (all_weaker p q h x
 
 place_stays : (places places' : ℕ → Bool) → ((p : ℕ) → places p ≡ true → places' p ≡ true) → (u : Undo) → has_place places u ≡ true → has_place places' u ≡ true
 place_stays places places' h (UndoSlot pid slot) e = h pid e
+place_stays places places' h (UndoLink pid version back) e = h pid e
 place_stays places places' h (UndoRoot name root) e = refl
 place_stays places places' h (UndoGroup was_open) e = refl
 
-kept_more : (t t' : Table) (log log' : List Undo) (u : Undo) (places places' : ℕ → Bool) → log' ≡ log ++ u ∷ [] → undone u t' ≡ t → ((p : ℕ) → places p ≡ true → places' p ≡ true) → has_place places' u ≡ true → IsKept places t log → IsKept places' t' log'
+pub kept_more : (t t' : Table) (log log' : List Undo) (u : Undo) (places places' : ℕ → Bool) → log' ≡ log ++ u ∷ [] → undone u t' ≡ t → ((p : ℕ) → places p ≡ true → places' p ≡ true) → has_place places' u ≡ true → IsKept places t log → IsKept places' t' log'
 kept_more t t' log log' u places places' l back h k kept = rw l (record {
   placed = all_push (has_place places') log u (all_weaker (has_place places) (has_place places') (place_stays places places' h) log kept.placed) k;
   sealed = ap (λ (b : Table). b.in_group) (base_kept log u t t' back) ∙ kept.sealed;
@@ -140,6 +141,7 @@ slot_later n (Some s) e = grind (arith, nat_tests)
 
 undo_later : (n : ℕ) (u : Undo) → undo_given n u ≡ true → undo_given (n + 1) u ≡ true
 undo_later n (UndoSlot pid slot) e = slot_later n slot e
+undo_later n (UndoLink pid version back) e = grind (arith, nat_tests)
 undo_later n (UndoRoot name root) e = refl
 undo_later n (UndoGroup was_open) e = refl
 

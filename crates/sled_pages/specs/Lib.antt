@@ -9,6 +9,7 @@ pub mod Store
 pub mod Crash
 pub mod Facts
 pub mod Slots
+pub mod Returning
 pub mod Table
 pub mod Replay
 pub mod Memory
@@ -23,3 +24,4 @@ pub mod Laid
 pub mod Known
 pub mod Joined
 pub mod Held
+pub mod Rising

@@ -8,7 +8,8 @@ use Rattle.sled_pages.specs.Update.{put_at, put_name}
 use Rattle.sled_pages.specs.declared.page.Page.{Page}
 use Rattle.sled_pages.specs.declared.memory.slots.Slot.{Slot}
 use Rattle.sled_pages.specs.declared.memory.undo.Undo.{Undo}
-use Rattle.sled_pages.specs.declared.memory.undo.Undo.TheVariants.{UndoSlot, UndoRoot, UndoGroup}
+use Rattle.sled_pages.specs.declared.memory.undo.Undo.TheVariants.{UndoSlot, UndoLink, UndoRoot, UndoGroup}
+use Rattle.sled_pages.specs.Returning.{slot_back}
 use Rattle.sled_pages.specs.State.{State, Action, PageBecomes, RootBecomes, GroupBegins, GroupEnds, after_all}
 
 -- the page that a slot stands for
@@ -37,12 +38,14 @@ state_of t = record { pages = pages_of t.slots; roots = t.roots; in_group = t.in
 -- the table without the last action
 abbrev pub undone : Undo → Table → Table
 undone (UndoSlot pid slot) t = record t { slots = put_at t.slots pid slot }
+undone (UndoLink pid version back) t = record t { slots = put_at t.slots pid (slot_back version back (t.slots pid)) }
 undone (UndoRoot name root) t = record t { roots = put_name t.roots name root }
 undone (UndoGroup was_open) t = record t { in_group = was_open }
 
 -- the last action, by what it left
 abbrev pub undoes : Undo → Table → Action
 undoes (UndoSlot pid slot) t = PageBecomes pid (pages_of t.slots pid)
+undoes (UndoLink pid version back) t = PageBecomes pid (pages_of t.slots pid)
 undoes (UndoRoot name root) t = RootBecomes name (t.roots name)
 undoes (UndoGroup was_open) t = if t.in_group then GroupBegins else GroupEnds
 
@@ -63,6 +66,7 @@ state_at j log t = after_all (take j (recent_of (reverse log) t)) (state_of (bas
 -- a slot that is put back has a place
 abbrev pub has_place : (ℕ → Bool) → Undo → Bool
 has_place places (UndoSlot pid slot) = places pid
+has_place places (UndoLink pid version back) = places pid
 has_place places (UndoRoot name root) = true
 has_place places (UndoGroup was_open) = true
 
@@ -91,6 +95,7 @@ slot_given next (Some s) = nat_lt s.version next
 
 abbrev pub undo_given : ℕ → Undo → Bool
 undo_given next (UndoSlot pid slot) = slot_given next slot
+undo_given next (UndoLink pid version back) = nat_lt version next
 undo_given next (UndoRoot name root) = true
 undo_given next (UndoGroup was_open) = true
 

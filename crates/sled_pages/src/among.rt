@@ -1,16 +1,17 @@
 //! Entries within a bound. Lists are gone through from the front: a node has few entries, and those of a foreign one may
 //! be out of order.
-ghost use Rattle.std.specs.Prelude.{◌≡◌, ◌<◌, false, nat_eq, length, MatchOption, IfSome};
+ghost use Rattle.std.specs.Prelude.{◌≡◌, ◌<◌, false, nat_eq, not, length, MatchOption, IfSome};
 ghost use Rattle.std.specs.List.{list_any};
 ghost use Rattle.sled_pages.specs.Among.{bound_of, is_up_to as within_upper, is_from as within_lower};
 ghost use Rattle.sled_pages.specs.Places.{IsFirstAt, IsLastAt};
+ghost use Rattle.sled_pages.specs.Returning.{IsOut};
 
 use crate::{IVec, Pid};
 use std::ops::Bound;
 
 // Whether a key is within an upper bound.
 #[tactic(auto, unfolding(crate::specs::Order::key_cmp))]
-fn is_up_to(key: &IVec, bound: Bound<&[u8]>) -> bool
+pub fn is_up_to(key: &IVec, bound: Bound<&[u8]>) -> bool
     ensures { result ≡ within_upper (bound_of bound.entry) key.now }
 {
     match bound {
@@ -22,7 +23,7 @@ fn is_up_to(key: &IVec, bound: Bound<&[u8]>) -> bool
 
 // Whether a key is within a lower bound.
 #[tactic(auto, unfolding(crate::specs::Order::key_cmp))]
-fn is_from(key: &IVec, bound: Bound<&[u8]>) -> bool
+pub fn is_from(key: &IVec, bound: Bound<&[u8]>) -> bool
     ensures { result ≡ within_lower (bound_of bound.entry) key.now }
 {
     match bound {
@@ -55,6 +56,22 @@ pub fn first_place<V>(pairs: &[(IVec, V)], bound: Bound<&[u8]>) -> Option<usize>
         }
     }
     None
+}
+
+// The place of the one pointer to a page, `Some(None)` where there is none, and `None` where there are more.
+pub fn pointer_alone(pointers: &[(IVec, Pid)], to: Pid) -> Option<Option<usize>>
+    ensures { IfSome result (IsOut (λ e. not (nat_eq e.1 to)) pointers.now) }
+{
+    let mut found: Option<usize> = None;
+    for i in 0..pointers.len() {
+        if pointers[i].1 == to {
+            if found.is_some() {
+                return None;
+            }
+            found = Some(i);
+        }
+    }
+    Some(found)
 }
 
 // The place of the first pointer to a page.

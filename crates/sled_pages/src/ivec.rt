@@ -19,10 +19,14 @@ use std::sync::Arc;
 // As many bytes lie in place.
 const SHORT: usize = 22;
 
-// Short strings lie in place, and clones of a long one share it.
+// As many bytes lie in one block with their count of owners.
+const MIDDLE: usize = 56;
+
+// Short strings lie in place, and clones of a longer one share it.
 #[derive(Debug, Drop)]
 enum Bytes {
     Short(u8, [u8; 22]),
+    Middle(u8, Arc<[u8; 56]>),
     Long(Arc<Vec<u8>>),
 }
 
@@ -57,6 +61,13 @@ impl IVec {
                 bytes: Bytes::Short(bytes.len() as u8, short),
             });
         }
+        if bytes.len() <= MIDDLE {
+            let mut middle = [0; 56];
+            middle[..bytes.len()].copy_from_slice(bytes);
+            return Ok(IVec {
+                bytes: Bytes::Middle(bytes.len() as u8, Arc::new(alloc, middle)?),
+            });
+        }
         Ok(IVec {
             bytes: Bytes::Long(Arc::new(alloc, Vec::from_slice(alloc, bytes)?)?),
         })
@@ -68,6 +79,7 @@ impl IVec {
     {
         match &self.bytes {
             Bytes::Short(len, bytes) => &bytes[..*len as usize],
+            Bytes::Middle(len, bytes) => &bytes[..*len as usize],
             Bytes::Long(bytes) => bytes.as_slice(),
         }
     }
@@ -87,6 +99,9 @@ impl IVec {
         match &self.bytes {
             Bytes::Short(len, bytes) => Ok(IVec {
                 bytes: Bytes::Short(*len, *bytes),
+            }),
+            Bytes::Middle(len, bytes) => Ok(IVec {
+                bytes: Bytes::Middle(*len, Arc::try_clone(bytes)?),
             }),
             Bytes::Long(bytes) => Ok(IVec {
                 bytes: Bytes::Long(Arc::try_clone(bytes)?),

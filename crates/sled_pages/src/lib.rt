@@ -9,6 +9,9 @@
 #![tactic(auto)]
 
 mod among;
+mod ascending;
+mod change;
+mod entries;
 mod error;
 mod ivec;
 mod link;
@@ -18,6 +21,7 @@ mod page;
 mod pages;
 mod pairs;
 mod pid;
+mod shared;
 pub mod texts;
 
 pub use error::{Error, Fault, Result};
@@ -28,3 +32,4 @@ pub use node::{Data, Index, Leaf, Node};
 pub use page::{Page, View};
 pub use pages::{Pages, law_given, law_sealed};
 pub use pid::{Pid, Version};
+pub use shared::Shared;

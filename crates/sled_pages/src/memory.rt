@@ -1,5 +1,5 @@
 //! A store in memory. It keeps the pages as they are now, and how to take each action since the last flush back.
-ghost use Rattle.std.specs.Prelude.{◌≡◌, ◌+◌, ◌^◌, ◌<◌, Some, None, true, false, if◌then◌else◌, IfOk, IfErr, OnOk, OnErr, length, []};
+ghost use Rattle.std.specs.Prelude.{◌≡◌, ◌+◌, ◌^◌, ◌<◌, Some, None, true, false, if◌then◌else◌, IfOk, IfErr, OnOk, OnErr, length, [], is_some};
 ghost use Rattle.std.specs.FinMap.{is_sorted};
 ghost use Rattle.sled_pages.specs.declared.error.Error.TheVariants.{NoMemory, Io};
 ghost use Rattle.sled_pages.specs.Order.{key_cmp};
@@ -21,9 +21,9 @@ mod undo;
 use crate::error::Result;
 use crate::node::copy_pointers;
 use crate::pairs::value_at;
-use crate::{Error, Fault, IVec, Link, Node, Page, Pages, Pid, Version, View};
+use crate::{Error, Fault, IVec, Link, Node, Page, Pages, Pid, Shared, Version, View};
 use back::{forget, greatest_root, set_root, sorted_roots, take_all_back};
-use slots::{Slot, Slots, push_reserved};
+use slots::{Slot, Slots, push_reserved, reserve_one};
 use std::alloc::Global;
 use undo::Undo;
 
@@ -159,7 +159,7 @@ impl MemPages {
             mark,
             ..
         } = self;
-        take_all_back(&mut slots, &mut roots, &mut in_group, &mut log, keep)?;
+        take_all_back(alloc, &mut slots, &mut roots, &mut in_group, &mut log, keep)?;
         forget(&mut log);
         Ok(MemPages {
             alloc,
@@ -222,7 +222,7 @@ impl MemPages {
         if self.actions == u64::MAX {
             return Err(fault(&mut self.faults, USED_UP));
         }
-        if self.log.reserve(1).is_err() {
+        if reserve_one(&mut self.log).is_err() {
             return Err(Error::NoMemory);
         }
         Ok(())
@@ -248,6 +248,7 @@ impl MemPages {
     fn tested(&self, pid: Pid, version: Version) -> std::result::Result<(), Option<Version>>
         ensures ok { OnOk result (version_now (store_of self.now) pid ≡ Some version) }
         ensures placed { OnOk result (places_of self.now.slots pid ≡ true) }
+        ensures there { OnOk result (is_some (slots_of self.now.slots pid) ≡ true) }
         ensures err { IfErr result (IsOther pid version (store_of self.now)) }
     {
         match self.slots.get(pid) {
@@ -262,15 +263,15 @@ impl MemPages {
         }
     }
 
-    // The page of a number, copied.
-    fn copied(&self, alloc: Global, pid: Pid) -> Result<Option<Page>>
+    // The page of a number, whose node is shared.
+    fn copied(&self, pid: Pid) -> Result<Option<Page>>
         ensures ok { IfOk result (λ page. page ≡ (now (store_of self.now)).pages pid) }
         ensures err { IfErr result (λ e. e ≡ NoMemory) }
     {
         match self.slots.get(pid) {
             Some(slot) => Ok(Some(Page {
                 version: slot.version,
-                node: slot.node.clone(alloc)?,
+                node: slot.node.share()?,
             })),
             None => Ok(None),
         }
@@ -289,7 +290,7 @@ impl MemPages {
     }
 
     // Puts a new version of a page in its place.
-    fn commit_node(&mut self, pid: Pid, node: Node) -> Version
+    fn commit_node(&mut self, pid: Pid, node: Shared) -> Version
         requires room { HasRoom self.old }
         requires versions { self.old.next_version + 1 < 2 ^ 64 }
         requires placed { places_of self.old.slots pid ≡ true }
@@ -333,11 +334,11 @@ impl Pages for MemPages {
 
     ghost store = { store_of };
 
-    fn read(&self, alloc: Global, pid: Pid) -> Result<Option<View>> {
+    fn read(&self, _alloc: Global, pid: Pid) -> Result<Option<View>> {
         if self.unreadable.contains(&pid.0) {
             return Err(Error::Io(Fault(UNREADABLE)));
         }
-        match self.copied(alloc, pid)? {
+        match self.copied(pid)? {
             Some(page) => Ok(Some(View {
                 pid,
                 version: page.version,
@@ -360,6 +361,10 @@ impl Pages for MemPages {
             drop(node);
             return Err(e);
         }
+        let node = match Shared::new(self.alloc, node) {
+            Ok(node) => node,
+            Err(e) => return Err(e),
+        };
         let version = Version(self.next_version);
         self.next_version += 1;
         let pid = self.slots.add(Slot { version, node });
@@ -382,22 +387,17 @@ impl Pages for MemPages {
             drop(link);
             return Ok(Err(present));
         }
-        let mut node = match self.copied(self.alloc, pid) {
-            Ok(Some(page)) => page.node,
-            Ok(None) => {
-                drop(link);
-                return Ok(Err(None));
+        let given = Version(self.next_version);
+        match self.slots.change(self.alloc, pid, given, link) {
+            Ok(told) => {
+                let (before, back) = told;
+                self.next_version += 1;
+                push_reserved(&mut self.log, Undo::UndoLink(pid, before, back));
+                self.actions += 1;
+                Ok(Ok(given))
             }
-            Err(e) => {
-                drop(link);
-                return Err(e);
-            }
-        };
-        if let Err(e) = node.apply(link) {
-            drop(node);
-            return Err(e);
+            Err(e) => Err(e),
         }
-        Ok(Ok(self.commit_node(pid, node)))
     }
 
     fn replace(
@@ -414,6 +414,10 @@ impl Pages for MemPages {
             drop(node);
             return Ok(Err(present));
         }
+        let node = match Shared::new(self.alloc, node) {
+            Ok(node) => node,
+            Err(e) => return Err(e),
+        };
         Ok(Ok(self.commit_node(pid, node)))
     }
 
@@ -434,7 +438,7 @@ impl Pages for MemPages {
 
     #[tactic(auto, unfolding(crate::specs::Order::key_cmp))]
     fn root(&self, name: &[u8]) -> Option<Pid> {
-        value_at(self.roots.as_slice(), name).copied()
+        value_at(self.roots.as_slice(), name, false).copied()
     }
 
     fn roots(&self, alloc: Global) -> Result<Vec<(IVec, Pid)>> {

@@ -1,5 +1,5 @@
 //! One page of a tree: a leaf of pairs or an index of pointers.
-ghost use Rattle.std.specs.Prelude.{◌≡◌, nat_le, true, ◌<◌, ◌≤◌, ◌++◌, ◌↔◌, IsTrue, false, None, if◌then◌else◌, is_none, length, IfOk, IfErr, OnOk, OnErr};
+ghost use Rattle.std.specs.Prelude.{◌≡◌, nat_le, true, ◌<◌, ◌≤◌, ◌++◌, ◌↔◌, IsTrue, false, None, if◌then◌else◌, is_none, length, IfOk, IfErr, OnOk, OnErr, MatchOption};
 ghost use Rattle.sled_pages.specs.declared.error.Error.TheVariants.{NoMemory};
 ghost use Rattle.std.specs.FinMap.Entries.{put, find};
 ghost use Rattle.std.specs.Option.{option_copied};
@@ -9,12 +9,16 @@ ghost use Rattle.sled_pages.specs.Halves.{first_half, second_half, first_half_of
 ghost use Rattle.sled_pages.specs.Among.{bound_of, IsSuccessor, IsPredecessor, IsPointerFor, IsPointerBefore};
 ghost use Rattle.std.specs.List.{list_all};
 ghost use Rattle.sled_pages.specs.Image.{all_of, all_named};
+ghost use Rattle.sled_pages.specs.Returning.{restored, put_back, put_part, put_in};
+ghost use Rattle.sled_pages.specs.declared.link.Link.TheVariants.{Set, Del, ParentMergeConfirm};
 ghost use Rattle.sled_pages.specs.Posting.{IsOpen, IsIndex, Posts};
 
-use crate::among::{first_place, last_place, place_of};
+use crate::among::{place_of, pointer_alone};
+use crate::change::{Back, Part};
+use crate::entries::Entries;
 use crate::error::Result;
-use crate::pairs::{clone_pair, put_pair, take_out, value_at};
-use crate::{IVec, Link, Pid};
+use crate::pairs::clone_pair;
+use crate::{IVec, Link, Pid, Shared};
 use std::alloc::Global;
 use std::marker::Model;
 use std::ops::Bound;
@@ -27,7 +31,7 @@ const FEW: usize = 3;
 /// A leaf's pairs of a key and a value. Contracts see it as the list of them.
 #[derive(Drop)]
 pub struct Leaf {
-    pairs: Vec<(IVec, IVec)>,
+    pairs: Entries<IVec>,
 }
 
 impl Model for Leaf {
@@ -35,13 +39,13 @@ impl Model for Leaf {
 
     ghost Value = { List (List ℕ × List ℕ) };
 
-    ghost view = { λ a. a.pairs.items };
+    ghost view = { λ a. a.pairs };
 }
 
 /// An index's pairs of a key and a page number. Contracts see it as the list of them.
 #[derive(Drop)]
 pub struct Index {
-    pointers: Vec<(IVec, Pid)>,
+    pointers: Entries<Pid>,
 }
 
 impl Model for Index {
@@ -49,7 +53,7 @@ impl Model for Index {
 
     ghost Value = { List (List ℕ × ℕ) };
 
-    ghost view = { λ a. a.pointers.items };
+    ghost view = { λ a. a.pointers };
 }
 
 /// What a node holds.
@@ -76,12 +80,6 @@ pub struct Node {
     pub merging_child: Option<Pid>,
     /// The entries.
     pub content: Data,
-}
-
-fn take_pointers(pointers: &mut Vec<(IVec, Pid)>, to: Pid)
-    ensures { pointers.new.items ≡ unpointed to pointers.old.items }
-{
-    pointers.retain(|pointer| pointer.1 != to);
 }
 
 fn copy_pairs(alloc: Global, pairs: &[(IVec, IVec)]) -> Result<Vec<(IVec, IVec)>>
@@ -156,7 +154,7 @@ impl Leaf {
         ensures err { IfErr result (λ e. e ≡ NoMemory) }
     {
         Ok(Leaf {
-            pairs: copy_pairs(alloc, pairs)?,
+            pairs: Entries::new(copy_pairs(alloc, pairs)?),
         })
     }
 
@@ -180,8 +178,9 @@ impl Leaf {
         ensures ok { IfOk result (λ copy. copy ≡ self.now) }
         ensures err { IfErr result (λ e. e ≡ NoMemory) }
     {
+        let list = copy_pairs(alloc, self.pairs.as_slice())?;
         Ok(Leaf {
-            pairs: copy_pairs(alloc, self.pairs.as_slice())?,
+            pairs: self.pairs.copied(list),
         })
     }
 
@@ -193,7 +192,14 @@ impl Leaf {
         let middle = self.pairs.len() / 2;
         let left = copy_pairs(alloc, &self.pairs.as_slice()[..middle])?;
         let right = copy_pairs(alloc, &self.pairs.as_slice()[middle..])?;
-        Ok((Leaf { pairs: left }, Leaf { pairs: right }))
+        Ok((
+            Leaf {
+                pairs: Entries::new(left),
+            },
+            Leaf {
+                pairs: Entries::new(right),
+            },
+        ))
     }
 
     // These pairs and then those of another leaf.
@@ -201,9 +207,13 @@ impl Leaf {
         ensures ok { IfOk result (λ both. both ≡ self.now ++ other.now) }
         ensures err { IfErr result (λ e. e ≡ NoMemory) }
     {
-        let mut pairs = copy_pairs(alloc, self.pairs.as_slice())?;
-        add_pairs(&mut pairs, other.pairs.as_slice())?;
-        Ok(Leaf { pairs })
+        let count = self.len().saturating_add(other.len());
+        let mut list = Vec::with_capacity(alloc, count)?;
+        add_pairs(&mut list, self.pairs.as_slice())?;
+        add_pairs(&mut list, other.pairs.as_slice())?;
+        Ok(Leaf {
+            pairs: Entries::new(list),
+        })
     }
 
     // The key of the first pair, or the empty one.
@@ -219,8 +229,11 @@ impl Leaf {
         ensures ok { IfOk result (IsSuccessor (bound_of bound.entry) self.now) }
         ensures err { IfErr result (λ e. e ≡ NoMemory) }
     {
-        match first_place(self.pairs.as_slice(), bound) {
-            Some(i) => Ok(Some(clone_pair(&self.pairs[i].0, &self.pairs[i].1)?)),
+        match self.pairs.first_place(bound) {
+            Some(i) => {
+                let pair = &self.pairs.as_slice()[i];
+                Ok(Some(clone_pair(&pair.0, &pair.1)?))
+            },
             None => Ok(None),
         }
     }
@@ -230,8 +243,11 @@ impl Leaf {
         ensures ok { IfOk result (IsPredecessor (bound_of bound.entry) self.now) }
         ensures err { IfErr result (λ e. e ≡ NoMemory) }
     {
-        match last_place(self.pairs.as_slice(), bound) {
-            Some(i) => Ok(Some(clone_pair(&self.pairs[i].0, &self.pairs[i].1)?)),
+        match self.pairs.last_place(bound) {
+            Some(i) => {
+                let pair = &self.pairs.as_slice()[i];
+                Ok(Some(clone_pair(&pair.0, &pair.1)?))
+            },
             None => Ok(None),
         }
     }
@@ -240,7 +256,7 @@ impl Leaf {
     fn get(&self, key: &[u8]) -> Option<&IVec>
         ensures { option_copied result ≡ find key_cmp key.now self.now }
     {
-        value_at(self.pairs.as_slice(), key)
+        self.pairs.get(key)
     }
 
     #[tactic(auto, unfolding(crate::specs::Order::key_cmp))]
@@ -249,14 +265,54 @@ impl Leaf {
         ensures err { OnErr result (self.new ≡ self.old) }
         ensures cause { IfErr result (λ e. e ≡ NoMemory) }
     {
-        put_pair(&mut self.pairs, key, value)
+        self.pairs.put(key, value)
+    }
+
+    #[tactic(auto, unfolding(crate::specs::Order::key_cmp))]
+    fn swap_in(&mut self, key: IVec, value: IVec) -> Result<(usize, Option<IVec>)>
+        ensures ok { OnOk result (self.new ≡ put key_cmp key value self.old) }
+        ensures back { IfOk result (λ b. restored b.0 b.1 self.new ≡ self.old) }
+        ensures err { OnErr result (self.new ≡ self.old) }
+        ensures cause { IfErr result (λ e. e ≡ NoMemory) }
+    {
+        self.pairs.swap_in(key, value)
+    }
+
+    // The pair of a key out of the list, with its place: `Some(None)` where there is none, and `None`, with no change, where the
+    // key stands more than once.
+    #[tactic(auto, unfolding(crate::specs::Order::key_cmp))]
+    fn swap_out(&mut self, key: &IVec) -> Option<Option<(usize, IVec, IVec)>>
+        ensures { MatchOption result (self.new ≡ self.old) (λ o. (self.new ≡ without key.now self.old) × MatchOption o (self.new ≡ self.old) (λ e. put_in e.0 (e.1, e.2) self.new ≡ self.old)) }
+    {
+        match self.pairs.place_alone(key) {
+            None => None,
+            Some(None) => Some(None),
+            Some(Some(i)) => {
+                let (name, value) = self.pairs.remove(i);
+                Some(Some((i, name, value)))
+            }
+        }
+    }
+
+    fn put_in(&mut self, i: usize, key: IVec, value: IVec) -> Result<()>
+        ensures ok { OnOk result (self.new ≡ put_in i (key, value) self.old) }
+        ensures err { OnErr result (self.new ≡ self.old) }
+        ensures cause { IfErr result (λ e. e ≡ NoMemory) }
+    {
+        self.pairs.put_in(i, key, value)
+    }
+
+    fn restore(&mut self, i: usize, old: Option<IVec>)
+        ensures { self.new ≡ restored i old self.old }
+    {
+        self.pairs.restore(i, old);
     }
 
     #[tactic(auto, unfolding(crate::specs::Order::key_cmp))]
     fn del(&mut self, key: &IVec)
         ensures { self.new ≡ without key.now self.old }
     {
-        take_out(&mut self.pairs, key);
+        self.pairs.take_out(key);
     }
 }
 
@@ -267,7 +323,7 @@ impl Index {
         ensures err { IfErr result (λ e. e ≡ NoMemory) }
     {
         Ok(Index {
-            pointers: copy_pointers(alloc, pointers)?,
+            pointers: Entries::new(copy_pointers(alloc, pointers)?),
         })
     }
 
@@ -291,8 +347,9 @@ impl Index {
         ensures ok { IfOk result (λ copy. copy ≡ self.now) }
         ensures err { IfErr result (λ e. e ≡ NoMemory) }
     {
+        let list = copy_pointers(alloc, self.pointers.as_slice())?;
         Ok(Index {
-            pointers: copy_pointers(alloc, self.pointers.as_slice())?,
+            pointers: self.pointers.copied(list),
         })
     }
 
@@ -304,7 +361,14 @@ impl Index {
         let middle = self.pointers.len() / 2;
         let left = copy_pointers(alloc, &self.pointers.as_slice()[..middle])?;
         let right = copy_pointers(alloc, &self.pointers.as_slice()[middle..])?;
-        Ok((Index { pointers: left }, Index { pointers: right }))
+        Ok((
+            Index {
+                pointers: Entries::new(left),
+            },
+            Index {
+                pointers: Entries::new(right),
+            },
+        ))
     }
 
     // These pointers and then those of another index.
@@ -312,9 +376,13 @@ impl Index {
         ensures ok { IfOk result (λ both. both ≡ self.now ++ other.now) }
         ensures err { IfErr result (λ e. e ≡ NoMemory) }
     {
-        let mut pointers = copy_pointers(alloc, self.pointers.as_slice())?;
-        add_pointers(&mut pointers, other.pointers.as_slice())?;
-        Ok(Index { pointers })
+        let count = self.len().saturating_add(other.len());
+        let mut list = Vec::with_capacity(alloc, count)?;
+        add_pointers(&mut list, self.pointers.as_slice())?;
+        add_pointers(&mut list, other.pointers.as_slice())?;
+        Ok(Index {
+            pointers: Entries::new(list),
+        })
     }
 
     // The key of the first pointer, or the empty one.
@@ -333,10 +401,10 @@ impl Index {
         ensures err { OnErr result (self.new ≡ self.old) }
         ensures cause { IfErr result (λ e. e ≡ NoMemory) }
     {
-        if value_at(self.pointers.as_slice(), at.as_ref()).is_some() {
+        if self.pointers.get(at.as_ref()).is_some() {
             return Ok(false);
         }
-        put_pair(&mut self.pointers, at, pid)?;
+        self.pointers.put(at, pid)?;
         Ok(true)
     }
 
@@ -344,8 +412,8 @@ impl Index {
     fn last_up_to(&self, bound: Bound<&[u8]>) -> Option<(Pid, bool)>
         ensures { IsPointerFor (bound_of bound.entry) self.now result }
     {
-        match last_place(self.pointers.as_slice(), bound) {
-            Some(i) => Some((self.pointers[i].1, i == 0)),
+        match self.pointers.last_place(bound) {
+            Some(i) => Some((self.pointers.as_slice()[i].1, i == 0)),
             None => None,
         }
     }
@@ -368,15 +436,38 @@ impl Index {
     {
         match place_of(self.pointers.as_slice(), to) {
             Some(0) => None,
-            Some(i) => Some(self.pointers[i - 1].1),
+            Some(i) => Some(self.pointers.as_slice()[i - 1].1),
             None => None,
         }
+    }
+
+    // The one pointer to a page out of the list, with its place: `Some(None)` where there is none, and `None`, with no change,
+    // where there are more.
+    fn swap_out(&mut self, to: Pid) -> Option<Option<(usize, IVec, Pid)>>
+        ensures { MatchOption result (self.new ≡ self.old) (λ o. (self.new ≡ unpointed to self.old) × MatchOption o (self.new ≡ self.old) (λ e. put_in e.0 (e.1, e.2) self.new ≡ self.old)) }
+    {
+        match pointer_alone(self.pointers.as_slice(), to) {
+            None => None,
+            Some(None) => Some(None),
+            Some(Some(i)) => {
+                let (key, pid) = self.pointers.remove(i);
+                Some(Some((i, key, pid)))
+            }
+        }
+    }
+
+    fn put_in(&mut self, i: usize, key: IVec, pid: Pid) -> Result<()>
+        ensures ok { OnOk result (self.new ≡ put_in i (key, pid) self.old) }
+        ensures err { OnErr result (self.new ≡ self.old) }
+        ensures cause { IfErr result (λ e. e ≡ NoMemory) }
+    {
+        self.pointers.put_in(i, key, pid)
     }
 
     fn del_to(&mut self, to: Pid)
         ensures { self.new ≡ unpointed to self.old }
     {
-        take_pointers(&mut self.pointers, to);
+        self.pointers.take_pointers(to);
     }
 }
 
@@ -530,6 +621,167 @@ impl Node {
                 }
             }
             Link::ChildMergeCap => self.merging = true,
+        }
+        Ok(())
+    }
+
+    // The same, and the node before it.
+    fn apply_whole(&mut self, alloc: Global, link: Link) -> Result<Back>
+        ensures ok { OnOk result (self.new ≡ applied link self.old) }
+        ensures back { IfOk result (λ back. put_back back self.new ≡ self.old) }
+        ensures err { OnErr result (self.new ≡ self.old) }
+        ensures cause { IfErr result (λ e. e ≡ NoMemory) }
+    {
+        let old = match self.shared(alloc) {
+            Ok(old) => old,
+            Err(e) => {
+                drop(link);
+                return Err(e);
+            }
+        };
+        match self.apply(link) {
+            Ok(()) => Ok(Back::Whole(old)),
+            Err(e) => {
+                drop(old);
+                Err(e)
+            }
+        }
+    }
+
+    // The same node, to be held by several.
+    fn shared(&self, alloc: Global) -> Result<Shared>
+        ensures ok { IfOk result (λ copy. copy ≡ self.now) }
+        ensures err { IfErr result (λ e. e ≡ NoMemory) }
+    {
+        let copy = self.clone(alloc)?;
+        Shared::new(alloc, copy)
+    }
+
+    // Makes a leaf's pair of a key, and says how that is taken back.
+    fn set_back(&mut self, key: IVec, value: IVec) -> Result<Back>
+        ensures ok { OnOk result (self.new ≡ applied (Set key value) self.old) }
+        ensures back { IfOk result (λ back. put_back back self.new ≡ self.old) }
+        ensures err { OnErr result (self.new ≡ self.old) }
+        ensures cause { IfErr result (λ e. e ≡ NoMemory) }
+    {
+        match &mut self.content {
+            Data::Leaf(leaf) => {
+                let (i, old) = leaf.swap_in(key, value)?;
+                Ok(Back::Part(Part::Pair(i, old)))
+            }
+            Data::Index(_) => {
+                drop(key);
+                drop(value);
+                Ok(Back::Part(Part::Nothing))
+            }
+        }
+    }
+
+    // Takes a leaf's pair out, and says how that is taken back.
+    fn del_back(&mut self, alloc: Global, key: IVec) -> Result<Back>
+        ensures ok { OnOk result (self.new ≡ applied (Del key) self.old) }
+        ensures back { IfOk result (λ back. put_back back self.new ≡ self.old) }
+        ensures err { OnErr result (self.new ≡ self.old) }
+        ensures cause { IfErr result (λ e. e ≡ NoMemory) }
+    {
+        let gone = match &mut self.content {
+            Data::Leaf(leaf) => leaf.swap_out(&key),
+            Data::Index(_) => Some(None),
+        };
+        match gone {
+            None => self.apply_whole(alloc, Link::Del(key)),
+            Some(None) => {
+                drop(key);
+                Ok(Back::Part(Part::Nothing))
+            }
+            Some(Some((i, name, value))) => {
+                drop(key);
+                Ok(Back::Part(Part::In(i, name, value)))
+            }
+        }
+    }
+
+    // Takes an index's pointer to its merging child out, and says how that is taken back.
+    fn confirm_back(&mut self, alloc: Global) -> Result<Back>
+        ensures ok { OnOk result (self.new ≡ applied ParentMergeConfirm self.old) }
+        ensures back { IfOk result (λ back. put_back back self.new ≡ self.old) }
+        ensures err { OnErr result (self.new ≡ self.old) }
+        ensures cause { IfErr result (λ e. e ≡ NoMemory) }
+    {
+        let Some(child) = self.merging_child else {
+            return Ok(Back::Part(Part::Nothing));
+        };
+        let gone = match &mut self.content {
+            Data::Leaf(_) => return Ok(Back::Part(Part::Nothing)),
+            Data::Index(index) => index.swap_out(child),
+        };
+        match gone {
+            None => self.apply_whole(alloc, Link::ParentMergeConfirm),
+            Some(None) => {
+                self.merging_child = None;
+                Ok(Back::Part(Part::Child(Some(child))))
+            }
+            Some(Some((i, key, to))) => {
+                self.merging_child = None;
+                Ok(Back::Part(Part::Pointer(i, key, to, child)))
+            }
+        }
+    }
+
+    // The same, and how it is taken back.
+    pub(crate) fn apply_back(&mut self, alloc: Global, link: Link) -> Result<Back>
+        ensures ok { OnOk result (self.new ≡ applied link self.old) }
+        ensures back { IfOk result (λ back. put_back back self.new ≡ self.old) }
+        ensures err { OnErr result (self.new ≡ self.old) }
+        ensures cause { IfErr result (λ e. e ≡ NoMemory) }
+    {
+        match link {
+            Link::Set(key, value) => self.set_back(key, value),
+            Link::Del(key) => self.del_back(alloc, key),
+            Link::ParentMergeIntention(child) => {
+                let back = Back::Part(Part::Child(self.merging_child));
+                if let Data::Index(_) = &self.content {
+                    self.merging_child = Some(child);
+                }
+                Ok(back)
+            }
+            Link::ParentMergeConfirm => self.confirm_back(alloc),
+            Link::ChildMergeCap => {
+                let back = Back::Part(Part::Merging(self.merging));
+                self.merging = true;
+                Ok(back)
+            }
+        }
+    }
+
+    // Takes the change of a part back.
+    pub(crate) fn put_back(&mut self, part: Part) -> Result<()>
+        ensures ok { OnOk result (self.new ≡ put_part part self.old) }
+        ensures err { OnErr result (self.new ≡ self.old) }
+        ensures cause { IfErr result (λ e. e ≡ NoMemory) }
+    {
+        match part {
+            Part::Nothing => {}
+            Part::Pair(i, old) => match &mut self.content {
+                Data::Leaf(leaf) => leaf.restore(i, old),
+                Data::Index(_) => drop(old),
+            },
+            Part::In(i, key, value) => match &mut self.content {
+                Data::Leaf(leaf) => leaf.put_in(i, key, value)?,
+                Data::Index(_) => {
+                    drop(key);
+                    drop(value);
+                }
+            },
+            Part::Pointer(i, key, to, child) => {
+                match &mut self.content {
+                    Data::Leaf(_) => drop(key),
+                    Data::Index(index) => index.put_in(i, key, to)?,
+                }
+                self.merging_child = Some(child);
+            }
+            Part::Child(child) => self.merging_child = child,
+            Part::Merging(merging) => self.merging = merging,
         }
         Ok(())
     }

@@ -1,11 +1,11 @@
 //! A page, as a store keeps it and as it is read.
-use crate::{Node, Pid, Version};
+use crate::{Pid, Shared, Version};
 
 /// A page: its version and its node.
 #[derive(Drop)]
 pub struct Page {
     pub version: Version,
-    pub node: Node,
+    pub node: Shared,
 }
 
 /// A page as it was read: its number, its version then and its node then.
@@ -13,5 +13,5 @@ pub struct Page {
 pub struct View {
     pub pid: Pid,
     pub version: Version,
-    pub node: Node,
+    pub node: Shared,
 }

@@ -1,23 +1,35 @@
 //! Lists of pairs of a key and something else. They ascend by key, but what is said holds of any list.
-ghost use Rattle.std.specs.Prelude.{◌≡◌, IfOk, IfErr, OnOk, OnErr};
+ghost use Rattle.std.specs.Prelude.{◌≡◌, ◌≤◌, true, length, IfOk, IfErr, OnOk, OnErr, IfSome};
 ghost use Rattle.sled_pages.specs.declared.error.Error.TheVariants.{NoMemory};
 ghost use Rattle.std.specs.FinMap.Entries.{put, find};
 ghost use Rattle.std.specs.Option.{option_copied};
 ghost use Rattle.sled_pages.specs.Pairs.{Stands, Goes};
+ghost use Rattle.sled_pages.specs.Returning.{restored, put_in, IsOut};
+ghost use Rattle.sled_pages.specs.Node.{unpointed};
+ghost use Rattle.std.specs.FinMap.{is_sorted};
+ghost use Rattle.std.specs.List.{insert as insert_at};
 ghost use Rattle.std.specs.FinMap.Entries.{where_key};
 ghost use Rattle.std.specs.Prelude.{not};
 ghost use Rattle.std.specs.Cmp.Lexicographic.{slice_cmp};
 ghost use Rattle.std.specs.Ordering.{nat_cmp, eq_by_cmp};
 
-use crate::IVec;
+use crate::ascending::search;
 use crate::error::Result;
+use crate::{IVec, Pid};
 use std::cmp::Ordering;
 
+// A node of so many entries is split.
+const FULL: usize = 17;
+
 // The place of a key: where it stands, or where it would go, before the first greater one.
-fn place<V>(pairs: &[(IVec, V)], key: &IVec) -> std::result::Result<usize, usize>
+fn place<V>(pairs: &[(IVec, V)], key: &IVec, ascends: bool) -> std::result::Result<usize, usize>
+    requires { ascends ≡ true → is_sorted (slice_cmp nat_cmp) pairs.now ≡ true }
     ensures stands { IfOk result (λ i. Stands (slice_cmp nat_cmp) key.now pairs.now i) }
     ensures goes { IfErr result (λ i. Goes (slice_cmp nat_cmp) key.now pairs.now i) }
 {
+    if ascends {
+        return search(pairs, key.as_ref());
+    }
     for i in 0..pairs.len() {
         match key.cmp(&pairs[i].0) {
             Ordering::Less => return Err(i),
@@ -43,17 +55,121 @@ pub fn clone_pair(key: &IVec, value: &IVec) -> Result<(IVec, IVec)>
     }
 }
 
+// Puts a pair in at a place. A list that is full grows by four pairs, and to 17 at most: a node of so many is split.
+fn insert<V: Drop>(pairs: &mut Vec<(IVec, V)>, i: usize, key: IVec, value: V) -> Result<()>
+    requires { i ≤ length pairs.old.items }
+    ensures ok { OnOk result (pairs.new.items ≡ insert_at pairs.old.items i (key, value)) }
+    ensures err { OnErr result (pairs.new.items ≡ pairs.old.items) }
+    ensures cause { IfErr result (λ e. e ≡ NoMemory) }
+{
+    let len = pairs.len();
+    if len == pairs.capacity() && len < FULL {
+        pairs.reserve_exact((FULL - len).min(4))?;
+    }
+    pairs.insert(i, (key, value))?;
+    Ok(())
+}
+
+// Puts a pair in its place, and says where, and what value stood there.
+pub fn swap_in<V: Drop>(
+    pairs: &mut Vec<(IVec, V)>,
+    key: IVec,
+    value: V,
+    ascends: bool,
+) -> Result<(usize, Option<V>)>
+    requires { ascends ≡ true → is_sorted (slice_cmp nat_cmp) pairs.old.items ≡ true }
+    ensures ok { OnOk result (pairs.new.items ≡ put (slice_cmp nat_cmp) key value pairs.old.items) }
+    ensures back { IfOk result (λ b. restored b.0 b.1 pairs.new.items ≡ pairs.old.items) }
+    ensures err { OnErr result (pairs.new.items ≡ pairs.old.items) }
+    ensures cause { IfErr result (λ e. e ≡ NoMemory) }
+{
+    match place(pairs.as_slice(), &key, ascends) {
+        Ok(i) => {
+            let old = std::mem::replace(&mut pairs[i].1, value);
+            Ok((i, Some(old)))
+        }
+        Err(i) => {
+            insert(pairs, i, key, value)?;
+            Ok((i, None))
+        }
+    }
+}
+
+// Takes that back.
+pub fn restore<V: Drop>(pairs: &mut Vec<(IVec, V)>, i: usize, old: Option<V>)
+    ensures { pairs.new.items ≡ restored i old pairs.old.items }
+{
+    if i < pairs.len() {
+        match old {
+            Some(value) => pairs[i].1 = value,
+            None => {
+                let (key, value) = pairs.remove(i);
+                drop(key);
+                drop(value);
+            }
+        }
+    }
+}
+
+// Puts a pair in at a place, where the list reaches so far.
+pub fn put_in<V: Drop>(pairs: &mut Vec<(IVec, V)>, i: usize, key: IVec, value: V) -> Result<()>
+    ensures ok { OnOk result (pairs.new.items ≡ put_in i (key, value) pairs.old.items) }
+    ensures err { OnErr result (pairs.new.items ≡ pairs.old.items) }
+    ensures cause { IfErr result (λ e. e ≡ NoMemory) }
+{
+    if i <= pairs.len() {
+        insert(pairs, i, key, value)?;
+    }
+    Ok(())
+}
+
 // Puts a pair in its place.
-pub fn put_pair<V: Drop>(pairs: &mut Vec<(IVec, V)>, key: IVec, value: V) -> Result<()>
+pub fn put_pair<V: Drop>(
+    pairs: &mut Vec<(IVec, V)>,
+    key: IVec,
+    value: V,
+    ascends: bool,
+) -> Result<()>
+    requires { ascends ≡ true → is_sorted (slice_cmp nat_cmp) pairs.old.items ≡ true }
     ensures ok { OnOk result (pairs.new.items ≡ put (slice_cmp nat_cmp) key value pairs.old.items) }
     ensures err { OnErr result (pairs.new.items ≡ pairs.old.items) }
     ensures cause { IfErr result (λ e. e ≡ NoMemory) }
 {
-    match place(pairs.as_slice(), &key) {
+    match place(pairs.as_slice(), &key, ascends) {
         Ok(i) => pairs[i].1 = value,
-        Err(i) => pairs.insert(i, (key, value))?,
+        Err(i) => insert(pairs, i, key, value)?,
     }
     Ok(())
+}
+
+// The place of a key that stands once, `Some(None)` where it stands nowhere, and `None` where it stands more than once.
+pub fn place_alone<V>(pairs: &[(IVec, V)], key: &IVec, ascends: bool) -> Option<Option<usize>>
+    requires { ascends ≡ true → is_sorted (slice_cmp nat_cmp) pairs.now ≡ true }
+    ensures { IfSome result (IsOut (λ e. not (eq_by_cmp (slice_cmp nat_cmp) key.now e.0)) pairs.now) }
+{
+    if ascends {
+        return match search(pairs, key.as_ref()) {
+            Ok(i) => Some(Some(i)),
+            Err(_) => Some(None),
+        };
+    }
+    let mut found: Option<usize> = None;
+    for i in 0..pairs.len() {
+        if key.cmp(&pairs[i].0).is_eq() {
+            if found.is_some() {
+                return None;
+            }
+            found = Some(i);
+        }
+    }
+    Some(found)
+}
+
+// Takes the pointers to a page out.
+pub fn take_pointers(pointers: &mut Vec<(IVec, Pid)>, to: Pid)
+    ensures { pointers.new.items ≡ unpointed to pointers.old.items }
+{
+    pointers.retain(|pointer| pointer.1 != to);
 }
 
 // Takes the pair of a key out.
@@ -64,9 +180,16 @@ pub fn take_out<V: Drop>(pairs: &mut Vec<(IVec, V)>, key: &IVec)
 }
 
 // The value of a key.
-pub fn value_at<'a, V>(pairs: &'a [(IVec, V)], key: &[u8]) -> Option<&'a V>
+pub fn value_at<'a, V>(pairs: &'a [(IVec, V)], key: &[u8], ascends: bool) -> Option<&'a V>
+    requires { ascends ≡ true → is_sorted (slice_cmp nat_cmp) pairs.now ≡ true }
     ensures { option_copied result ≡ find (slice_cmp nat_cmp) key.now pairs.now }
 {
+    if ascends {
+        return match search(pairs, key) {
+            Ok(i) => Some(&pairs[i].1),
+            Err(_) => None,
+        };
+    }
     for pair in pairs {
         if key.cmp(pair.0.as_ref()).is_eq() {
             return Some(&pair.1);

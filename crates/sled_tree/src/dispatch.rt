@@ -26,7 +26,7 @@ fn step<P: Pages>(pages: &mut P, alloc: Global, job: &Job, stage: Stage) -> Next
         Stage::Act(view) => act(pages, job, view),
         Stage::Split(split) => halve(pages, alloc, job, split),
         Stage::Shorten(split) => shorten(pages, job, split),
-        Stage::Post(pointer) => post(pages, job, pointer),
+        Stage::Post(pointer) => post(pages, alloc, job, pointer),
         Stage::Hoist(pair) => hoist(pages, alloc, job, pair),
         Stage::Crown(root) => crown(pages, job, root),
         Stage::Free(own) => free(pages, job, own),
@@ -41,9 +41,9 @@ fn step_of_merge<P: Pages>(pages: &mut P, alloc: Global, job: &Job, stage: Stage
     ensures passes { Passes job.now (now (P.store pages.old)) stage result (now (P.store pages.new)) }
 {
     match stage {
-        Stage::Intend(merge) => intend(pages, job, merge),
+        Stage::Intend(merge) => intend(pages, alloc, job, merge),
         Stage::Child(merge) => read_child(pages, alloc, job, merge),
-        Stage::Cap(child) => cap(pages, job, child),
+        Stage::Cap(child) => cap(pages, alloc, job, child),
         Stage::Seek(search) => seek(pages, alloc, job, search),
         Stage::Receive(child) => receive(pages, alloc, job, child),
         Stage::Confirm(child) => confirm(pages, job, child),

@@ -2,8 +2,9 @@
 ghost use Rattle.std.specs.Prelude.{◌≡◌};
 ghost use Rattle.sled_tree.specs.declared.flight.Stage.TheVariants.{Root};
 
+use crate::half::Half;
 use sled_model::{Call, Reply, Tree};
-use sled_pages::{Error, IVec, Node, Pid, Version, View};
+use sled_pages::{Error, IVec, Pid, Shared, Version, View};
 
 /// What a call in flight is to do. It stays as it is.
 #[derive(Drop)]
@@ -49,7 +50,7 @@ pub struct Shorten {
     pub page: View,
     pub posting: Posting,
     /// The left half, which goes on at the right one.
-    pub left: Node,
+    pub left: Half,
     /// Where the right half begins.
     pub at: IVec,
     /// The right half, and its version.
@@ -110,7 +111,7 @@ pub struct Cap {
     pub merge: Merge,
     /// The child's version, and its node.
     pub version: Version,
-    pub node: Node,
+    pub node: Shared,
 }
 
 /// A merge whose child is capped: the page that leads to it is looked for.
@@ -119,7 +120,7 @@ pub struct Seek {
     pub merge: Merge,
     /// The child's version, and its node, neither of which changes any more.
     pub version: Version,
-    pub node: Node,
+    pub node: Shared,
     /// The page that is read next.
     pub cursor: Pid,
 }
@@ -130,7 +131,7 @@ pub struct Receive {
     pub merge: Merge,
     /// The child's version, and its node, neither of which changes any more.
     pub version: Version,
-    pub node: Node,
+    pub node: Shared,
     /// The page that receives it.
     pub left: View,
 }

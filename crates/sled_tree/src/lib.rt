@@ -9,6 +9,7 @@
 mod act;
 mod dispatch;
 mod flight;
+mod half;
 mod hoist;
 mod merge;
 mod split;
@@ -19,3 +20,4 @@ pub use flight::{
     Cap, Confirm, Crown, Flight, Hoist, Job, Merge, Next, Own, Post, Posting, Receive, Seek,
     Shorten, Split, Stage, Walk, Went,
 };
+pub use half::Half;

@@ -3,7 +3,8 @@
 //! freed.
 //!
 //! Whoever meets a half-done merge goes on with it, from what the pages show.
-ghost use Rattle.std.specs.Prelude.{◌≡◌, ◌≢◌, ◌↔◌, ◌⊎◌, [], false, Some, None, IsTrue};
+ghost use Rattle.std.specs.Prelude.{◌≡◌, ◌≢◌, ◌↔◌, ◌⊎◌, [], false, true, Some, None, IsTrue, IfOk, IfErr};
+ghost use Rattle.sled_pages.specs.declared.error.Error.TheVariants.{NoMemory};
 ghost use Rattle.sled_pages.specs.Order.{UpTo};
 ghost use Rattle.sled_tree.specs.Moves.{Moves};
 ghost use Rattle.sled_tree.specs.Moves.{Begins, Helps, ReadsChild, Looks};
@@ -11,7 +12,7 @@ ghost use Rattle.sled_tree.specs.declared.flight.Next.TheVariants.{Go};
 ghost use Rattle.sled_tree.specs.declared.flight.Stage.TheVariants as stage;
 
 use crate::flight::{Cap, Confirm, Job, Merge, Next, Own, Posting, Receive, Seek, Split, Stage};
-use sled_pages::{Link, Pages, Pid, View};
+use sled_pages::{Link, Node, Pages, Pid, Result, Shared, View};
 use std::alloc::Global;
 
 // A page merges into the one before it, where its parent can have it for its merging child.
@@ -35,8 +36,28 @@ pub(crate) fn begin(parent: View, child: Pid) -> Next
     }
 }
 
-// The parent takes the page for its merging child.
-pub(crate) fn intend<P: Pages>(pages: &mut P, job: &Job, merge: Merge) -> Next
+// The node with a merging child.
+fn with_child(alloc: Global, node: &Node, child: Pid) -> Result<Shared>
+    ensures ok { IfOk result (λ made. made ≡ record node.now { merging_child = Some child }) }
+    ensures err { IfErr result (λ e. e ≡ NoMemory) }
+{
+    let mut node = node.clone(alloc)?;
+    node.merging_child = Some(child);
+    Shared::new(alloc, node)
+}
+
+// The node when it is merging.
+fn merging(alloc: Global, node: &Node) -> Result<Shared>
+    ensures ok { IfOk result (λ made. made ≡ record node.now { merging = true }) }
+    ensures err { IfErr result (λ e. e ≡ NoMemory) }
+{
+    let mut node = node.clone(alloc)?;
+    node.merging = true;
+    Shared::new(alloc, node)
+}
+
+// The parent takes the page for its merging child. All that wants memory comes before the link.
+pub(crate) fn intend<P: Pages>(pages: &mut P, alloc: Global, job: &Job, merge: Merge) -> Next
     ensures { Moves job.now (P.store pages.old) (Stage.Intend merge) result (P.store pages.new) }
 {
     let Merge {
@@ -44,7 +65,13 @@ pub(crate) fn intend<P: Pages>(pages: &mut P, job: &Job, merge: Merge) -> Next
         child,
         before,
     } = merge;
-    let View { pid, version, node } = parent;
+    let (pid, version) = (parent.pid, parent.version);
+    let intending = with_child(alloc, &parent.node, child);
+    drop(parent);
+    let node = match intending {
+        Err(e) => return Next::Refused(e),
+        Ok(node) => node,
+    };
     match pages.link(pid, version, Link::ParentMergeIntention(child)) {
         Err(e) => {
             drop(node);
@@ -55,8 +82,6 @@ pub(crate) fn intend<P: Pages>(pages: &mut P, job: &Job, merge: Merge) -> Next
             Next::Go(Stage::Root)
         }
         Ok(Ok(version)) => {
-            let mut node = node;
-            node.merging_child = Some(child);
             Next::Go(Stage::Child(Merge {
                 parent: View { pid, version, node },
                 child,
@@ -104,7 +129,8 @@ pub(crate) fn read_child<P: Pages>(pages: &P, alloc: Global, job: &Job, merge: M
 fn at_child(job: &Job, merge: Merge, view: View) -> Next
     ensures { ReadsChild job.now merge view result }
 {
-    if view.node.merging {
+    let read: &Node = &view.node;
+    if read.merging {
         let View { version, node, .. } = view;
         let cursor = merge.before;
         return Next::Go(Stage::Seek(Seek {
@@ -114,7 +140,7 @@ fn at_child(job: &Job, merge: Merge, view: View) -> Next
             cursor,
         }));
     }
-    if let Some(child) = view.node.merging_child {
+    if let Some(child) = read.merging_child {
         drop(merge);
         return help(view, child);
     }
@@ -126,8 +152,8 @@ fn at_child(job: &Job, merge: Merge, view: View) -> Next
     }))
 }
 
-// Caps the merging child.
-pub(crate) fn cap<P: Pages>(pages: &mut P, job: &Job, cap: Cap) -> Next
+// Caps the merging child. All that wants memory comes before the link.
+pub(crate) fn cap<P: Pages>(pages: &mut P, alloc: Global, job: &Job, cap: Cap) -> Next
     ensures { Moves job.now (P.store pages.old) (Stage.Cap cap) result (P.store pages.new) }
 {
     let Cap {
@@ -135,6 +161,15 @@ pub(crate) fn cap<P: Pages>(pages: &mut P, job: &Job, cap: Cap) -> Next
         version,
         node,
     } = cap;
+    let capped = merging(alloc, &node);
+    drop(node);
+    let node = match capped {
+        Err(e) => {
+            drop(merge);
+            return Next::Refused(e);
+        }
+        Ok(node) => node,
+    };
     match pages.link(merge.child, version, Link::ChildMergeCap) {
         Err(e) => {
             drop(merge);
@@ -151,8 +186,6 @@ pub(crate) fn cap<P: Pages>(pages: &mut P, job: &Job, cap: Cap) -> Next
             Next::Go(Stage::Child(merge))
         }
         Ok(Ok(version)) => {
-            let mut node = node;
-            node.merging = true;
             let cursor = merge.before;
             Next::Go(Stage::Seek(Seek {
                 merge,
@@ -200,12 +233,13 @@ pub(crate) fn seek<P: Pages>(pages: &P, alloc: Global, job: &Job, seek: Seek) ->
 fn at_cursor(job: &Job, seek: Seek, view: View) -> Next
     ensures { Looks job.now seek view result }
 {
-    if view.node.merging {
+    let node: &Node = &view.node;
+    if node.merging {
         drop(view);
         drop(seek);
         return Next::Go(Stage::Root);
     }
-    if let Some(child) = view.node.merging_child {
+    if let Some(child) = node.merging_child {
         drop(seek);
         return help(view, child);
     }

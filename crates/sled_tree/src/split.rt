@@ -4,7 +4,8 @@
 ghost use Rattle.sled_tree.specs.Moves.{Moves};
 
 use crate::flight::{Hoist, Job, Next, Own, Post, Posting, Shorten, Split, Stage};
-use sled_pages::{Pages, View, law_given};
+use crate::half::Half;
+use sled_pages::{Pages, law_given};
 use std::alloc::Global;
 
 // Makes the right half.
@@ -21,6 +22,14 @@ pub(crate) fn halve<P: Pages>(pages: &mut P, alloc: Global, job: &Job, split: Sp
             return Next::Refused(e);
         }
         Ok(halves) => halves,
+    };
+    let mut left = match Half::new(alloc, left) {
+        Err(e) => {
+            drop(right);
+            drop(split);
+            return Next::Refused(e);
+        }
+        Ok(left) => left,
     };
     let at = match right.lo.clone() {
         Err(e) => {
@@ -42,8 +51,7 @@ pub(crate) fn halve<P: Pages>(pages: &mut P, alloc: Global, job: &Job, split: Sp
     };
     law_given(pages);
     let Split { page, posting } = split;
-    let mut left = left;
-    left.next = Some(right);
+    left.set_next(right);
     Next::Go(Stage::Shorten(Shorten {
         page,
         posting,
@@ -68,7 +76,7 @@ pub(crate) fn shorten<P: Pages>(pages: &mut P, job: &Job, split: Shorten) -> Nex
     } = split;
     let (pid, seen) = (page.pid, page.version);
     drop(page);
-    match pages.replace(pid, seen, left) {
+    match pages.replace(pid, seen, left.into_node()) {
         Err(e) => {
             drop(posting);
             drop(at);
@@ -106,16 +114,20 @@ pub(crate) fn shorten<P: Pages>(pages: &mut P, job: &Job, split: Shorten) -> Nex
 }
 
 // Puts a pointer to a page into its parent, where it has none.
-pub(crate) fn post<P: Pages>(pages: &mut P, job: &Job, post: Post) -> Next
+pub(crate) fn post<P: Pages>(pages: &mut P, alloc: Global, job: &Job, post: Post) -> Next
     ensures { Moves job.now (P.store pages.old) (Stage.Post post) result (P.store pages.new) }
 {
     let Post { parent, at, pid } = post;
-    let View {
-        pid: index,
-        version,
-        node,
-    } = parent;
-    let mut node = node;
+    let (index, version) = (parent.pid, parent.version);
+    let copy = parent.node.clone(alloc);
+    drop(parent);
+    let mut node = match copy {
+        Err(e) => {
+            drop(at);
+            return Next::Refused(e);
+        }
+        Ok(node) => node,
+    };
     match node.parent_split(at, pid) {
         Err(e) => {
             drop(node);

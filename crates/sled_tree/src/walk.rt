@@ -100,22 +100,23 @@ fn arrive(job: &Job, view: View, way: Way) -> Next
     ensures arrives { Arrives job.now view way result }
     ensures passes { PassesOn job.now view way result }
 {
-    if view.node.merging {
+    let node: &Node = &view.node;
+    if node.merging {
         drop(view);
         drop(way);
         return Next::Go(Stage::Root);
     }
-    if let Some(child) = view.node.merging_child {
+    if let Some(child) = node.merging_child {
         drop(way);
         return help(view, child);
     }
-    if view.node.should_split() {
+    if node.should_split() {
         return split(job, view, way);
     }
-    if ends_before(&view.node, job.call.key().as_ref()) {
+    if ends_before(node, job.call.key().as_ref()) {
         return go_on(job, view, way);
     }
-    if !covers(&view.node, job.call.key().as_ref()) {
+    if !covers(node, job.call.key().as_ref()) {
         drop(view);
         drop(way);
         return Next::Go(Stage::Root);
@@ -150,30 +151,28 @@ fn go_on(job: &Job, view: View, way: Way) -> Next
     requires behind { UpTo view.node.hi (key_of job.now.call) }
     ensures { Arrives job.now view way result }
 {
-    let View { pid, node, .. } = view;
-    let Node {
-        lo,
-        hi,
-        next,
-        content,
-        ..
-    } = node;
-    drop(lo);
-    drop(content);
+    let pid = view.pid;
     let Way { parent, .. } = way;
-    let Some(next) = next else {
-        drop(hi);
+    let Some(next) = view.node.next else {
+        drop(view);
         drop(parent);
         return Next::Go(Stage::Root);
     };
     match parent {
-        None => Next::Go(Stage::Hoist(Hoist {
-            left: pid,
-            at: hi,
-            right: next,
-        })),
+        None => {
+            let at = view.node.hi.clone();
+            drop(view);
+            match at {
+                Err(e) => Next::Refused(e),
+                Ok(at) => Next::Go(Stage::Hoist(Hoist {
+                    left: pid,
+                    at,
+                    right: next,
+                })),
+            }
+        }
         Some(parent) => {
-            drop(hi);
+            drop(view);
             Next::Go(Stage::Walk(Walk {
                 cursor: next,
                 parent,
@@ -212,26 +211,20 @@ fn post(job: &Job, view: View, way: Way) -> Next
     requires unsplit { way.unsplit ≡ true }
     ensures { Arrives job.now view way result }
 {
-    let View { pid, node, .. } = view;
-    let Node {
-        lo,
-        hi,
-        content,
-        ..
-    } = node;
-    drop(hi);
-    drop(content);
+    let pid = view.pid;
+    let at = view.node.lo.clone();
+    drop(view);
     let Way { parent, .. } = way;
-    match parent {
-        None => {
-            drop(lo);
+    match (parent, at) {
+        (Some(parent), Ok(at)) => Next::Go(Stage::Post(Post { parent, at, pid })),
+        (parent, Err(e)) => {
+            drop(parent);
+            Next::Refused(e)
+        }
+        (None, Ok(at)) => {
+            drop(at);
             Next::Go(Stage::Root)
         }
-        Some(parent) => Next::Go(Stage::Post(Post {
-            parent,
-            at: lo,
-            pid,
-        })),
     }
 }
 

@@ -303,22 +303,39 @@ fn len(node: &Node) -> usize
 
 const MERGING: [(&str, bool); 2] = [("merging", true), ("-", false)];
 
+// What a node is but for its bounds and its entries.
+#[derive(Clone, Copy)]
+struct Marks {
+    next: Option<Pid>,
+    merging_child: Option<Pid>,
+    merging: bool,
+}
+
+fn read_marks(words: &mut Words<'_>) -> Result<Marks> {
+    let next = words.pid_or_none()?;
+    let merging_child = words.pid_or_none()?;
+    match named(&MERGING, words.word()?) {
+        Some(merging) => Ok(Marks {
+            next,
+            merging_child,
+            merging,
+        }),
+        None => Err(Stop::BadLine),
+    }
+}
+
 fn read_node(alloc: Global, is_leaf: bool, words: &mut Words<'_>) -> Result<Node> {
     let lo = words.word()?;
     let hi = words.word()?;
-    let next = words.pid_or_none()?;
-    let merging_child = words.pid_or_none()?;
-    let Some(merging) = named(&MERGING, words.word()?) else {
-        return Err(Stop::BadLine);
-    };
+    let marks = read_marks(words)?;
     let (lo, hi) = read_two(alloc, lo, hi)?;
     match read_content(alloc, is_leaf, words) {
         Ok(content) => Ok(Node {
             lo,
             hi,
-            next,
-            merging,
-            merging_child,
+            next: marks.next,
+            merging: marks.merging,
+            merging_child: marks.merging_child,
             content,
         }),
         Err(stop) => {

@@ -237,21 +237,23 @@ impl Store {
             Some(words.last()?)
         };
         match self.pages.read(self.alloc, pid) {
-            Ok(Some(view)) => self.keep(view, name, out),
+            Ok(Some(view)) => {
+                let kept = self.keep(&view, name, out);
+                drop(view);
+                kept
+            }
             Ok(None) => push(out, "none"),
             Err(error) => push_refused(out, error),
         }
     }
 
-    // Adds the line of a page, and keeps its node under the name.
-    fn keep(&mut self, view: View, name: Option<&[u8]>, out: &mut String) -> Result<()> {
-        let printed = self.push_view(&view, out);
-        let View { node, .. } = view;
+    // Adds the line of a page, and keeps a copy of its node under the name.
+    fn keep(&mut self, view: &View, name: Option<&[u8]>, out: &mut String) -> Result<()> {
+        self.push_view(view, out)?;
         match name {
-            Some(name) => self.nodes.put(name, node)?,
-            None => drop(node),
+            Some(name) => self.nodes.put(name, view.node.clone(self.alloc)?),
+            None => Ok(()),
         }
-        printed
     }
 
     fn push_view(&mut self, view: &View, out: &mut String) -> Result<()> {

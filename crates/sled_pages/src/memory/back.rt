@@ -25,7 +25,7 @@ pub fn set_root(roots: &mut Vec<(IVec, Pid)>, name: IVec, root: Option<Pid>) -> 
     ensures cause { IfErr result (λ e. e ≡ NoMemory) }
 {
     match root {
-        Some(pid) => put_pair(roots, name, pid),
+        Some(pid) => put_pair(roots, name, pid, false),
         None => {
             take_out(roots, &name);
             Ok(())
@@ -59,6 +59,7 @@ pub fn greatest_root(roots: &[(IVec, Pid)]) -> u64
 
 // Takes one action back.
 fn take_back(
+    alloc: Global,
     slots: &mut Slots,
     roots: &mut Vec<(IVec, Pid)>,
     in_group: &mut bool,
@@ -74,9 +75,11 @@ fn take_back(
 {
     match undo {
         Undo::UndoSlot(pid, slot) => {
-            slots.put(pid, slot);
+            let now = slots.put(pid, slot);
+            drop(now);
             Ok(())
         }
+        Undo::UndoLink(pid, version, back) => slots.change_back(alloc, pid, version, back),
         Undo::UndoRoot(name, root) => set_root(roots, name, root),
         Undo::UndoGroup(was_open) => {
             *in_group = was_open;
@@ -87,6 +90,7 @@ fn take_back(
 
 // Takes actions back, down to this number of them, and on to where no group is open.
 pub fn take_all_back(
+    alloc: Global,
     slots: &mut Slots,
     roots: &mut Vec<(IVec, Pid)>,
     in_group: &mut bool,
@@ -103,7 +107,7 @@ pub fn take_all_back(
 {
     while log.len() > keep || *in_group {
         match log.pop() {
-            Some(undo) => take_back(slots, roots, in_group, undo)?,
+            Some(undo) => take_back(alloc, slots, roots, in_group, undo)?,
             None => return Ok(()),
         }
     }

@@ -1,13 +1,15 @@
 //! Pages by number, as the store in memory keeps them.
-ghost use Rattle.std.specs.Prelude.{◌≡◌, ◌+◌, ◌^◌, ◌<◌, ◌++◌, ◌∷◌, [], Some, None, true, false, IfOk, IfErr, OnOk, IsTrue, ◌↔◌, length};
+ghost use Rattle.std.specs.Prelude.{◌≡◌, ◌+◌, ◌^◌, ◌<◌, ◌++◌, ◌∷◌, [], Some, None, true, false, IfOk, IfErr, OnOk, IsTrue, ◌↔◌, length, OnErr, is_some};
 ghost use Rattle.std.specs.Option.{option_copied};
 ghost use Rattle.std.specs.Vec.{vec_len, vec_capacity};
 ghost use Rattle.sled_pages.specs.declared.error.Error.TheVariants.{NoMemory};
 ghost use Rattle.sled_pages.specs.Update.{put_at};
 ghost use Rattle.sled_pages.specs.Known.{IsKnown};
+ghost use Rattle.sled_pages.specs.Returning.{Relinked, slot_back};
 
-use crate::error::Result;
-use crate::{Node, Pid, Version};
+use crate::change::Back;
+use crate::error::{Error, Result};
+use crate::{Link, Node, Pid, Shared, Version};
 use std::alloc::Global;
 use std::collections::BTreeMap;
 
@@ -15,7 +17,7 @@ use std::collections::BTreeMap;
 #[derive(Drop)]
 pub struct Slot {
     pub version: Version,
-    pub node: Node,
+    pub node: Shared,
 }
 
 /// Slots by number. Those of an image have any numbers up to `last`; those that were added since lie in order behind.
@@ -27,6 +29,19 @@ pub struct Slots {
     own: Vec<Option<Slot>>,
     ghost known: { IsKnown from_image foreign },
     ghost numbered: { last + length own.items < 2 ^ 64 },
+}
+
+// Room for one item more. A full list grows by an eighth, so that a long one has little to spare.
+pub fn reserve_one<T>(list: &mut Vec<T>) -> Result<()>
+    ensures same { list.new.items ≡ list.old.items }
+    ensures room { OnOk result (vec_len list.new < vec_capacity list.new) }
+    ensures err { IfErr result (λ e. e ≡ NoMemory) }
+{
+    let len = list.len();
+    if len == list.capacity() {
+        list.reserve_exact(len / 8 + 8)?;
+    }
+    Ok(())
 }
 
 // Adds to a list that has room.
@@ -92,7 +107,7 @@ impl Slots {
             last = node.greatest(last.max(pid.0));
             let slot = Slot {
                 version: Version(next),
-                node,
+                node: Shared::new(alloc, node)?,
             };
             drop(foreign.insert(pid.0, Some(slot))?);
             next += 1;
@@ -136,6 +151,96 @@ impl Slots {
             }
         } else {
             std::mem::replace(&mut self.own[(pid.0 - self.last - 1) as usize], slot)
+        }
+    }
+
+    /// Changes the node of a slot by a link, and gives it a version. Says the version before, and how the change is taken back.
+    /// Refused with `NoMemory` alone, and then unchanged.
+    pub fn change(
+        &mut self,
+        alloc: Global,
+        pid: Pid,
+        version: Version,
+        link: Link,
+    ) -> Result<(Version, Back)>
+        requires placed { places_of self.old pid ≡ true }
+        requires there { is_some (slots_of self.old pid) ≡ true }
+        ensures ok { IfOk result (λ b. Relinked link pid version (slots_of self.old) (slots_of self.new) b.0 b.1) }
+        ensures err { OnErr result (slots_of self.new ≡ slots_of self.old) }
+        ensures places { places_of self.new ≡ places_of self.old }
+        ensures given { given_of self.new ≡ given_of self.old }
+        ensures cause { IfErr result (λ e. e ≡ NoMemory) }
+    {
+        match self.put(pid, None) {
+            Some(slot) => {
+                let Slot {
+                    version: before,
+                    mut node,
+                } = slot;
+                match node.change(alloc, link) {
+                    Ok(back) => {
+                        let none = self.put(pid, Some(Slot { version, node }));
+                        drop(none);
+                        Ok((before, back))
+                    }
+                    Err(e) => {
+                        let none = self.put(
+                            pid,
+                            Some(Slot {
+                                version: before,
+                                node,
+                            }),
+                        );
+                        drop(none);
+                        Err(e)
+                    }
+                }
+            }
+            None => Err(Error::NoMemory),
+        }
+    }
+
+    /// Takes a change back. Refused with `NoMemory` alone, and then unchanged.
+    pub fn change_back(
+        &mut self,
+        alloc: Global,
+        pid: Pid,
+        version: Version,
+        back: Back,
+    ) -> Result<()>
+        requires placed { places_of self.old pid ≡ true }
+        ensures ok { OnOk result (slots_of self.new ≡ put_at (slots_of self.old) pid (slot_back version back (slots_of self.old pid))) }
+        ensures err { OnErr result (slots_of self.new ≡ slots_of self.old) }
+        ensures places { places_of self.new ≡ places_of self.old }
+        ensures given { given_of self.new ≡ given_of self.old }
+        ensures cause { IfErr result (λ e. e ≡ NoMemory) }
+    {
+        match self.put(pid, None) {
+            Some(slot) => {
+                let Slot {
+                    version: later,
+                    mut node,
+                } = slot;
+                match node.change_back(alloc, back) {
+                    Ok(()) => {
+                        let none = self.put(pid, Some(Slot { version, node }));
+                        drop(none);
+                        Ok(())
+                    }
+                    Err(e) => {
+                        let none = self.put(
+                            pid,
+                            Some(Slot {
+                                version: later,
+                                node,
+                            }),
+                        );
+                        drop(none);
+                        Err(e)
+                    }
+                }
+            }
+            None => Ok(()),
         }
     }
 

@@ -1,12 +1,15 @@
 //! How an action is taken back.
 use super::slots::Slot;
-use crate::{IVec, Pid};
+use crate::change::Back;
+use crate::{IVec, Pid, Version};
 
 /// What stood there before an action.
 #[derive(Drop)]
 pub enum Undo {
     /// The slot of a page.
     UndoSlot(Pid, Option<Slot>),
+    /// What a link changed in a page of this version.
+    UndoLink(Pid, Version, Back),
     /// The root of a name.
     UndoRoot(IVec, Option<Pid>),
     /// Whether a group was open.

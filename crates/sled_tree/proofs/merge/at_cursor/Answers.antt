@@ -2,4 +2,4 @@ use Rattle.sled_tree.proofs.Merges.{cursor_helps}
 use Rattle.sled_tree.proofs.merge.at_cursor.Goals as goal
 
 pub returns-in-Some : goal.returns-in-Some
-returns-in-Some c = cursor_helps _ _ c.if-view.false c.in-Some.is _ _ _ c.help.ensures
+returns-in-Some c = cursor_helps _ _ (rw c.deref-node.ensures at c.if-node.false) (rw c.deref-node.ensures at c.in-Some.is) _ _ _ c.help.ensures

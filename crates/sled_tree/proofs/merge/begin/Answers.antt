@@ -2,4 +2,4 @@ use Rattle.std.proofs.Common.{refl, inr}
 use Rattle.sled_tree.proofs.merge.begin.Goals as goal
 
 pub returns-in-Some : goal.returns-in-Some
-returns-in-Some c = record { told = inr (_, refl, record { above = refl; is = refl; before = c.in-Some.ensures }) }
+returns-in-Some c = record { told = inr (_, refl, record { above = refl; is = refl; before = rw c.deref-2.ensures at c.in-Some.ensures }) }

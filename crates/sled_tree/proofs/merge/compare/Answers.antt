@@ -7,4 +7,4 @@ pub returns-then-reaches : goal.returns-then-reaches
 returns-then-reaches c = rw c.done.ensures (looks_done _ _ _ c.requires.awake c.requires.free (c.reaches.ensures.0 c.if-reaches.true) (untrue _ c.leads_to.ensures c.if-leads_to.false))
 
 pub returns-in-Some : goal.returns-in-Some
-returns-in-Some c = rw c.further.ensures (looks_further _ _ _ c.requires.awake c.requires.free _ (λ e. untrue _ c.reaches.ensures c.if-reaches.false (inl e)) (not_up_to _ _ (λ u. untrue _ c.reaches.ensures c.if-reaches.false (inr u))) c.in-Some.is)
+returns-in-Some c = rw c.further.ensures (looks_further _ _ _ c.requires.awake c.requires.free _ (λ e. untrue _ c.reaches.ensures c.if-reaches.false (inl e)) (not_up_to _ _ (λ u. untrue _ c.reaches.ensures c.if-reaches.false (inr u))) (rw c.deref.ensures at c.in-Some.is))

@@ -6,4 +6,4 @@ pub returns-then-should_split : goal.returns-then-should_split
 returns-then-should_split c = looks_splits _ _ _ c.requires.awake c.requires.free
 
 pub returns : goal.returns
-returns c = looks_receives _ _ _ c.requires.awake c.requires.free c.requires.leads (not_long _ _ c.should_split.ensures c.if-should_split.false (c.requires.awake, c.requires.free))
+returns c = looks_receives _ _ _ c.requires.awake c.requires.free c.requires.leads (not_long _ _ (rw c.deref.ensures at c.should_split.ensures) c.if-should_split.false (c.requires.awake, c.requires.free))

@@ -9,4 +9,4 @@ pub returns-in-Ok-Err-Some : goal.returns-in-Ok-Err-Some
 returns-in-Ok-Err-Some g c = receive_stale _ _ _ _ _ _ (rw c.in-Ok-Err-Some.field-0-is at c.in-Ok-Err-Some.ensures.ok)
 
 pub returns-in-Ok-Ok : goal.returns-in-Ok-Ok
-returns-in-Ok-Ok g c = receives _ _ _ _ _ _ c.in-Ok.ensures.ok (rw c.in-Ok-Ok.field-0-is at c.in-Ok-Ok.ensures.ok)
+returns-in-Ok-Ok g c = receives _ _ _ _ _ _ (rw c.deref.ensures at (rw c.deref-2.ensures at c.in-Ok.ensures.ok)) (rw c.in-Ok-Ok.field-0-is at c.in-Ok-Ok.ensures.ok)

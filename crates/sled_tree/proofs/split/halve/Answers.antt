@@ -6,4 +6,4 @@ pub returns-in-Err-allocate : goal.returns-in-Err-allocate
 returns-in-Err-allocate g c = refused _ _ _ _ _ c.in-Err-allocate.ensures.err
 
 pub returns : goal.returns
-returns g c = halves _ _ _ _ _ _ _ _ _ (long_enough _ _ c.should_split.ensures c.if-not-should_split.false) c.in-Ok.ensures.ok.0 c.in-Ok.ensures.ok.1 c.in-Ok-clone.ensures.ok c.in-Ok-allocate.ensures.ok c.law_given.ensures
+returns g c = rw c.set_next.ensures (rw c.in-Ok-new.ensures.ok (halves _ _ _ _ _ _ _ _ _ (long_enough _ _ (rw c.deref.ensures at c.should_split.ensures) c.if-not-should_split.false) (rw c.deref-2.ensures at c.in-Ok.ensures.ok.0) (rw c.deref-2.ensures at c.in-Ok.ensures.ok.1) c.in-Ok-clone.ensures.ok c.in-Ok-allocate.ensures.ok c.law_given.ensures))

@@ -3,20 +3,20 @@ use Rattle.sled_tree.proofs.Arriving.{helps}
 use Rattle.sled_tree.proofs.Passing.{shut_merging, shut_child, shut_long, shut_behind, shut_outside}
 use Rattle.sled_tree.proofs.walk.arrive.Goals as goal
 
-pub returns-then-view-clause-passes : goal.returns-then-view-clause-passes
-returns-then-view-clause-passes c = shut_merging _ _ _ _ c.if-view.true
+pub returns-then-node-clause-passes : goal.returns-then-node-clause-passes
+returns-then-node-clause-passes c = shut_merging _ _ _ _ (rw c.deref-node.ensures at c.if-node.true)
 
 pub returns-in-Some-clause-arrives : goal.returns-in-Some-clause-arrives
-returns-in-Some-clause-arrives c = helps _ _ _ _ _ c.if-view.false c.in-Some.is c.help.ensures
+returns-in-Some-clause-arrives c = helps _ _ _ _ _ (rw c.deref-node.ensures at c.if-node.false) (rw c.deref-node.ensures at c.in-Some.is) c.help.ensures
 
 pub returns-in-Some-clause-passes : goal.returns-in-Some-clause-passes
-returns-in-Some-clause-passes c = shut_child _ _ _ _ _ c.in-Some.is
+returns-in-Some-clause-passes c = shut_child _ _ _ _ _ (rw c.deref-node.ensures at c.in-Some.is)
 
 pub returns-then-should_split-clause-passes : goal.returns-then-should_split-clause-passes
-returns-then-should_split-clause-passes c = shut_long _ _ _ _ _ c.should_split.ensures c.if-should_split.true
+returns-then-should_split-clause-passes c = shut_long _ _ _ _ _ (rw c.deref-node.ensures at c.should_split.ensures) c.if-should_split.true
 
 pub returns-then-ends_before-clause-passes : goal.returns-then-ends_before-clause-passes
-returns-then-ends_before-clause-passes c = shut_behind _ _ _ _ _ _ (c.as_ref.ensures ∙ c.key.ensures) c.ends_before.ensures c.if-ends_before.true
+returns-then-ends_before-clause-passes c = shut_behind _ _ _ _ _ _ (c.as_ref.ensures ∙ c.key.ensures) (rw c.deref-node.ensures at c.ends_before.ensures) c.if-ends_before.true
 
 pub returns-then-not-covers-clause-passes : goal.returns-then-not-covers-clause-passes
-returns-then-not-covers-clause-passes c = shut_outside _ _ _ _ _ _ (c.as_ref-2.ensures ∙ c.key-2.ensures) c.covers.ensures c.if-not-covers.true
+returns-then-not-covers-clause-passes c = shut_outside _ _ _ _ _ _ (c.as_ref-2.ensures ∙ c.key-2.ensures) (rw c.deref-node.ensures at c.covers.ensures) c.if-not-covers.true

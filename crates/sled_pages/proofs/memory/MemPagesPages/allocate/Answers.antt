@@ -6,20 +6,20 @@ use Rattle.sled_pages.proofs.Kept.{allocates, allocate_keeps, allocate_below, pl
 use Rattle.sled_pages.proofs.memory.MemPagesPages.allocate.Goals as goal
 
 pub returns-clause-ok : goal.returns-clause-ok
-returns-clause-ok c = let m = c.start_version.new.self in
-    allocates (slots_of m.slots) _ (roots_of m.roots.items) m.in_group m.log.items _ c.add-pid.result c.args.node m.actions m.faults m.unreadable.items m.mark m.recovered (given_of m.slots) _ m.next_version _
+returns-clause-ok c = let m = c.start_version.new.self in rw (← c.in-Ok.ensures.ok) (
+    allocates (slots_of m.slots) _ (roots_of m.roots.items) m.in_group m.log.items _ c.add-pid.result c.in-Ok.node m.actions m.faults m.unreadable.items m.mark m.recovered (given_of m.slots) _ m.next_version _
     c.in_default.ensures.same c.add-pid.ensures.positive (ap (λ f. f c.add-pid.result) (sym c.reserve.ensures.given) ∙ c.add-pid.ensures.fresh) (given_here m.slots)
-    (c.add-pid.ensures.slots ∙ ap (λ f. put_at f c.add-pid.result (Some (record { version = m.next_version; node = c.args.node }))) c.reserve.ensures.slots)
-    (c.add-pid.ensures.given ∙ ap (λ f. put_at f c.add-pid.result true) c.reserve.ensures.given) c.push_reserved.ensures
+    (c.add-pid.ensures.slots ∙ ap (λ f. put_at f c.add-pid.result (Some (record { version = m.next_version; node = c.in-Ok.node }))) c.reserve.ensures.slots)
+    (c.add-pid.ensures.given ∙ ap (λ f. put_at f c.add-pid.result true) c.reserve.ensures.given) c.push_reserved.ensures)
 
 pub invariant_of-self-2-clause-kept : goal.invariant_of-self-2-clause-kept
 invariant_of-self-2-clause-kept c = let m = c.start_version.new.self in
-    allocate_keeps (slots_of m.slots) _ (roots_of m.roots.items) m.in_group m.log.items _ c.add-pid.result (Some (record { version = m.next_version; node = c.args.node })) (places_of m.slots) _
+    allocate_keeps (slots_of m.slots) _ (roots_of m.roots.items) m.in_group m.log.items _ c.add-pid.result (Some (record { version = m.next_version; node = c.in-Ok.node })) (places_of m.slots) _
     (not_placed m.slots c.add-pid.result (ap (λ f. f c.add-pid.result) (sym c.reserve.ensures.given) ∙ c.add-pid.ensures.fresh)) (placed_here m.slots)
-    (c.add-pid.ensures.slots ∙ ap (λ f. put_at f c.add-pid.result (Some (record { version = m.next_version; node = c.args.node }))) c.reserve.ensures.slots)
+    (c.add-pid.ensures.slots ∙ ap (λ f. put_at f c.add-pid.result (Some (record { version = m.next_version; node = c.in-Ok.node }))) c.reserve.ensures.slots)
     (c.add-pid.ensures.places ∙ ap (λ f. put_at f c.add-pid.result true) c.reserve.ensures.places) c.push_reserved.ensures m.kept
 
 pub invariant_of-self-2-clause-below : goal.invariant_of-self-2-clause-below
 invariant_of-self-2-clause-below c = let m = c.start_version.new.self in
-    allocate_below m.next_version (slots_of m.slots) _ m.log.items _ c.add-pid.result c.args.node
-    (c.add-pid.ensures.slots ∙ ap (λ f. put_at f c.add-pid.result (Some (record { version = m.next_version; node = c.args.node }))) c.reserve.ensures.slots) c.push_reserved.ensures m.below
+    allocate_below m.next_version (slots_of m.slots) _ m.log.items _ c.add-pid.result c.in-Ok.node
+    (c.add-pid.ensures.slots ∙ ap (λ f. put_at f c.add-pid.result (Some (record { version = m.next_version; node = c.in-Ok.node }))) c.reserve.ensures.slots) c.push_reserved.ensures m.below

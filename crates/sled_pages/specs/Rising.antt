@@ -1,0 +1,18 @@
+-- What a search finds where the keys rise.
+use Rattle.std.specs.Prelude.{◌≡◌, ℕ, ◌+◌, ◌<◌, ◌≤◌, List, length, slice_index_or}
+use Rattle.std.specs.List.{AllWithin}
+use Rattle.std.specs.declared.cmp.Ordering.{Ordering}
+use Rattle.std.specs.declared.cmp.Ordering.TheVariants.{Less, Equal, Greater}
+
+-- the key stands at place i, and nowhere else
+pub record IsHit {K X : Type 0} (R : K → K → Ordering) (k : K) (es : List (K × X)) (i : ℕ) : Type 0 where
+  pub in_range : i < length es
+  pub before : AllWithin (λ e. R k e.0 ≡ Greater) es 0 i
+  pub here : (d : K × X) → R k (slice_index_or es i d).0 ≡ Equal
+  pub after : AllWithin (λ e. R k e.0 ≡ Less) es (i + 1) (length es)
+
+-- the key stands nowhere, and the lesser ones lie before place i
+pub record IsGap {K X : Type 0} (R : K → K → Ordering) (k : K) (es : List (K × X)) (i : ℕ) : Type 0 where
+  pub in_range : i ≤ length es
+  pub before : AllWithin (λ e. R k e.0 ≡ Greater) es 0 i
+  pub after : AllWithin (λ e. R k e.0 ≡ Less) es i (length es)
