@@ -1,5 +1,5 @@
 -- One step of a call in flight.
-use Rattle.std.proofs.Common.{◌≡◌, ◌≢◌, ℕ, ◌+◌, ◌<◌, ◌≤◌, Bool, true, false, not, cond, List, [], ◌∷◌, Option, Some, None, option_map, sym, refl, ap, ◌∙◌, subst, inl, inr, ◌⊎◌, ◌++◌, arith}
+use Rattle.std.proofs.Common.{◌≡◌, ◌≢◌, ℕ, ◌+◌, ◌-◌, ◌<◌, ◌≤◌, Bool, true, false, not, cond, List, [], ◌∷◌, Option, Some, None, option_map, sym, refl, ap, ◌∙◌, subst, inl, inr, ◌⊎◌, ◌++◌, arith}
 use Rattle.std.specs.FinMap.Entries.{find}
 use Rattle.std.specs.Ordering.{nat_cmp}
 use Rattle.std.specs.Str.{bytes_eq}
@@ -39,7 +39,7 @@ use Rattle.sled_tree.specs.Moves.{Moves, ActsOnce, ActsAtMostOnce, Acts, Same, D
 use Rattle.sled.specs.Values.{KeepsRest, DbValue, numbers_of, given_to, named, state_of, db_state, moment}
 use Rattle.sled.specs.Sound.{IsDb}
 use Rattle.sled.specs.Calls.{MustBeRefused, must_be_refused_as}
-use Rattle.sled.specs.Flights.{flying_of, IsKnown, StillStands, LosesNone, RefusesQuietly, Flies}
+use Rattle.sled.specs.Flights.{flying_of, IsKnown, StillStands, LosesNone, RefusesQuietly, Flies, FliesToEnd, Ends, GoesOn}
 use Rattle.sled.proofs.Trees.{trees_at, trees_same, trees_put, maps_are, current, numbered}
 
 none_some : {P X : Type 0} {x : X} → None ≡ Some x → P
@@ -198,30 +198,8 @@ no_queue : (n : ℕ) (event : Option Event) (k : ℕ) → None ≡ delivered n e
 no_queue n None k = refl
 no_queue n (Some e) k = refl
 
-module _ {P M : Type 0} (store : P → Store) (meant : M → Merge) (old : DbValue P M) (db : IsDb (store old.pages) old.trees old.trees_given) where
-  abbrev at : Moment
-  at = moment (store old.pages) old.trees old.trees_given
-
-  -- the state over other pages
-  state_over : (p : P) (slots after : ℕ → Option Flying) (given : ℕ) → ((name : Key) → trees_of (now (store p)) name ≡ trees_of (now (store old.pages)) name) → (now (store p)).in_group ≡ (now (store old.pages)).in_group → (store p).mark ≡ (store old.pages).mark
-      → state_of store meant (record old { pages = p }) after given ≡ record (state_of store meant old slots given) { slots = after }
-  state_over p slots after given trees calm mark = λ i. record {
-    name = old.name;
-    trees = λ t. named (numbers_of old.trees t) (trees t i) (λ n. option_map meant (find nat_cmp n old.operators));
-    queues = λ n. None;
-    slots = after;
-    is_open = not (calm i);
-    greatest_id = old.greatest_id;
-    mark = mark i;
-    trees_given = old.trees_given;
-    slots_given = given;
-    subscribers_given = 0;
-  }
-
-  same_store : (slots after : ℕ → Option Flying) (given : ℕ) → state_of store meant old after given ≡ record (state_of store meant old slots given) { slots = after }
-  same_store slots after given = refl
-
-  -- a refusal that touches no page
+-- a call that is refused before it touches a page
+module _ {P M : Type 0} (store : P → Store) (meant : M → Merge) (old : DbValue P M) where
   untouched : (f g : Flight) (e : Error) → (must_refuse_of (db_state store meant old) (f.job.tree ∷ []) ≡ None → f.turns ≡ MAX_LOOPS → TellsTurns e) → ((slots : ℕ → Option Flying) (given : ℕ) → MayRefuse (state_of store meant old slots given) (store old.pages) (store old.pages) (ToStep (flying_of f)) e) → Flies store meant old f (Refused e) old g
   untouched f g e limit may = record {
     steps = λ slots given slot here. record { told = (record { flying = flying_of f; here = here; may = may slots given; limit = limit; is = refl }, refl) };
@@ -230,7 +208,7 @@ module _ {P M : Type 0} (store : P → Store) (meant : M → Merge) (old : DbVal
     quiet = λ q. refl;
     rest = record { mark = refl; recovered = refl; readable = refl };
     passes = record { told = tt };
-    loses = loses_nothing at;
+    loses = loses_nothing (moment (store old.pages) old.trees old.trees_given);
     leaves = λ v is. tt;
     goes_on = λ e. absurd (apart e);
     others = λ h off k. (k, λ e. absurd (apart e));
@@ -257,6 +235,31 @@ module _ {P M : Type 0} (store : P → Store) (meant : M → Merge) (old : DbVal
     pub flies_limit : (g : Flight) (e : Error) → TellsTurns e → ((slots : ℕ → Option Flying) (given : ℕ) → cause_of (state_of store meant old slots given) (store old.pages) (store old.pages) (ToStep (flying_of f)) e) → Flies store meant old f (Refused e) old g
     flies_limit g e tells cause = untouched f g e (λ none all. tells) (λ slots given. may_refuse slots given (store old.pages) (store old.pages) e (cause slots given))
 
+module _ {P M : Type 0} (store : P → Store) (meant : M → Merge) (old : DbValue P M) (db : IsDb (store old.pages) old.trees old.trees_given) where
+  abbrev at : Moment
+  at = moment (store old.pages) old.trees old.trees_given
+
+  -- the state over other pages
+  state_over : (p : P) (slots after : ℕ → Option Flying) (given : ℕ) → ((name : Key) → trees_of (now (store p)) name ≡ trees_of (now (store old.pages)) name) → (now (store p)).in_group ≡ (now (store old.pages)).in_group → (store p).mark ≡ (store old.pages).mark
+      → state_of store meant (record old { pages = p }) after given ≡ record (state_of store meant old slots given) { slots = after }
+  state_over p slots after given trees calm mark = λ i. record {
+    name = old.name;
+    trees = λ t. named (numbers_of old.trees t) (trees t i) (λ n. option_map meant (find nat_cmp n old.operators));
+    queues = λ n. None;
+    slots = after;
+    is_open = not (calm i);
+    greatest_id = old.greatest_id;
+    mark = mark i;
+    trees_given = old.trees_given;
+    slots_given = given;
+    subscribers_given = 0;
+  }
+
+  same_store : (slots after : ℕ → Option Flying) (given : ℕ) → state_of store meant old after given ≡ record (state_of store meant old slots given) { slots = after }
+  same_store slots after given = refl
+
+  -- the tests let the call pass
+  module _ (f : Flight) (must : must_refuse_of (db_state store meant old) (f.job.tree ∷ []) ≡ None) where
     named_now : numbers_of old.trees f.job.tree.name ≡ Some f.job.tree.number
     named_now = numbered f.job.tree.number (numbers_of old.trees f.job.tree.name) (trees_of (now (store old.pages)) f.job.tree.name) _ (current (db_state store meant old) f.job.tree must)
 
@@ -376,7 +379,7 @@ module _ {P M : Type 0} (store : P → Store) (meant : M → Merge) (old : DbVal
               record {
                 flying = flying_of f;
                 here = here;
-                may = may_refuse slots given (store old.pages) (store q) e (cause_is (state_of store meant old slots given) (flying_of f) e (store old.pages) (store q) moves.touches);
+                may = may_refuse store meant old f must slots given (store old.pages) (store q) e (cause_is (state_of store meant old slots given) (flying_of f) e (store old.pages) (store q) moves.touches);
                 limit = λ none all. absurd (below f.turns few all);
                 is = state_over q slots (put_at slots slot None) given (λ t. ap (λ (s : Rattle.sled_pages.specs.State.State). trees_of s t) (now_rests rests)) refused_calm rests.rest.mark;
               },
@@ -521,13 +524,59 @@ module _ {P M : Type 0} (store : P → Store) (meant : M → Merge) (inside old 
       subst (λ (z : DbValue P M). must_refuse_of (db_state store meant z) (f.job.tree ∷ []) ≡ None → IsKnown (moment (store z.pages) z.trees z.trees_given) f → IsDb (store q) inside.trees inside.trees_given)
       e (λ must known. db_on store meant inside db f must q known few went g a further) must known
 
-  pub untested_as : (g : Flight) (r : Error) → MustBeRefused (must_refuse_of (db_state store meant old) (f.job.tree ∷ [])) r → Flies store meant old f (Refused r) old g
-  untested_as g r tested = flies_untested store meant old (subst (λ (z : DbValue P M). IsDb (store z.pages) z.trees z.trees_given) e db) f g r tested
-
-  pub limit_as : (g : Flight) (r : Error) → must_refuse_of (db_state store meant old) (f.job.tree ∷ []) ≡ None → TellsTurns r
-      → ((slots : ℕ → Option Flying) (given : ℕ) → cause_of (state_of store meant old slots given) (store old.pages) (store old.pages) (ToStep (flying_of f)) r) → Flies store meant old f (Refused r) old g
-  limit_as g r must tells cause = flies_limit store meant old (subst (λ (z : DbValue P M). IsDb (store z.pages) z.trees z.trees_given) e db) f must g r tells cause
-
 -- below the limit
 pub below_limit : (f : Flight) → f.turns ≤ MAX_LOOPS → f.turns ≢ MAX_LOOPS → f.turns < MAX_LOOPS
 below_limit f h off = omega arith
+
+-- ---- a call that goes on
+
+some_is : {X : Type 0} {x y : X} → Some x ≡ Some y → x ≡ y
+some_is e = cc
+
+module _ {P M : Type 0} (store : P → Store) (meant : M → Merge) (old new : DbValue P M) (f g : Flight) (flies : Flies store meant old f Moved new g) where
+  abbrev everywhere : ℕ → Option Flying
+  everywhere n = Some (flying_of f)
+
+  went_on : Rattle.sled_model.specs.Steps.Moves (state_of store meant old everywhere 0) 0 (state_of store meant new (put_at everywhere 0 (Some (flying_of g))) 0)
+  went_on = (flies.steps everywhere 0 0 refl).told.0
+
+  -- the tests pass still
+  pub still_tested : must_refuse_of (db_state store meant old) (f.job.tree ∷ []) ≡ None → must_refuse_of (db_state store meant new) (g.job.tree ∷ []) ≡ None
+  still_tested must =
+      ap (λ (j : Job). must_refuse_of (db_state store meant new) (j.tree ∷ [])) (flies.goes_on refl).0
+      ∙ (ap (λ (s : State). must_refuse_of s (f.job.tree ∷ [])) went_on.is ∙ must)
+
+  -- it had turns left, and has one less
+  pub turn_taken : (f.turns < MAX_LOOPS) × (g.turns ≡ f.turns + 1)
+  turn_taken =
+      let same : flying_of f ≡ went_on.flying = some_is went_on.here in
+      let after : Some (flying_of g) ≡ Some (record (went_on.flying) { turns = went_on.flying.turns + 1 }) = ap (λ (s : State). s.slots 0) went_on.is in (
+        subst (λ (z : Flying). z.turns < MAX_LOOPS) (sym same) went_on.few,
+        ap (λ (z : Flying). z.turns) (some_is after) ∙ ap (λ (z : Flying). z.turns + 1) (sym same),
+      )
+
+  pub fewer_turns : MAX_LOOPS - g.turns < MAX_LOOPS - f.turns
+  fewer_turns = let t = turn_taken in let few = t.0 in let one = t.1 in omega arith
+
+-- a call that went on so far, whose tests passed: with what is left of its way it goes its whole way
+pub record IsFlying {P M : Type 0} (store : P → Store) (meant : M → Merge) (old : DbValue P M) (f : Flight) (mid : DbValue P M) (h : Flight) : Type 0 where
+  pub whole : (went : Went) (new : DbValue P M) (g : Flight) → FliesToEnd store meant mid h went new g → FliesToEnd store meant old f went new g
+  pub known : IsKnown (moment (store mid.pages) mid.trees mid.trees_given) h
+  pub tested : must_refuse_of (db_state store meant mid) (h.job.tree ∷ []) ≡ None
+
+module _ {P M : Type 0} (store : P → Store) (meant : M → Merge) (old : DbValue P M) (f : Flight) where
+  pub going_first : IsKnown (moment (store old.pages) old.trees old.trees_given) f → must_refuse_of (db_state store meant old) (f.job.tree ∷ []) ≡ None → IsFlying store meant old f old f
+  going_first known tested = record { whole = λ went new g end. end; known = known; tested = tested }
+
+  pub going_more : (mid next : DbValue P M) (h k : Flight) → IsFlying store meant old f mid h → Flies store meant mid h Moved next k → IsFlying store meant old f next k
+  going_more mid next h k is flies = record {
+    whole = λ went new g end. is.whole went new g (GoesOn flies end);
+    known = (flies.goes_on refl).1;
+    tested = still_tested store meant mid next h k flies is.tested;
+  }
+
+  pub going_ends : (mid new : DbValue P M) (h g : Flight) (went : Went) → IsFlying store meant old f mid h → Flies store meant mid h went new g → went ≢ Moved → FliesToEnd store meant old f went new g
+  going_ends mid new h g went is flies off = is.whole went new g (Ends flies off)
+
+pub refused_is_end : {e : Error} → Refused e ≢ Moved
+refused_is_end e = cc

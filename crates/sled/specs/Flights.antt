@@ -1,10 +1,9 @@
 -- One step of a call in flight on a database.
-use Rattle.std.specs.Prelude.{◌≡◌, ℕ, ◌+◌, ◌≤◌, ◌⊎◌, true, List, [], ◌∷◌, Option, Some, None}
+use Rattle.std.specs.Prelude.{◌≡◌, ◌≢◌, ℕ, ◌+◌, ◌≤◌, ◌⊎◌, true, List, [], ◌∷◌, Option, Some, None}
 use Rattle.sled_pages.specs.In.{In}
 use Rattle.sled_pages.specs.State.{Nodes}
 use Rattle.sled_pages.specs.declared.node.Node.{Node}
 use Rattle.sled_pages.specs.Store.{Store, now}
-use Rattle.sled_pages.specs.declared.error.Error.{Error}
 use Rattle.sled_pages.specs.Update.{put_at}
 use Rattle.sled_model.specs.Maps.{Maps, Merge}
 use Rattle.sled_model.specs.Answer.{answer_of}
@@ -116,3 +115,8 @@ pub record Flies {P M : Type 0} (store : P → Store) (meant : M → Merge) (old
       → IsKnown (moment (store new.pages) new.trees new.trees_given) h × (went ≡ Moved → AreApart g h)
   -- nothing else of the database changes
   pub same : new ≡ record old { pages = new.pages }
+
+-- Steps of a call in flight, one after the other, until it ends
+pub data FliesToEnd {P M : Type 0} (store : P → Store) (meant : M → Merge) : DbValue P M → Flight → Went → DbValue P M → Flight → Type 0 where
+  Ends : {old new : DbValue P M} {f g : Flight} {went : Went} → Flies store meant old f went new g → went ≢ Moved → FliesToEnd store meant old f went new g
+  GoesOn : {old mid new : DbValue P M} {f h g : Flight} {went : Went} → Flies store meant old f Moved mid h → FliesToEnd store meant mid h went new g → FliesToEnd store meant old f went new g

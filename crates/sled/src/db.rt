@@ -59,7 +59,7 @@ impl<P: Pages, M> Model for Db<P, M> {
 impl<P: Pages, M: MergeOperator> Db<P, M> {
     ghost use Rattle.sled.specs.Sound.{IsDb};
     ghost use Rattle.sled.specs.Values.{db_state, moment};
-    ghost use Rattle.sled.specs.Flights.{IsKnown, Flies};
+    ghost use Rattle.sled.specs.Flights.{IsKnown, Flies, FliesToEnd};
     ghost use Rattle.sled.specs.Flush.{FlushesDb, RefusesFlush};
 
     /// What holds of every database: its pages are well formed now and in every state that a crash may leave, and its trees
@@ -138,10 +138,44 @@ impl<P: Pages, M: MergeOperator> Db<P, M> {
         if let Err(e) = self.check(&flight.job.tree) {
             return Went::Refused(e);
         }
+        self.fly_tested(flight)
+    }
+
+    // The same of a call whose tree passed the tests.
+    fn fly_tested(&mut self, flight: &mut Flight) -> Went
+        requires known { IsKnown (moment (P.store self.old.pages) self.old.trees self.old.trees_given) flight.old }
+        requires tested { must_refuse_of (db_state P.store M.meant self.old) (flight.old.job.tree ∷ []) ≡ None }
+        ensures { Flies P.store M.meant self.old flight.old result self.new flight.new }
+    {
         if flight.turns == MAX_LOOPS {
             return Went::Refused(Error::ReportableBug(WALK_PASSED_TURNS));
         }
         advance(&mut self.pages, self.alloc, flight)
+    }
+
+    /// Steps of a call in flight until it ends. The tests are made once, since no step of a call changes what they look at.
+    pub fn fly_to_end(&mut self, flight: &mut Flight) -> Went
+        requires { IsKnown (moment (P.store self.old.pages) self.old.trees self.old.trees_given) flight.old }
+        ensures { FliesToEnd P.store M.meant self.old flight.old result self.new flight.new }
+    {
+        if let Err(e) = self.check(&flight.job.tree) {
+            return Went::Refused(e);
+        }
+        self.fly_on(flight)
+    }
+
+    /// The same of a call whose tree passed the tests.
+    pub fn fly_on(&mut self, flight: &mut Flight) -> Went
+        requires known { IsKnown (moment (P.store self.old.pages) self.old.trees self.old.trees_given) flight.old }
+        requires tested { must_refuse_of (db_state P.store M.meant self.old) (flight.old.job.tree ∷ []) ≡ None }
+        ensures { FliesToEnd P.store M.meant self.old flight.old result self.new flight.new }
+    {
+        'steps: loop {
+            match self.fly_tested(flight) {
+                Went::Moved => {}
+                went => return went,
+            }
+        }
     }
 
     /// Makes all that was decided durable. The number that it answers is the store's.

@@ -1,9 +1,11 @@
 -- Laws of the words that spell byte strings.
-use Rattle.std.proofs.Common.{◌≡◌, ℕ, ◌+◌, ◌*◌, ◌/◌, ◌%◌, ◌<◌, ◌==◌, Bool, true, false, List, [], ◌∷◌, ◌++◌, ◌≢◌, length, Option, Some, None, refl, ap, ◌∙◌, sym, arith, option_map, append_assoc, append-nil}
+use Rattle.std.proofs.Common.{◌≡◌, ℕ, ◌+◌, ◌*◌, ◌/◌, ◌%◌, ◌<◌, ◌==◌, ◌&&◌, Bool, true, false, List, [], ◌∷◌, ◌++◌, ◌≢◌, length, take, drop, Option, Some, None, refl, ap, ◌∙◌, sym, arith, option_map, append_assoc, append-nil, take-append-drop, length-drop}
+use Rattle.std.proofs.lemmas.List.{take_all}
+use Rattle.std.proofs.lemmas.Grind.{flat_map-append}
 use Rattle.std.proofs.lemmas.Bool.{cond-true, cond-false}
 use Rattle.std.proofs.lemmas.Bool.Decides.{nat_tests}
 use Rattle.std.proofs.lemmas.Slice.Eq.{bytes_eq-Decides}
-use Rattle.std.specs.List.{flat_map}
+use Rattle.std.specs.List.{flat_map, list_all}
 use Rattle.std.specs.Str.{bytes_eq}
 use Rattle.sled_lines.specs.Words.{is_plain, hex_digit, hex_value, escape, spelled, printed, plain_byte, byte_of, and_then, bytes_of, read_word, AreBytes, ReadsPrinted, ReadsValues}
 
@@ -64,6 +66,62 @@ pub bytes_of-end : (word rest bytes : List ℕ) → length rest ≡ 0 → option
 bytes_of-end word [] bytes none same = ap Some (sym (append-nil bytes)) ∙ rw bytes_of-nil at same
 bytes_of-end word (b ∷ rest) bytes none same = absurd (omega arith)
 
+-- ---- bytes that all stand for themselves
+
+both_true : (a b : Bool) → (a && b) ≡ true → (a ≡ true) × (b ≡ true)
+both_true a b both = grind (arith, both)
+
+plain_is_other : (b : ℕ) → is_plain b ≡ true → (b == 37) ≡ false
+plain_is_other b plain = grind (arith, nat_tests)
+
+-- .. are spelled by themselves
+spelled-plain : (bytes : List ℕ) → list_all is_plain bytes ≡ true → flat_map spelled bytes ≡ bytes
+spelled-plain [] plain = refl
+spelled-plain (b ∷ bytes) plain =
+    let both = both_true (is_plain b) (list_all is_plain bytes) plain in
+    let itself : spelled b ≡ b ∷ [] = cond-true _ _ _ both.0 in
+    ap (λ word. word ++ flat_map spelled bytes) itself ∙ ap (λ rest. b ∷ rest) (spelled-plain bytes both.1)
+
+-- .. and spell themselves
+bytes_of-plain : (word : List ℕ) → list_all is_plain word ≡ true → bytes_of word ≡ Some word
+bytes_of-plain [] plain = bytes_of-nil
+bytes_of-plain (b ∷ rest) plain =
+    let both = both_true (is_plain b) (list_all is_plain rest) plain in
+    let itself : plain_byte b ≡ Some b = cond-true _ _ _ both.0 in
+    bytes_of-cons b rest (plain_is_other b both.0) ∙ (ap (λ x. and_then x (bytes_of rest)) itself ∙ ap (λ x. and_then (Some b) x) (bytes_of-plain rest both.1))
+
+-- the same, where so many bytes are all
+pub bytes_of-whole : (word : List ℕ) (n : ℕ) → list_all is_plain (take n word) ≡ true → n ≡ length word → bytes_of word ≡ Some word
+bytes_of-whole word n plain all = bytes_of-plain word (ap (list_all is_plain) (sym (take_all n word (omega (arith, all)))) ∙ plain)
+
+-- some that do, one more byte, and the others
+spelled-run : (rest : List ℕ) (n : ℕ) (b : ℕ) (others : List ℕ) → list_all is_plain (take n rest) ≡ true → drop n rest ≡ b ∷ others → (take n rest ++ spelled b) ++ flat_map spelled others ≡ flat_map spelled rest
+spelled-run rest n b others plain next =
+    let whole : take n rest ++ (b ∷ others) ≡ rest = rw (← next) (take-append-drop n rest) in
+    append_assoc (take n rest) (spelled b) (flat_map spelled others)
+    ∙ (ap (λ front. front ++ flat_map spelled (b ∷ others)) (sym (spelled-plain (take n rest) plain))
+    ∙ (sym (flat_map-append spelled (take n rest) (b ∷ others)) ∙ ap (flat_map spelled) whole))
+
+-- .. or the last of them
+spelled-last : (rest : List ℕ) (n : ℕ) → list_all is_plain (take n rest) ≡ true → length (drop n rest) ≡ 0 → take n rest ≡ flat_map spelled rest
+spelled-last rest n plain none =
+    let all : take n rest ≡ rest = take_all n rest (omega (arith, length-drop n rest)) in
+    sym (ap (flat_map spelled) (sym all) ∙ spelled-plain (take n rest) plain)
+
+-- bytes are added run by run
+pub pushed-run : (out more last rest others run tail : List ℕ) (n b : ℕ) {whole : List ℕ} → list_all is_plain (take n rest) ≡ true → run ≡ take n rest → tail ≡ drop n rest → tail ≡ b ∷ others
+    → more ≡ out ++ run → last ≡ more ++ spelled b → out ++ flat_map spelled rest ≡ whole → last ++ flat_map spelled others ≡ whole
+pushed-run out more last rest others run tail n b plain front back next one two sofar =
+    let line : last ≡ out ++ (take n rest ++ spelled b) = two ∙ (ap (λ m. m ++ spelled b) (one ∙ ap (λ r. out ++ r) front) ∙ append_assoc out (take n rest) (spelled b)) in
+    ap (λ l. l ++ flat_map spelled others) line
+    ∙ (append_assoc out (take n rest ++ spelled b) (flat_map spelled others)
+    ∙ (ap (λ t. out ++ t) (spelled-run rest n b others plain (sym back ∙ next)) ∙ sofar))
+
+pub pushed-last : (out more rest run tail : List ℕ) (n : ℕ) {whole : List ℕ} → list_all is_plain (take n rest) ≡ true → run ≡ take n rest → tail ≡ drop n rest → length tail ≡ 0
+    → more ≡ out ++ run → out ++ flat_map spelled rest ≡ whole → more ≡ whole
+pushed-last out more rest run tail n plain front back none one sofar =
+    one ∙ (ap (λ r. out ++ r) (front ∙ spelled-last rest n plain (ap length (sym back) ∙ none)) ∙ sofar)
+
 -- ---- what is printed is read
 
 some_not_none : {X : Type 0} {x : X} → Some x ≡ None → ⊥
@@ -92,9 +150,6 @@ byte_of-escape b small =
     let low = hex_value-hex_digit (b % 16) (omega arith) in
     let same : b / 16 * 16 + b % 16 ≡ b = omega arith in
     rw (high, low, same) refl
-
-plain_is_other : (b : ℕ) → is_plain b ≡ true → (b == 37) ≡ false
-plain_is_other b plain = grind (arith, nat_tests)
 
 bytes_of-spelled_by : (b : ℕ) (rest : List ℕ) (plain : Bool) → is_plain b ≡ plain → b < 256 → bytes_of (spelled b ++ rest) ≡ and_then (Some b) (bytes_of rest)
 bytes_of-spelled_by b rest true plain small =

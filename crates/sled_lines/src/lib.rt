@@ -2,6 +2,7 @@
 #![tactic(auto)]
 
 pub mod command;
+pub mod files;
 pub mod input;
 pub mod print;
 pub mod serve;

@@ -88,10 +88,7 @@ impl<M: MergeOperator> Session<M> {
     // A call from its begin to its end.
     fn point(&mut self, call: Call) -> (Shown, Outcome) {
         let shown = Shown::of(&call);
-        let outcome = match self.machine.begin(&self.tree, call) {
-            Ok(slot) => self.machine.finish(slot),
-            Err(error) => Outcome::Refused(error),
-        };
+        let outcome = self.machine.complete(&self.tree, call);
         (shown, outcome)
     }
 

@@ -3,11 +3,11 @@
 //! In a word a byte from `!` to `~` other than `%` is itself, and `%` with two lower-case hexadecimal digits is the
 //! byte of that number. The word `%` alone is the empty string. The word `-` is no byte string: it means none where a
 //! command allows that.
-ghost use Rattle.std.specs.Prelude.{◌≡◌, ℕ, ◌+◌, ◌^◌, ◌<◌, ◌≤◌, ◌++◌, ◌∷◌, length, decimal, List, Some, None, IfOk, IfErr, OnOk, OnErr, IfSome, option_map, ◌*◌, MatchOption, slice_index};
+ghost use Rattle.std.specs.Prelude.{◌≡◌, ℕ, true, ◌+◌, ◌^◌, ◌<◌, ◌≤◌, ◌++◌, ◌∷◌, length, decimal, take, List, Some, None, IfOk, IfErr, OnOk, OnErr, IfSome, option_map, ◌*◌, MatchOption, slice_index};
 ghost use Rattle.std.specs.Str.Parse.{digits_value};
 ghost use Rattle.std.specs.Char.{digit_value};
 ghost use Rattle.std.specs.Int.{IsInRange};
-ghost use Rattle.std.specs.List.{flat_map};
+ghost use Rattle.std.specs.List.{flat_map, list_all};
 ghost use Rattle.sled_pages.specs.declared.error.Error.TheVariants.{NoMemory};
 ghost use Rattle.sled_lines.specs.Words.{is_plain, hex_digit, hex_value, byte_of, escape, spelled, printed, bytes_of, read_word, read_value, number_of, read_number, words_of, words_after, AreBytes, BeginsWith, ReadsPrinted, ReadsValues, PrintsShortest, ReadsDecimals};
 
@@ -78,15 +78,34 @@ fn push_byte(out: &mut Vec<u8>, byte: u8) -> Result<()>
     push_escape(out, byte)
 }
 
-// Adds bytes as they stand in a word, one by one.
+// How many bytes in front stand for themselves.
+fn count_plain(bytes: &[u8]) -> usize
+    ensures within { result ≤ length bytes.now }
+    ensures plain { list_all is_plain (take result bytes.now) ≡ true }
+{
+    for (at, byte) in bytes.iter().enumerate() {
+        if !is_plain(*byte) {
+            return at;
+        }
+    }
+    bytes.len()
+}
+
+// Adds bytes as they stand in a word: those in a row that stand for themselves all at once.
 fn push_bytes(out: &mut Vec<u8>, bytes: &[u8]) -> Result<()>
     ensures ok { OnOk result (out.new.items ≡ out.old.items ++ flat_map spelled bytes.now) }
     ensures err { IfErr result (λ e. e ≡ NoMemory) }
 {
-    for byte in bytes {
+    let mut rest = bytes;
+    'runs: loop {
+        let (plain, others) = rest.split_at(count_plain(rest));
+        out.extend_from_slice(plain)?;
+        let Some((byte, others)) = others.split_first() else {
+            return Ok(());
+        };
         push_byte(out, *byte)?;
+        rest = others;
     }
-    Ok(())
 }
 
 /// Adds the word of a byte string, which is the shortest that spells it. Refused with `NoMemory` alone; a beginning of
@@ -146,6 +165,20 @@ fn bytes_of(alloc: Global, word: &[u8]) -> Result<Option<Vec<u8>>>
     Ok(Some(bytes))
 }
 
+// The byte string that a word spells, or `None` where it does not. Most words stand for themselves, and are taken at once.
+fn spelled_by(alloc: Global, word: &[u8]) -> Result<Option<IVec>>
+    ensures ok { IfOk result (λ bytes. bytes ≡ bytes_of word.now) }
+    ensures err { IfErr result (λ e. e ≡ NoMemory) }
+{
+    if count_plain(word) == word.len() {
+        return Ok(Some(IVec::from_slice(alloc, word)?));
+    }
+    match bytes_of(alloc, word)? {
+        Some(bytes) => Ok(Some(IVec::from_slice(alloc, bytes.as_slice())?)),
+        None => Ok(None),
+    }
+}
+
 /// The byte string of a word, or `None` where it is no byte string. Refused with `NoMemory` alone.
 pub fn read_word(alloc: Global, word: &[u8]) -> Result<Option<IVec>>
     ensures ok { IfOk result (λ bytes. bytes ≡ read_word word.now) }
@@ -154,10 +187,7 @@ pub fn read_word(alloc: Global, word: &[u8]) -> Result<Option<IVec>>
     match word {
         b"%" => Ok(Some(IVec::from_slice(alloc, b"")?)),
         b"-" | b"" => Ok(None),
-        _ => match bytes_of(alloc, word)? {
-            Some(bytes) => Ok(Some(IVec::from_slice(alloc, bytes.as_slice())?)),
-            None => Ok(None),
-        },
+        _ => spelled_by(alloc, word),
     }
 }
 

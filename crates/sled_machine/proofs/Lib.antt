@@ -1,3 +1,6 @@
 pub mod Places
+pub mod Cells
+pub mod Steps
 pub mod Machines
 pub mod Runs
+pub mod Finishing

@@ -1,8 +1,7 @@
 -- What the calls of a machine do, by its fields.
-use Rattle.std.proofs.Common.{◌≡◌, ◌≢◌, ℕ, suc, ◌+◌, ◌<◌, ◌≤◌, true, false, cond, nat_eq, List, [], ◌∷◌, ◌++◌, Option, Some, None, option_map, map, take, drop, length, slice_get, slice_set, sym, refl, ap, ◌∙◌, subst, inl, inr, ◌⊎◌, arith, add-one}
+use Rattle.std.proofs.Common.{◌≡◌, ◌≢◌, ℕ, ◌+◌, ◌≤◌, true, false, cond, nat_eq, List, [], ◌∷◌, ◌++◌, Option, Some, None, Result, Ok, Err, IfErr, option_map, map, sym, refl, ap, ◌∙◌, subst, inl, inr, ◌⊎◌, arith}
 use Rattle.std.proofs.Math.Path.{fun_ext}
 use Rattle.std.proofs.lemmas.Bool.{eq-eqb, ne_eqb, eqb-true}
-use Rattle.std.proofs.lemmas.Option.{slice_get_within}
 use Rattle.sled_pages.specs.Update.{put_at}
 use Rattle.sled_pages.specs.Store.{Store, now}
 use Rattle.sled_pages.specs.declared.error.Error.{Error}
@@ -32,17 +31,17 @@ use Rattle.sled.specs.Calls.{MustBeRefused, must_be_refused_as}
 use Rattle.sled.specs.Flights.{flying_of, IsKnown, AreApart, LosesNone, Flies, outcome_of, slot_after, maps_added}
 use Rattle.sled.specs.Flush.{Stays, FlushesDb, RefusesFlush}
 use Rattle.sled.proofs.Flying.{loses_nothing}
-use Rattle.sled_machine.specs.Slots.{kept_at, RiseAbove, StandsAt}
+use Rattle.sled_machine.specs.Slots.{kept_at}
 use Rattle.sled_machine.specs.Values.{MachineValue, slots_of, instant_of}
 use Rattle.tree_laws.specs.Forest.{Forest}
 use Rattle.sled_tree.specs.Passing.{IsOnPath}
 use Rattle.sled_tree.specs.Stages.{owned}
 use Rattle.sled_tree.specs.Moves.{LeavesNone}
 use Rattle.sled_tree.proofs.Facts.{leaves_same}
-use Rattle.sled_machine.specs.Crash.{Reaches, passes_as, leaves_at, owned_by, keeps_as, acts_as, slot_of}
+use Rattle.sled_machine.specs.Crash.{Reaches, passes_as, leaves_at, owned_by, keeps_as, acts_as}
 use Rattle.sled_machine.specs.Sound.{IsMachine}
-use Rattle.sled_machine.specs.Fly.{StepsAt, flights_after}
-use Rattle.sled_machine.proofs.Places.{stands, set_kept, take_kept, set_rise, take_rise, push_kept, push_rise}
+use Rattle.sled_machine.specs.Fly.{flight_after}
+use Rattle.sled_machine.proofs.Places.{push_kept}
 
 none_some : {P A : Type 0} {a : A} → None ≡ Some a → P
 none_some e = cc
@@ -87,9 +86,6 @@ other_or_new fs gs slot x e j f there = elim (same_or_not j slot) [
   | inr o ↦ inr (o, sym (put_there (kept_at fs) slot j (Some x) o) ∙ sym (e j) ∙ there)
 ]
 
-more : (i : ℕ) {X : Type 0} (fs : List X) → take i fs ++ drop (i + 1) fs ≡ take i fs ++ drop (suc i) fs
-more i fs = ap (λ k. take i fs ++ drop k fs) (add-one i)
-
 module _ {P M : Type 0} (store : P → Store) (meant : M → Merge) (v : MachineValue P M) (im : IsMachine (moment (store v.db.pages) v.db.trees v.db.trees_given) v.flights v.slots_given) where
   -- no call has the slot
   pub missing_step : (slot : ℕ) → kept_at v.flights slot ≡ None → Reaches store meant v (step.Step slot) outcome.NoSuchSlot v
@@ -98,21 +94,8 @@ module _ {P M : Type 0} (store : P → Store) (meant : M → Merge) (v : Machine
   pub missing_abandon : (slot : ℕ) → kept_at v.flights slot ≡ None → Reaches store meant v (step.Abandon slot) outcome.NoSuchSlot v
   missing_abandon slot e = record { maps = []; is = record { step = record { told = (record { free = ap (option_map flying_of) e; is = refl }, refl) }; keeps = extends_same (store v.db.pages); acts = refl; rest = record { mark = refl; recovered = refl; readable = refl } }; starts = tt; others = λ q off. refl; passes = tt; loses = loses_nothing (moment (store v.db.pages) v.db.trees v.db.trees_given); leaves = tt }
 
-  pub in_range : (slot i : ℕ) → StandsAt v.flights slot i → i < length v.flights
-  in_range slot i s = slice_get_within v.flights i (slot, s.kept) s.is
-
-  -- the call at a place is in its slot
-  pub at_place : (slot i : ℕ) (f : Flight) → slice_get v.flights i ≡ Some (slot, f) → kept_at v.flights slot ≡ Some f
-  at_place slot i f e = stands 0 v.flights i slot f im.rise.is e
-
-  pub known_at : (slot i : ℕ) (f : Flight) → slice_get v.flights i ≡ Some (slot, f) → IsKnown (moment (store v.db.pages) v.db.trees v.db.trees_given) f
-  known_at slot i f e = im.known slot f (at_place slot i f e)
-
   -- a call is given up
-  module _ (slot i : ℕ) (s : StandsAt v.flights slot i) (gs : List (ℕ × Flight)) (e : gs ≡ take i v.flights ++ drop (i + 1) v.flights) where
-    gone : (q : ℕ) → kept_at gs q ≡ put_at (kept_at v.flights) slot None q
-    gone q = ap (λ z. kept_at z q) (e ∙ more i v.flights) ∙ take_kept 0 v.flights i slot s.kept q im.rise.is s.is
-
+  module _ (slot : ℕ) (f : Flight) (there : kept_at v.flights slot ≡ Some f) (gs : List (ℕ × Flight)) (gone : (q : ℕ) → kept_at gs q ≡ put_at (kept_at v.flights) slot None q) where
     pub abandoned : Reaches store meant v (step.Abandon slot) outcome.Abandoned (record v { flights = gs })
     abandoned = record {
       maps = [];
@@ -120,8 +103,8 @@ module _ {P M : Type 0} (store : P → Store) (meant : M → Merge) (v : Machine
         step = record {
           told = (
             record {
-              flying = flying_of s.kept;
-              here = ap (option_map flying_of) (at_place slot i s.kept s.is);
+              flying = flying_of f;
+              here = ap (option_map flying_of) there;
               is = ap (λ z. state_of store meant v.db z v.slots_given) (slots_put v.flights gs slot None gone);
             },
             refl,
@@ -140,28 +123,27 @@ module _ {P M : Type 0} (store : P → Store) (meant : M → Merge) (v : Machine
 
     pub abandoned_machine : IsMachine (moment (store v.db.pages) v.db.trees v.db.trees_given) gs v.slots_given
     abandoned_machine = record {
-      rise = record { is = subst (RiseAbove 0) (sym (e ∙ more i v.flights)) (take_rise 0 v.flights i slot s.kept im.rise.is s.is) };
-      given = λ j f k. im.given j f (fewer v.flights gs slot gone j f k).0;
-      known = λ j f k. im.known j f (fewer v.flights gs slot gone j f k).0;
-      apart = λ j k f g a b off. im.apart j k f g (fewer v.flights gs slot gone j f a).0 (fewer v.flights gs slot gone k g b).0 off;
+      given = λ j h k. im.given j h (fewer v.flights gs slot gone j h k).0;
+      known = λ j h k. im.known j h (fewer v.flights gs slot gone j h k).0;
+      apart = λ j k h g a b off. im.apart j k h g (fewer v.flights gs slot gone j h a).0 (fewer v.flights gs slot gone k g b).0 off;
     }
 
   -- a call took its step
-  module _ (slot i : ℕ) (db : DbValue P M) (gs : List (ℕ × Flight)) where
+  module _ (slot : ℕ) (db : DbValue P M) (gs : List (ℕ × Flight)) where
     abbrev at : Moment
     at = moment (store v.db.pages) v.db.trees v.db.trees_given
 
     abbrev after : Moment
     after = moment (store db.pages) db.trees db.trees_given
 
-    reach : (f next : Flight) (went : Went) → slice_get v.flights i ≡ Some (slot, f) → Flies store meant v.db f went db next → (kept : Option Flight) → option_map flying_of kept ≡ slot_after went next → ((q : ℕ) → kept_at gs q ≡ put_at (kept_at v.flights) slot kept q)
+    reach : (f next : Flight) (went : Went) → kept_at v.flights slot ≡ Some f → Flies store meant v.db f went db next → (kept : Option Flight) → option_map flying_of kept ≡ slot_after went next → ((q : ℕ) → kept_at gs q ≡ put_at (kept_at v.flights) slot kept q)
         → passes_as store v (step.Step slot) (outcome_of went) (record v { db = db; flights = gs }) → leaves_at store v (step.Step slot) (outcome_of went) (record v { db = db; flights = gs })
         → Reaches store meant v (step.Step slot) (outcome_of went) (record v { db = db; flights = gs })
     reach f next went there flies kept is are passes leaves = record {
       maps = maps_added went (maps_of (db_state store meant db));
       is = record {
         step = subst (λ z. Steps (instant_of store meant v) (step.Step slot) (outcome_of went) (instant_of_db store meant db z v.slots_given) (maps_added went (maps_of (db_state store meant db)))) (sym (slots_put v.flights gs slot kept are ∙ ap (put_at (slots_of v.flights) slot) is))
-            (flies.steps (slots_of v.flights) v.slots_given slot (ap (option_map flying_of) (at_place slot i f there)));
+            (flies.steps (slots_of v.flights) v.slots_given slot (ap (option_map flying_of) there));
         keeps = keeps_flying went flies;
         acts = acts_flying went flies;
         rest = flies.rest;
@@ -179,52 +161,44 @@ module _ {P M : Type 0} (store : P → Store) (meant : M → Merge) (v : Machine
         keeps_flying (Refused r) k = k.extends
 
         here : slots_of v.flights slot ≡ Some (flying_of f)
-        here = ap (option_map flying_of) (at_place slot i f there)
+        here = ap (option_map flying_of) there
 
         acts_flying : (went : Went) → Flies store meant v.db f went db next → acts_as (instant_of store meant v) (step.Step slot) (outcome_of went) (instant_of store meant (record v { db = db; flights = gs }))
         acts_flying Moved k = k.does
         acts_flying (Decided reply) k = (k.does, λ q. k.quiet (record { reply = reply; decided = refl; tree = q.tree; there = subst (λ (z : Flying). (db_state store meant v.db).trees z.tree.name ≡ Some q.tree) (some_is (sym q.here ∙ here)) q.there; silent = subst (λ (z : Flying). (answer_of z.call q.tree.map).event ≡ None) (some_is (sym q.here ∙ here)) q.silent }))
         acts_flying (Refused r) k = k.does
 
-    ended : (f : Flight) → slice_get v.flights i ≡ Some (slot, f) → gs ≡ take i v.flights ++ drop (i + 1) v.flights → (q : ℕ) → kept_at gs q ≡ put_at (kept_at v.flights) slot None q
-    ended f there e q = ap (λ z. kept_at z q) (e ∙ more i v.flights) ∙ take_kept 0 v.flights i slot f q im.rise.is there
-
-    went_on : (f next : Flight) → slice_get v.flights i ≡ Some (slot, f) → gs ≡ slice_set v.flights i (slot, next) → (q : ℕ) → kept_at gs q ≡ put_at (kept_at v.flights) slot (Some next) q
-    went_on f next there e q = ap (λ z. kept_at z q) e ∙ set_kept 0 v.flights i slot f next q im.rise.is there
-
     -- on a clean path the call has a page less ahead of it
-    further : (f next : Flight) → slice_get v.flights i ≡ Some (slot, f) → Flies store meant v.db f Moved db next → gs ≡ slice_set v.flights i (slot, next) → passes_as store v (step.Step slot) outcome.Moved (record v { db = db; flights = gs })
+    further : (f next : Flight) → kept_at v.flights slot ≡ Some f → Flies store meant v.db f Moved db next → ((q : ℕ) → kept_at gs q ≡ put_at (kept_at v.flights) slot (Some next) q) → passes_as store v (step.Step slot) outcome.Moved (record v { db = db; flights = gs })
     further f next there flies e path k =
-        let same : k.flight ≡ f = some_is (sym k.here ∙ at_place slot i f there) in
+        let same : k.flight ≡ f = some_is (sym k.here ∙ there) in
         let p = flies.passes.told path (subst (λ (z : Flight). IsOnPath (now (store v.db.pages)) z.job z.stage path) same k.clean) in
-        (p.0, p.1, record { flight = next; here = went_on f next there e slot ∙ put_here (kept_at v.flights) slot (Some next); clean = p.2 })
+        (p.0, p.1, record { flight = next; here = e slot ∙ put_here (kept_at v.flights) slot (Some next); clean = p.2 })
 
     -- what the call owned and what it owns, by its slot
-    owns : (f : Flight) (o : Option Flight) → slice_get v.flights i ≡ Some (slot, f) → ((q : ℕ) → kept_at gs q ≡ put_at (kept_at v.flights) slot o q) → (w : Forest) → LeavesNone (owned f.stage) (owned_by o) (now (store v.db.pages)) (now (store db.pages)) w
+    owns : (f : Flight) (o : Option Flight) → kept_at v.flights slot ≡ Some f → ((q : ℕ) → kept_at gs q ≡ put_at (kept_at v.flights) slot o q) → (w : Forest) → LeavesNone (owned f.stage) (owned_by o) (now (store v.db.pages)) (now (store db.pages)) w
         → LeavesNone (owned_by (kept_at v.flights slot)) (owned_by (kept_at gs slot)) (now (store v.db.pages)) (now (store db.pages)) w
     owns f o there are w l =
         subst (λ z. LeavesNone (owned_by (kept_at v.flights slot)) (owned_by z) (now (store v.db.pages)) (now (store db.pages)) w) (sym (are slot ∙ put_here (kept_at v.flights) slot o))
-        (subst (λ z. LeavesNone (owned_by z) (owned_by o) (now (store v.db.pages)) (now (store db.pages)) w) (sym (at_place slot i f there)) l)
+        (subst (λ z. LeavesNone (owned_by z) (owned_by o) (now (store v.db.pages)) (now (store db.pages)) w) (sym there) l)
 
     -- what the others know is kept
-    kept : (f next : Flight) (went : Went) → slice_get v.flights i ≡ Some (slot, f) → Flies store meant v.db f went db next → (j : ℕ) (h : Flight) → j ≢ slot → kept_at v.flights j ≡ Some h → IsKnown after h × (went ≡ Moved → AreApart next h)
-    kept f next went there flies j h off e = flies.others h (im.apart slot j f h (at_place slot i f there) e (λ s. off (sym s))) (im.known j h e)
+    kept : (f next : Flight) (went : Went) → kept_at v.flights slot ≡ Some f → Flies store meant v.db f went db next → (j : ℕ) (h : Flight) → j ≢ slot → kept_at v.flights j ≡ Some h → IsKnown after h × (went ≡ Moved → AreApart next h)
+    kept f next went there flies j h off e = flies.others h (im.apart slot j f h there e (λ s. off (sym s))) (im.known j h e)
 
-    ended_machine : (f next : Flight) (went : Went) → slice_get v.flights i ≡ Some (slot, f) → Flies store meant v.db f went db next → gs ≡ take i v.flights ++ drop (i + 1) v.flights → IsMachine after gs v.slots_given
+    ended_machine : (f next : Flight) (went : Went) → kept_at v.flights slot ≡ Some f → Flies store meant v.db f went db next → ((q : ℕ) → kept_at gs q ≡ put_at (kept_at v.flights) slot None q) → IsMachine after gs v.slots_given
     ended_machine f next went there flies e =
-        let less = fewer v.flights gs slot (ended f there e) in record {
-          rise = record { is = subst (RiseAbove 0) (sym (e ∙ more i v.flights)) (take_rise 0 v.flights i slot f im.rise.is there) };
+        let less = fewer v.flights gs slot e in record {
           given = λ j h k. im.given j h (less j h k).0;
           known = λ j h k. let l = less j h k in (kept f next went there flies j h l.1 l.0).0;
           apart = λ j k h g a b off. im.apart j k h g (less j h a).0 (less k g b).0 off;
         }
 
-    moved_machine : (f next : Flight) → slice_get v.flights i ≡ Some (slot, f) → Flies store meant v.db f Moved db next → gs ≡ slice_set v.flights i (slot, next) → IsMachine after gs v.slots_given
+    moved_machine : (f next : Flight) → kept_at v.flights slot ≡ Some f → Flies store meant v.db f Moved db next → ((q : ℕ) → kept_at gs q ≡ put_at (kept_at v.flights) slot (Some next) q) → IsMachine after gs v.slots_given
     moved_machine f next there flies e =
-        let cases = other_or_new v.flights gs slot next (went_on f next there e) in record {
-          rise = record { is = subst (RiseAbove 0) (sym e) (set_rise 0 v.flights i slot f next im.rise.is there) };
+        let cases = other_or_new v.flights gs slot next e in record {
           given = λ j h k. elim (cases j h k) [
-            | inl s ↦ subst (λ z. z ≤ v.slots_given) (sym s.0) (im.given slot f (at_place slot i f there))
+            | inl s ↦ subst (λ z. z ≤ v.slots_given) (sym s.0) (im.given slot f there)
             | inr o ↦ im.given j h o.1
           ];
           known = λ j h k. elim (cases j h k) [
@@ -243,16 +217,10 @@ module _ {P M : Type 0} (store : P → Store) (meant : M → Merge) (v : Machine
           ];
         }
 
-    stepped_as : (f next : Flight) (went : Went) → slice_get v.flights i ≡ Some (slot, f) → Flies store meant v.db f went db next → gs ≡ flights_after went v.flights slot i next → Reaches store meant v (step.Step slot) (outcome_of went) (record v { db = db; flights = gs }) × IsMachine after gs v.slots_given
-    stepped_as f next Moved there flies e = (reach f next Moved there flies (Some next) refl (went_on f next there e) (further f next there flies e) (λ w is. owns f (Some next) there (went_on f next there e) w (flies.leaves w is)), moved_machine f next there flies e)
-    stepped_as f next (Decided reply) there flies e = (reach f next (Decided reply) there flies None refl (ended f there e) tt (λ w is. owns f None there (ended f there e) w (flies.leaves w is)), ended_machine f next (Decided reply) there flies e)
-    stepped_as f next (Refused r) there flies e = (reach f next (Refused r) there flies None refl (ended f there e) tt tt, ended_machine f next (Refused r) there flies e)
-
-    pub stepped : (o : Outcome) → StepsAt store meant v.db v.flights slot i o db gs → Reaches store meant v (step.Step slot) o (record v { db = db; flights = gs })
-    stepped o s = subst (λ z. Reaches store meant v (step.Step slot) z (record v { db = db; flights = gs })) (sym s.outcome) (stepped_as s.flight s.next s.went s.there s.flies s.is).0
-
-    pub stepped_machine : (o : Outcome) → StepsAt store meant v.db v.flights slot i o db gs → IsMachine after gs v.slots_given
-    stepped_machine o s = (stepped_as s.flight s.next s.went s.there s.flies s.is).1
+    pub stepped_as : (f next : Flight) (went : Went) → kept_at v.flights slot ≡ Some f → Flies store meant v.db f went db next → ((q : ℕ) → kept_at gs q ≡ put_at (kept_at v.flights) slot (flight_after went next) q) → Reaches store meant v (step.Step slot) (outcome_of went) (record v { db = db; flights = gs }) × IsMachine after gs v.slots_given
+    stepped_as f next Moved there flies e = (reach f next Moved there flies (Some next) refl e (further f next there flies e) (λ w is. owns f (Some next) there e w (flies.leaves w is)), moved_machine f next there flies e)
+    stepped_as f next (Decided reply) there flies e = (reach f next (Decided reply) there flies None refl e tt (λ w is. owns f None there e w (flies.leaves w is)), ended_machine f next (Decided reply) there flies e)
+    stepped_as f next (Refused r) there flies e = (reach f next (Refused r) there flies None refl e tt tt, ended_machine f next (Refused r) there flies e)
 
   -- a call begins, or is refused
   pub begin_refused : (tree : Tree) (call : Call) (e : Error) → MayRefuse (state_of store meant v.db (slots_of v.flights) v.slots_given) (store v.db.pages) (store v.db.pages) (ToBegin tree call) e → Reaches store meant v (step.Begin tree call) (outcome.Refused e) v
@@ -270,15 +238,15 @@ module _ {P M : Type 0} (store : P → Store) (meant : M → Merge) (v : Machine
     begin_caused e cause = begin_refused tree call e (record { told = subst (λ o. may_refuse_as o (state_of store meant v.db (slots_of v.flights) v.slots_given) (store v.db.pages) (store v.db.pages) (ToBegin tree call) e) (sym must) cause })
 
     module _ (f : Flight) (is : f ≡ record { job = record { tree = tree; call = call }; stage = Root; turns = 0 }) (slot : ℕ) (next : slot ≡ v.slots_given + 1) (gs : List (ℕ × Flight)) (e : gs ≡ v.flights ++ (slot, f) ∷ []) where
-      free : kept_at v.flights slot ≡ None
-      free = go (kept_at v.flights slot) refl
+      pub free_slot : kept_at v.flights slot ≡ None
+      free_slot = go (kept_at v.flights slot) refl
         where
           go : (o : Option Flight) → kept_at v.flights slot ≡ o → o ≡ None
           go None k = refl
           go (Some g) k = let h = im.given slot g k in absurd (omega arith)
 
-      added : (q : ℕ) → kept_at gs q ≡ put_at (kept_at v.flights) slot (Some f) q
-      added q = ap (λ z. kept_at z q) e ∙ push_kept v.flights slot f q free
+      pub added_kept : (q : ℕ) → kept_at gs q ≡ put_at (kept_at v.flights) slot (Some f) q
+      added_kept q = ap (λ z. kept_at z q) e ∙ push_kept v.flights slot f q free_slot
 
       pub begun_call : Reaches store meant v (step.Begin tree call) (outcome.Begun slot) (record v { flights = gs; slots_given = slot })
       begun_call = record {
@@ -289,7 +257,7 @@ module _ {P M : Type 0} (store : P → Store) (meant : M → Merge) (v : Machine
               record {
                 free = must;
                 next = next;
-                is = ap (λ z. state_of store meant v.db z slot) (slots_put v.flights gs slot (Some f) added ∙ ap (λ z. put_at (slots_of v.flights) slot (Some (flying_of z))) is);
+                is = ap (λ z. state_of store meant v.db z slot) (slots_put v.flights gs slot (Some f) added_kept ∙ ap (λ z. put_at (slots_of v.flights) slot (Some (flying_of z))) is);
               },
               refl,
             );
@@ -298,20 +266,16 @@ module _ {P M : Type 0} (store : P → Store) (meant : M → Merge) (v : Machine
           acts = refl;
           rest = record { mark = refl; recovered = refl; readable = refl };
         };
-        starts = added slot ∙ put_here (kept_at v.flights) slot (Some f) ∙ ap Some is;
-        others = elsewhere v.flights gs slot (Some f) added;
+        starts = added_kept slot ∙ put_here (kept_at v.flights) slot (Some f) ∙ ap Some is;
+        others = elsewhere v.flights gs slot (Some f) added_kept;
         passes = tt;
         loses = loses_nothing (moment (store v.db.pages) v.db.trees v.db.trees_given);
         leaves = tt;
       }
 
-      all_below : (i m : ℕ) (y : Flight) → slice_get v.flights i ≡ Some (m, y) → m < slot
-      all_below i m y k = let h = im.given m y (at_place m i y k) in omega arith
-
       pub begun_machine : IsMachine (moment (store v.db.pages) v.db.trees v.db.trees_given) gs slot
       begun_machine =
-          let cases = other_or_new v.flights gs slot f added in record {
-            rise = record { is = subst (RiseAbove 0) (sym e) (push_rise 0 v.flights slot f im.rise.is (omega arith) all_below) };
+          let cases = other_or_new v.flights gs slot f added_kept in record {
             given = λ j h k. elim (cases j h k) [
               | inl s ↦ let z = s.0 in omega arith
               | inr o ↦ let z = im.given j h o.1 in omega arith
@@ -366,14 +330,25 @@ module _ {P M : Type 0} (store : P → Store) (meant : M → Merge) (inside old 
   pub missing_abandon_as : kept_at inside.flights n ≡ None → Reaches store meant old (step.Abandon slot) outcome.NoSuchSlot old
   missing_abandon_as k = subst (λ s. Reaches store meant old (step.Abandon s) outcome.NoSuchSlot old) same (subst (λ z. Reaches store meant z (step.Abandon n) outcome.NoSuchSlot z) e (missing_abandon store meant inside im n k))
 
-  pub abandoned_as : (i : ℕ) → StandsAt inside.flights n i → (gs : List (ℕ × Flight)) → gs ≡ take i inside.flights ++ drop (i + 1) inside.flights → Reaches store meant old (step.Abandon slot) outcome.Abandoned (record inside { flights = gs })
-  abandoned_as i s gs g = subst (λ k. Reaches store meant old (step.Abandon k) outcome.Abandoned (record inside { flights = gs })) same (subst (λ z. Reaches store meant z (step.Abandon n) outcome.Abandoned (record inside { flights = gs })) e (abandoned store meant inside im n i s gs g))
+  pub abandoned_as : (f : Flight) → kept_at inside.flights n ≡ Some f → (gs : List (ℕ × Flight)) → ((q : ℕ) → kept_at gs q ≡ put_at (kept_at inside.flights) n None q) → Reaches store meant old (step.Abandon slot) outcome.Abandoned (record inside { flights = gs })
+  abandoned_as f there gs gone = subst (λ k. Reaches store meant old (step.Abandon k) outcome.Abandoned (record inside { flights = gs })) same (subst (λ z. Reaches store meant z (step.Abandon n) outcome.Abandoned (record inside { flights = gs })) e (abandoned store meant inside im n f there gs gone))
 
-  pub stepped_slot : (i : ℕ) (db : DbValue P M) (gs : List (ℕ × Flight)) (o : Outcome) → StepsAt store meant inside.db inside.flights n i o db gs → Reaches store meant old (step.Step slot) o (record inside { db = db; flights = gs })
-  stepped_slot i db gs o s = subst (λ k. Reaches store meant old (step.Step k) o (record inside { db = db; flights = gs })) same (subst (λ z. Reaches store meant z (step.Step n) o (record inside { db = db; flights = gs })) e (stepped store meant inside im n i db gs o s))
+  pub stepped_slot : (db : DbValue P M) (gs : List (ℕ × Flight)) (o : Outcome) (f next : Flight) (went : Went) → o ≡ outcome_of went → kept_at inside.flights n ≡ Some f → Flies store meant inside.db f went db next → ((q : ℕ) → kept_at gs q ≡ put_at (kept_at inside.flights) n (flight_after went next) q)
+      → Reaches store meant old (step.Step slot) o (record inside { db = db; flights = gs })
+  stepped_slot db gs o f next went is there flies are =
+      subst (λ z. Reaches store meant old (step.Step slot) z (record inside { db = db; flights = gs })) (sym is)
+      (subst (λ k. Reaches store meant old (step.Step k) (outcome_of went) (record inside { db = db; flights = gs })) same
+      (subst (λ z. Reaches store meant z (step.Step n) (outcome_of went) (record inside { db = db; flights = gs })) e (stepped_as store meant inside im n db gs f next went there flies are).0))
 
-  pub turns_as : (i : ℕ) (f : Flight) → slice_get inside.flights i ≡ Some (n, f) → Some f.turns ≡ option_map (λ (z : Flying). z.turns) (slots_of old.flights slot)
-  turns_as i f k = subst (λ s. Some f.turns ≡ option_map (λ (z : Flying). z.turns) (slots_of old.flights s)) same (subst (λ z. Some f.turns ≡ option_map (λ (z : Flying). z.turns) (slots_of z.flights n)) e (sym (ap (λ o. option_map (λ (z : Flying). z.turns) (option_map flying_of o)) (at_place store meant inside im n i f k))))
+  pub turns_as : (o : Option Flight) → kept_at inside.flights n ≡ o → option_map (λ (f : Flight). f.turns) o ≡ option_map (λ (z : Flying). z.turns) (slots_of old.flights slot)
+  turns_as o there =
+      subst (λ s. option_map (λ (f : Flight). f.turns) o ≡ option_map (λ (z : Flying). z.turns) (slots_of old.flights s)) same
+      (subst (λ (m : MachineValue P M). option_map (λ (f : Flight). f.turns) o ≡ option_map (λ (z : Flying). z.turns) (slots_of m.flights n)) e
+      (as_flying o ∙ sym (ap (λ x. option_map (λ (z : Flying). z.turns) (option_map flying_of x)) there)))
+    where
+      as_flying : (o : Option Flight) → option_map (λ (f : Flight). f.turns) o ≡ option_map (λ (z : Flying). z.turns) (option_map flying_of o)
+      as_flying None = refl
+      as_flying (Some f) = refl
 
 module _ {P M : Type 0} (store : P → Store) (meant : M → Merge) (inside old : MachineValue P M) (e : inside ≡ old) (im : IsMachine (moment (store inside.db.pages) inside.db.trees inside.db.trees_given) inside.flights inside.slots_given) where
   pub untested_as : (tree : Tree) (call : Call) (r : Error) → MustBeRefused (must_refuse_of (db_state store meant inside.db) (tree ∷ [])) r → Reaches store meant old (step.Begin tree call) (outcome.Refused r) old
@@ -382,15 +357,18 @@ module _ {P M : Type 0} (store : P → Store) (meant : M → Merge) (inside old 
   pub caused_as : (tree : Tree) (call : Call) (r : Error) → must_refuse_of (db_state store meant inside.db) (tree ∷ []) ≡ None → cause_of (state_of store meant inside.db (slots_of inside.flights) inside.slots_given) (store inside.db.pages) (store inside.db.pages) (ToBegin tree call) r → Reaches store meant old (step.Begin tree call) (outcome.Refused r) old
   caused_as tree call r must cause = subst (λ z. Reaches store meant z (step.Begin tree call) (outcome.Refused r) z) e (begin_caused store meant inside im tree call must r cause)
 
+  tested_inside : (tree : Tree) → must_refuse_of (db_state store meant old.db) (tree ∷ []) ≡ None → must_refuse_of (db_state store meant inside.db) (tree ∷ []) ≡ None
+  tested_inside tree must = subst (λ (z : MachineValue P M). must_refuse_of (db_state store meant z.db) (tree ∷ []) ≡ None) (sym e) must
+
   -- .. where the list has room, and so may be another one
-  pub begun_as : (tree copy : Tree) (call : Call) → copy ≡ tree → must_refuse_of (db_state store meant inside.db) (tree ∷ []) ≡ None → (f : Flight) → f ≡ record { job = record { tree = copy; call = call }; stage = Root; turns = 0 }
+  pub begun_as : (tree copy : Tree) (call : Call) → copy ≡ tree → must_refuse_of (db_state store meant old.db) (tree ∷ []) ≡ None → (f : Flight) → f ≡ record { job = record { tree = copy; call = call }; stage = Root; turns = 0 }
       → (slot : ℕ) → slot ≡ inside.slots_given + 1 → (gs : List (ℕ × Flight)) → gs ≡ inside.flights ++ (slot, f) ∷ [] → Reaches store meant old (step.Begin tree call) (outcome.Begun slot) (record inside { flights = gs; slots_given = slot })
   begun_as tree copy call c must f is slot next gs g = subst (λ z. Reaches store meant z (step.Begin tree call) (outcome.Begun slot) (record inside { flights = gs; slots_given = slot })) e
-      (begun_call store meant inside im tree call must f (is ∙ ap (λ t. record { job = record { tree = t; call = call }; stage = Root; turns = 0 }) c) slot next gs g)
+      (begun_call store meant inside im tree call (tested_inside tree must) f (is ∙ ap (λ t. record { job = record { tree = t; call = call }; stage = Root; turns = 0 }) c) slot next gs g)
 
-  pub begun_machine_as : (tree copy : Tree) (call : Call) → copy ≡ tree → must_refuse_of (db_state store meant inside.db) (tree ∷ []) ≡ None → (f : Flight) → f ≡ record { job = record { tree = copy; call = call }; stage = Root; turns = 0 }
+  pub begun_machine_as : (tree copy : Tree) (call : Call) → copy ≡ tree → must_refuse_of (db_state store meant old.db) (tree ∷ []) ≡ None → (f : Flight) → f ≡ record { job = record { tree = copy; call = call }; stage = Root; turns = 0 }
       → (slot : ℕ) → slot ≡ inside.slots_given + 1 → (gs : List (ℕ × Flight)) → gs ≡ inside.flights ++ (slot, f) ∷ [] → IsMachine (moment (store inside.db.pages) inside.db.trees inside.db.trees_given) gs slot
-  begun_machine_as tree copy call c must f is slot next gs g = begun_machine store meant inside im tree call must f (is ∙ ap (λ t. record { job = record { tree = t; call = call }; stage = Root; turns = 0 }) c) slot next gs g
+  begun_machine_as tree copy call c must f is slot next gs g = begun_machine store meant inside im tree call (tested_inside tree must) f (is ∙ ap (λ t. record { job = record { tree = t; call = call }; stage = Root; turns = 0 }) c) slot next gs g
 
   pub flushed_as : (db : DbValue P M) (n : ℕ) → FlushesDb store meant inside.db db → Reaches store meant old (step.Whole Flush) (outcome.Decided (Number n)) (record inside { db = db })
   flushed_as db n f = subst (λ z. Reaches store meant z (step.Whole Flush) (outcome.Decided (Number n)) (record inside { db = db })) e (flushed_all store meant inside im db n f)
@@ -402,9 +380,9 @@ module _ {P M : Type 0} (store : P → Store) (meant : M → Merge) (inside old 
   pub memory_as : (tree : Tree) (call : Call) (r : Error) → must_refuse_of (db_state store meant inside.db) (tree ∷ []) ≡ None → r ≡ Rattle.sled_pages.specs.declared.error.Error.TheVariants.NoMemory → Reaches store meant old (step.Begin tree call) (outcome.Refused r) old
   memory_as tree call r must m = subst (λ x. Reaches store meant old (step.Begin tree call) (outcome.Refused x) old) (sym m) (caused_as tree call Rattle.sled_pages.specs.declared.error.Error.TheVariants.NoMemory must tt)
 
-  pub room_as : (tree : Tree) (call : Call) (r : Error) → must_refuse_of (db_state store meant inside.db) (tree ∷ []) ≡ None → r ≡ Rattle.sled_pages.specs.declared.error.Error.TheVariants.NoMemory → (gs : List (ℕ × Flight)) → gs ≡ inside.flights
+  pub room_as : (tree : Tree) (call : Call) (r : Error) → must_refuse_of (db_state store meant old.db) (tree ∷ []) ≡ None → r ≡ Rattle.sled_pages.specs.declared.error.Error.TheVariants.NoMemory → (gs : List (ℕ × Flight)) → gs ≡ inside.flights
       → Reaches store meant old (step.Begin tree call) (outcome.Refused r) (record inside { flights = gs })
-  room_as tree call r must m gs g = subst (λ z. Reaches store meant old (step.Begin tree call) (outcome.Refused r) z) (sym e ∙ ap (λ z. record inside { flights = z }) (sym g)) (memory_as tree call r must m)
+  room_as tree call r must m gs g = subst (λ z. Reaches store meant old (step.Begin tree call) (outcome.Refused r) z) (sym e ∙ ap (λ z. record inside { flights = z }) (sym g)) (memory_as tree call r (tested_inside tree must) m)
 
   -- a flush is the only whole call yet
   pub flushed_any : (w : Whole) (db : DbValue P M) (n : ℕ) → FlushesDb store meant inside.db db → Reaches store meant old (step.Whole w) (outcome.Decided (Number n)) (record inside { db = db })
@@ -412,3 +390,8 @@ module _ {P M : Type 0} (store : P → Store) (meant : M → Merge) (inside old 
 
   pub refused_any : (w : Whole) (db : DbValue P M) (r : Error) → RefusesFlush store meant inside.db db r → Reaches store meant old (step.Whole w) (outcome.Refused r) (record inside { db = db })
   refused_any Flush db r f = flush_refused_as db r f
+
+-- what holds of any error of a kind
+pub err_weaker : {A E : Type 0} (P Q : E → Type 0) → ((e : E) → P e → Q e) → (r : Result A E) → IfErr r P → IfErr r Q
+err_weaker P Q h (Ok a) k = tt
+err_weaker P Q h (Err e) k = h e k

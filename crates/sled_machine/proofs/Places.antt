@@ -1,5 +1,5 @@
 -- Lists whose numbers rise.
-use Rattle.std.proofs.Common.{◌≡◌, ◌≢◌, ℕ, zero, suc, ◌+◌, ◌<◌, ◌≤◌, Bool, true, false, cond, nat_eq, List, [], ◌∷◌, ◌++◌, Some, None, take, drop, length, slice_get, slice_set, get_or, sym, refl, ap, ◌∙◌, subst, inl, inr, ◌⊎◌, arith}
+use Rattle.std.proofs.Common.{◌≡◌, ◌≢◌, ℕ, zero, suc, ◌+◌, ◌<◌, ◌≤◌, Bool, true, false, cond, nat_eq, List, [], ◌∷◌, ◌++◌, Some, None, length, slice_get, slice_set, get_or, sym, refl, ap, ◌∙◌, subst, inl, inr, ◌⊎◌, arith}
 use Rattle.std.proofs.lemmas.Bool.{eq-eqb, ne_eqb, eqb-true}
 use Rattle.std.proofs.lemmas.Option.{slice_get-get_or, slice_get_within}
 use Rattle.sled_pages.specs.Update.{put_at}
@@ -12,7 +12,7 @@ some_is : {A : Type 0} {a b : A} → Some a ≡ Some b → a ≡ b
 some_is e = cc
 
 -- from higher on
-rise_from : {X : Type 0} (a b : ℕ) (es : List (ℕ × X)) → a ≤ b → RiseAbove b es → RiseAbove a es
+pub rise_from : {X : Type 0} (a b : ℕ) (es : List (ℕ × X)) → a ≤ b → RiseAbove b es → RiseAbove a es
 rise_from a b [] h r = tt
 rise_from a b (e ∷ es) h r = (low a b e.0 h r.0, r.1)
   where
@@ -41,7 +41,7 @@ pub absent : {X : Type 0} (es : List (ℕ × X)) (n : ℕ) → ((i m : ℕ) (x :
 absent [] n h = refl
 absent (e ∷ es) n h = ap (λ b. cond b (Some e.1) (kept_at es n)) (ne_eqb e.0 n (h 0 e.0 e.1 refl)) ∙ absent es n (λ i m x f. h (suc i) m x f)
 
-low_absent : {X : Type 0} (a : ℕ) (es : List (ℕ × X)) (n : ℕ) → RiseAbove a es → n ≤ a → kept_at es n ≡ None
+pub low_absent : {X : Type 0} (a : ℕ) (es : List (ℕ × X)) (n : ℕ) → RiseAbove a es → n ≤ a → kept_at es n ≡ None
 low_absent a es n r h = absent es n (λ i m x f e. let g = above a es i m x r f in absurd (omega arith))
 
 -- the halves of a search: all before are smaller, all from there on are not
@@ -196,44 +196,10 @@ module _ {X : Type 0} where
             ∙ ap (λ b. cond (nat_eq q n) (Some y) (cond b (Some z.1) (kept_at es q))) (sym t)
       ] refl
 
-  pub take_kept : (a : ℕ) (es : List (ℕ × X)) (i n : ℕ) (x : X) (q : ℕ) → RiseAbove a es → slice_get es i ≡ Some (n, x) → kept_at (take i es ++ drop (suc i) es) q ≡ put_at (kept_at es) n None q
-  take_kept a [] i n x q r e = none_some e
-  take_kept a (z ∷ es) zero n x q r e =
-      let same : z.0 ≡ n = ap (λ p. p.0) (some_is e) in
-      elim (nat_eq q n) as (λ b. nat_eq q n ≡ b → kept_at es q ≡ cond (nat_eq q n) None (cond (nat_eq z.0 q) (Some z.1) (kept_at es q))) [
-        | true ↦ λ t.
-            let s : q ≡ n = eqb-true q n t in
-            low_absent z.0 es q r.1 (omega arith) ∙ ap (λ b. cond b None (cond (nat_eq z.0 q) (Some z.1) (kept_at es q))) (sym t)
-        | false ↦ λ t.
-            ap (λ b. cond b (Some z.1) (kept_at es q)) (sym (ne_eqb z.0 q (λ h. apart (sym t ∙ eq-eqb q n (sym h ∙ same)))))
-            ∙ ap (λ b. cond b None (cond (nat_eq z.0 q) (Some z.1) (kept_at es q))) (sym t)
-      ] refl
-    where
-      apart : false ≡ true → ⊥
-      apart e = cc
-  take_kept a (z ∷ es) (suc i) n x q r e =
-      let off : z.0 ≢ n = λ h. let g = above z.0 es i n x r.1 e in absurd (omega arith) in
-      elim (nat_eq z.0 q) as (λ b. nat_eq z.0 q ≡ b → cond (nat_eq z.0 q) (Some z.1) (kept_at (take i es ++ drop (suc i) es) q) ≡ cond (nat_eq q n) None (cond (nat_eq z.0 q) (Some z.1) (kept_at es q))) [
-        | true ↦ λ t.
-            let s : z.0 ≡ q = eqb-true z.0 q t in
-            ap (λ b. cond b (Some z.1) (kept_at (take i es ++ drop (suc i) es) q)) t
-            ∙ ap (λ b. cond b (Some z.1) (kept_at es q)) (sym t)
-            ∙ ap (λ b. cond b None (cond (nat_eq z.0 q) (Some z.1) (kept_at es q))) (sym (ne_eqb q n (λ h. off (s ∙ h))))
-        | false ↦ λ t.
-            ap (λ b. cond b (Some z.1) (kept_at (take i es ++ drop (suc i) es) q)) t
-            ∙ take_kept z.0 es i n x q r.1 e
-            ∙ ap (λ b. cond (nat_eq q n) None (cond b (Some z.1) (kept_at es q))) (sym t)
-      ] refl
-
   pub set_rise : (a : ℕ) (es : List (ℕ × X)) (i n : ℕ) (x y : X) → RiseAbove a es → slice_get es i ≡ Some (n, x) → RiseAbove a (slice_set es i (n, y))
   set_rise a [] i n x y r e = none_some e
   set_rise a (z ∷ es) zero n x y r e = let same : z.0 ≡ n = ap (λ p. p.0) (some_is e) in (subst (λ k. a < k) same r.0, subst (λ k. RiseAbove k es) same r.1)
   set_rise a (z ∷ es) (suc i) n x y r e = (r.0, set_rise z.0 es i n x y r.1 e)
-
-  pub take_rise : (a : ℕ) (es : List (ℕ × X)) (i n : ℕ) (x : X) → RiseAbove a es → slice_get es i ≡ Some (n, x) → RiseAbove a (take i es ++ drop (suc i) es)
-  take_rise a [] i n x r e = none_some e
-  take_rise a (z ∷ es) zero n x r e = rise_from a z.0 es (omega (arith, r.0)) r.1
-  take_rise a (z ∷ es) (suc i) n x r e = (r.0, take_rise z.0 es i n x r.1 e)
 
   pub push_kept : (es : List (ℕ × X)) (n : ℕ) (x : X) (q : ℕ) → kept_at es n ≡ None → kept_at (es ++ (n, x) ∷ []) q ≡ put_at (kept_at es) n (Some x) q
   push_kept [] n x q e = elim (nat_eq n q) as (λ b. nat_eq n q ≡ b → cond (nat_eq n q) (Some x) None ≡ cond (nat_eq q n) (Some x) None) [
@@ -264,11 +230,10 @@ module _ {X : Type 0} where
                 ∙ ap (λ b. cond (nat_eq q n) (Some x) (cond b (Some z.1) (kept_at es q))) (sym s)
           ] refl
 
-  pub push_rise : (a : ℕ) (es : List (ℕ × X)) (n : ℕ) (x : X) → RiseAbove a es → a < n → ((i m : ℕ) (y : X) → slice_get es i ≡ Some (m, y) → m < n) → RiseAbove a (es ++ (n, x) ∷ [])
-  push_rise a [] n x r h all = (h, tt)
-  push_rise a (z ∷ es) n x r h all = (r.0, push_rise z.0 es n x r.1 (all 0 z.0 z.1 refl) (λ i m y e. all (suc i) m y e))
+-- what an index gives
+pub read_at : {X : Type 0} (es : List X) (i : ℕ) (x : X) → i < length es → x ≡ get_or es i x → slice_get es i ≡ Some x
+read_at es i x h e = slice_get-get_or es i x h ∙ ap Some (sym e)
 
--- what an index of a place gives
 pub at_index : {X : Type 0} (es : List (ℕ × X)) (n i : ℕ) (x : ℕ × X) → StandsAt es n i → x ≡ get_or es i x → slice_get es i ≡ Some (n, x.1)
 at_index es n i x s e =
     let h = slice_get_within es i (n, s.kept) s.is in

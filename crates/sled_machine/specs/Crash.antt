@@ -1,5 +1,5 @@
 -- Steps of the machine, with what they add to what a crash may leave.
-use Rattle.std.specs.Prelude.{◌≡◌, ◌≢◌, ℕ, zero, suc, ◌+◌, ◌<◌, ◌≤◌, List, [], ◌∷◌, ◌++◌, length, map, Option, Some, None}
+use Rattle.std.specs.Prelude.{◌≡◌, ◌≢◌, ℕ, zero, suc, ◌<◌, ◌≤◌, ◌⊎◌, List, [], ◌∷◌, ◌++◌, length, map, Option, Some, None}
 use Rattle.sled_pages.specs.Store.{Store, now}
 use Rattle.sled_pages.specs.Crash.{states_left}
 use Rattle.sled_model.specs.Maps.{Maps, Merge}
@@ -12,7 +12,9 @@ use Rattle.sled_model.specs.declared.outcome.Step.{Step}
 use Rattle.sled_model.specs.declared.outcome.Step.TheVariants as step
 use Rattle.sled_model.specs.declared.outcome.Outcome.{Outcome}
 use Rattle.sled_model.specs.declared.outcome.Outcome.TheVariants.{Begun, Moved, Decided, Refused, NoSuchSlot}
+use Rattle.sled_model.specs.declared.call.Call.{Call}
 use Rattle.sled_model.specs.declared.call.Whole.TheVariants.{Flush}
+use Rattle.sled_model.specs.declared.tree.Tree.{Tree}
 use Rattle.sled_model.specs.declared.TheConstants.{MAX_LOOPS}
 use Rattle.sled_pages.specs.declared.error.Error.{Error}
 use Rattle.tree_laws.specs.Contents.{trees_of}
@@ -175,3 +177,20 @@ pub record Finishes {P M : Type 0} (store : P → Store) (meant : M → Merge) (
   -- over a clean path of fewer levels than it may have turns, a call that had none goes on at most once a level
   pub passes : (flying : Flying) (path : List ℕ) → slots_of old.flights slot ≡ Some flying → flying.turns ≡ 0
       → IsClean (now (store old.db.pages)) flying.tree.name (key_of flying.call) path → length path < MAX_LOOPS → IsPrompt moves o path
+
+-- a call that does not begin
+pub record RefusesToBegin {P M : Type 0} (store : P → Store) (meant : M → Merge) (old : MachineValue P M) (tree : Tree) (call : Call) (o : Outcome) (new : MachineValue P M) : Type 0 where
+  pub error : Error
+  pub is : o ≡ Refused error
+  pub reaches : Reaches store meant old (step.Begin tree call) o new
+
+-- a call that begins in some slot, and then goes on, step by step, until the last
+pub record BeginsAndFinishes {P M : Type 0} (store : P → Store) (meant : M → Merge) (old : MachineValue P M) (tree : Tree) (call : Call) (o : Outcome) (new : MachineValue P M) : Type 0 where
+  pub slot : ℕ
+  pub begun : MachineValue P M
+  pub begins : Reaches store meant old (step.Begin tree call) (Begun slot) begun
+  pub finishes : Finishes store meant begun slot o new
+
+-- A whole call
+abbrev pub Completes : {P M : Type 0} → (P → Store) → (M → Merge) → MachineValue P M → Tree → Call → Outcome → MachineValue P M → Type 0
+Completes store meant old tree call o new = RefusesToBegin store meant old tree call o new ⊎ BeginsAndFinishes store meant old tree call o new

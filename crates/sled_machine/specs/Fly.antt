@@ -1,5 +1,5 @@
--- One step of the call at a place of the list.
-use Rattle.std.specs.Prelude.{◌≡◌, ℕ, ◌+◌, ◌++◌, List, Some, take, drop, slice_get, slice_set}
+-- One step of the call in a cell of the table.
+use Rattle.std.specs.Prelude.{◌≡◌, ℕ, List, Option, Some, None, slice_get, slice_set}
 use Rattle.sled_pages.specs.Store.{Store}
 use Rattle.sled_model.specs.Maps.{Merge}
 use Rattle.sled_model.specs.declared.outcome.Outcome.{Outcome}
@@ -7,28 +7,48 @@ use Rattle.sled_tree.specs.declared.flight.Flight.{Flight}
 use Rattle.sled_tree.specs.declared.flight.Went.{Went}
 use Rattle.sled_tree.specs.declared.flight.Went.TheVariants.{Moved, Decided, Refused}
 use Rattle.sled.specs.Values.{DbValue}
-use Rattle.sled.specs.Flights.{Flies, outcome_of}
+use Rattle.sled.specs.Flights.{Flies, FliesToEnd, outcome_of}
+use Rattle.sled_machine.specs.Slots.{kept_at}
+use Rattle.sled_machine.specs.Table.{kept, Puts}
 
--- the call at the place took its step, and stands there as it is now
-pub record FliesAt {P M : Type 0} (store : P → Store) (meant : M → Merge) (old : DbValue P M) (fs : List (ℕ × Flight)) (slot i : ℕ) (went : Went) (new : DbValue P M) (gs : List (ℕ × Flight)) : Type 0 where
+-- the call in the cell took its step, and stands there as it is now
+pub record FliesAt {P M : Type 0} (store : P → Store) (meant : M → Merge) (old : DbValue P M) (cells : List (ℕ × Option Flight)) (slot i : ℕ) (went : Went) (new : DbValue P M) (after : List (ℕ × Option Flight)) : Type 0 where
   pub flight : Flight
   pub next : Flight
-  pub there : slice_get fs i ≡ Some (slot, flight)
+  pub there : slice_get cells i ≡ Some (slot, Some flight)
   pub flies : Flies store meant old flight went new next
-  pub is : gs ≡ slice_set fs i (slot, next)
+  pub is : after ≡ slice_set cells i (slot, Some next)
 
--- the list after the step: the call goes on at its place, or is gone
-abbrev pub flights_after : Went → List (ℕ × Flight) → ℕ → ℕ → Flight → List (ℕ × Flight)
-flights_after Moved fs slot i g = slice_set fs i (slot, g)
-flights_after (Decided reply) fs slot i g = take i fs ++ drop (i + 1) fs
-flights_after (Refused e) fs slot i g = take i fs ++ drop (i + 1) fs
+-- what the slot keeps after the step
+abbrev pub flight_after : Went → Flight → Option Flight
+flight_after Moved g = Some g
+flight_after (Decided reply) g = None
+flight_after (Refused e) g = None
 
--- .. and is taken out where it ended
-pub record StepsAt {P M : Type 0} (store : P → Store) (meant : M → Merge) (old : DbValue P M) (fs : List (ℕ × Flight)) (slot i : ℕ) (o : Outcome) (new : DbValue P M) (gs : List (ℕ × Flight)) : Type 0 where
+-- .. and is let go where it ended
+pub record StepsAt {P M : Type 0} (store : P → Store) (meant : M → Merge) (old : DbValue P M) (cells : List (ℕ × Option Flight)) (slot : ℕ) (o : Outcome) (new : DbValue P M) (after : List (ℕ × Option Flight)) : Type 0 where
   pub flight : Flight
   pub next : Flight
   pub went : Went
   pub outcome : o ≡ outcome_of went
-  pub there : slice_get fs i ≡ Some (slot, flight)
+  pub there : kept_at (kept cells) slot ≡ Some flight
   pub flies : Flies store meant old flight went new next
-  pub is : gs ≡ flights_after went fs slot i next
+  pub puts : Puts cells slot (flight_after went next) after
+
+-- the call in the cell took its steps to its end
+pub record FliesToEndAt {P M : Type 0} (store : P → Store) (meant : M → Merge) (old : DbValue P M) (cells : List (ℕ × Option Flight)) (slot i : ℕ) (went : Went) (new : DbValue P M) (after : List (ℕ × Option Flight)) : Type 0 where
+  pub flight : Flight
+  pub next : Flight
+  pub there : slice_get cells i ≡ Some (slot, Some flight)
+  pub flies : FliesToEnd store meant old flight went new next
+  pub is : after ≡ slice_set cells i (slot, Some next)
+
+-- .. and was let go
+pub record FinishesAt {P M : Type 0} (store : P → Store) (meant : M → Merge) (old : DbValue P M) (cells : List (ℕ × Option Flight)) (slot : ℕ) (o : Outcome) (new : DbValue P M) (after : List (ℕ × Option Flight)) : Type 0 where
+  pub flight : Flight
+  pub next : Flight
+  pub went : Went
+  pub outcome : o ≡ outcome_of went
+  pub there : kept_at (kept cells) slot ≡ Some flight
+  pub flies : FliesToEnd store meant old flight went new next
+  pub puts : Puts cells slot None after

@@ -1,4 +1,5 @@
 pub mod Slots
+pub mod Table
 pub mod Values
 pub mod Crash
 pub mod Sound

@@ -3,11 +3,10 @@ use Rattle.std.specs.Prelude.{◌≡◌, ◌≢◌, ℕ, ◌≤◌, List, Some}
 use Rattle.tree_laws.specs.Moment.{Moment}
 use Rattle.sled_tree.specs.declared.flight.Flight.{Flight}
 use Rattle.sled.specs.Flights.{IsKnown, AreApart}
-use Rattle.sled_machine.specs.Slots.{kept_at, Rise}
+use Rattle.sled_machine.specs.Slots.{kept_at}
 
--- Slots are numbered in order, what each call knows of the pages is true, and no page is two calls' own
+-- No slot is past the last that was given, what each call knows of the pages is true, and no page is two calls' own
 pub record IsMachine (m : Moment) (flights : List (ℕ × Flight)) (slots_given : ℕ) : Type 0 where
-  pub rise : Rise flights
   pub given : (i : ℕ) (f : Flight) → kept_at flights i ≡ Some f → i ≤ slots_given
   pub known : (i : ℕ) (f : Flight) → kept_at flights i ≡ Some f → IsKnown m f
   pub apart : (i k : ℕ) (f g : Flight) → kept_at flights i ≡ Some f → kept_at flights k ≡ Some g → i ≢ k → AreApart f g

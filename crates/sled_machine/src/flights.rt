@@ -1,83 +1,108 @@
-//! The list of the calls in flight.
-ghost use Rattle.std.specs.Prelude.{◌≡◌, ◌<◌, ◌+◌, ◌∷◌, ◌++◌, [], length, take, drop, slice_get, Some, OnOk, IfErr};
-ghost use Rattle.sled_pages.specs.declared.error.Error.TheVariants.{NoMemory};
-ghost use Rattle.std.specs.Vec.{vec_len, vec_capacity};
+//! Steps of a call in the table.
+ghost use Rattle.std.specs.Prelude.{◌≡◌, slice_get, Some};
+ghost use Rattle.std.specs.Option.{option_map};
 ghost use Rattle.sled.specs.Values.{moment};
-ghost use Rattle.sled.specs.Flights.{IsKnown};
+ghost use Rattle.sled.specs.Flights.{IsKnown, outcome_of};
 ghost use Rattle.sled_tree.specs.declared.flight.Flight.{Flight};
-ghost use Rattle.sled_machine.specs.Slots.{StandsAt};
-ghost use Rattle.sled_machine.specs.Fly.{FliesAt, StepsAt};
+ghost use Rattle.sled_machine.specs.Slots.{Rise};
+ghost use Rattle.sled_machine.specs.Table.{HoldsAt};
+ghost use Rattle.sled_machine.specs.Fly.{FliesAt, StepsAt, FliesToEndAt, FinishesAt};
 
+use crate::table::Table;
 use sled::Db;
 use sled_model::{MergeOperator, Outcome};
-use sled_pages::{Error, Pages, Result};
+use sled_pages::Pages;
 use sled_tree::{Flight, Went};
 
-// Makes room for one more.
-pub(crate) fn make_room<T>(list: &mut Vec<T>) -> Result<()>
-    ensures same { list.new.items ≡ list.old.items }
-    ensures room { OnOk result (vec_len list.new < vec_capacity list.new) }
-    ensures err { IfErr result (λ e. e ≡ NoMemory) }
+// How a step came out, as a machine tells it.
+pub(crate) fn outcome_of(went: Went) -> Outcome
+    ensures { result ≡ outcome_of went }
 {
-    if list.reserve(1).is_err() {
-        return Err(Error::NoMemory);
+    match went {
+        Went::Moved => Outcome::Moved,
+        Went::Decided(reply) => Outcome::Decided(reply),
+        Went::Refused(e) => Outcome::Refused(e),
     }
-    Ok(())
 }
 
-// Adds to a list that has room.
-pub(crate) fn push_reserved<T: Drop>(list: &mut Vec<T>, item: T)
-    requires { vec_len list.old < vec_capacity list.old }
-    ensures { list.new.items ≡ list.old.items ++ item ∷ [] }
+// How often the call in a cell went on so far, if there is one.
+pub(crate) fn turns_of(cell: &Option<Flight>) -> Option<u64>
+    ensures { result ≡ option_map (λ flight. flight.turns) cell.now }
 {
-    let pushed = list.push(item);
-    let full = pushed.is_err();
-    prove!(!full);
+    match cell {
+        Some(flight) => Some(flight.turns),
+        None => None,
+    }
 }
 
-// Takes the call at a place out.
-pub(crate) fn take_out<T: Drop>(list: &mut Vec<T>, i: usize)
-    requires { i < length list.old.items }
-    ensures { list.new.items ≡ take i list.old.items ++ drop (i + 1) list.old.items }
-{
-    list.remove(i);
-}
-
-// One step of the call at a place, on the database.
+// One step of the call in a cell, on the database.
 fn fly_at<P: Pages, M: MergeOperator>(
     db: &mut Db<P, M>,
-    flights: &mut Vec<(u64, Flight)>,
+    table: &mut Table<Flight>,
     slot: u64,
     i: usize,
 ) -> Went
-    requires stands { StandsAt flights.old.items slot i }
-    requires known { (f : Flight) → slice_get flights.old.items i ≡ Some (slot, f) → IsKnown (moment (P.store db.old.pages) db.old.trees db.old.trees_given) f }
-    ensures { FliesAt P.store M.meant db.old flights.old.items slot i result db.new flights.new.items }
+    requires holds { HoldsAt table.old.cells.items slot i }
+    requires known { (f : Flight) → slice_get table.old.cells.items i ≡ Some (slot, Some f) → IsKnown (moment (P.store db.old.pages) db.old.trees db.old.trees_given) f }
+    ensures { FliesAt P.store M.meant db.old table.old.cells.items slot i result db.new table.new.cells.items }
 {
-    let flight = &mut flights[i];
-    db.fly(&mut flight.1)
+    match &mut table.cells[i].1 {
+        Some(flight) => db.fly(flight),
+        None => unreachable!(),
+    }
 }
 
-// The same, and a call that has ended is taken out.
+// The same, and a call that has ended is let go.
 pub(crate) fn step_at<P: Pages, M: MergeOperator>(
     db: &mut Db<P, M>,
-    flights: &mut Vec<(u64, Flight)>,
+    table: &mut Table<Flight>,
     slot: u64,
     i: usize,
 ) -> Outcome
-    requires stands { StandsAt flights.old.items slot i }
-    requires known { (f : Flight) → slice_get flights.old.items i ≡ Some (slot, f) → IsKnown (moment (P.store db.old.pages) db.old.trees db.old.trees_given) f }
-    ensures { StepsAt P.store M.meant db.old flights.old.items slot i result db.new flights.new.items }
+    requires rise { Rise table.old.cells.items }
+    requires holds { HoldsAt table.old.cells.items slot i }
+    requires known { (f : Flight) → slice_get table.old.cells.items i ≡ Some (slot, Some f) → IsKnown (moment (P.store db.old.pages) db.old.trees db.old.trees_given) f }
+    ensures { StepsAt P.store M.meant db.old table.old.cells.items slot result db.new table.new.cells.items }
 {
-    match fly_at(db, flights, slot, i) {
+    match fly_at(db, table, slot, i) {
         Went::Moved => Outcome::Moved,
-        Went::Decided(reply) => {
-            take_out(flights, i);
-            Outcome::Decided(reply)
-        }
-        Went::Refused(e) => {
-            take_out(flights, i);
-            Outcome::Refused(e)
+        went => {
+            table.remove(i);
+            outcome_of(went)
         }
     }
+}
+
+// Steps of the call in a cell to its end, on the database.
+fn fly_to_end_at<P: Pages, M: MergeOperator>(
+    db: &mut Db<P, M>,
+    table: &mut Table<Flight>,
+    slot: u64,
+    i: usize,
+) -> Went
+    requires holds { HoldsAt table.old.cells.items slot i }
+    requires known { (f : Flight) → slice_get table.old.cells.items i ≡ Some (slot, Some f) → IsKnown (moment (P.store db.old.pages) db.old.trees db.old.trees_given) f }
+    ensures { FliesToEndAt P.store M.meant db.old table.old.cells.items slot i result db.new table.new.cells.items }
+{
+    match &mut table.cells[i].1 {
+        Some(flight) => db.fly_to_end(flight),
+        None => unreachable!(),
+    }
+}
+
+// The same, and the call is let go.
+pub(crate) fn finish_at<P: Pages, M: MergeOperator>(
+    db: &mut Db<P, M>,
+    table: &mut Table<Flight>,
+    slot: u64,
+    i: usize,
+) -> Outcome
+    requires rise { Rise table.old.cells.items }
+    requires holds { HoldsAt table.old.cells.items slot i }
+    requires known { (f : Flight) → slice_get table.old.cells.items i ≡ Some (slot, Some f) → IsKnown (moment (P.store db.old.pages) db.old.trees db.old.trees_given) f }
+    ensures { FinishesAt P.store M.meant db.old table.old.cells.items slot result db.new table.new.cells.items }
+{
+    let went = fly_to_end_at(db, table, slot, i);
+    table.remove(i);
+    outcome_of(went)
 }

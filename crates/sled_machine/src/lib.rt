@@ -8,5 +8,6 @@
 mod flights;
 mod machine;
 mod place;
+mod table;
 
 pub use machine::Machine;

@@ -1,12 +1,14 @@
 //! The machine.
-ghost use Rattle.std.specs.Prelude.{◌≡◌, IfOk, IfErr, OnErr, []};
+ghost use Rattle.std.specs.Prelude.{◌≡◌, ◌<◌, ◌∷◌, IfOk, IfErr, OnOk, OnErr, None, []};
 ghost use Rattle.std.specs.Option.{option_map};
 ghost use Rattle.sled_pages.specs.declared.error.Error.TheVariants.{NoMemory};
+ghost use Rattle.sled_model.specs.Refusal.{must_refuse_of};
+ghost use Rattle.sled_model.specs.declared.call.Call.{Call};
 ghost use Rattle.sled_model.specs.declared.outcome.Outcome.TheVariants as outcome;
 ghost use Rattle.sled_model.specs.declared.outcome.Step.TheVariants as step;
 
-use crate::flights::{make_room, push_reserved, step_at, take_out};
-use crate::place::place;
+use crate::flights::{finish_at, outcome_of, step_at, turns_of};
+use crate::table::Table;
 use sled::Db;
 use sled_model::{Call, MergeOperator, Outcome, Reply, Slot, Step, Tree, Whole};
 use sled_pages::{Error, Pages, Result};
@@ -19,8 +21,8 @@ const NUMBERS_USED_UP: &str = "numbers used up";
 #[derive(Drop)]
 pub struct Machine<P: Pages, M = Box<dyn MergeOperator + Send>> {
     db: Db<P, M>,
-    // the calls in flight, ascending by slot
-    flights: Vec<(u64, Flight)>,
+    // the calls in flight, by slot
+    table: Table<Flight>,
     slots_given: u64,
 }
 
@@ -30,17 +32,19 @@ impl<P: Pages, M> Model for Machine<P, M> {
     ghost Value = { MachineValue P M };
 
     ghost use Rattle.sled.specs.Values.{moment};
+    ghost use Rattle.sled_machine.specs.Table.{kept, IsTable};
     ghost use Rattle.sled_machine.specs.Sound.{IsMachine};
 
-    ghost view = { λ m. record { db = m.db; flights = m.flights.items; slots_given = m.slots_given } };
+    ghost view = { λ m. record { db = m.db; flights = kept m.table.cells.items; slots_given = m.slots_given } };
 
-    ghost invariant = { λ m. IsMachine (moment (P.store m.db.pages) m.db.trees m.db.trees_given) m.flights.items m.slots_given };
+    ghost invariant = { λ m. IsMachine (moment (P.store m.db.pages) m.db.trees m.db.trees_given) (kept m.table.cells.items) m.slots_given × IsTable m.table.cells.items m.slots_given };
 }
 
 impl<P: Pages, M: MergeOperator> Machine<P, M> {
     ghost use Rattle.sled.specs.Sound.{IsDb};
     ghost use Rattle.sled_machine.specs.Values.{slots_of};
-    ghost use Rattle.sled_machine.specs.Crash.{Reaches, Finishes, Performs};
+    ghost use Rattle.sled.specs.Values.{db_state};
+    ghost use Rattle.sled_machine.specs.Crash.{Reaches, Finishes, Completes, Performs};
 
     /// A machine over a database, with no call in flight.
     pub fn new(db: Db<P, M>) -> Machine<P, M>
@@ -48,10 +52,10 @@ impl<P: Pages, M: MergeOperator> Machine<P, M> {
         ensures flights { result.flights ≡ [] }
         ensures slots { result.slots_given ≡ 0 }
     {
-        let flights = Vec::new(db.allocator());
+        let table = Table::new(db.allocator());
         Machine {
             db,
-            flights,
+            table,
             slots_given: 0,
         }
     }
@@ -78,33 +82,38 @@ impl<P: Pages, M: MergeOperator> Machine<P, M> {
         self.db.audit();
     }
 
+    // The tests that come before a call on a tree begins, and a copy of the tree.
+    fn admit(&self, tree: &Tree) -> Result<Tree>
+        ensures ok { IfOk result (λ copy. copy ≡ tree.now) }
+        ensures tested { OnOk result (must_refuse_of (db_state P.store M.meant self.now.db) (tree.now ∷ []) ≡ None) }
+        ensures room { OnOk result (self.now.slots_given < u64.MAX) }
+        ensures err { IfErr result (λ e. (call : Call) → Reaches P.store M.meant self.now (step.Begin tree.now call) (outcome.Refused e) self.now) }
+    {
+        if let Err(e) = self.db.check(tree) {
+            return Err(e);
+        }
+        if self.slots_given == u64::MAX {
+            return Err(Error::Unsupported(NUMBERS_USED_UP));
+        }
+        tree.clone()
+    }
+
     /// Begins a call on a tree. It does no page action.
     pub fn begin(&mut self, tree: &Tree, call: Call) -> Result<Slot>
         ensures ok { IfOk result (λ slot. Reaches P.store M.meant self.old (step.Begin tree.now call) (outcome.Begun slot) self.new) }
         ensures err { IfErr result (λ e. Reaches P.store M.meant self.old (step.Begin tree.now call) (outcome.Refused e) self.new) }
     {
-        if let Err(e) = self.db.check(tree) {
-            drop(call);
-            return Err(e);
-        }
-        if self.slots_given == u64::MAX {
-            drop(call);
-            return Err(Error::Unsupported(NUMBERS_USED_UP));
-        }
-        let tree = match tree.clone() {
+        let tree = match self.admit(tree) {
             Ok(tree) => tree,
             Err(e) => {
                 drop(call);
                 return Err(e);
             }
         };
-        if let Err(e) = make_room(&mut self.flights) {
-            drop(tree);
-            drop(call);
+        let slot = self.slots_given + 1;
+        if let Err(e) = self.table.push(slot, Flight::new(tree, call)) {
             return Err(e);
         }
-        let slot = self.slots_given + 1;
-        push_reserved(&mut self.flights, (slot, Flight::new(tree, call)));
         self.slots_given = slot;
         Ok(Slot(slot))
     }
@@ -113,20 +122,20 @@ impl<P: Pages, M: MergeOperator> Machine<P, M> {
     pub fn step(&mut self, slot: Slot) -> Outcome
         ensures { Reaches P.store M.meant self.old (step.Step slot) result self.new }
     {
-        let Some(i) = place(self.flights.as_slice(), slot.0) else {
+        let Some(i) = self.table.find(slot.0) else {
             return Outcome::NoSuchSlot;
         };
-        step_at(&mut self.db, &mut self.flights, slot.0, i)
+        step_at(&mut self.db, &mut self.table, slot.0, i)
     }
 
     /// Gives the call in the slot up. What it did to the pages stays, and no map changes.
     pub fn abandon(&mut self, slot: Slot) -> Outcome
         ensures { Reaches P.store M.meant self.old (step.Abandon slot) result self.new }
     {
-        let Some(i) = place(self.flights.as_slice(), slot.0) else {
+        let Some(i) = self.table.find(slot.0) else {
             return Outcome::NoSuchSlot;
         };
-        take_out(&mut self.flights, i);
+        self.table.remove(i);
         Outcome::Abandoned
     }
 
@@ -134,10 +143,10 @@ impl<P: Pages, M: MergeOperator> Machine<P, M> {
     pub fn turns(&self, slot: Slot) -> Option<u64>
         ensures { result ≡ option_map (λ f. f.turns) (slots_of self.now.flights slot) }
     {
-        match place(self.flights.as_slice(), slot.0) {
-            Some(i) => Some(self.flights[i].1.turns),
-            None => None,
-        }
+        let Some(i) = self.table.find(slot.0) else {
+            return None;
+        };
+        turns_of(&self.table.cells[i].1)
     }
 
     /// Does a whole call, in one step.
@@ -166,13 +175,29 @@ impl<P: Pages, M: MergeOperator> Machine<P, M> {
     pub fn finish(&mut self, slot: Slot) -> Outcome
         ensures { Finishes P.store M.meant self.old slot result self.new }
     {
-        let _ = &self.db;
-        loop {
-            match self.step(slot) {
-                Outcome::Moved => {}
-                outcome => return outcome,
+        let Some(i) = self.table.find(slot.0) else {
+            return Outcome::NoSuchSlot;
+        };
+        finish_at(&mut self.db, &mut self.table, slot.0, i)
+    }
+
+    /// Does a call from its begin to its end: what `begin` does, and then `finish` of the slot. The slot is given, but nothing
+    /// is kept in it, and the tests are made once.
+    pub fn complete(&mut self, tree: &Tree, call: Call) -> Outcome
+        ensures { Completes P.store M.meant self.old tree.now call result self.new }
+    {
+        let tree = match self.admit(tree) {
+            Ok(tree) => tree,
+            Err(e) => {
+                drop(call);
+                return Outcome::Refused(e);
             }
-        }
+        };
+        self.slots_given += 1;
+        let mut flight = Flight::new(tree, call);
+        let went = self.db.fly_on(&mut flight);
+        drop(flight);
+        outcome_of(went)
     }
 
     // Begins a copy of a call. The tests come before the copy is made.

@@ -1,7 +1,10 @@
-use Rattle.std.proofs.Common.{◌≡◌, ◌++◌, take}
+use Rattle.std.proofs.Common.{◌≡◌, ◌++◌, length}
 use Rattle.std.specs.List.{flat_map}
 use Rattle.sled_lines.specs.Words.{spelled}
 use Rattle.sled_lines.proofs.words.push_bytes.Given as goal
 
-abbrev pub invariant-loop-byte : goal.invariant-loop-byte
-invariant-loop-byte l = l.out.items ≡ l.fn.out.items ++ flat_map spelled (take l.byte-index l.bytes)
+abbrev pub invariant-runs : goal.invariant-runs
+invariant-runs l = l.out.items ++ flat_map spelled l.rest ≡ l.fn.out.items ++ flat_map spelled l.fn.bytes
+
+abbrev pub decreases-runs : goal.decreases-runs
+decreases-runs l = length l.rest

@@ -1,14 +1,28 @@
-use Rattle.sled_machine.proofs.Runs.{begins_as, moving_first, moving_more, moving_less, moving_ends}
+use Rattle.sled_machine.specs.Table.{kept}
+use Rattle.sled_machine.proofs.Cells.{rise_table, holds_kept}
+use Rattle.sled_machine.proofs.Finishing.{missing_finish_as, finished_all, finished_as}
 use Rattle.sled_machine.proofs.machine.Machine.finish.Goals as goal
 
-pub loop-outcome-smaller : goal.loop-outcome-smaller
-loop-outcome-smaller g c = moving_less g.P.Pages.store g.M.MergeOperator.meant c.args.slot _ _ c.in-Moved.ensures
-
-pub loop-outcome-preserved : goal.loop-outcome-preserved
-loop-outcome-preserved g c = moving_more g.P.Pages.store g.M.MergeOperator.meant c.args.slot _ _ _ c.loop-outcome.invariant c.in-Moved.ensures
+pub find-requires : goal.find-requires
+find-requires g c = rise_table c.self.inside.table.cells.items _ c.self.invariant.1
 
 pub returns-in_default : goal.returns-in_default
-returns-in_default g c = moving_ends g.P.Pages.store g.M.MergeOperator.meant c.args.slot _ _ _ _ c.in_default.not-Moved c.loop-outcome.invariant c.step.ensures
+returns-in_default g c = missing_finish_as g.P.Pages.store g.M.MergeOperator.meant _ _ c.self.view_is c.self.invariant.0 _ _ c.slot.view_is c.in_default.ensures.missing
 
-pub loop-outcome-init : goal.loop-outcome-init
-loop-outcome-init g c = moving_first g.P.Pages.store g.M.MergeOperator.meant c.args.slot c.args.self.now (begins_as g.P.Pages.store _ _ c.self.view_is c.self.invariant c.args.slot)
+pub finish_at-requires-clause-rise : goal.finish_at-requires-clause-rise
+finish_at-requires-clause-rise g c κs within = rise_table c.self.inside.table.cells.items _ c.self.invariant.1
+
+pub finish_at-requires-clause-known : goal.finish_at-requires-clause-known
+finish_at-requires-clause-known g c κs within = λ f e. c.self.invariant.0.known c.slot.inside.0 f (holds_kept c.self.inside.table.cells.items c.in-Some.i c.slot.inside.0 f (rise_table c.self.inside.table.cells.items _ c.self.invariant.1) e)
+
+pub invariant_of-self : goal.invariant_of-self
+invariant_of-self g c =
+    let s = c.finish_at.ensures in (
+      (finished_all g.P.Pages.store g.M.MergeOperator.meant (record { db = c.self.inside.db; flights = kept c.self.inside.table.cells.items; slots_given = c.self.inside.slots_given }) c.self.invariant.0 c.slot.inside.0 c.finish_at.new.db (kept c.finish_at.new.table.cells.items) s.flight s.next s.went s.there s.flies s.puts.kept).1,
+      s.puts.table c.self.inside.slots_given c.self.invariant.1,
+    )
+
+pub returns : goal.returns
+returns g c =
+    let s = c.finish_at.ensures in
+    finished_as g.P.Pages.store g.M.MergeOperator.meant _ _ c.self.view_is c.self.invariant.0 _ _ c.slot.view_is c.finish_at.new.db (kept c.finish_at.new.table.cells.items) c.finish_at.result s.flight s.next s.went s.outcome s.there s.flies s.puts.kept
