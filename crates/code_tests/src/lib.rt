@@ -1,5 +1,5 @@
-//! Tests that only code can make: of a store that counts, of readers and writers that fail, of what values are, and of the examples.
+//! Tests that only code can make: of readers and writers that fail.
 #![tactic(auto)]
 
 #[cfg(test)]
-mod tests;
+mod streams;

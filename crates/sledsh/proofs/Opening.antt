@@ -1,5 +1,5 @@
 -- A refused opening where there is a default tree does no action.
-use Rattle.std.proofs.Common.{◌≡◌, ◌+◌, ◌*◌, ◌≤◌, inl, inr, Bool, true, List, [], ◌∷◌, ◌++◌, length, Option, Some, None, is_some, option_map, refl, subst, ap, ◌∙◌, arith, append-nil}
+use Rattle.std.proofs.Common.{◌≡◌, ◌≤◌, inl, inr, Bool, true, List, [], ◌∷◌, ◌++◌, length, Option, Some, None, is_some, option_map, refl, subst, ap, ◌∙◌, arith, append-nil}
 use Rattle.std.proofs.lemmas.Bool.{cond-true}
 use Rattle.sled_pages.specs.In.{In}
 use Rattle.sled_pages.specs.State.{Action}

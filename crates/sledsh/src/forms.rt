@@ -41,25 +41,27 @@ quit: ends
 /// What a line asks for.
 #[derive(Drop)]
 pub enum Command {
+    /// What `sledrun` knows too.
+    Line(command::Command),
     Ask(Ask),
     Change(Change),
+    /// Calls from this seed, so many, beside the plain program.
+    Crowd(u64, u64),
+    /// The lines that there are.
+    Help,
     Quit,
 }
 
-/// What leaves the pages where they are.
-#[derive(Drop)]
+/// What is asked of a database.
+#[derive(Clone, Copy)]
 pub enum Ask {
-    /// What `sledrun` knows too.
-    Line(command::Command),
     /// How often the call of this number went on.
     Turns(u64),
     /// Whether the store is what a crash left.
     Recovered,
-    /// The lines that there are.
-    Help,
 }
 
-/// What is done between two openings, or beside the database.
+/// What is done between two openings.
 #[derive(Drop)]
 pub enum Change {
     /// A crash that keeps so many actions.
@@ -78,8 +80,6 @@ pub enum Change {
     Mark(u64),
     /// The same; the levels of the tree are printed.
     Pages,
-    /// Calls from this seed, so many, beside the plain program.
-    Crowd(u64, u64),
 }
 
 // Why a line does not have a form.
@@ -136,57 +136,60 @@ struct Fit<'a> {
     misfit: Option<Misfit<'a>>,
 }
 
+// Why a line whose words are these does not have a form, where a word of the command's is another.
+fn other<'a>(own: usize, word: &'a [u8]) -> Misfit<'a> {
+    if own == 0 {
+        Misfit::Name
+    } else {
+        Misfit::Other(word)
+    }
+}
+
+// Why a line does not have a form, where the words of the one or the other were compared.
+fn uneven<'a>(parts: Option<&[u8]>, words: Option<&[u8]>) -> Option<Misfit<'a>> {
+    let Some(parts) = parts else {
+        return words.map(|_| Misfit::Count);
+    };
+    if parts == b"..".as_slice() {
+        None
+    } else if is_own(first_word(parts).0) {
+        Some(Misfit::Short)
+    } else {
+        Some(Misfit::Count)
+    }
+}
+
 // Compares the words of a line with those of a form.
 fn compare<'a>(alloc: Global, form: &[u8], line: &'a [u8]) -> Result<Fit<'a>> {
     let mut own = 0usize;
-    let mut odd_word = None;
+    let mut misfit = None;
     let (mut parts, mut words) = (Some(form), Some(line));
     let mut last = form;
     for _ in 0..u64::MAX {
-        let misfit = match (parts, words) {
-            (None, None) | (Some(b".."), None) => {
-                return Ok(Fit {
-                    own,
-                    misfit: odd_word,
-                });
-            }
-            (None, Some(_)) => Misfit::Count,
-            (Some(parts), None) if is_own(first_word(parts).0) => Misfit::Short,
-            (Some(_), None) => Misfit::Count,
-            (Some(rest), Some(line)) => {
-                let (part, others) = first_word(rest);
-                let (word, more) = first_word(line);
-                words = more;
-                if part != b"..".as_slice() {
-                    parts = others;
-                    last = part;
-                }
-                if !is_own(part) {
-                    if odd_word.is_none() {
-                        odd_word = odd(alloc, last, word)?;
-                    }
-                    continue;
-                }
-                if part == word {
-                    own = own.saturating_add(1);
-                    continue;
-                }
-                if own == 0 {
-                    Misfit::Name
-                } else {
-                    Misfit::Other(word)
-                }
-            }
+        let (Some(rest), Some(line)) = (parts, words) else {
+            break;
         };
-        return Ok(Fit {
-            own,
-            misfit: Some(misfit),
-        });
+        let (part, others) = first_word(rest);
+        let (word, more) = first_word(line);
+        words = more;
+        if part != b"..".as_slice() {
+            parts = others;
+            last = part;
+        }
+        if !is_own(part) {
+            misfit = match misfit {
+                None => odd(alloc, last, word)?,
+                first => first,
+            };
+        } else if part == word {
+            own = own.saturating_add(1);
+        } else {
+            let misfit = Some(other(own, word));
+            return Ok(Fit { own, misfit });
+        }
     }
-    Ok(Fit {
-        own,
-        misfit: Some(Misfit::Count),
-    })
+    let misfit = uneven(parts, words).or(misfit);
+    Ok(Fit { own, misfit })
 }
 
 // The form in a line of the help.
@@ -350,7 +353,8 @@ fn made(alloc: Global, kind: Kind, line: &[u8]) -> Result<Command> {
     let change = match kind {
         Kind::Turns => return Ok(Command::Ask(Ask::Turns(last))),
         Kind::Recovered => return Ok(Command::Ask(Ask::Recovered)),
-        Kind::Help => return Ok(Command::Ask(Ask::Help)),
+        Kind::Crowd => return Ok(Command::Crowd(before, last)),
+        Kind::Help => return Ok(Command::Help),
         Kind::Quit => return Ok(Command::Quit),
         Kind::Crash => Change::Crash(last),
         Kind::Recover => Change::Recover(numbers(alloc, line)?),
@@ -360,7 +364,6 @@ fn made(alloc: Global, kind: Kind, line: &[u8]) -> Result<Command> {
         Kind::Unreadable => Change::Unreadable(numbers(alloc, line)?),
         Kind::Mark => Change::Mark(last),
         Kind::Pages => Change::Pages,
-        Kind::Crowd => Change::Crowd(before, last),
     };
     Ok(Command::Change(change))
 }
@@ -369,7 +372,7 @@ fn made(alloc: Global, kind: Kind, line: &[u8]) -> Result<Command> {
 fn command_of(alloc: Global, form: &[u8], line: &[u8]) -> Result<Option<Command>> {
     match kind_of(form) {
         Some(kind) => Ok(Some(made(alloc, kind, line)?)),
-        None => Ok(parse(alloc, line)?.map(|line| Command::Ask(Ask::Line(line)))),
+        None => Ok(parse(alloc, line)?.map(Command::Line)),
     }
 }
 

@@ -2,7 +2,6 @@
 //! print with what was expected. What it prints is not proved: it is safe, and it ends.
 #![tactic(auto)]
 
-mod check;
 mod crowd;
 mod forms;
 mod levels;
@@ -10,8 +9,8 @@ mod plain;
 mod shell;
 mod store;
 
-use check::check;
-use shell::run;
+use shell::{Sessions, run};
+use sled_lines::files::check;
 use sled_lines::input::Stopped;
 use std::io::{BufReader, BufWriter, IsTerminal, Write};
 use std::process::ExitCode;
@@ -36,7 +35,7 @@ fn run_files(rt: &HostRuntime, names: &[String], output: &mut impl Write) -> Res
 fn run_names(rt: &HostRuntime, names: &[String], output: &mut impl Write) -> Result<bool, Stopped> {
     match names {
         [] => run_input(rt, output),
-        [first, names @ ..] if first.as_str() == "check" => check(rt, names, output),
+        [first, names @ ..] if first.as_str() == "check" => check(rt, &Sessions, names, output),
         names => run_files(rt, names, output),
     }
 }

@@ -1,10 +1,7 @@
 //! A plain program beside the machine: a list of pairs and a list of calls in flight, slow and short enough to read.
-ghost use Rattle.std.specs.Prelude.{◌≤◌, IfErr, length};
-
 use sled_model::{Call, Decision, Effect, Outcome, Slot};
 use sled_pages::{IVec, Result};
 use std::alloc::Global;
-use std::cmp::Ordering;
 
 /// Pairs that ascend by key.
 pub type Pairs = Vec<(IVec, IVec)>;
@@ -18,20 +15,6 @@ pub fn copied(alloc: Global, pairs: &[(IVec, IVec)]) -> Result<Pairs> {
     Ok(copy)
 }
 
-// The place of a key: where it stands, or where it would go.
-fn place(pairs: &[(IVec, IVec)], key: &IVec) -> std::result::Result<usize, usize>
-    ensures { IfErr result (λ i. i ≤ length pairs.now) }
-{
-    for i in 0..pairs.len() {
-        match key.cmp(&pairs[i].0) {
-            Ordering::Less => return Err(i),
-            Ordering::Equal => return Ok(i),
-            Ordering::Greater => {}
-        }
-    }
-    Err(pairs.len())
-}
-
 fn value_at(pairs: &[(IVec, IVec)], key: &IVec) -> Result<Option<IVec>> {
     for pair in pairs {
         if *key == pair.0 {
@@ -41,15 +24,12 @@ fn value_at(pairs: &[(IVec, IVec)], key: &IVec) -> Result<Option<IVec>> {
     Ok(None)
 }
 
+// Puts a pair in its place, without the one of the same key.
 fn put(pairs: &mut Pairs, key: &IVec, value: IVec) -> Result<()> {
-    match place(pairs.as_slice(), key) {
-        Ok(i) => {
-            if let Some(pair) = pairs.get_mut(i) {
-                pair.1 = value;
-            }
-        }
-        Err(i) => pairs.insert(i, (key.clone()?, value))?,
-    }
+    pairs.retain(|pair| *key != pair.0);
+    let greater = pairs.iter().position(|pair| *key < pair.0);
+    let place = greater.unwrap_or(pairs.len());
+    pairs.insert(place, (key.clone()?, value))?;
     Ok(())
 }
 

@@ -6,9 +6,11 @@ use crate::levels::push_levels;
 use crate::store::Kept;
 use sled::{DEFAULT_TREE, Db};
 use sled_lines::command;
+use sled_lines::files::Program;
 use sled_lines::input::{Stopped, read_line, without_end};
 use sled_lines::print::{push_number, push_numbered, push_refused, push_text};
 use sled_lines::session::{Session, write};
+use sled_model::MergeOperator;
 use sled_pages::{Error, MemPages};
 use std::alloc::Global;
 use std::io::{BufRead, Write};
@@ -18,18 +20,26 @@ const DATABASE: &[u8] = b"sledsh";
 
 // The store: opened, or the pages that a refused opening gave back.
 #[derive(Drop)]
-enum State {
-    Open(Session),
+enum State<M = Box<dyn MergeOperator + Send>> {
+    Open(Session<M>),
     Shut(Kept),
 }
 
-impl State {
+impl<M: MergeOperator> State<M> {
     fn into_kept(self) -> Kept {
         match self {
             State::Open(session) => Kept::of(session.into_db()),
             State::Shut(kept) => kept,
         }
     }
+}
+
+// What comes after a command.
+#[derive(Drop)]
+enum Next {
+    Line,
+    Change(Change),
+    End,
 }
 
 // The line that was read last and its number, and what is to be printed.
@@ -43,6 +53,8 @@ struct Shell {
     // Whether each line could be read.
     good: bool,
     out: Vec<u8>,
+    // Why the line cannot be read; empty where it can be.
+    why: Vec<u8>,
     mark: u64,
     // What the next opening prints, or why there is none.
     opened: &'static [u8],
@@ -56,145 +68,240 @@ fn push_turns(out: &mut Vec<u8>, turns: Option<u64>) -> sled_pages::Result<()> {
     }
 }
 
-// Answers at a database.
-fn answer<W: Write>(
-    session: &mut Session,
-    ask: Ask,
-    output: &mut W,
+// Adds the answer of a database.
+fn push_answer<M: MergeOperator>(
     out: &mut Vec<u8>,
-) -> Result<(), Stopped> {
+    session: &Session<M>,
+    ask: Ask,
+) -> sled_pages::Result<()> {
     match ask {
-        Ask::Line(command) => session.run(command, output, out),
-        Ask::Turns(number) => Ok(push_turns(out, session.turns(number))?),
-        Ask::Recovered if session.db().was_recovered() => Ok(push_text(out, b"yes\n")?),
-        Ask::Recovered => Ok(push_text(out, b"no\n")?),
-        Ask::Help => Ok(push_text(out, HELP.as_bytes())?),
+        Ask::Turns(number) => push_turns(out, session.turns(number)),
+        Ask::Recovered if session.db().was_recovered() => push_text(out, b"yes\n"),
+        Ask::Recovered => push_text(out, b"no\n"),
+    }
+}
+
+// Adds what is answered where there is no database.
+fn push_none(out: &mut Vec<u8>, ask: Ask) -> sled_pages::Result<()> {
+    match ask {
+        Ask::Turns(_) => push_turns(out, None),
+        Ask::Recovered => push_refused(out, &Error::Closed),
+    }
+}
+
+// Adds what a line prints that `sledrun` knows too, where there is no database.
+fn push_shut(out: &mut Vec<u8>, line: &command::Command) -> sled_pages::Result<()> {
+    match line {
+        command::Command::Step(_) | command::Command::Finish(_) | command::Command::Abandon(_) =>
+            push_turns(out, None),
+        _ => push_refused(out, &Error::Closed),
     }
 }
 
 impl Shell {
-    // Adds the line of one that cannot be read.
-    fn tell_bad(&mut self, why: &[u8]) -> Result<(), Stopped> {
+    // Adds the line of one that cannot be read, if there is a reason why.
+    fn tell_bad(&mut self) -> Result<(), Stopped> {
+        if self.why.is_empty() {
+            return Ok(());
+        }
         self.good = false;
         push_text(&mut self.out, b"bad line ")?;
         push_number(&mut self.out, self.number)?;
         push_text(&mut self.out, b": ")?;
-        push_text(&mut self.out, why)?;
+        push_text(&mut self.out, self.why.as_slice())?;
         Ok(push_text(&mut self.out, b"\n")?)
     }
 
     // Adds why ids cannot be set aside.
     fn tell_below(&mut self, upto: u64) -> Result<(), Stopped> {
-        let mut why = Vec::new(self.alloc);
-        push_text(&mut why, b"`")?;
-        push_number(&mut why, upto)?;
-        push_text(&mut why, b"` is below the mark, which is ")?;
-        push_number(&mut why, self.mark)?;
-        self.tell_bad(why.as_slice())
+        push_text(&mut self.why, b"`")?;
+        push_number(&mut self.why, upto)?;
+        push_text(&mut self.why, b"` is below the mark, which is ")?;
+        push_number(&mut self.why, self.mark)?;
+        self.tell_bad()
     }
 
-    // What the line asks for. A line that cannot be read is told.
+    // What the line asks for, if it does and can be read.
     fn command(&mut self) -> Result<Option<Command>, Stopped> {
+        self.why.clear();
         let line = without_end(self.line.as_slice());
         if line.is_empty() || line.starts_with(b"#") {
             return Ok(None);
         }
-        let mut why = Vec::new(self.alloc);
-        match read(self.alloc, line, &mut why)? {
-            Some(Command::Change(Change::Mark(upto))) if upto < self.mark => {
-                self.tell_below(upto)?;
-                Ok(None)
-            }
-            Some(command) => Ok(Some(command)),
-            None => {
-                self.tell_bad(why.as_slice())?;
-                Ok(None)
-            }
-        }
+        Ok(read(self.alloc, line, &mut self.why)?)
     }
 
-    // Writes what is to be printed, and reads lines up to the next command.
+    // Writes what is to be printed, and reads a line: whether there is one.
+    fn read<R: BufRead, W: Write>(
+        &mut self,
+        input: &mut R,
+        output: &mut W,
+    ) -> Result<bool, Stopped> {
+        write(output, &mut self.out)?;
+        if self.prompts {
+            output.write_all(b"> ")?;
+        }
+        let length = read_line(input, output, &mut self.line, &mut self.left)?;
+        self.number = self.number.saturating_add(1);
+        Ok(length > 0)
+    }
+
+    // Reads lines up to the next command. Those that cannot be read are told.
     fn next<R: BufRead, W: Write>(
         &mut self,
         input: &mut R,
         output: &mut W,
     ) -> Result<Command, Stopped> {
         for _ in 0..u64::MAX {
-            write(output, &mut self.out)?;
-            if self.prompts {
-                output.write_all(b"> ")?;
-            }
-            if read_line(input, output, &mut self.line, &mut self.left)? == 0 {
+            if !self.read(input, output)? {
                 break;
             }
-            self.number = self.number.saturating_add(1);
-            if let Some(command) = self.command()? {
-                return Ok(command);
+            match self.command()? {
+                Some(command) => return Ok(command),
+                None => self.tell_bad()?,
             }
         }
         Ok(Command::Quit)
     }
 
-    // Answers where there is none.
-    fn answer_shut(&mut self, ask: Ask) -> Result<(), Stopped> {
-        let answered = match &ask {
-            Ask::Help => push_text(&mut self.out, HELP.as_bytes()),
-            Ask::Turns(_)
-            | Ask::Line(
-                command::Command::Step(_)
-                | command::Command::Finish(_)
-                | command::Command::Abandon(_),
-            ) => push_text(&mut self.out, b"no slot\n"),
-            _ => push_refused(&mut self.out, &Error::Closed),
-        };
-        drop(ask);
-        Ok(answered?)
+    // Runs a line that `sledrun` knows too.
+    fn line<M: MergeOperator, W: Write>(
+        &mut self,
+        state: &mut State<M>,
+        line: command::Command,
+        output: &mut W,
+    ) -> Result<Next, Stopped> {
+        match state {
+            State::Open(session) => session.run(line, output, &mut self.out)?,
+            State::Shut(_) => {
+                let pushed = push_shut(&mut self.out, &line);
+                drop(line);
+                pushed?;
+            }
+        }
+        Ok(Next::Line)
+    }
+
+    fn answer<M: MergeOperator>(&mut self, state: &State<M>, ask: Ask) -> Result<Next, Stopped> {
+        match state {
+            State::Open(session) => push_answer(&mut self.out, session, ask)?,
+            State::Shut(_) => push_none(&mut self.out, ask)?,
+        }
+        Ok(Next::Line)
+    }
+
+    fn crowd(&mut self, seed: u64, calls: u64) -> Result<Next, Stopped> {
+        run_calls(self.alloc, seed, calls, &mut self.out)?;
+        Ok(Next::Line)
+    }
+
+    fn help(&mut self) -> Result<Next, Stopped> {
+        push_text(&mut self.out, HELP.as_bytes())?;
+        Ok(Next::Line)
+    }
+
+    // Whether a change cannot be made, which is told.
+    fn bars(&mut self, is_shut: bool, change: &Change) -> Result<bool, Stopped> {
+        match change {
+            Change::Mark(upto) if *upto < self.mark => self.tell_below(*upto)?,
+            Change::Pages if is_shut => push_refused(&mut self.out, &Error::Closed)?,
+            _ => return Ok(false),
+        }
+        Ok(true)
+    }
+
+    // Goes on to a change, if it can be made.
+    fn change(&mut self, is_shut: bool, change: Change) -> Result<Next, Stopped> {
+        match self.bars(is_shut, &change) {
+            Ok(false) => Ok(Next::Change(change)),
+            barred => {
+                drop(change);
+                barred.map(|_| Next::Line)
+            }
+        }
+    }
+
+    fn run_command<M: MergeOperator, W: Write>(
+        &mut self,
+        state: &mut State<M>,
+        command: Command,
+        output: &mut W,
+    ) -> Result<Next, Stopped> {
+        match command {
+            Command::Line(line) => self.line(state, line, output),
+            Command::Ask(ask) => self.answer(state, ask),
+            Command::Change(change) => self.change(matches!(&*state, State::Shut(_)), change),
+            Command::Crowd(seed, calls) => self.crowd(seed, calls),
+            Command::Help => self.help(),
+            Command::Quit => Ok(Next::End),
+        }
     }
 
     // Answers lines up to one that changes the store, or to the end.
-    fn lines<R: BufRead, W: Write>(
+    fn lines<M: MergeOperator, R: BufRead, W: Write>(
         &mut self,
-        state: &mut State,
+        state: &mut State<M>,
         input: &mut R,
         output: &mut W,
     ) -> Result<Option<Change>, Stopped> {
         for _ in 0..u64::MAX {
-            match self.next(input, output)? {
-                Command::Quit => break,
-                Command::Change(Change::Pages) if matches!(&*state, State::Shut(_)) => {
-                    push_refused(&mut self.out, &Error::Closed)?;
-                }
-                Command::Change(change) => return Ok(Some(change)),
-                Command::Ask(ask) => match state {
-                    State::Open(session) => answer(session, ask, output, &mut self.out)?,
-                    State::Shut(_) => self.answer_shut(ask)?,
-                },
+            let command = self.next(input, output)?;
+            match self.run_command(state, command, output)? {
+                Next::Line => {}
+                Next::Change(change) => return Ok(Some(change)),
+                Next::End => break,
             }
         }
         Ok(None)
     }
 
-    // The state after a refusal, which is printed.
-    fn shut(&mut self, kept: Kept, error: Error) -> Result<State, Stopped> {
-        let pushed = push_refused(&mut self.out, &error);
-        drop(error);
-        match pushed {
-            Ok(()) => Ok(State::Shut(kept)),
-            Err(_) => {
-                drop(kept);
-                Err(Stopped)
+    // Answers lines up to one that changes the store, or to the end, and answers the pages.
+    fn live_in<M: MergeOperator, R: BufRead, W: Write>(
+        &mut self,
+        mut state: State<M>,
+        input: &mut R,
+        output: &mut W,
+    ) -> Result<(Kept, Option<Change>), Stopped> {
+        match self.lines(&mut state, input, output) {
+            Ok(change) => Ok((state.into_kept(), change)),
+            Err(stopped) => {
+                drop(state);
+                Err(stopped)
             }
         }
     }
 
-    // The state after an opening, which is printed.
-    fn open(&mut self, db: Db<MemPages>) -> Result<State, Stopped> {
+    // The same after a refusal, which is printed.
+    fn live_shut<R: BufRead, W: Write>(
+        &mut self,
+        kept: Kept,
+        error: Error,
+        input: &mut R,
+        output: &mut W,
+    ) -> Result<(Kept, Option<Change>), Stopped> {
+        let pushed = push_refused(&mut self.out, &error);
+        drop(error);
+        if pushed.is_err() {
+            drop(kept);
+            return Err(Stopped);
+        }
+        let state: State = State::Shut(kept);
+        self.live_in(state, input, output)
+    }
+
+    // The same after an opening, which is printed.
+    fn live_over<M: MergeOperator, R: BufRead, W: Write>(
+        &mut self,
+        db: Db<MemPages, M>,
+        input: &mut R,
+        output: &mut W,
+    ) -> Result<(Kept, Option<Change>), Stopped> {
         if push_text(&mut self.out, self.opened).is_err() {
             drop(db);
             return Err(Stopped);
         }
         match Session::over(self.alloc, db) {
-            Ok(session) => Ok(State::Open(session)),
+            Ok(session) => self.live_in(State::Open(session), input, output),
             Err(refused) => {
                 drop(refused);
                 Err(Stopped)
@@ -203,39 +310,31 @@ impl Shell {
     }
 
     // Opens the pages and answers lines up to one that changes the store, or to the end.
+    fn live_open<R: BufRead, W: Write>(
+        &mut self,
+        kept: Kept,
+        input: &mut R,
+        output: &mut W,
+    ) -> Result<(Kept, Option<Change>), Stopped> {
+        let (pages, crashes) = kept.into_pages();
+        match Db::open(self.alloc, pages, DATABASE) {
+            Ok(db) => self.live_over(db, input, output),
+            Err((pages, error)) => {
+                self.live_shut(Kept::refused(pages, crashes), error, input, output)
+            }
+        }
+    }
+
     fn live<R: BufRead, W: Write>(
         &mut self,
         kept: Kept,
         input: &mut R,
         output: &mut W,
     ) -> Result<(Kept, Option<Change>), Stopped> {
-        let mut state = match self.refused.take() {
-            Some(error) => self.shut(kept, error)?,
-            None => {
-                let (pages, crashes) = kept.into_pages();
-                match Db::open(self.alloc, pages, DATABASE) {
-                    Ok(db) => self.open(db)?,
-                    Err((pages, error)) => self.shut(Kept::refused(pages, crashes), error)?,
-                }
-            }
-        };
-        for _ in 0..u64::MAX {
-            match self.lines(&mut state, input, output) {
-                Ok(Some(Change::Crowd(seed, calls))) => {
-                    if let Err(stopped) = run_calls(self.alloc, seed, calls, &mut self.out) {
-                        drop(state);
-                        return Err(stopped);
-                    }
-                }
-                Ok(change) => return Ok((state.into_kept(), change)),
-                Err(stopped) => {
-                    drop(state);
-                    return Err(stopped);
-                }
-            }
+        match self.refused.take() {
+            Some(error) => self.live_shut(kept, error, input, output),
+            None => self.live_open(kept, input, output),
         }
-        drop(state);
-        Err(Stopped)
     }
 
     // Sets ids aside; where that is refused the pages are not opened.
@@ -279,7 +378,7 @@ impl Shell {
                     }
                 }
             }
-            Change::Reopen | Change::Crowd(_, _) => Ok(kept),
+            Change::Reopen => Ok(kept),
         }
     }
 
@@ -315,10 +414,23 @@ pub fn run<R: BufRead, W: Write>(
         number: 0,
         good: true,
         out: Vec::new(alloc),
+        why: Vec::new(alloc),
         mark: 0,
         opened: b"",
         refused: None,
     };
     shell.run(input, output)?;
     Ok(shell.good)
+}
+
+/// Texts of lines, each a session of its own.
+#[derive(Clone, Copy)]
+pub struct Sessions;
+
+impl Program for Sessions {
+    fn run(&self, alloc: Global, lines: &[u8], printed: &mut Vec<u8>) -> Result<(), Stopped> {
+        let mut input = lines;
+        run(alloc, &mut input, printed, false)?;
+        Ok(())
+    }
 }

@@ -5,6 +5,7 @@ ghost use Rattle.tree_laws.specs.Crashes.{IsCrashWhole};
 
 use sled::{DEFAULT_TREE, Db, crash_pages, empty_pages};
 use sled_lines::input::Stopped;
+use sled_model::MergeOperator;
 use sled_pages::{Error, MemPages, Pages, Pid};
 use std::alloc::Global;
 use std::marker::Model;
@@ -42,7 +43,7 @@ impl Kept {
     }
 
     /// The pages of a database.
-    pub fn of(db: Db<MemPages>) -> Kept {
+    pub fn of<M: MergeOperator>(db: Db<MemPages, M>) -> Kept {
         Kept::refused(db.into_pages(), true)
     }
 
