@@ -1,0 +1,211 @@
+//! The workloads.
+use crate::pairs::{Pairs, digest};
+use sled::Db;
+use sled_lines::input::Stopped;
+use sled_machine::Machine;
+use sled_model::{Call, MergeOperator, Outcome, Reply, Slot, Tree, Whole};
+use sled_pages::MemPages;
+
+type Result<T> = std::result::Result<T, Stopped>;
+
+#[derive(Clone, Copy)]
+pub enum Workload {
+    /// Inserts all pairs.
+    Load,
+    /// Gets of pairs that were loaded.
+    Gets,
+    /// Inserts of new keys.
+    Inserts,
+    /// Of a hundred calls 95 are gets, and 5 inserts, of which half are of new keys at first.
+    Mix,
+    /// Removes pairs in the order in which they were loaded.
+    Removals,
+    /// Gets of pairs that were loaded, which all begin before the first of them is ended.
+    Slots,
+}
+
+const WORKLOADS: [(&str, Workload); 6] = [
+    ("load", Workload::Load),
+    ("gets", Workload::Gets),
+    ("inserts", Workload::Inserts),
+    ("mix", Workload::Mix),
+    ("removals", Workload::Removals),
+    ("slots", Workload::Slots),
+];
+
+/// The workload of a name.
+pub fn named(name: &str) -> Result<Workload> {
+    for (other, workload) in WORKLOADS {
+        if other == name {
+            return Ok(workload);
+        }
+    }
+    Err(Stopped)
+}
+
+/// A machine, and what is done with it.
+#[derive(Drop)]
+pub struct Bench<M = Box<dyn MergeOperator + Send>> {
+    machine: Machine<MemPages, M>,
+    tree: Tree,
+    pairs: Pairs,
+    calls: u64,
+    // After so many changes there is a flush.
+    flush: u64,
+    changes: u64,
+}
+
+impl<M: MergeOperator> Bench<M> {
+    pub fn over(db: Db<MemPages, M>, pairs: Pairs, calls: u64, flush: u64) -> Result<Bench<M>> {
+        let tree = match db.default_tree() {
+            Ok(tree) => tree,
+            Err(error) => {
+                drop(db);
+                drop(pairs);
+                return Err(Stopped::from(error));
+            }
+        };
+        Ok(Bench {
+            machine: Machine::new(db),
+            tree,
+            pairs,
+            calls,
+            flush,
+            changes: 0,
+        })
+    }
+
+    /// Runs a workload: how many calls it made, and a checksum of their answers.
+    pub fn run(&mut self, workload: Workload) -> Result<(u64, u64)> {
+        let calls = match workload {
+            Workload::Load => self.pairs.count(),
+            _ => self.calls,
+        };
+        if let Workload::Slots = workload {
+            return Ok((calls, self.slots()?));
+        }
+        let mut sum = 0u64;
+        for turn in 0..calls {
+            sum = sum.rotate_left(1) ^ self.turn(workload, turn)?;
+        }
+        Ok((calls, sum))
+    }
+
+    // Makes the call of this turn.
+    fn turn(&mut self, workload: Workload, turn: u64) -> Result<u64> {
+        let loaded = self.loaded(turn);
+        let new = self.pairs.count().wrapping_add(turn);
+        match workload {
+            Workload::Load => self.insert(turn, turn),
+            Workload::Inserts => self.insert(new, turn),
+            Workload::Removals => self.remove(turn),
+            Workload::Mix => self.mixed(turn),
+            Workload::Gets | Workload::Slots => self.get(loaded),
+        }
+    }
+
+    // A place among the pairs that were loaded.
+    fn loaded(&self, turn: u64) -> u64 {
+        self.pairs
+            .choice(turn)
+            .checked_rem(self.pairs.count())
+            .unwrap_or(0)
+    }
+
+    fn mixed(&mut self, turn: u64) -> Result<u64> {
+        let choice = self.pairs.choice(turn);
+        let place = self.loaded(turn);
+        if (choice >> 32) % 100 >= 5 {
+            return self.get(place);
+        }
+        let other = self.pairs.count().wrapping_add(place);
+        self.insert(if choice % 2 == 0 { place } else { other }, !turn)
+    }
+
+    fn get(&mut self, place: u64) -> Result<u64> {
+        let key = self.pairs.key(place)?;
+        self.call(Call::Get(key))
+    }
+
+    fn insert(&mut self, place: u64, number: u64) -> Result<u64> {
+        let key = self.pairs.key(place)?;
+        let value = match self.pairs.value(number) {
+            Ok(value) => value,
+            Err(error) => {
+                drop(key);
+                return Err(Stopped::from(error));
+            }
+        };
+        let digest = self.call(Call::Insert(key, value))?;
+        self.changed()?;
+        Ok(digest)
+    }
+
+    fn remove(&mut self, place: u64) -> Result<u64> {
+        let key = self.pairs.key(place)?;
+        let digest = self.call(Call::Remove(key))?;
+        self.changed()?;
+        Ok(digest)
+    }
+
+    // Counts a change, and flushes where it is time.
+    fn changed(&mut self) -> Result<()> {
+        self.changes = self.changes.saturating_add(1);
+        if self.changes != self.flush {
+            return Ok(());
+        }
+        self.changes = 0;
+        let outcome = self.machine.whole(Whole::Flush);
+        let flushed = digest_of(&outcome);
+        drop(outcome);
+        flushed.map(|_| ())
+    }
+
+    // A call from its begin to its end.
+    fn call(&mut self, call: Call) -> Result<u64> {
+        let outcome = self.machine.complete(&self.tree, call);
+        let digest = digest_of(&outcome);
+        drop(outcome);
+        digest
+    }
+
+    // Ends a call: what stands for its answer in a checksum.
+    fn end(&mut self, slot: Slot) -> Result<u64> {
+        let outcome = self.machine.finish(slot);
+        let digest = digest_of(&outcome);
+        drop(outcome);
+        digest
+    }
+
+    fn begin_all(&mut self, slots: &mut Vec<Slot>) -> Result<()> {
+        for turn in 0..self.calls {
+            let key = self.pairs.key(self.loaded(turn))?;
+            slots.push(self.machine.begin(&self.tree, Call::Get(key))?)?;
+        }
+        Ok(())
+    }
+
+    fn end_all(&mut self, slots: &[Slot]) -> Result<u64> {
+        let mut sum = 0u64;
+        for slot in slots {
+            sum = sum.rotate_left(1) ^ self.end(*slot)?;
+        }
+        Ok(sum)
+    }
+
+    // Begins all calls, and then ends them, the oldest first.
+    fn slots(&mut self) -> Result<u64> {
+        let mut slots = Vec::new(self.pairs.alloc());
+        self.begin_all(&mut slots)?;
+        self.end_all(slots.as_slice())
+    }
+}
+
+// What stands for an answer in a checksum.
+fn digest_of(outcome: &Outcome) -> Result<u64> {
+    match outcome {
+        Outcome::Decided(Reply::Value(value)) => Ok(digest(value)),
+        Outcome::Decided(Reply::Number(_)) => Ok(0),
+        _ => Err(Stopped),
+    }
+}

@@ -1,0 +1,83 @@
+//! Measures calls on a database in memory, one kind of calls after the other.
+//!
+//!     bench PAIRS CALLS SEED SHORTEST LONGEST FLUSH WORKLOAD..
+//!
+//! The workloads are `load`, which inserts so many pairs, and `gets`, `inserts`, `mix`, `removals` and `slots`, each of so many
+//! calls. Keys are 8 bytes, and values SHORTEST to LONGEST bytes. After each FLUSH changes there is a flush, and none where that
+//! is 0. Each workload prints its name, how many calls it made and a checksum of their answers; and on standard error its name
+//! and the processor time that it took, in microseconds. The status is 1 for other words, and where anything failed.
+#![tactic(auto)]
+
+mod bench;
+mod pairs;
+
+use bench::{Bench, named};
+use pairs::Pairs;
+use sled::{Db, empty_pages};
+use sled_lines::input::Stopped;
+use std::env;
+use std::process::ExitCode;
+use std::time::{CpuClock, Duration};
+
+// Runs a workload, and prints what it came to and how long it took.
+fn measure(rt: &HostRuntime, bench: &mut Bench, name: &str) -> Result<(), Stopped> {
+    let workload = named(name)?;
+    let start = rt.process_cpu_time()?;
+    let (calls, sum) = bench.run(workload)?;
+    let end = rt.process_cpu_time()?;
+    println!(rt; "{name} {calls} {sum:016x}")?;
+    report(rt, name, end.saturating_sub(start))
+}
+
+fn report(rt: &HostRuntime, name: &str, time: Duration) -> Result<(), Stopped> {
+    let time = time.as_micros();
+    eprintln!(rt; "{name} {time}")?;
+    Ok(())
+}
+
+fn measure_all(rt: &HostRuntime, bench: &mut Bench, names: &[String]) -> Result<(), Stopped> {
+    for name in names {
+        measure(rt, bench, name.as_str())?;
+    }
+    Ok(())
+}
+
+fn numbers(words: &[String; 6]) -> Result<[u64; 6], Stopped> {
+    let mut numbers = [0; 6];
+    for (number, word) in numbers.iter_mut().zip(words) {
+        *number = word.parse::<u64>().map_err(|_| Stopped)?;
+    }
+    Ok(numbers)
+}
+
+fn run_words(rt: &HostRuntime, words: &[String]) -> Result<(), Stopped> {
+    let Some((first, names)) = words.split_first_chunk::<6>() else {
+        return Err(Stopped);
+    };
+    let [pairs, calls, seed, shortest, longest, flush] = numbers(first)?;
+    let pairs = Pairs::new(rt.alloc(), seed, pairs, shortest, longest)?;
+    let db = match Db::open(rt.alloc(), empty_pages(rt.alloc()), b"bench") {
+        Ok(db) => db,
+        Err(refused) => {
+            drop(refused);
+            drop(pairs);
+            return Err(Stopped);
+        }
+    };
+    let mut bench = Bench::over(db, pairs, calls, flush)?;
+    let measured = measure_all(rt, &mut bench, names);
+    // The process ends now. To let the pairs go would count as instructions of the calls.
+    std::mem::forget(bench);
+    measured
+}
+
+fn words(rt: &HostRuntime) -> Result<Vec<String>, Stopped> {
+    Ok(env::args(rt)?.skip(1).collect(rt.alloc())?)
+}
+
+fn main(rt: HostRuntime) -> ExitCode {
+    match words(&rt).and_then(|words| run_words(&rt, words.as_slice())) {
+        Ok(()) => ExitCode::from(0),
+        Err(Stopped) => ExitCode::from(1),
+    }
+}

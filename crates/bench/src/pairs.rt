@@ -1,0 +1,98 @@
+//! Keys and values that look random, the same for the same words of the command line.
+use sled_lines::input::Stopped;
+use sled_pages::{IVec, Result};
+use std::alloc::Global;
+
+// Values are pieces of one row of bytes, and begin at one of so many places.
+const STARTS: u64 = 256;
+
+// The choices of calls are numbered from here, apart from the pairs.
+const CHOICES: u64 = 1 << 63;
+
+// A number that looks random, another one for each place.
+fn scattered(place: u64) -> u64 {
+    let number = place.wrapping_mul(0x9e37_79b9_7f4a_7c15);
+    let number = (number ^ (number >> 30)).wrapping_mul(0xbf58_476d_1ce4_e5b9);
+    let number = (number ^ (number >> 27)).wrapping_mul(0x94d0_49bb_1331_11eb);
+    number ^ (number >> 31)
+}
+
+#[derive(Drop)]
+pub struct Pairs {
+    alloc: Global,
+    seed: u64,
+    count: u64,
+    shortest: u16,
+    longest: u16,
+    row: Vec<u8>,
+}
+
+impl Pairs {
+    /// The values have so many bytes at least and at most.
+    pub fn new(
+        alloc: Global,
+        seed: u64,
+        count: u64,
+        shortest: u64,
+        longest: u64,
+    ) -> std::result::Result<Pairs, Stopped> {
+        let (Ok(shortest), Ok(longest)) = (u16::try_from(shortest), u16::try_from(longest)) else {
+            return Err(Stopped);
+        };
+        let mut row = Vec::new(alloc);
+        for place in 0..STARTS + u64::from(longest) {
+            row.push(scattered(place).to_be_bytes()[0])?;
+        }
+        Ok(Pairs {
+            alloc,
+            seed,
+            count,
+            shortest,
+            longest,
+            row,
+        })
+    }
+
+    pub fn alloc(&self) -> Global {
+        self.alloc
+    }
+
+    /// How many pairs are loaded.
+    pub fn count(&self) -> u64 {
+        self.count
+    }
+
+    /// The key at a place.
+    pub fn key(&self, place: u64) -> Result<IVec> {
+        let number = scattered(self.seed.wrapping_add(place));
+        IVec::from_slice(self.alloc, &number.to_be_bytes())
+    }
+
+    /// A value by a number.
+    pub fn value(&self, number: u64) -> Result<IVec> {
+        let number = scattered(self.seed ^ number);
+        let more = u64::from(self.longest.saturating_sub(self.shortest)) + 1;
+        let start = (number % STARTS) as usize;
+        let len = usize::from(self.shortest) + ((number >> 32) % more) as usize;
+        let bytes = self.row.get(start..start + len).unwrap_or_default();
+        IVec::from_slice(self.alloc, bytes)
+    }
+
+    /// A number that looks random for the call of this turn.
+    pub fn choice(&self, turn: u64) -> u64 {
+        scattered(self.seed.wrapping_add(CHOICES).wrapping_add(turn))
+    }
+}
+
+/// What stands for an answer in a checksum: how long the value is, and its first bytes.
+pub fn digest(value: &Option<IVec>) -> u64 {
+    let Some(value) = value else {
+        return 1 << 63;
+    };
+    let bytes = value.as_ref();
+    let mut digest = bytes.len() as u64;
+    for byte in bytes.get(..6).unwrap_or(bytes) {
+        digest = digest << 8 ^ u64::from(*byte);
+    }
+    digest
+}
