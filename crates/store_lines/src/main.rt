@@ -47,6 +47,7 @@ refuse N ..                           done; the calls of these numbers will be r
 unreadable P                          done
 image-page P NODE, image-root K P     done; a page or a root of the next image
 image N                               done, with a store of the image, whose mark is N, and of which no version was met
+hold P, let-go                        done; the page as it is now is held until all are let go
 
 Nodes. CHILD is the merging child, MERGING is `merging` or -.
 leaf NODE LO HI NEXT CHILD MERGING K V ..    done

@@ -352,22 +352,36 @@ fn read_two(alloc: Global, first: &[u8], second: &[u8]) -> Result<(IVec, IVec)> 
     Ok((first, read_string(alloc, second)?))
 }
 
+// A leaf of the pairs that are the rest of the line.
+fn read_leaf(alloc: Global, words: &mut Words<'_>) -> Result<Leaf> {
+    let mut pairs = Vec::new(alloc);
+    if let Err(stop) = read_pairs(alloc, words, &mut pairs) {
+        drop(pairs);
+        return Err(stop);
+    }
+    let leaf = Leaf::from_pairs(alloc, pairs.as_slice());
+    drop(pairs);
+    Ok(leaf?)
+}
+
+// An index of the pointers that are the rest of the line.
+fn read_index(alloc: Global, words: &mut Words<'_>) -> Result<Index> {
+    let mut pointers = Vec::new(alloc);
+    if let Err(stop) = read_pointers(alloc, words, &mut pointers) {
+        drop(pointers);
+        return Err(stop);
+    }
+    let index = Index::from_pairs(alloc, pointers.as_slice());
+    drop(pointers);
+    Ok(index?)
+}
+
 // The entries, which are the rest of the line.
 fn read_content(alloc: Global, is_leaf: bool, words: &mut Words<'_>) -> Result<Data> {
     if is_leaf {
-        let mut pairs = Vec::new(alloc);
-        let read = read_pairs(alloc, words, &mut pairs);
-        let leaf = Leaf::from_pairs(alloc, pairs.as_slice());
-        drop(pairs);
-        read?;
-        Ok(Data::Leaf(leaf?))
+        Ok(Data::Leaf(read_leaf(alloc, words)?))
     } else {
-        let mut pointers = Vec::new(alloc);
-        let read = read_pointers(alloc, words, &mut pointers);
-        let index = Index::from_pairs(alloc, pointers.as_slice());
-        drop(pointers);
-        read?;
-        Ok(Data::Index(index?))
+        Ok(Data::Index(read_index(alloc, words)?))
     }
 }
 

@@ -65,15 +65,19 @@ enum Tool {
     ImagePage,
     ImageRoot,
     Image,
+    Hold,
+    LetGo,
 }
 
-const TOOLS: [(&str, Tool); 6] = [
+const TOOLS: [(&str, Tool); 8] = [
     ("crash", Tool::Crash),
     ("refuse", Tool::Refuse),
     ("unreadable", Tool::Unreadable),
     ("image-page", Tool::ImagePage),
     ("image-root", Tool::ImageRoot),
     ("image", Tool::Image),
+    ("hold", Tool::Hold),
+    ("let-go", Tool::LetGo),
 ];
 
 /// A store, and what lines made beside it.
@@ -87,6 +91,8 @@ pub struct Store {
     // The pages and roots of the next image.
     image_pages: Vec<(Pid, Node)>,
     image_roots: Vec<(IVec, Pid)>,
+    // Pages as they were read, which share their nodes with the store.
+    held: Vec<View>,
 }
 
 impl Store {
@@ -98,6 +104,7 @@ impl Store {
             versions: Vec::new(alloc),
             image_pages: Vec::new(alloc),
             image_roots: Vec::new(alloc),
+            held: Vec::new(alloc),
         }
     }
 
@@ -146,14 +153,17 @@ impl Store {
     }
 
     fn tool(&mut self, tool: Tool, words: &mut Words<'_>, out: &mut String) -> Result<()> {
-        match tool {
-            Tool::Crash => self.crash(words)?,
-            Tool::Refuse => self.refuse(words)?,
-            Tool::Unreadable => self.unreadable(words)?,
-            Tool::ImagePage => self.image_page(words)?,
-            Tool::ImageRoot => self.image_root(words)?,
-            Tool::Image => self.image(words)?,
-        }
+        let done = match tool {
+            Tool::Crash => self.crash(words),
+            Tool::Refuse => self.refuse(words),
+            Tool::Unreadable => self.unreadable(words),
+            Tool::ImagePage => self.image_page(words),
+            Tool::ImageRoot => self.image_root(words),
+            Tool::Image => self.image(words),
+            Tool::Hold => self.hold(words),
+            Tool::LetGo => self.let_go(words),
+        };
+        done?;
         push(out, "done")
     }
 
@@ -381,6 +391,21 @@ impl Store {
         let pid = Pid(read_number(words.last()?)?);
         let name = read_string(self.alloc, name)?;
         Ok(self.image_roots.push((name, pid))?)
+    }
+
+    fn hold(&mut self, words: &mut Words<'_>) -> Result<()> {
+        let pid = words.pid()?;
+        words.end()?;
+        match self.pages.read(self.alloc, pid)? {
+            Some(view) => Ok(self.held.push(view)?),
+            None => Ok(()),
+        }
+    }
+
+    fn let_go(&mut self, words: &mut Words<'_>) -> Result<()> {
+        words.end()?;
+        self.held.clear();
+        Ok(())
     }
 
     fn image(&mut self, words: &mut Words<'_>) -> Result<()> {
