@@ -1,112 +1,47 @@
 -- One step of a call in flight.
-use Rattle.std.proofs.Common.{◌≡◌, ◌≢◌, ℕ, ◌+◌, ◌-◌, ◌<◌, ◌≤◌, Bool, true, false, not, cond, List, [], ◌∷◌, Option, Some, None, option_map, sym, refl, ap, ◌∙◌, subst, inl, inr, ◌⊎◌, ◌++◌, arith}
+use Rattle.std.proofs.Common.{◌≡◌, ◌≢◌, ℕ, ◌+◌, ◌-◌, ◌<◌, ◌≤◌, Bool, true, false, not, cond, List, [], ◌∷◌, Option, Some, None, option_map, sym, refl, ap, ◌∙◌, subst, inl, inr, arith}
 use Rattle.std.specs.FinMap.Entries.{find}
 use Rattle.std.specs.Ordering.{nat_cmp}
 use Rattle.std.specs.Str.{bytes_eq}
 use Rattle.sled_pages.specs.Order.{Key}
 use Rattle.sled_pages.specs.In.{In}
 use Rattle.sled_pages.specs.Update.{put_at, put_name}
-use Rattle.sled_pages.specs.State.{nodes_of}
 use Rattle.sled_pages.specs.Store.{Store, now}
+use Rattle.sled_pages.specs.declared.error.Fault.{Fault}
 use Rattle.sled_pages.specs.declared.error.Error.{Error}
 use Rattle.sled_pages.specs.declared.error.Error.TheVariants as error
 use Rattle.sled_model.specs.Maps.{Map, Merge}
 use Rattle.sled_model.specs.Answer.{Answer, answer_of}
 use Rattle.sled_model.specs.State.{State, NamedTree, Flying, maps_of, delivered, decided}
-use Rattle.sled_model.specs.Refusal.{MustRefuse, must_refuse_of, MayRefuse, ToStep, TellsTurns, cause_of, may_refuse_as}
+use Rattle.sled_model.specs.Refusal.{MustRefuse, IsClosed, IsForeign, IsDropped, must_refuse_of, MayRefuse, ToStep, TellsTurns, cause_of, may_refuse_as}
 use Rattle.sled_model.specs.declared.event.Event.{Event}
 use Rattle.sled_model.specs.declared.reply.Reply.{Reply}
 use Rattle.sled_model.specs.declared.TheConstants.{MAX_LOOPS}
 use Rattle.tree_laws.specs.Forest.{Forest, contents}
 use Rattle.tree_laws.specs.Contents.{trees_of}
-use Rattle.tree_laws.specs.Crashes.{IsWell, IsCrashWhole, Extends, Adds}
-use Rattle.tree_laws.specs.Moment.{Moment, nodes_at, IsMoment, Goes, Grows}
-use Rattle.tree_laws.specs.Stages.{IsFreeing}
-use Rattle.tree_laws.specs.StageLaws.{StagesKept}
+use Rattle.tree_laws.specs.Crashes.{IsWhole, IsCrashWhole, Extends, Adds}
+use Rattle.tree_laws.specs.Moment.{Moment, nodes_at, IsMoment}
 use Rattle.tree_laws.proofs.Crashing.{adds_extends, adds_unseen, extends_nothing, extends_same, extends_again, same_left, whole_law}
-use Rattle.tree_laws.proofs.Staged.{stages_law, apart_law}
 use Rattle.tree_laws.proofs.Reading.{one_law}
 use Rattle.sled_tree.specs.declared.flight.Job.{Job}
 use Rattle.sled_tree.specs.declared.flight.Flight.{Flight}
-use Rattle.sled_tree.specs.declared.flight.Stage.{Stage}
-use Rattle.sled_tree.specs.declared.flight.Stage.TheVariants as stage
 use Rattle.sled_tree.specs.declared.flight.Next.TheVariants as next
 use Rattle.sled_tree.specs.declared.flight.Went.{Went}
 use Rattle.sled_tree.specs.declared.flight.Went.TheVariants.{Moved, Decided, Refused}
 use Rattle.sled_tree.specs.Stages.{IsStage, owned}
+use Rattle.sled_tree.specs.Known.{IsKnown}
 use Rattle.sled_tree.specs.Passing.{GoesFurther}
+use Rattle.sled_tree.specs.Follows.{FollowsOn}
 use Rattle.sled_tree.specs.Moves.{Moves, ActsOnce, ActsAtMostOnce, Acts, Same, Decides, LeavesNone, refuses_as, Advances}
 use Rattle.sled.specs.Values.{KeepsRest, DbValue, numbers_of, given_to, named, state_of, db_state, moment}
 use Rattle.sled.specs.Sound.{IsDb}
 use Rattle.sled.specs.Calls.{MustBeRefused, must_be_refused_as}
-use Rattle.sled.specs.Flights.{flying_of, IsKnown, StillStands, LosesNone, RefusesQuietly, Flies, FliesToEnd, Ends, GoesOn}
+use Rattle.sled.specs.Flights.{flying_of, StillStands, LosesNone, RefusesQuietly, Flies, FliesToEnd, Ends, GoesOn}
+use Rattle.sled_tree.proofs.Known.{not_own, known_kept}
 use Rattle.sled.proofs.Trees.{trees_at, trees_same, trees_put, maps_are, current, numbered}
 
 none_some : {P X : Type 0} {x : X} → None ≡ Some x → P
 none_some e = cc
-
-own_is : {m : Moment} {w : Forest} (p q : ℕ) → In q (p ∷ []) → (version : ℕ) × IsFreeing m w p version → (version : ℕ) × IsFreeing m w q version
-own_is {m} {w} p q (inl e) f = subst (λ z. (version : ℕ) × IsFreeing m w z version) (sym e) f
-own_is p q (inr e) f = absurd e
-
--- a page that is a call's own at its stage is one to be freed
-own_of : (m : Moment) (w : Forest) (j : Job) (s : Stage) → IsStage m w j s → (q : ℕ) → In q (owned s) → (version : ℕ) × IsFreeing m w q version
-own_of m w j stage.Root k q i = absurd i
-own_of m w j (stage.Walk a) k q i = absurd i
-own_of m w j (stage.Act v) k q i = absurd i
-own_of m w j (stage.Split a) k q i = absurd i
-own_of m w j (stage.Shorten a) k q i = own_is a.right q i (a.version, record { node = k.replacing.right; own = k.replacing.own })
-own_of m w j (stage.Post a) k q i = absurd i
-own_of m w j (stage.Hoist a) k q i = absurd i
-own_of m w j (stage.Crown a) k q i = own_is a.new q i (a.version, record { node = k.root; own = k.own })
-own_of m w j (stage.Free a) k q i = own_is a.pid q i (a.version, k)
-own_of m w j (stage.Intend a) k q i = absurd i
-own_of m w j (stage.Child a) k q i = absurd i
-own_of m w j (stage.Cap a) k q i = absurd i
-own_of m w j (stage.Seek a) k q i = absurd i
-own_of m w j (stage.Receive a) k q i = absurd i
-own_of m w j (stage.Confirm a) k q i = absurd i
-
--- what an action of one call leaves of what another knows, whose own pages are none of its
-module _ {mine : List ℕ} {old new : Moment} {w v : Forest} (is : IsMoment old w) (g : Goes mine None old w new v) (grows : Grows (nodes_at old) (nodes_at new) w) (j : Job) where
-  kept : StagesKept mine old w new v j.tree.name j.tree.number
-  kept = stages_law mine None old w new v (record { is = is; goes = g }) j.tree.name j.tree.number
-
-  stage_kept : (s : Stage) → ((q : ℕ) → In q (owned s) → In q mine → ⊥) → IsStage old w j s → IsStage new v j s
-  stage_kept stage.Root off k = tt
-  stage_kept (stage.Walk a) off k = record { walking = kept.walking _ _ _ _ _ k.walking; few = k.few }
-  stage_kept (stage.Act view) off k = record { acting = kept.acting _ _ k.acting; few = k.few; changes = k.changes }
-  stage_kept (stage.Split a) off k = record { splitting = kept.splitting _ _ k.splitting; room = k.room }
-  stage_kept (stage.Shorten a) off k = record { replacing = kept.replacing _ _ _ _ _ _ (off a.right (inl refl)) k.replacing; room = k.room }
-  stage_kept (stage.Post a) off k = record { posting = kept.posting _ _ _ k.posting; few = k.few }
-  stage_kept (stage.Hoist a) off k = kept.hoisting _ _ _ k
-  stage_kept (stage.Crown a) off k = kept.swapping _ _ _ (off a.new (inl refl)) k
-  stage_kept (stage.Free a) off k = kept.freeing _ _ (off a.pid (inl refl)) k
-  stage_kept (stage.Intend a) off k = record { intending = kept.intending _ _ k.intending; small = kept.small grows _ _ k.intending k.small; before = k.before }
-  stage_kept (stage.Child a) off k = kept.merging _ _ _ k
-  stage_kept (stage.Cap a) off k = kept.capping _ _ _ _ k
-  stage_kept (stage.Seek a) off k = kept.seeking _ _ _ _ _ _ k
-  stage_kept (stage.Receive a) off k = record { receiving = kept.receiving _ _ _ _ _ _ k.receiving; few = k.few }
-  stage_kept (stage.Confirm a) off k = record { node = k.node; confirming = kept.confirming _ _ _ _ k.confirming }
-
-in_either : (q : ℕ) (xs ys : List ℕ) → In q (xs ++ ys) → In q xs ⊎ In q ys
-in_either q [] ys i = inr i
-in_either q (x ∷ xs) ys (inl e) = inl (inl e)
-in_either q (x ∷ xs) ys (inr i) = elim (in_either q xs ys i) [ inl a ↦ inl (inr a) | inr b ↦ inr b ]
-
--- no page that a call comes to own is another's
-not_own : {mine own : List ℕ} {old new : Moment} {w v : Forest} → IsMoment old w → Acts mine own old w new v → (h : Flight) → IsKnown old h → ((q : ℕ) → In q mine → In q (owned h.stage) → ⊥) → (q : ℕ) → In q (owned h.stage) → In q own → ⊥
-not_own {mine} {own} {old} {new} {w} is a h k off q i o =
-    let f = own_of old w h.job h.stage (k.told w is) q i in
-    apart_law mine own old w is a.fresh q f.0 f.1 (λ m. off q m i) o
-
-known_kept : {mine own : List ℕ} {old new : Moment} {w v : Forest} → IsMoment old w → Acts mine own old w new v → (h : Flight) → IsKnown old h → ((q : ℕ) → In q mine → In q (owned h.stage) → ⊥) → IsKnown new h
-known_kept {mine} {own} {old} {new} {w} {v} is a h k off = record {
-  told = λ u at. subst (λ (z : Forest). IsStage new z h.job h.stage) (one_law (nodes_at new) new.state.roots v u a.is.formed at.formed)
-      (stage_kept is a.goes a.grows h.job h.stage (λ q i m. elim (in_either q mine own m) [ inl x ↦ off q x i | inr y ↦ not_own is a h k off q i y ]) (k.told w is));
-  few = k.few;
-  begins = k.begins;
-}
 
 -- what an action leaves of the trees, at the forests that fit
 pub loses_nothing : (m : Moment) → LosesNone m m
@@ -151,17 +86,27 @@ rests_refused (error.Corruption fault) a b t = absurd t
 rests_refused error.FullQueue a b t = absurd t
 rests_refused error.Closed a b t = absurd t
 
--- a fault may be counted
-refuses_quietly : (e : Error) (a b : Store) → refuses_as e a b → RefusesQuietly a b
-refuses_quietly error.NoMemory a b t = inl t
-refuses_quietly (error.Io fault) a b (inl t) = inr t
-refuses_quietly (error.Io fault) a b (inr (t, p)) = inl t
+-- for a fault alone one is counted
+refuses_quietly : (e : Error) (a b : Store) → refuses_as e a b → RefusesQuietly e a b
+refuses_quietly error.NoMemory a b t = t
+refuses_quietly (error.Io fault) a b t = t
 refuses_quietly (error.CollectionNotFound name) a b t = absurd t
 refuses_quietly (error.Unsupported text) a b t = absurd t
 refuses_quietly (error.ReportableBug text) a b t = absurd t
 refuses_quietly (error.Corruption fault) a b t = absurd t
 refuses_quietly error.FullQueue a b t = absurd t
 refuses_quietly error.Closed a b t = absurd t
+
+-- no test and no limit tells `Io`
+quiet_untold : (e : Error) (a : Store) → ((fault : Fault) → e ≡ error.Io fault → ⊥) → RefusesQuietly e a a
+quiet_untold error.NoMemory a off = refl
+quiet_untold (error.Io fault) a off = absurd (off fault refl)
+quiet_untold (error.CollectionNotFound name) a off = refl
+quiet_untold (error.Unsupported text) a off = refl
+quiet_untold (error.ReportableBug text) a off = refl
+quiet_untold (error.Corruption fault) a off = refl
+quiet_untold error.FullQueue a off = refl
+quiet_untold error.Closed a off = refl
 
 now_rests : {a b : Store} → Rests a b → now b ≡ now a
 now_rests {a} {b} r = λ i. Rattle.sled_pages.specs.State.after_all (r.recent i) (r.base i)
@@ -170,11 +115,11 @@ now_rests {a} {b} r = λ i. Rattle.sled_pages.specs.State.after_all (r.recent i)
 once_adds : {a b : Store} (o : ActsOnce a b) → Adds o.action a b
 once_adds o = record { base = ap (λ (s : Store). s.base) o.is; recent = ap (λ (s : Store). s.recent) o.is; actions = ap (λ (s : Store). s.actions) o.is }
 
-extends_unseen : (a b : Store) → ActsAtMostOnce a b → (now a).in_group ≡ false → (now b).in_group ≡ false → IsWell (now b) → trees_of (now b) ≡ trees_of (now a) → Extends [] a b
+extends_unseen : (a b : Store) → ActsAtMostOnce a b → (now a).in_group ≡ false → (now b).in_group ≡ false → IsWhole (now b) → trees_of (now b) ≡ trees_of (now a) → Extends [] a b
 extends_unseen a b (inl e) out calm well same = subst (λ (s : Store). Extends [] a s) (sym e) (extends_same a)
 extends_unseen a b (inr o) out calm well same = adds_unseen (once_adds o) out calm well same
 
-extends_seen : (a b : Store) → ActsAtMostOnce a b → (now b).in_group ≡ false → IsWell (now b) → Extends (trees_of (now b) ∷ []) a b
+extends_seen : (a b : Store) → ActsAtMostOnce a b → (now b).in_group ≡ false → IsWhole (now b) → Extends (trees_of (now b) ∷ []) a b
 extends_seen a b (inl e) calm well = extends_again (subst (λ (s : Store). Extends [] a s) (sym e) (extends_same a)) calm
 extends_seen a b (inr o) calm well = adds_extends (once_adds o) calm well
 
@@ -200,12 +145,14 @@ no_queue n (Some e) k = refl
 
 -- a call that is refused before it touches a page
 module _ {P M : Type 0} (store : P → Store) (meant : M → Merge) (old : DbValue P M) where
-  untouched : (f g : Flight) (e : Error) → (must_refuse_of (db_state store meant old) (f.job.tree ∷ []) ≡ None → f.turns ≡ MAX_LOOPS → TellsTurns e) → ((slots : ℕ → Option Flying) (given : ℕ) → MayRefuse (state_of store meant old slots given) (store old.pages) (store old.pages) (ToStep (flying_of f)) e) → Flies store meant old f (Refused e) old g
-  untouched f g e limit may = record {
+  untouched : (f g : Flight) (e : Error) → ((fault : Fault) → e ≡ error.Io fault → ⊥) → (must_refuse_of (db_state store meant old) (f.job.tree ∷ []) ≡ None → f.turns < MAX_LOOPS → ⊥) → (must_refuse_of (db_state store meant old) (f.job.tree ∷ []) ≡ None → f.turns ≡ MAX_LOOPS → TellsTurns e) → ((slots : ℕ → Option Flying) (given : ℕ) → MayRefuse (state_of store meant old slots given) (store old.pages) (store old.pages) (ToStep (flying_of f)) e) → Flies store meant old f (Refused e) old g
+  untouched f g e off stopped limit may = record {
     steps = λ slots given slot here. record { told = (record { flying = flying_of f; here = here; may = may slots given; limit = limit; is = refl }, refl) };
     extends = extends_same (store old.pages);
-    does = inl refl;
+    does = quiet_untold e (store old.pages) off;
     quiet = λ q. refl;
+    loud = λ event b. absurd (silent b.reply b.decided);
+    follows = λ must few. absurd (stopped must few);
     rest = record { mark = refl; recovered = refl; readable = refl };
     passes = record { told = tt };
     loses = loses_nothing (moment (store old.pages) old.trees old.trees_given);
@@ -218,13 +165,23 @@ module _ {P M : Type 0} (store : P → Store) (meant : M → Merge) (old : DbVal
       apart : Refused e ≡ Moved → ⊥
       apart e = cc
 
+      silent : (r : Reply) → Refused e ≡ Decided r → ⊥
+      silent r e = cc
+
   -- the tests refuse the call
   pub flies_untested : (f g : Flight) (e : Error) → MustBeRefused (must_refuse_of (db_state store meant old) (f.job.tree ∷ [])) e → Flies store meant old f (Refused e) old g
-  flies_untested f g e tested = untouched f g e (λ none all. absurd (subst (λ o. must_be_refused_as o e) none tested.told)) (λ slots given. record { told = go slots given (must_refuse_of (db_state store meant old) (f.job.tree ∷ [])) tested.told })
+  flies_untested f g e tested = untouched f g e (λ fault io. untold fault (must_refuse_of (db_state store meant old) (f.job.tree ∷ [])) (subst (λ z. must_be_refused_as (must_refuse_of (db_state store meant old) (f.job.tree ∷ [])) z) io tested.told)) (λ none few. absurd (subst (λ o. must_be_refused_as o e) none tested.told)) (λ none all. absurd (subst (λ o. must_be_refused_as o e) none tested.told)) (λ slots given. record { told = go slots given (must_refuse_of (db_state store meant old) (f.job.tree ∷ [])) tested.told })
     where
       go : (slots : ℕ → Option Flying) (given : ℕ) (o : Option MustRefuse) → must_be_refused_as o e → may_refuse_as o (state_of store meant old slots given) (store old.pages) (store old.pages) (ToStep (flying_of f)) e
       go slots given None t = absurd t
       go slots given (Some m) t = t
+
+      untold : (fault : Fault) (o : Option MustRefuse) → must_be_refused_as o (error.Io fault) → ⊥
+      untold fault None t = t
+      untold fault (Some IsClosed) t = cc
+      untold fault (Some IsForeign) t = t
+      untold fault (Some (IsDropped name)) (inl t) = cc
+      untold fault (Some (IsDropped name)) (inr t) = cc
 
   -- the tests let the call pass
   module _ (f : Flight) (must : must_refuse_of (db_state store meant old) (f.job.tree ∷ []) ≡ None) where
@@ -232,8 +189,11 @@ module _ {P M : Type 0} (store : P → Store) (meant : M → Merge) (old : DbVal
     may_refuse slots given a b e cause = record { told = subst (λ o. may_refuse_as o (state_of store meant old slots given) a b (ToStep (flying_of f)) e) (sym must) cause }
 
     -- its turns are the limit
-    pub flies_limit : (g : Flight) (e : Error) → TellsTurns e → ((slots : ℕ → Option Flying) (given : ℕ) → cause_of (state_of store meant old slots given) (store old.pages) (store old.pages) (ToStep (flying_of f)) e) → Flies store meant old f (Refused e) old g
-    flies_limit g e tells cause = untouched f g e (λ none all. tells) (λ slots given. may_refuse slots given (store old.pages) (store old.pages) e (cause slots given))
+    pub flies_limit : (g : Flight) (e : Error) → f.turns ≡ MAX_LOOPS → TellsTurns e → ((slots : ℕ → Option Flying) (given : ℕ) → cause_of (state_of store meant old slots given) (store old.pages) (store old.pages) (ToStep (flying_of f)) e) → Flies store meant old f (Refused e) old g
+    flies_limit g e all tells cause = untouched f g e (λ fault io. subst TellsTurns io tells) (λ none few. below f.turns all few) (λ none all. tells) (λ slots given. may_refuse slots given (store old.pages) (store old.pages) e (cause slots given))
+      where
+        below : (n : ℕ) → n ≡ MAX_LOOPS → n < MAX_LOOPS → ⊥
+        below n all few = omega arith
 
 module _ {P M : Type 0} (store : P → Store) (meant : M → Merge) (old : DbValue P M) (db : IsDb (store old.pages) old.trees old.trees_given) where
   abbrev at : Moment
@@ -284,16 +244,16 @@ module _ {P M : Type 0} (store : P → Store) (meant : M → Merge) (old : DbVal
       is_db : (v : Forest) {mine own : List ℕ} → Acts mine own at db.forest after v → (now (store q)).in_group ≡ (now (store old.pages)).in_group → IsCrashWhole (store q) → IsDb (store q) old.trees old.trees_given
       is_db v a calm safe = record { forest = v; is = a.is; sized = a.sized db.sized; safe = safe; calm = calm ∙ db.calm; ascends = db.ascends; default = db.default }
 
-      -- after an action every state that a crash may leave is as it should be
+      -- after an action the state now, and every state that a crash may leave, is as it should be
+      well : (v : Forest) {mine own : List ℕ} → Acts mine own at db.forest after v → IsWhole (now (store q))
+      well v a = record { forest = v; formed = a.is.formed; sized = a.sized db.sized }
+
       whole : (v : Forest) {mine own : List ℕ} → Acts mine own at db.forest after v → ActsAtMostOnce (store old.pages) (store q) → IsCrashWhole (store q)
       whole v a (inl e) = subst IsCrashWhole (sym e) db.safe
-      whole v a (inr o) = whole_law o.action (store old.pages) (store q) (once_adds o) db.safe (λ calm. record { forest = v; formed = a.is.formed; sized = a.sized db.sized })
-
-      well : (v : Forest) → IsMoment after v → IsWell (now (store q))
-      well v is = record { forest = v; formed = is.formed }
+      whole v a (inr o) = whole_law o.action (store old.pages) (store q) (once_adds o) db.safe (λ calm. well v a)
 
       -- the call goes on
-      module _ (few : f.turns < MAX_LOOPS) (g : Flight) (job : g.job ≡ f.job) (turns : g.turns ≡ f.turns + 1) (moves : Moves f.job (store old.pages) f.stage (next.Go g.stage) (store q)) (further : GoesFurther (now (store old.pages)) f Moved (now (store q)) g) where
+      module _ (few : f.turns < MAX_LOOPS) (g : Flight) (job : g.job ≡ f.job) (turns : g.turns ≡ f.turns + 1) (moves : Moves f.job (store old.pages) f.stage (next.Go g.stage) (store q)) (further : GoesFurther (now (store old.pages)) f Moved (now (store q)) g) (follows : FollowsOn (store old.pages) f Moved (store q) g) where
         moved : (v : Forest) × Acts (owned f.stage) (owned g.stage) at db.forest after v × (IsStage after v f.job g.stage × Same at db.forest after v) × LeavesNone (owned f.stage) (owned g.stage) (now (store old.pages)) (now (store q)) v
         moved = moves.told (numbers_of old.trees) (given_to old.trees_given) db.forest db.is named_now (known.told db.forest db.is)
 
@@ -304,7 +264,7 @@ module _ {P M : Type 0} (store : P → Store) (meant : M → Merge) (old : DbVal
         moved_trees = trees_same (store old.pages) (store q) (numbers_of old.trees) (given_to old.trees_given) db.forest moved.0 db.is moved.1.is moved.2.1.same
 
         moved_extends : Extends [] (store old.pages) (store q)
-        moved_extends = extends_unseen (store old.pages) (store q) moves.touches db.calm (moved_touches.calm ∙ db.calm) (well moved.0 moved.1.is) moved_trees
+        moved_extends = extends_unseen (store old.pages) (store q) moves.touches db.calm (moved_touches.calm ∙ db.calm) (well moved.0 moved.1) moved_trees
 
         pub moved_db : IsDb (store q) old.trees old.trees_given
         moved_db = is_db moved.0 moved.1 moved_touches.calm (whole moved.0 moved.1 moves.touches)
@@ -343,6 +303,8 @@ module _ {P M : Type 0} (store : P → Store) (meant : M → Merge) (old : DbVal
           extends = moved_extends;
           does = moves.touches;
           quiet = λ k. absurd (apart k.reply k.decided);
+          loud = λ event k. absurd (apart k.reply k.decided);
+          follows = λ must few. follows;
           rest = moved_touches.rest;
           passes = further;
           loses = loses_acting at after db.forest moved.0 db.is moved.1;
@@ -356,7 +318,7 @@ module _ {P M : Type 0} (store : P → Store) (meant : M → Merge) (old : DbVal
             apart r e = cc
 
       -- the call is refused by the store
-      module _ (few : f.turns < MAX_LOOPS) (g : Flight) (e : Error) (moves : Moves f.job (store old.pages) f.stage (next.Refused e) (store q)) where
+      module _ (few : f.turns < MAX_LOOPS) (g : Flight) (e : Error) (moves : Moves f.job (store old.pages) f.stage (next.Refused e) (store q)) (follows : FollowsOn (store old.pages) f (Refused e) (store q) g) where
         refused : (v : Forest) × Acts (owned f.stage) [] at db.forest after v × Same at db.forest after v × Unit {0}
         refused = moves.told (numbers_of old.trees) (given_to old.trees_given) db.forest db.is named_now (known.told db.forest db.is)
 
@@ -389,6 +351,8 @@ module _ {P M : Type 0} (store : P → Store) (meant : M → Merge) (old : DbVal
           extends = refused_extends;
           does = refuses_quietly e (store old.pages) (store q) moves.touches;
           quiet = λ k. absurd (apart k.reply k.decided);
+          loud = λ event k. absurd (apart k.reply k.decided);
+          follows = λ must few. follows;
           rest = rests.rest;
           passes = record { told = tt };
           loses = loses_acting at after db.forest refused.0 db.is refused.1;
@@ -408,7 +372,7 @@ module _ {P M : Type 0} (store : P → Store) (meant : M → Merge) (old : DbVal
             below n h e = omega arith
 
       -- the call is decided
-      module _ (few : f.turns < MAX_LOOPS) (g : Flight) (reply : Reply) (moves : Moves f.job (store old.pages) f.stage (next.Decided reply) (store q)) where
+      module _ (few : f.turns < MAX_LOOPS) (g : Flight) (reply : Reply) (moves : Moves f.job (store old.pages) f.stage (next.Decided reply) (store q)) (follows : FollowsOn (store old.pages) f (Decided reply) (store q) g) where
         done : (v : Forest) × Acts (owned f.stage) [] at db.forest after v × Decides f.job reply (store old.pages) (store q) at db.forest after v × LeavesNone (owned f.stage) [] (now (store old.pages)) (now (store q)) v
         done = moves.told (numbers_of old.trees) (given_to old.trees_given) db.forest db.is named_now (known.told db.forest db.is)
 
@@ -424,7 +388,7 @@ module _ {P M : Type 0} (store : P → Store) (meant : M → Merge) (old : DbVal
             ∙ ap (λ m. put_name (trees_of (now (store old.pages))) f.job.tree.name (Some m)) done.2.here
 
         done_extends : Extends (trees_of (now (store q)) ∷ []) (store old.pages) (store q)
-        done_extends = extends_seen (store old.pages) (store q) moves.touches (done_touches.calm ∙ db.calm) (well done.0 done.1.is)
+        done_extends = extends_seen (store old.pages) (store q) moves.touches (done_touches.calm ∙ db.calm) (well done.0 done.1)
 
         pub decided_db : IsDb (store q) old.trees old.trees_given
         decided_db = is_db done.0 done.1 done_touches.calm (whole done.0 done.1 moves.touches)
@@ -483,7 +447,9 @@ module _ {P M : Type 0} (store : P → Store) (meant : M → Merge) (old : DbVal
           };
           extends = subst (λ m. Extends (m ∷ []) (store old.pages) (store q)) (sym same_maps) done_extends;
           does = moves.touches;
-          quiet = λ k. done.2.quiet (ap (λ (t : NamedTree). (answer_of f.job.call t.map).event) (some_is (sym there ∙ k.there)) ∙ k.silent);
+          quiet = λ k. done.2.quiet (brought k.tree k.there ∙ k.is);
+          loud = λ event k. done.2.loud (λ none. none_some (sym none ∙ brought k.tree k.there ∙ k.is));
+          follows = λ must few. follows;
           rest = done_touches.rest;
           passes = record { told = tt };
           loses = loses_acting at after db.forest done.0 db.is done.1;
@@ -496,33 +462,37 @@ module _ {P M : Type 0} (store : P → Store) (meant : M → Merge) (old : DbVal
             some_is : {X : Type 0} {x y : X} → Some x ≡ Some y → x ≡ y
             some_is e = cc
 
+            -- the event by the map now
+            brought : (t : NamedTree) → (db_state store meant old).trees f.job.tree.name ≡ Some t → answer.event ≡ (answer_of f.job.call t.map).event
+            brought t there_too = ap (λ (t : NamedTree). (answer_of f.job.call t.map).event) (some_is (sym there ∙ there_too))
+
             off : Decided reply ≡ Moved → ⊥
             off e = cc
 
       -- one step of the call, whatever comes of it
-      pub flies_on : (few : f.turns < MAX_LOOPS) (went : Went) (g : Flight) → Advances (store old.pages) f went (store q) g → GoesFurther (now (store old.pages)) f went (now (store q)) g → Flies store meant old f went new g
-      flies_on few Moved g a further = flies_moved few g a.told.0 a.told.1 a.told.2 further
-      flies_on few (Decided reply) g a further = flies_decided few g reply a.told
-      flies_on few (Refused e) g a further = flies_refused few g e a.told
+      pub flies_on : (few : f.turns < MAX_LOOPS) (went : Went) (g : Flight) → Advances (store old.pages) f went (store q) g → GoesFurther (now (store old.pages)) f went (now (store q)) g → FollowsOn (store old.pages) f went (store q) g → Flies store meant old f went new g
+      flies_on few Moved g a further follows = flies_moved few g a.told.0 a.told.1 a.told.2 further follows
+      flies_on few (Decided reply) g a further follows = flies_decided few g reply a.told follows
+      flies_on few (Refused e) g a further follows = flies_refused few g e a.told follows
 
-      pub db_on : (few : f.turns < MAX_LOOPS) (went : Went) (g : Flight) → Advances (store old.pages) f went (store q) g → GoesFurther (now (store old.pages)) f went (now (store q)) g → IsDb (store q) old.trees old.trees_given
-      db_on few Moved g a further = moved_db few g a.told.0 a.told.1 a.told.2 further
-      db_on few (Decided reply) g a further = decided_db few g reply a.told
-      db_on few (Refused e) g a further = refused_db few g e a.told
+      pub db_on : (few : f.turns < MAX_LOOPS) (went : Went) (g : Flight) → Advances (store old.pages) f went (store q) g → GoesFurther (now (store old.pages)) f went (now (store q)) g → FollowsOn (store old.pages) f went (store q) g → IsDb (store q) old.trees old.trees_given
+      db_on few Moved g a further follows = moved_db few g a.told.0 a.told.1 a.told.2 further follows
+      db_on few (Decided reply) g a further follows = decided_db few g reply a.told follows
+      db_on few (Refused e) g a further follows = refused_db few g e a.told follows
 
 -- the same, where a method knows the database by its fields
 module _ {P M : Type 0} (store : P → Store) (meant : M → Merge) (inside old : DbValue P M) (e : inside ≡ old) (db : IsDb (store inside.pages) inside.trees inside.trees_given) (f : Flight) where
   pub flies_as : (q : P) (few : f.turns < MAX_LOOPS) (went : Went) (g : Flight) → must_refuse_of (db_state store meant old) (f.job.tree ∷ []) ≡ None → IsKnown (moment (store old.pages) old.trees old.trees_given) f
-      → Advances (store inside.pages) f went (store q) g → GoesFurther (now (store inside.pages)) f went (now (store q)) g → Flies store meant old f went (record inside { pages = q }) g
-  flies_as q few went g must known a further =
+      → Advances (store inside.pages) f went (store q) g → GoesFurther (now (store inside.pages)) f went (now (store q)) g → FollowsOn (store inside.pages) f went (store q) g → Flies store meant old f went (record inside { pages = q }) g
+  flies_as q few went g must known a further follows =
       subst (λ (z : DbValue P M). must_refuse_of (db_state store meant z) (f.job.tree ∷ []) ≡ None → IsKnown (moment (store z.pages) z.trees z.trees_given) f → Flies store meant z f went (record inside { pages = q }) g)
-      e (λ must known. flies_on store meant inside db f must q known few went g a further) must known
+      e (λ must known. flies_on store meant inside db f must q known few went g a further follows) must known
 
   pub db_as : (q : P) (few : f.turns < MAX_LOOPS) (went : Went) (g : Flight) → must_refuse_of (db_state store meant old) (f.job.tree ∷ []) ≡ None → IsKnown (moment (store old.pages) old.trees old.trees_given) f
-      → Advances (store inside.pages) f went (store q) g → GoesFurther (now (store inside.pages)) f went (now (store q)) g → IsDb (store q) inside.trees inside.trees_given
-  db_as q few went g must known a further =
+      → Advances (store inside.pages) f went (store q) g → GoesFurther (now (store inside.pages)) f went (now (store q)) g → FollowsOn (store inside.pages) f went (store q) g → IsDb (store q) inside.trees inside.trees_given
+  db_as q few went g must known a further follows =
       subst (λ (z : DbValue P M). must_refuse_of (db_state store meant z) (f.job.tree ∷ []) ≡ None → IsKnown (moment (store z.pages) z.trees z.trees_given) f → IsDb (store q) inside.trees inside.trees_given)
-      e (λ must known. db_on store meant inside db f must q known few went g a further) must known
+      e (λ must known. db_on store meant inside db f must q known few went g a further follows) must known
 
 -- below the limit
 pub below_limit : (f : Flight) → f.turns ≤ MAX_LOOPS → f.turns ≢ MAX_LOOPS → f.turns < MAX_LOOPS

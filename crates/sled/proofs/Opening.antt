@@ -2,12 +2,12 @@
 use Rattle.std.proofs.Common.{◌≡◌, ◌≢◌, ℕ, suc, ◌+◌, ◌*◌, ◌<◌, ◌≤◌, ◌^◌, Bool, true, false, cond, ◌&&◌, List, [], ◌∷◌, length, map, Option, Some, None, is_some, option_map, Less, Equal, Greater, is_eq, Result, Ok, Err, sym, refl, ap, ◌∙◌, subst, inl, inr, arith}
 use Rattle.std.proofs.Math.Path.{fun_ext}
 use Rattle.std.specs.FinMap.Entries.{find, is_sorted, below_all}
-use Rattle.std.specs.Ordering.{eq_by_cmp, nat_cmp}
+use Rattle.std.specs.Ordering.{eq_by_cmp}
 use Rattle.std.specs.declared.cmp.Ordering.{Ordering}
 use Rattle.std.proofs.lemmas.Bool.Decides.{nat_tests}
 use Rattle.std.specs.Str.{bytes_eq}
 use Rattle.sled_pages.specs.Order.{Key, key_cmp}
-use Rattle.sled_pages.specs.Facts.{same_name, put_elsewhere, put_here, now_allocates, now_acted, now_swaps, fresh_page}
+use Rattle.sled_pages.specs.Facts.{same_name, put_elsewhere, put_here, now_allocates, now_acted, fresh_page}
 use Rattle.sled_pages.specs.Crash.{states_left}
 use Rattle.sled_pages.specs.State.{State, RootBecomes, PageBecomes, nodes_of, after}
 use Rattle.sled_pages.specs.Store.{Store, now, acted, flushed, Allocates, SwapsRoot, Refused, AreGiven}
@@ -19,7 +19,7 @@ use Rattle.sled_pages.specs.declared.page.Page.{Page}
 use Rattle.sled_model.specs.Maps.{Map, Maps}
 use Rattle.tree_laws.specs.Forest.{Tree, Forest, Place, WellFormed, IsSized, contents}
 use Rattle.tree_laws.specs.Contents.{trees_of}
-use Rattle.tree_laws.specs.Crashes.{IsWell, IsWhole, Extends, Flushes}
+use Rattle.tree_laws.specs.Crashes.{IsWhole, Extends, Flushes}
 use Rattle.tree_laws.specs.Moment.{IsMoment, IsStray}
 use Rattle.tree_laws.specs.Laws.{IsAlone}
 use Rattle.tree_laws.proofs.Crashing.{adds_page, adds_is, adds_extends, adds_unseen, extends_same, extends_then, flushes_same, flushes_left, flushes_whole_law}
@@ -41,10 +41,6 @@ some_is e = cc
 
 false_true : {P : Type 0} → false ≡ true → P
 false_true e = cc
-
--- the shape alone
-well_of : {s : State} → IsWhole s → IsWell s
-well_of k = record { forest = k.forest; formed = k.formed }
 
 -- a new page without a home
 
@@ -127,7 +123,7 @@ module _ (name : Key) where
 
   -- a fault is counted, and nothing else changes
   faulted : {maps : List Maps} {a b : Store} (n : ℕ) → Extends maps a b → Extends maps a (record b { faults = n })
-  faulted n x = record { base = x.base; added = x.added; recent = x.recent; actions = x.actions; grew = x.grew; safe = λ s. record { well = (x.safe s).well } }
+  faulted n x = record { base = x.base; added = x.added; recent = x.recent; actions = x.actions; grew = x.grew; safe = λ s. record { whole = (x.safe s).whole } }
 
   faulted_again : {a b : Store} (n : ℕ) → CanBeOpened name a b → CanBeOpened name a (record b { faults = n })
   faulted_again n k = record {
@@ -210,7 +206,7 @@ module _ (name : Key) where
     one = ap length (planted_absent (trees_of (now a)) absent)
 
     grown : Extends [] a b
-    grown = adds_unseen (adds_page new) calm calm_then (well_of well_then) unseen
+    grown = adds_unseen (adds_page new) calm calm_then well_then unseen
 
     pub made_again : CanBeOpened name a b
     made_again = record {
@@ -253,7 +249,7 @@ module _ (name : Key) where
         let out : (now c).in_group ≡ false = ap (λ (s : State). s.in_group) at ∙ calm_then in
         let adds = adds_is e in
         let all : Extends (planted name (trees_of (now a))) a c =
-        subst (λ l. Extends l a c) (ap (λ (m : Maps). m ∷ []) maps ∙ sym (planted_absent (trees_of (now a)) absent)) (extends_then grown (adds_extends adds out (well_of good))) in
+        subst (λ l. Extends l a c) (ap (λ (m : Maps). m ∷ []) maps ∙ sym (planted_absent (trees_of (now a)) absent)) (extends_then grown (adds_extends adds out good)) in
         let count : c.actions ≡ a.actions + 2 * length (planted name (trees_of (now a))) = two a.actions b.actions c.actions (length (planted name (trees_of (now a)))) one (adds_page new).actions adds.actions in
         record {
           grows = record { extends = all; actions = count };

@@ -1,6 +1,8 @@
 -- One step of a call in flight on a database.
-use Rattle.std.specs.Prelude.{◌≡◌, ◌≢◌, ℕ, ◌+◌, ◌≤◌, ◌⊎◌, true, List, [], ◌∷◌, Option, Some, None}
+use Rattle.std.specs.Prelude.{◌≡◌, ◌≢◌, ℕ, ◌+◌, ◌<◌, ◌⊎◌, true, false, List, [], ◌∷◌, Option, Some, None}
 use Rattle.sled_pages.specs.In.{In}
+use Rattle.sled_pages.specs.declared.error.Error.{Error}
+use Rattle.sled_pages.specs.declared.error.Error.TheVariants.{Io}
 use Rattle.sled_pages.specs.State.{Nodes}
 use Rattle.sled_pages.specs.declared.node.Node.{Node}
 use Rattle.sled_pages.specs.Store.{Store, now}
@@ -8,7 +10,9 @@ use Rattle.sled_pages.specs.Update.{put_at}
 use Rattle.sled_model.specs.Maps.{Maps, Merge}
 use Rattle.sled_model.specs.Answer.{answer_of}
 use Rattle.sled_model.specs.State.{NamedTree, Flying, maps_of}
+use Rattle.sled_model.specs.Refusal.{must_refuse_of}
 use Rattle.sled_model.specs.Steps.{Steps}
+use Rattle.sled_model.specs.declared.event.Event.{Event}
 use Rattle.sled_model.specs.declared.reply.Reply.{Reply}
 use Rattle.sled_model.specs.declared.outcome.Outcome.{Outcome}
 use Rattle.sled_model.specs.declared.outcome.Outcome.TheVariants as outcome
@@ -17,11 +21,12 @@ use Rattle.sled_model.specs.declared.TheConstants.{MAX_LOOPS}
 use Rattle.tree_laws.specs.Forest.{Place, Forest}
 use Rattle.tree_laws.specs.Crashes.{Extends}
 use Rattle.tree_laws.specs.Moment.{Moment, nodes_at, IsMoment}
-use Rattle.sled_tree.specs.Stages.{IsStage, owned}
-use Rattle.sled_tree.specs.Moves.{ActsAtMostOnce, leaves_as}
+use Rattle.sled_tree.specs.Stages.{owned}
+use Rattle.sled_tree.specs.Known.{IsKnown, AreApart}
+use Rattle.sled_tree.specs.Moves.{ActsOnce, ActsAtMostOnce, leaves_as}
+use Rattle.sled_tree.specs.Follows.{FollowsOn}
 use Rattle.sled_tree.specs.Passing.{GoesFurther}
 use Rattle.sled_tree.specs.declared.flight.Flight.{Flight}
-use Rattle.sled_tree.specs.declared.flight.Stage.TheVariants.{Root}
 use Rattle.sled_tree.specs.declared.flight.Next.{Next}
 use Rattle.sled_tree.specs.declared.flight.Next.TheVariants as next
 use Rattle.sled_tree.specs.declared.flight.Went.{Went}
@@ -31,17 +36,6 @@ use Rattle.sled.specs.Values.{KeepsRest, DbValue, db_state, instant_of, moment}
 -- a call in flight, as the model has it
 abbrev pub flying_of : Flight → Flying
 flying_of f = record { tree = f.job.tree; call = f.job.call; turns = f.turns; waiting = []; rest = None }
-
--- What a call in flight knows of the pages is true at this moment, and it has no more turns than it may have. Without a turn it
--- has yet to begin
-pub record IsKnown (m : Moment) (f : Flight) : Type 0 where
-  pub told : (w : Forest) → IsMoment m w → IsStage m w f.job f.stage
-  pub few : f.turns ≤ MAX_LOOPS
-  pub begins : f.turns ≡ 0 → f.stage ≡ Root
-
--- no page is the two calls' own
-pub record AreApart (f g : Flight) : Type 0 where
-  pub off : (q : ℕ) → In q (owned f.stage) → In q (owned g.stage) → ⊥
 
 abbrev pub outcome_of : Went → Outcome
 outcome_of Moved = outcome.Moved
@@ -66,13 +60,13 @@ maps_added Moved maps = []
 maps_added (Decided reply) maps = maps ∷ []
 maps_added (Refused e) maps = []
 
--- the step was decided without an event
-pub record IsQuiet {P M : Type 0} (store : P → Store) (meant : M → Merge) (old : DbValue P M) (f : Flight) (went : Went) : Type 0 where
+-- the step was decided, and brings this event, or none
+pub record Brings {P M : Type 0} (store : P → Store) (meant : M → Merge) (old : DbValue P M) (f : Flight) (went : Went) (event : Option Event) : Type 0 where
   pub reply : Reply
   pub decided : went ≡ Decided reply
   pub tree : NamedTree
   pub there : (db_state store meant old).trees f.job.tree.name ≡ Some tree
-  pub silent : (answer_of f.job.call tree.map).event ≡ None
+  pub is : (answer_of f.job.call tree.map).event ≡ event
 
 -- each page that stood in a tree stands there still, or is merging
 pub record StillStands (w : Forest) (nodes : Nodes) (v : Forest) : Type 0 where
@@ -82,15 +76,16 @@ pub record StillStands (w : Forest) (nodes : Nodes) (v : Forest) : Type 0 where
 abbrev pub LosesNone : Moment → Moment → Type 0
 LosesNone old new = (w v : Forest) → IsMoment old w → IsMoment new v → StillStands w (nodes_at new) v
 
--- a refusal changes nothing, but that a fault may be counted
-abbrev pub RefusesQuietly : Store → Store → Type 0
-RefusesQuietly old new = (new ≡ old) ⊎ (new ≡ record old { faults = old.faults + 1 })
+-- a refusal changes nothing; but `Io` counts a fault, or tells that some page is not readable
+abbrev pub RefusesQuietly : Error → Store → Store → Type 0
+RefusesQuietly (Io fault) old new = (new ≡ record old { faults = old.faults + 1 }) ⊎ ((new ≡ old) × ((pid : ℕ) × (old.is_readable pid ≡ false)))
+RefusesQuietly e old new = new ≡ old
 
 -- what a step does to the store
 abbrev pub does_as : Went → Store → Store → Type 0
 does_as Moved old new = ActsAtMostOnce old new
 does_as (Decided reply) old new = ActsAtMostOnce old new
-does_as (Refused e) old new = RefusesQuietly old new
+does_as (Refused e) old new = RefusesQuietly e old new
 
 -- One step of a call in flight
 pub record Flies {P M : Type 0} (store : P → Store) (meant : M → Merge) (old : DbValue P M) (f : Flight) (went : Went) (new : DbValue P M) (g : Flight) : Type 0 where
@@ -99,9 +94,13 @@ pub record Flies {P M : Type 0} (store : P → Store) (meant : M → Merge) (old
       → Steps (instant_of store meant old slots slots_given) (step.Step slot) (outcome_of went) (instant_of store meant new (put_at slots slot (slot_after went g)) slots_given) (maps_added went (maps_of (db_state store meant new)))
   -- what a crash may leave grows by the map after the call, if it was decided
   pub extends : Extends (maps_added went (maps_of (db_state store meant new))) (store old.pages) (store new.pages)
-  -- at most one changing action is done, and none where the call is refused or was decided without an event
+  -- at most one changing action is done: none where the call is refused or was decided without an event, and one where it
+  -- was decided with one
   pub does : does_as went (store old.pages) (store new.pages)
-  pub quiet : IsQuiet store meant old f went → store new.pages ≡ store old.pages
+  pub quiet : Brings store meant old f went None → store new.pages ≡ store old.pages
+  pub loud : (event : Event) → Brings store meant old f went (Some event) → ActsOnce (store old.pages) (store new.pages)
+  -- where the tests pass and a turn is left, the step does what the call's stage is to do, and leads where that leads
+  pub follows : must_refuse_of (db_state store meant old) (f.job.tree ∷ []) ≡ None → f.turns < MAX_LOOPS → FollowsOn (store old.pages) f went (store new.pages) g
   pub rest : KeepsRest (store old.pages) (store new.pages)
   -- on a clean path the call goes one page further, or ends
   pub passes : GoesFurther (now (store old.pages)) f went (now (store new.pages)) g

@@ -59,7 +59,8 @@ impl<P: Pages, M> Model for Db<P, M> {
 impl<P: Pages, M: MergeOperator> Db<P, M> {
     ghost use Rattle.sled.specs.Sound.{IsDb};
     ghost use Rattle.sled.specs.Values.{db_state, moment};
-    ghost use Rattle.sled.specs.Flights.{IsKnown, Flies, FliesToEnd};
+    ghost use Rattle.sled_tree.specs.Known.{IsKnown};
+    ghost use Rattle.sled.specs.Flights.{Flies, FliesToEnd};
     ghost use Rattle.sled.specs.Flush.{FlushesDb, RefusesFlush};
 
     /// What holds of every database: its pages are well formed now and in every state that a crash may leave, and its trees

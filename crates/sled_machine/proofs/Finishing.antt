@@ -14,7 +14,8 @@ use Rattle.sled_tree.specs.declared.flight.Stage.TheVariants.{Root}
 use Rattle.sled_tree.specs.declared.flight.Went.{Went}
 use Rattle.sled_tree.specs.declared.flight.Went.TheVariants.{Moved, Decided, Refused}
 use Rattle.sled.specs.Values.{DbValue, db_state, moment}
-use Rattle.sled.specs.Flights.{IsKnown, FliesToEnd, Ends, GoesOn, outcome_of}
+use Rattle.sled_tree.specs.Known.{IsKnown}
+use Rattle.sled.specs.Flights.{FliesToEnd, Ends, GoesOn, outcome_of}
 use Rattle.sled_machine.specs.Slots.{kept_at}
 use Rattle.sled_machine.specs.Values.{MachineValue}
 use Rattle.sled_machine.specs.Sound.{IsMachine}

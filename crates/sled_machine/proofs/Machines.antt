@@ -1,5 +1,5 @@
 -- What the calls of a machine do, by its fields.
-use Rattle.std.proofs.Common.{◌≡◌, ◌≢◌, ℕ, ◌+◌, ◌≤◌, true, false, cond, nat_eq, List, [], ◌∷◌, ◌++◌, Option, Some, None, Result, Ok, Err, IfErr, option_map, map, sym, refl, ap, ◌∙◌, subst, inl, inr, ◌⊎◌, arith}
+use Rattle.std.proofs.Common.{◌≡◌, ◌≢◌, ℕ, ◌+◌, ◌<◌, ◌≤◌, true, false, cond, nat_eq, List, [], ◌∷◌, ◌++◌, Option, Some, None, Result, Ok, Err, IfErr, option_map, map, sym, refl, ap, ◌∙◌, subst, inl, inr, ◌⊎◌, arith}
 use Rattle.std.proofs.Math.Path.{fun_ext}
 use Rattle.std.proofs.lemmas.Bool.{eq-eqb, ne_eqb, eqb-true}
 use Rattle.sled_pages.specs.Update.{put_at}
@@ -10,6 +10,8 @@ use Rattle.sled_model.specs.Answer.{answer_of}
 use Rattle.sled_model.specs.State.{Flying, maps_of}
 use Rattle.sled_model.specs.Refusal.{MustRefuse, MayRefuse, must_refuse_of, may_refuse_as, cause_of, ToBegin}
 use Rattle.sled_model.specs.Steps.{Steps}
+use Rattle.sled_model.specs.declared.TheConstants.{MAX_LOOPS}
+use Rattle.sled_model.specs.declared.event.Event.{Event}
 use Rattle.sled_model.specs.declared.call.Call.{Call}
 use Rattle.sled_model.specs.declared.call.Whole.{Whole}
 use Rattle.sled_model.specs.declared.call.Whole.TheVariants.{Flush}
@@ -28,7 +30,8 @@ use Rattle.sled_tree.specs.declared.flight.Went.{Went}
 use Rattle.sled_tree.specs.declared.flight.Went.TheVariants.{Moved, Decided, Refused}
 use Rattle.sled.specs.Values.{DbValue, state_of, db_state, instant_of as instant_of_db, moment}
 use Rattle.sled.specs.Calls.{MustBeRefused, must_be_refused_as}
-use Rattle.sled.specs.Flights.{flying_of, IsKnown, AreApart, LosesNone, Flies, outcome_of, slot_after, maps_added}
+use Rattle.sled_tree.specs.Known.{IsKnown, AreApart}
+use Rattle.sled.specs.Flights.{flying_of, LosesNone, Brings, Flies, outcome_of, slot_after, maps_added}
 use Rattle.sled.specs.Flush.{Stays, FlushesDb, RefusesFlush}
 use Rattle.sled.proofs.Flying.{loses_nothing}
 use Rattle.sled_machine.specs.Slots.{kept_at}
@@ -36,9 +39,10 @@ use Rattle.sled_machine.specs.Values.{MachineValue, slots_of, instant_of}
 use Rattle.tree_laws.specs.Forest.{Forest}
 use Rattle.sled_tree.specs.Passing.{IsOnPath}
 use Rattle.sled_tree.specs.Stages.{owned}
+use Rattle.sled_tree.specs.Follows.{FollowsOn}
 use Rattle.sled_tree.specs.Moves.{LeavesNone}
 use Rattle.sled_tree.proofs.Facts.{leaves_same}
-use Rattle.sled_machine.specs.Crash.{Reaches, passes_as, leaves_at, owned_by, keeps_as, acts_as}
+use Rattle.sled_machine.specs.Crash.{BringsAt, Reaches, passes_as, leaves_at, owned_by, keeps_as, acts_as}
 use Rattle.sled_machine.specs.Sound.{IsMachine}
 use Rattle.sled_machine.specs.Fly.{flight_after}
 use Rattle.sled_machine.proofs.Places.{push_kept}
@@ -89,10 +93,10 @@ other_or_new fs gs slot x e j f there = elim (same_or_not j slot) [
 module _ {P M : Type 0} (store : P → Store) (meant : M → Merge) (v : MachineValue P M) (im : IsMachine (moment (store v.db.pages) v.db.trees v.db.trees_given) v.flights v.slots_given) where
   -- no call has the slot
   pub missing_step : (slot : ℕ) → kept_at v.flights slot ≡ None → Reaches store meant v (step.Step slot) outcome.NoSuchSlot v
-  missing_step slot e = record { maps = []; is = record { step = record { told = (record { free = ap (option_map flying_of) e; is = refl }, refl) }; keeps = extends_same (store v.db.pages); acts = refl; rest = record { mark = refl; recovered = refl; readable = refl } }; starts = tt; others = λ q off. refl; passes = tt; loses = loses_nothing (moment (store v.db.pages) v.db.trees v.db.trees_given); leaves = λ w is. subst (λ o. LeavesNone (owned_by o) (owned_by o) (now (store v.db.pages)) (now (store v.db.pages)) w) (sym e) (leaves_same [] [] (now (store v.db.pages)) w (λ q i. i)) }
+  missing_step slot e = record { maps = []; is = record { step = record { told = (record { free = ap (option_map flying_of) e; is = refl }, refl) }; keeps = extends_same (store v.db.pages); acts = refl; rest = record { mark = refl; recovered = refl; readable = refl } }; starts = tt; others = λ q off. refl; follows = λ f there. none_some (sym e ∙ there); passes = tt; loses = loses_nothing (moment (store v.db.pages) v.db.trees v.db.trees_given); leaves = λ w is. subst (λ o. LeavesNone (owned_by o) (owned_by o) (now (store v.db.pages)) (now (store v.db.pages)) w) (sym e) (leaves_same [] [] (now (store v.db.pages)) w (λ q i. i)) }
 
   pub missing_abandon : (slot : ℕ) → kept_at v.flights slot ≡ None → Reaches store meant v (step.Abandon slot) outcome.NoSuchSlot v
-  missing_abandon slot e = record { maps = []; is = record { step = record { told = (record { free = ap (option_map flying_of) e; is = refl }, refl) }; keeps = extends_same (store v.db.pages); acts = refl; rest = record { mark = refl; recovered = refl; readable = refl } }; starts = tt; others = λ q off. refl; passes = tt; loses = loses_nothing (moment (store v.db.pages) v.db.trees v.db.trees_given); leaves = tt }
+  missing_abandon slot e = record { maps = []; is = record { step = record { told = (record { free = ap (option_map flying_of) e; is = refl }, refl) }; keeps = extends_same (store v.db.pages); acts = refl; rest = record { mark = refl; recovered = refl; readable = refl } }; starts = tt; others = λ q off. refl; follows = tt; passes = tt; loses = loses_nothing (moment (store v.db.pages) v.db.trees v.db.trees_given); leaves = tt }
 
   -- a call is given up
   module _ (slot : ℕ) (f : Flight) (there : kept_at v.flights slot ≡ Some f) (gs : List (ℕ × Flight)) (gone : (q : ℕ) → kept_at gs q ≡ put_at (kept_at v.flights) slot None q) where
@@ -116,6 +120,7 @@ module _ {P M : Type 0} (store : P → Store) (meant : M → Merge) (v : Machine
       };
       starts = tt;
       others = elsewhere v.flights gs slot None gone;
+      follows = tt;
       passes = tt;
       loses = loses_nothing (moment (store v.db.pages) v.db.trees v.db.trees_given);
       leaves = tt;
@@ -136,10 +141,10 @@ module _ {P M : Type 0} (store : P → Store) (meant : M → Merge) (v : Machine
     abbrev after : Moment
     after = moment (store db.pages) db.trees db.trees_given
 
-    reach : (f next : Flight) (went : Went) → kept_at v.flights slot ≡ Some f → Flies store meant v.db f went db next → (kept : Option Flight) → option_map flying_of kept ≡ slot_after went next → ((q : ℕ) → kept_at gs q ≡ put_at (kept_at v.flights) slot kept q)
+    reach : (f next : Flight) (went : Went) → kept_at v.flights slot ≡ Some f → Flies store meant v.db f went db next → (kept : Option Flight) → option_map flying_of kept ≡ slot_after went next → kept ≡ flight_after went next → ((q : ℕ) → kept_at gs q ≡ put_at (kept_at v.flights) slot kept q)
         → passes_as store v (step.Step slot) (outcome_of went) (record v { db = db; flights = gs }) → leaves_at store v (step.Step slot) (outcome_of went) (record v { db = db; flights = gs })
         → Reaches store meant v (step.Step slot) (outcome_of went) (record v { db = db; flights = gs })
-    reach f next went there flies kept is are passes leaves = record {
+    reach f next went there flies kept is stands are passes leaves = record {
       maps = maps_added went (maps_of (db_state store meant db));
       is = record {
         step = subst (λ z. Steps (instant_of store meant v) (step.Step slot) (outcome_of went) (instant_of_db store meant db z v.slots_given) (maps_added went (maps_of (db_state store meant db)))) (sym (slots_put v.flights gs slot kept are ∙ ap (put_at (slots_of v.flights) slot) is))
@@ -150,6 +155,14 @@ module _ {P M : Type 0} (store : P → Store) (meant : M → Merge) (v : Machine
       };
       starts = tt;
       others = elsewhere v.flights gs slot kept are;
+      follows = λ g here must few. let same : g ≡ f = some_is (sym here ∙ there) in record {
+        went = went;
+        next = next;
+        outcome = refl;
+        there = are slot ∙ put_here (kept_at v.flights) slot kept ∙ stands;
+        follows = subst (λ (z : Flight). FollowsOn (store v.db.pages) z went (store db.pages) next) (sym same)
+            (flies.follows (subst (λ (z : Flight). must_refuse_of (db_state store meant v.db) (z.job.tree ∷ []) ≡ None) same must) (subst (λ (z : Flight). z.turns < MAX_LOOPS) same few));
+      };
       passes = passes;
       loses = flies.loses;
       leaves = leaves;
@@ -165,7 +178,16 @@ module _ {P M : Type 0} (store : P → Store) (meant : M → Merge) (v : Machine
 
         acts_flying : (went : Went) → Flies store meant v.db f went db next → acts_as (instant_of store meant v) (step.Step slot) (outcome_of went) (instant_of store meant (record v { db = db; flights = gs }))
         acts_flying Moved k = k.does
-        acts_flying (Decided reply) k = (k.does, λ q. k.quiet (record { reply = reply; decided = refl; tree = q.tree; there = subst (λ (z : Flying). (db_state store meant v.db).trees z.tree.name ≡ Some q.tree) (some_is (sym q.here ∙ here)) q.there; silent = subst (λ (z : Flying). (answer_of z.call q.tree.map).event ≡ None) (some_is (sym q.here ∙ here)) q.silent }))
+        acts_flying (Decided reply) k = record { does = k.does; quiet = λ b. k.quiet (brings b); loud = λ event b. k.loud event (brings b) }
+          where
+            brings : {event : Option Event} → BringsAt (instant_of store meant v).state slot event → Brings store meant v.db f (Decided reply) event
+            brings {event} b = record {
+              reply = reply;
+              decided = refl;
+              tree = b.tree;
+              there = subst (λ (z : Flying). (db_state store meant v.db).trees z.tree.name ≡ Some b.tree) (some_is (sym b.here ∙ here)) b.there;
+              is = subst (λ (z : Flying). (answer_of z.call b.tree.map).event ≡ event) (some_is (sym b.here ∙ here)) b.is;
+            }
         acts_flying (Refused r) k = k.does
 
     -- on a clean path the call has a page less ahead of it
@@ -218,13 +240,13 @@ module _ {P M : Type 0} (store : P → Store) (meant : M → Merge) (v : Machine
         }
 
     pub stepped_as : (f next : Flight) (went : Went) → kept_at v.flights slot ≡ Some f → Flies store meant v.db f went db next → ((q : ℕ) → kept_at gs q ≡ put_at (kept_at v.flights) slot (flight_after went next) q) → Reaches store meant v (step.Step slot) (outcome_of went) (record v { db = db; flights = gs }) × IsMachine after gs v.slots_given
-    stepped_as f next Moved there flies e = (reach f next Moved there flies (Some next) refl e (further f next there flies e) (λ w is. owns f (Some next) there e w (flies.leaves w is)), moved_machine f next there flies e)
-    stepped_as f next (Decided reply) there flies e = (reach f next (Decided reply) there flies None refl e tt (λ w is. owns f None there e w (flies.leaves w is)), ended_machine f next (Decided reply) there flies e)
-    stepped_as f next (Refused r) there flies e = (reach f next (Refused r) there flies None refl e tt tt, ended_machine f next (Refused r) there flies e)
+    stepped_as f next Moved there flies e = (reach f next Moved there flies (Some next) refl refl e (further f next there flies e) (λ w is. owns f (Some next) there e w (flies.leaves w is)), moved_machine f next there flies e)
+    stepped_as f next (Decided reply) there flies e = (reach f next (Decided reply) there flies None refl refl e tt (λ w is. owns f None there e w (flies.leaves w is)), ended_machine f next (Decided reply) there flies e)
+    stepped_as f next (Refused r) there flies e = (reach f next (Refused r) there flies None refl refl e tt tt, ended_machine f next (Refused r) there flies e)
 
   -- a call begins, or is refused
   pub begin_refused : (tree : Tree) (call : Call) (e : Error) → MayRefuse (state_of store meant v.db (slots_of v.flights) v.slots_given) (store v.db.pages) (store v.db.pages) (ToBegin tree call) e → Reaches store meant v (step.Begin tree call) (outcome.Refused e) v
-  begin_refused tree call e may = record { maps = []; is = record { step = record { told = (may, refl, refl) }; keeps = extends_same (store v.db.pages); acts = refl; rest = record { mark = refl; recovered = refl; readable = refl } }; starts = tt; others = λ q off. refl; passes = tt; loses = loses_nothing (moment (store v.db.pages) v.db.trees v.db.trees_given); leaves = tt }
+  begin_refused tree call e may = record { maps = []; is = record { step = record { told = (may, refl, refl) }; keeps = extends_same (store v.db.pages); acts = refl; rest = record { mark = refl; recovered = refl; readable = refl } }; starts = tt; others = λ q off. refl; follows = tt; passes = tt; loses = loses_nothing (moment (store v.db.pages) v.db.trees v.db.trees_given); leaves = tt }
 
   pub begin_untested : (tree : Tree) (call : Call) (e : Error) → MustBeRefused (must_refuse_of (db_state store meant v.db) (tree ∷ [])) e → Reaches store meant v (step.Begin tree call) (outcome.Refused e) v
   begin_untested tree call e tested = begin_refused tree call e (record { told = go (must_refuse_of (db_state store meant v.db) (tree ∷ [])) tested.told })
@@ -268,6 +290,7 @@ module _ {P M : Type 0} (store : P → Store) (meant : M → Merge) (v : Machine
         };
         starts = added_kept slot ∙ put_here (kept_at v.flights) slot (Some f) ∙ ap Some is;
         others = elsewhere v.flights gs slot (Some f) added_kept;
+        follows = tt;
         passes = tt;
         loses = loses_nothing (moment (store v.db.pages) v.db.trees v.db.trees_given);
         leaves = tt;
@@ -303,6 +326,7 @@ module _ {P M : Type 0} (store : P → Store) (meant : M → Merge) (v : Machine
     is = record { step = record { told = (f.free, f.stays.state (slots_of v.flights) v.slots_given, refl) }; keeps = record { flushes = f.flushes; leaves = record { is = subst (λ z. Matches z (maps_of (db_state store meant db) ∷ [])) (sym (ap (map trees_of) f.left ∙ ap (λ z. z ∷ []) f.maps)) (matches_same _) } }; acts = f.flushes.actions; rest = f.stays.rest };
     starts = tt;
     others = λ q off. refl;
+    follows = tt;
     passes = tt;
     loses = loses_flush db f.stays;
     leaves = tt;
@@ -314,6 +338,7 @@ module _ {P M : Type 0} (store : P → Store) (meant : M → Merge) (v : Machine
     is = record { step = record { told = (f.may (slots_of v.flights) v.slots_given, f.stays.state (slots_of v.flights) v.slots_given, refl) }; keeps = f.extends; acts = f.actions; rest = f.stays.rest };
     starts = tt;
     others = λ q off. refl;
+    follows = tt;
     passes = tt;
     loses = loses_flush db f.stays;
     leaves = tt;

@@ -4,7 +4,7 @@ use Rattle.sled_pages.specs.Store.{Store, now}
 use Rattle.sled_pages.specs.Crash.{states_left}
 use Rattle.sled_model.specs.Maps.{Maps, Merge}
 use Rattle.sled_model.specs.Answer.{answer_of, key_of}
-use Rattle.sled_model.specs.Refusal.{TellsTurns}
+use Rattle.sled_model.specs.Refusal.{TellsTurns, must_refuse_of}
 use Rattle.sled_model.specs.State.{State, NamedTree, Flying, maps_of}
 use Rattle.sled_model.specs.Steps.{Instant, Steps}
 use Rattle.sled_model.specs.Runs.{RunsBy}
@@ -12,6 +12,7 @@ use Rattle.sled_model.specs.declared.outcome.Step.{Step}
 use Rattle.sled_model.specs.declared.outcome.Step.TheVariants as step
 use Rattle.sled_model.specs.declared.outcome.Outcome.{Outcome}
 use Rattle.sled_model.specs.declared.outcome.Outcome.TheVariants.{Begun, Moved, Decided, Refused, NoSuchSlot}
+use Rattle.sled_model.specs.declared.event.Event.{Event}
 use Rattle.sled_model.specs.declared.call.Call.{Call}
 use Rattle.sled_model.specs.declared.call.Whole.TheVariants.{Flush}
 use Rattle.sled_model.specs.declared.tree.Tree.{Tree}
@@ -23,12 +24,15 @@ use Rattle.tree_laws.specs.Forest.{Forest}
 use Rattle.tree_laws.specs.Moment.{IsMoment}
 use Rattle.tree_laws.specs.Paths.{IsClean}
 use Rattle.sled_tree.specs.Stages.{owned}
-use Rattle.sled_tree.specs.Moves.{ActsAtMostOnce, LeavesNone}
+use Rattle.sled_tree.specs.Follows.{FollowsOn}
+use Rattle.sled_tree.specs.Moves.{ActsOnce, ActsAtMostOnce, LeavesNone}
 use Rattle.sled_tree.specs.Passing.{IsOnPath}
 use Rattle.sled_tree.specs.declared.flight.Flight.{Flight}
 use Rattle.sled_tree.specs.declared.flight.Stage.TheVariants.{Root}
-use Rattle.sled.specs.Values.{KeepsRest, moment}
-use Rattle.sled.specs.Flights.{RefusesQuietly, LosesNone}
+use Rattle.sled_tree.specs.declared.flight.Went.{Went}
+use Rattle.sled.specs.Values.{KeepsRest, db_state, moment}
+use Rattle.sled.specs.Flights.{RefusesQuietly, LosesNone, outcome_of}
+use Rattle.sled_machine.specs.Fly.{flight_after}
 use Rattle.sled_machine.specs.Slots.{kept_at}
 use Rattle.sled_machine.specs.Values.{MachineValue, slots_of, instant_of}
 
@@ -52,21 +56,27 @@ abbrev pub kept_after : Step → Outcome → List Maps → Maps → List Maps �
 kept_after (step.Whole Flush) (Decided reply) added after kept = after ∷ []
 kept_after s o added after kept = kept ++ added
 
--- the call in the slot brings no event by the map now
-pub record IsSilent (s : State) (slot : ℕ) : Type 0 where
+-- the call in the slot brings this event by the map now, or none
+pub record BringsAt (s : State) (slot : ℕ) (event : Option Event) : Type 0 where
   pub flying : Flying
   pub here : s.slots slot ≡ Some flying
   pub tree : NamedTree
   pub there : s.trees flying.tree.name ≡ Some tree
-  pub silent : (answer_of flying.call tree.map).event ≡ None
+  pub is : (answer_of flying.call tree.map).event ≡ event
+
+-- what a decided call does: no action where it brings no event, and one changing action where it brings one
+pub record DecidesBy (old : Instant) (slot : ℕ) (new : Store) : Type 0 where
+  pub does : ActsAtMostOnce old.store new
+  pub quiet : BringsAt old.state slot None → new ≡ old.store
+  pub loud : (event : Event) → BringsAt old.state slot (Some event) → ActsOnce old.store new
 
 -- What a step does of page actions: a call that begins or is given up, or that no slot has, does none, and nor does a flush. A
--- step of a slot does at most one changing action, and none where the call is refused or decided without an event. A fault that
--- the store counts refuses the call
+-- step of a slot does at most one changing action: none where the call is refused or decided without an event, and one where it
+-- is decided with one. A fault that the store counts refuses the call with `Io`
 abbrev pub acts_as : Instant → Step → Outcome → Instant → Type 0
 acts_as old (step.Begin tree call) o new = new.store ≡ old.store
-acts_as old (step.Step slot) (Decided reply) new = ActsAtMostOnce old.store new.store × (IsSilent old.state slot → new.store ≡ old.store)
-acts_as old (step.Step slot) (Refused e) new = RefusesQuietly old.store new.store
+acts_as old (step.Step slot) (Decided reply) new = DecidesBy old slot new.store
+acts_as old (step.Step slot) (Refused e) new = RefusesQuietly e old.store new.store
 acts_as old (step.Step slot) NoSuchSlot new = new.store ≡ old.store
 acts_as old (step.Step slot) o new = ActsAtMostOnce old.store new.store
 acts_as old (step.Abandon slot) o new = new.store ≡ old.store
@@ -82,6 +92,19 @@ pub record IsAhead {P M : Type 0} (store : P → Store) (m : MachineValue P M) (
 abbrev pub passes_as : {P M : Type 0} → (P → Store) → MachineValue P M → Step → Outcome → MachineValue P M → Type 0
 passes_as store old (step.Step slot) Moved new = (path : List ℕ) → IsAhead store old slot path → (rest : List ℕ) × (length path ≡ suc (length rest)) × IsAhead store new slot rest
 passes_as store old s o new = Unit {0}
+
+-- the call did what its stage is to do, and stands where that leads
+pub record FollowsAt {P M : Type 0} (store : P → Store) (old : MachineValue P M) (f : Flight) (slot : ℕ) (o : Outcome) (new : MachineValue P M) : Type 0 where
+  pub went : Went
+  pub next : Flight
+  pub outcome : o ≡ outcome_of went
+  pub there : kept_at new.flights slot ≡ flight_after went next
+  pub follows : FollowsOn (store old.db.pages) f went (store new.db.pages) next
+
+-- a step of a slot follows from the stage of its call, where the tests pass and a turn is left
+abbrev pub follows_as : {P M : Type 0} → (P → Store) → (M → Merge) → MachineValue P M → Step → Outcome → MachineValue P M → Type 0
+follows_as store meant old (step.Step slot) o new = (f : Flight) → kept_at old.flights slot ≡ Some f → must_refuse_of (db_state store meant old.db) (f.job.tree ∷ []) ≡ None → f.turns < MAX_LOOPS → FollowsAt store old f slot o new
+follows_as store meant old s o new = Unit {0}
 
 -- the pages that are the own of the call in a slot, if there is one
 abbrev pub owned_by : Option Flight → List ℕ
@@ -121,7 +144,8 @@ pub record Reaches {P M : Type 0} (store : P → Store) (meant : M → Merge) (o
   pub starts : starts_as s o new
   -- the calls in all other slots are as they were, with what they know of the pages and what they own
   pub others : (slot : ℕ) → slot_of s o ≢ Some slot → kept_at new.flights slot ≡ kept_at old.flights slot
-  -- on a clean path the call in the slot goes one page further, or ends
+  -- it does what the stage of the call in the slot is to do; and on a clean path the call goes one page further, or ends
+  pub follows : follows_as store meant old s o new
   pub passes : passes_as store old s o new
   -- no page of a tree is lost, and none of a call's own is left behind
   pub loses : LosesNone (moment (store old.db.pages) old.db.trees old.db.trees_given) (moment (store new.db.pages) new.db.trees new.db.trees_given)

@@ -2,7 +2,7 @@
 use Rattle.std.specs.Prelude.{◌≡◌, ◌≢◌, ℕ, ◌≤◌, List, Some}
 use Rattle.tree_laws.specs.Moment.{Moment}
 use Rattle.sled_tree.specs.declared.flight.Flight.{Flight}
-use Rattle.sled.specs.Flights.{IsKnown, AreApart}
+use Rattle.sled_tree.specs.Known.{IsKnown, AreApart}
 use Rattle.sled_machine.specs.Slots.{kept_at}
 
 -- No slot is past the last that was given, what each call knows of the pages is true, and no page is two calls' own

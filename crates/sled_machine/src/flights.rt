@@ -2,7 +2,8 @@
 ghost use Rattle.std.specs.Prelude.{◌≡◌, slice_get, Some};
 ghost use Rattle.std.specs.Option.{option_map};
 ghost use Rattle.sled.specs.Values.{moment};
-ghost use Rattle.sled.specs.Flights.{IsKnown, outcome_of};
+ghost use Rattle.sled_tree.specs.Known.{IsKnown};
+ghost use Rattle.sled.specs.Flights.{outcome_of};
 ghost use Rattle.sled_tree.specs.declared.flight.Flight.{Flight};
 ghost use Rattle.sled_machine.specs.Slots.{Rise};
 ghost use Rattle.sled_machine.specs.Table.{HoldsAt};

@@ -1,5 +1,5 @@
 -- What follows of the state now, and of what a crash may leave, from an action. Clients of a store cite these.
-use Rattle.std.proofs.Common.{◌≡◌, ◌≢◌, ℕ, zero, suc, take, true, false, cond, List, [], ◌∷◌, ◌++◌, Option, Some, None, Result, Ok, Err, inl, inr, refl, sym, ap, subst, ◌∙◌, append_assoc, append-nil, if◌then◌else◌}
+use Rattle.std.proofs.Common.{◌≡◌, ◌≢◌, ℕ, zero, suc, take, true, false, cond, List, [], ◌∷◌, ◌++◌, Option, Some, None, Result, Ok, Err, inl, inr, refl, sym, ap, subst, ◌∙◌, append_assoc, if◌then◌else◌}
 use Rattle.std.proofs.lemmas.Bool.{eq-eqb, ne_eqb}
 use Rattle.std.proofs.lemmas.Slice.Eq.{bytes_eq-Decides}
 use mathlib.Core.Bool.{true≢false}
@@ -10,7 +10,7 @@ use Rattle.sled_pages.specs.Update.{put_at, put_name}
 use Rattle.sled_pages.specs.declared.node.Node.{Node}
 use Rattle.sled_pages.specs.declared.page.Page.{Page}
 use Rattle.sled_pages.specs.State.{State, Action, PageBecomes, RootBecomes, after, after_all}
-use Rattle.sled_pages.specs.Store.{Store, now, acted, flushed, ActsAt, Allocates, Changes, Frees, SwapsRoot, AreGiven}
+use Rattle.sled_pages.specs.Store.{Store, now, acted, ActsAt, Allocates, SwapsRoot, AreGiven}
 use Rattle.sled_pages.specs.Crash.{left_from, states_left, MayLeave, Crashes}
 
 -- the state after actions and one more
@@ -30,22 +30,9 @@ now_acts a version old new h = ap now h.is ∙ now_acted a old
 pub now_allocates : (node : Node) (pid version : ℕ) (old new : Store) → Allocates node pid version old new → now new ≡ after (PageBecomes pid (Some (record { version = version; node = node }))) (now old)
 now_allocates node pid version old new h = ap now h.is ∙ now_acted _ old
 
--- the node that a page had when it was changed, and the state now
-pub now_changes : (change : Node → Node) (pid version given : ℕ) (old new : Store) → Changes change pid version old new (Ok given) →
-    (node : Node) × ((now old).pages pid ≡ Some (record { version = version; node = node })) × (now new ≡ after (PageBecomes pid (Some (record { version = given; node = change node }))) (now old))
-now_changes change pid version given old new h = (h.told.0, h.told.1, now_acts _ given old new h.told.2)
-
--- the state now, after a page was taken out
-pub now_frees : (pid version : ℕ) (done : Unit {0}) (old new : Store) → Frees pid version old new (Ok done) → now new ≡ after (PageBecomes pid None) (now old)
-now_frees pid version done old new h = ap now h.told.1 ∙ now_acted _ old
-
 -- the state now, after a name's root was swapped
 pub now_swaps : (name : Key) (expected proposed : Option ℕ) (done : Unit {0}) (old new : Store) → SwapsRoot name expected proposed old new (Ok done) → now new ≡ after (RootBecomes name proposed) (now old)
 now_swaps name expected proposed done old new h = ap now h.told.1 ∙ now_acted _ old
-
--- a flush leaves the state now as it is
-pub now_flushed : (s : Store) → now (flushed s) ≡ now s
-now_flushed s = refl
 
 -- a function that was put over at one number, there and elsewhere
 pub put_here : {X : Type 0} (f : ℕ → X) (p : ℕ) (a : X) → put_at f p a p ≡ a
@@ -71,12 +58,9 @@ put_name_here f name a = ap (λ b. cond b a (f name)) (name_itself name)
 pub put_name_elsewhere : {X : Type 0} (f : Key → X) (name q : Key) (a : X) → q ≢ name → put_name f name a q ≡ f q
 put_name_elsewhere f name q a h = ap (λ b. cond b a (f q)) (other_name q name h)
 
--- the page that was changed, and every other
+-- the page that was changed
 pub page_changed : (pid version : ℕ) (page : Option Page) (old new : Store) → ActsAt (PageBecomes pid page) version old new → (now new).pages pid ≡ page
 page_changed pid version page old new h = ap (λ s. s.pages pid) (now_acts _ version old new h) ∙ put_here (now old).pages pid page
-
-pub other_page : (pid version q : ℕ) (page : Option Page) (old new : Store) → ActsAt (PageBecomes pid page) version old new → q ≢ pid → (now new).pages q ≡ (now old).pages q
-other_page pid version q page old new h k = ap (λ s. s.pages q) (now_acts _ version old new h) ∙ put_elsewhere (now old).pages pid q page k
 
 -- the states that a crash may leave after actions and one more: those before it, and the last one where no group is open in it
 left_step : (s : State) (xs : List State) → (if s.in_group then xs else (s ∷ xs)) ≡ left_from s [] ++ xs
@@ -93,17 +77,6 @@ left_last (b ∷ actions) a s =
 left_out : (s : State) → s.in_group ≡ false → left_from s [] ≡ s ∷ []
 left_out s e = ap (λ b. cond b [] (s ∷ [])) e
 
-left_in : (s : State) → s.in_group ≡ true → left_from s [] ≡ []
-left_in s e = ap (λ b. cond b [] (s ∷ [])) e
-
--- one more action after which no group is open: one more state may be left, the one now
-pub left_acted : (a : Action) (s : Store) → (now (acted a s)).in_group ≡ false → states_left (acted a s) ≡ states_left s ++ now (acted a s) ∷ []
-left_acted a s e = left_last s.recent a s.base ∙ ap (λ r. states_left s ++ r) (left_out (now (acted a s)) e)
-
--- one more action after which a group is open: the same states may be left
-pub left_in_group : (a : Action) (s : Store) → (now (acted a s)).in_group ≡ true → states_left (acted a s) ≡ states_left s
-left_in_group a s e = left_last s.recent a s.base ∙ (ap (λ r. states_left s ++ r) (left_in (now (acted a s)) e) ∙ append-nil (states_left s))
-
 -- where no group is open, the state now is the last that may be left
 left_end : (actions : List Action) (s : State) → (after_all actions s).in_group ≡ false → (before : List State) × (left_from s actions ≡ before ++ after_all actions s ∷ [])
 left_end [] s e = ([], left_out s e)
@@ -113,19 +86,6 @@ left_end (a ∷ actions) s e =
 
 pub now_left : (s : Store) → (now s).in_group ≡ false → (before : List State) × (states_left s ≡ before ++ now s ∷ [])
 now_left s e = left_end s.recent s.base e
-
--- after a flush outside every group the state now alone may be left
-pub left_flushed : (s : Store) → (now s).in_group ≡ false → states_left (flushed s) ≡ now s ∷ []
-left_flushed s e = left_out (now s) e
-
--- the last of a list is in it
-in_last : {X : Type 0} (xs : List X) (x : X) → In x (xs ++ x ∷ [])
-in_last [] x = inl refl
-in_last (y ∷ xs) x = inr (in_last xs x)
-
--- where no group is open, a crash may leave the state now
-pub may_leave_now : (s : Store) → (now s).in_group ≡ false → MayLeave s (now s)
-may_leave_now s e = let k = now_left s e in record { is = subst (In (now s)) (sym k.1) (in_last k.0 (now s)) }
 
 -- a crash may leave the state at the last flush
 in_first : (actions : List Action) (s : State) → s.in_group ≡ false → In s (left_from s actions)
@@ -153,10 +113,6 @@ may_leave_crashed keep old new h = record { is = subst (λ (x : State). In x (st
 pub swaps_group : (name : Key) (expected proposed : Option ℕ) (old new : Store) (answer : Result (Unit {0}) (Option ℕ)) → SwapsRoot name expected proposed old new answer → (now new).in_group ≡ (now old).in_group
 swaps_group name expected proposed old new (Ok done) h = ap (λ s. s.in_group) (now_swaps name expected proposed done old new h)
 swaps_group name expected proposed old new (Err present) h = ap (λ s. (now s).in_group) h.told.0
-
-pub swaps_pages : (name : Key) (expected proposed : Option ℕ) (old new : Store) (answer : Result (Unit {0}) (Option ℕ)) → SwapsRoot name expected proposed old new answer → (now new).pages ≡ (now old).pages
-swaps_pages name expected proposed old new (Ok done) h = ap (λ s. s.pages) (now_swaps name expected proposed done old new h)
-swaps_pages name expected proposed old new (Err present) h = ap (λ s. (now s).pages) h.told.0
 
 -- a number that was never given has no page
 pub fresh_page : (s : Store) (pid : ℕ) → AreGiven s → s.pids pid ≡ false → (now s).pages pid ≡ None

@@ -1,5 +1,5 @@
-//! Entries within a bound. Lists are gone through from the front: a node has few entries, and those of a foreign one may
-//! be out of order.
+//! Entries within a bound, in lists that are gone through from the front: those of a foreign node may be out of order. Lists
+//! that ascend are searched by halves.
 ghost use Rattle.std.specs.Prelude.{◌≡◌, ◌<◌, false, nat_eq, not, length, MatchOption, IfSome};
 ghost use Rattle.std.specs.List.{list_any};
 ghost use Rattle.sled_pages.specs.Among.{bound_of, is_up_to as within_upper, is_from as within_lower};

@@ -5,7 +5,9 @@
 //! that is refused changes nothing, but that a fault is counted. `MemPages` keeps the contract, in memory (`specs/Memory`).
 //!
 //! The calls of a node are stated by its bounds and entries: what it holds and what a link makes of it (`specs/Node`), its
-//! halves (`specs/Halves`), a pointer more (`specs/Posting`), what lies within a bound (`specs/Among`).
+//! halves (`specs/Halves`), a pointer more (`specs/Posting`), what lies within a bound (`specs/Among`). The store and those who
+//! read a page hold its node together (`Shared`). A link changes it in place where the store alone holds it, and is taken back by
+//! what stood there (`specs/Returning`).
 #![tactic(auto)]
 
 mod among;

@@ -264,7 +264,7 @@ impl MemPages {
     }
 
     // The page of a number, whose node is shared.
-    fn copied(&self, pid: Pid) -> Result<Option<Page>>
+    fn shared_page(&self, pid: Pid) -> Result<Option<Page>>
         ensures ok { IfOk result (λ page. page ≡ (now (store_of self.now)).pages pid) }
         ensures err { IfErr result (λ e. e ≡ NoMemory) }
     {
@@ -338,7 +338,7 @@ impl Pages for MemPages {
         if self.unreadable.contains(&pid.0) {
             return Err(Error::Io(Fault(UNREADABLE)));
         }
-        match self.copied(pid)? {
+        match self.shared_page(pid)? {
             Some(page) => Ok(Some(View {
                 pid,
                 version: page.version,

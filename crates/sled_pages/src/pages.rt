@@ -18,9 +18,11 @@ pub trait Pages: Send + Drop {
     /// What the store means.
     ghost store: { Self → Store };
 
-    /// The page now, or `None` where there is none. `Io` comes only where the page is not readable.
+    /// The page now, or `None` where there is none. `Io` comes only where the page is not readable, and such a page is
+    /// never answered.
     fn read(&self, alloc: Global, pid: Pid) -> Result<Option<View>>
         ensures ok { IfOk result (λ view. view ≡ view_of pid ((now (store self.now)).pages pid)) }
+        ensures readable { OnOk result ((store self.now).is_readable pid ≡ true) }
         ensures err { IfErr result (RefusedRead pid (store self.now)) };
 
     /// Makes a new page.

@@ -1,4 +1,5 @@
-//! Lists of pairs of a key and something else. They ascend by key, but what is said holds of any list.
+//! Lists of pairs of a key and something else. One that ascends by key is searched by halves, any other from the front, and what
+//! is said holds of both.
 ghost use Rattle.std.specs.Prelude.{◌≡◌, ◌≤◌, true, length, IfOk, IfErr, OnOk, OnErr, IfSome};
 ghost use Rattle.sled_pages.specs.declared.error.Error.TheVariants.{NoMemory};
 ghost use Rattle.std.specs.FinMap.Entries.{put, find};
@@ -135,10 +136,8 @@ pub fn put_pair<V: Drop>(
     ensures err { OnErr result (pairs.new.items ≡ pairs.old.items) }
     ensures cause { IfErr result (λ e. e ≡ NoMemory) }
 {
-    match place(pairs.as_slice(), &key, ascends) {
-        Ok(i) => pairs[i].1 = value,
-        Err(i) => insert(pairs, i, key, value)?,
-    }
+    let (_, old) = swap_in(pairs, key, value, ascends)?;
+    drop(old);
     Ok(())
 }
 

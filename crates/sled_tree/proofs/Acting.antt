@@ -69,6 +69,7 @@ act_moves j old new view change given is c = record {
           here = did.here ∙ ap (λ (d : Decision). map_after d.effect key all) (sym same);
           others = did.others;
           quiet = λ none. absurd (a.changes (silent e key (ap (λ (d : Decision). event_of d.effect key) (sym same) ∙ none)));
+          loud = λ some. once_acts c.told.2;
         }),
         subst (λ (z : Moment). LeavesNone [] [] m.state z.state w) (sym after) (leaves_replaced [] [] m view.pid (record { version = view.version; node = c.told.0 }) (record { version = given; node = applied change.link c.told.0 }) w c.told.1
             (rid_of_none [] (record { version = view.version; node = c.told.0 }) view.node (a.acting.seen.view.speaks (record { version = view.version; node = c.told.0 }) c.told.1 refl) a.acting.seen.is_open.free) (λ q i. absurd i)),

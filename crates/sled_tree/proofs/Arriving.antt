@@ -1,16 +1,16 @@
 -- What comes after a page was read on the way to the leaf.
-use Rattle.std.proofs.Common.{◌≡◌, ◌≢◌, ℕ, ◌≤◌, true, false, Bool, List, [], Option, Some, None, sym, refl, ap, ◌∙◌, subst, inl, inr, arith}
+use Rattle.std.proofs.Common.{◌≡◌, ◌≢◌, ℕ, ◌≤◌, true, false, Bool, List, [], Option, Some, None, sym, refl, ap, ◌∙◌, subst, inl, arith}
 use Rattle.std.specs.FinMap.Entries.{find}
 use Rattle.std.specs.declared.ops.Bound.TheVariants.{Included}
 use Rattle.sled_pages.specs.Order.{Key, key_cmp, UpTo}
 use Rattle.sled_pages.specs.In.{In}
-use Rattle.sled_pages.specs.Among.{IsBefore, IsPointer}
+use Rattle.sled_pages.specs.Among.{IsBefore, IsPointerBefore, IsPointer}
 use Rattle.sled_pages.specs.Node.{Covers, pointers, count, value_at}
 use Rattle.sled_pages.specs.Store.{Store, now, view_of}
 use Rattle.sled_pages.specs.declared.node.Data.{Data}
 use Rattle.sled_pages.specs.declared.node.Data.TheVariants.{Leaf, Index}
 use Rattle.sled_pages.specs.declared.page.View.{View}
-use Rattle.sled_model.specs.Answer.{decision_of, map_after, key_of}
+use Rattle.sled_model.specs.Answer.{decision_of, map_after, event_of, key_of}
 use Rattle.sled_model.specs.declared.call.Call.{Call}
 use Rattle.sled_model.specs.declared.decision.Decision.{Decision}
 use Rattle.sled_model.specs.declared.decision.Effect.TheVariants as effect
@@ -20,8 +20,6 @@ use Rattle.tree_laws.specs.Moment.{Moment, moment_of, nodes_at, IsMoment, IsFew}
 use Rattle.tree_laws.specs.StageLaws.{Follows}
 use Rattle.tree_laws.proofs.Staged.{here_law, root_here_law, cursor_here_law}
 use Rattle.tree_laws.specs.Stages.{IsWalking}
-use Rattle.tree_laws.specs.Merging.{IsIntending, IsSmallChild}
-use Rattle.sled_tree.specs.declared.flight.Merge.{Merge}
 use Rattle.tree_laws.proofs.Looking.{last_in}
 use Rattle.sled_tree.specs.declared.flight.Job.{Job}
 use Rattle.sled_tree.specs.declared.flight.Stage.{Stage}
@@ -33,7 +31,8 @@ use Rattle.sled_tree.specs.declared.flight.Walk.{Walk}
 use Rattle.sled_tree.specs.declared.walk.Way.{Way}
 use Rattle.sled_tree.specs.Change.{IsLeaf, IsIndex, decision_at}
 use Rattle.sled_tree.specs.Stages.{IsStage, owned}
-use Rattle.sled_tree.specs.Moves.{Moves, Arrives, IsRead, IsMergeUnder, Helps, Begins, owned_next}
+use Rattle.sled_tree.specs.Moves.{Moves, Arrives, IsRead, owned_next}
+use Rattle.sled_tree.specs.Follows.{ResumesMerge, BeginsMerge, resumed, begun}
 use Rattle.sled_tree.proofs.Facts.{same_here, rests, viewed, live_view, leaves_read}
 use Rattle.sled_tree.proofs.Helping.{helped}
 
@@ -81,21 +80,23 @@ module _ (j : Job) (view : View) (way : Way) where
     pub posts : (p : View) → way.parent ≡ Some p → way.unsplit ≡ true → Arrives j view way (Go (stage.Post (record { parent = p; at = view.node.lo; pid = view.pid })))
     posts p e unsplit = goes _ refl (λ m w is named r. record { posting = (follows m w is r).posts p e unsplit; few = r.room p e })
 
-    merges_at : (p : View) (a : Merge) → way.parent ≡ Some p → way.first ≡ false → way.unsplit ≡ false → count view.node.content ≤ 3 → IsMergeUnder p view.pid a → Arrives j view way (Go (stage.Intend a))
-    merges_at p a e first unsplit few u = goes _ refl (λ m w is named r. record {
-      intending = subst (λ (z : View). IsIntending m w j.tree.name j.tree.number z a.child) (sym u.above) (subst (λ c. IsIntending m w j.tree.name j.tree.number p c) (sym u.is) ((follows m w is r).intends p e first unsplit));
-      small = subst (λ (z : View). IsSmallChild m j.tree.name j.tree.number z a.child) (sym u.above) (subst (λ c. IsSmallChild m j.tree.name j.tree.number p c) (sym u.is) ((follows m w is r).small p (more (count view.node.content) few)));
-      before = subst (λ (z : View). IsBefore a.child (pointers z.node.content) a.before) (sym u.above) (subst (λ c. IsBefore c (pointers p.node.content) a.before) (sym u.is) u.before);
+    merges_at : (p : View) (before : ℕ) → way.parent ≡ Some p → way.first ≡ false → way.unsplit ≡ false → count view.node.content ≤ 3 → IsBefore view.pid (pointers p.node.content) before
+        → Arrives j view way (Go (stage.Intend (record { parent = p; child = view.pid; before = before })))
+    merges_at p before e first unsplit few b = goes _ refl (λ m w is named r. record {
+      intending = (follows m w is r).intends p e first unsplit;
+      small = (follows m w is r).small p (more (count view.node.content) few);
+      before = b;
     })
       where
         more : (n : ℕ) → n ≤ 3 → n ≤ 17
         more n h = omega arith
 
-    pub merges : (p : View) (next : Next) → way.parent ≡ Some p → way.first ≡ false → way.unsplit ≡ false → count view.node.content ≤ 3 → Begins p view.pid next → Arrives j view way next
-    merges p next e first unsplit few b = elim b.told [
-      | inl r ↦ subst (Arrives j view way) (sym r) (goes stage.Root refl (λ m w is named r. tt))
-      | inr k ↦ subst (Arrives j view way) (sym k.1) (merges_at p k.0 e first unsplit few k.2)
-    ]
+    pub merges : (p : View) (next : Next) → way.parent ≡ Some p → way.first ≡ false → way.unsplit ≡ false → count view.node.content ≤ 3 → BeginsMerge p view.pid next → Arrives j view way next
+    merges p next e first unsplit few b = subst (Arrives j view way) (sym b.is) (go b.before b.is_before)
+      where
+        go : (before : Option ℕ) → IsPointerBefore view.pid (pointers p.node.content) before → Arrives j view way (begun p view.pid before)
+        go None none = goes stage.Root refl (λ m w is named r. tt)
+        go (Some before) b = merges_at p before e first unsplit few b
 
     -- it covers the key and has room
     module _ (covers : Covers view.node (key_of j.call)) (few : count view.node.content ≤ 16) where
@@ -131,16 +132,18 @@ module _ (j : Job) (view : View) (way : Way) where
                   here = sym (ap (λ (z : Decision). map_after z.effect (key_of j.call) all) d);
                   others = λ u off. refl;
                   quiet = λ none. refl;
+                  loud = λ some. absurd (some (ap (λ (z : Decision). event_of z.effect (key_of j.call)) d));
                 },
               );
         }
 
 -- where the page has a merging child, that merge goes on
-pub helps : (j : Job) (view : View) (way : Way) (child : ℕ) (next : Next) → view.node.merging ≡ false → view.node.merging_child ≡ Some child → Helps view child next → Arrives j view way next
-helps j view way child next awake is_child h = elim h.told [
-  | inl r ↦ subst (Arrives j view way) (sym r) (goes j view way stage.Root refl (λ m w is named r. tt))
-  | inr k ↦ subst (Arrives j view way) (sym k.1) (goes j view way (stage.Child k.0) refl (λ m w is named r. helped is named r.here.height child k.0 view awake is_child k.2 r.here.stood r.here.live))
-]
+pub helps : (j : Job) (view : View) (way : Way) (child : ℕ) (next : Next) → view.node.merging ≡ false → view.node.merging_child ≡ Some child → ResumesMerge view child next → Arrives j view way next
+helps j view way child next awake is_child h = subst (Arrives j view way) (sym h.is) (go h.before h.is_before)
+  where
+    go : (before : Option ℕ) → IsPointerBefore child (pointers view.node.content) before → Arrives j view way (resumed view child before)
+    go None none = goes j view way stage.Root refl (λ m w is named r. tt)
+    go (Some before) b = goes j view way _ refl (λ m w is named r. helped is named r.here.height child before view awake is_child b r.here.stood r.here.live)
 
 -- what a read comes to, as a step
 pub arrives_moves : (j : Job) (s : Store) (view : View) (way : Way) (next : Next) (a : Stage) → owned a ≡ [] → Arrives j view way next

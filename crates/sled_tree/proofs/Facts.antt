@@ -230,9 +230,16 @@ moves_on j old new a b once known = record {
       subst (λ (z : Moment). (v : Forest) × Acts (owned a) (owned b) mo w z v × (IsStage z v j b × Same mo w z v) × LeavesNone (owned a) (owned b) mo.state z.state v) (sym n.1) (n.2.after, n.2.acts, (n.2.knows, n.2.same), n.2.leaves);
 }
 
+-- what was given stays given when one more is
+given_stays : (given : ℕ → Bool) (p q : ℕ) → given q ≡ true → put_at given p true q ≡ true
+given_stays given p q e = elim (same_number q p) [
+  | inl s ↦ ap (put_at given p true) s ∙ put_here given p true
+  | inr off ↦ put_there given p true q off ∙ e
+]
+
 -- one changing action: a page was changed, a page was made, a page went, or a root became another
 pub once_acts : {p given : ℕ} {page : Option Page} {old new : Store} → ActsAt (PageBecomes p page) given old new → ActsOnce old new
-once_acts {p} {given} {page} {old} {new} a = record { action = PageBecomes p page; pids = old.pids; versions = put_at old.versions given true; is = a.is; calm = ap (λ (s : State). s.in_group) (now_acts _ _ old new a) }
+once_acts {p} {given} {page} {old} {new} a = record { action = PageBecomes p page; pids = old.pids; versions = put_at old.versions given true; is = a.is; pids_stay = λ p e. e; versions_stay = given_stays old.versions given; calm = ap (λ (s : State). s.in_group) (now_acts _ _ old new a) }
 
 pub once_made : {node : Node} {p version : ℕ} {old new : Store} → Allocates node p version old new → ActsOnce old new
 once_made {node} {p} {version} {old} {new} a = record {
@@ -240,14 +247,16 @@ once_made {node} {p} {version} {old} {new} a = record {
   pids = put_at old.pids p true;
   versions = put_at old.versions version true;
   is = a.is;
+  pids_stay = given_stays old.pids p;
+  versions_stay = given_stays old.versions version;
   calm = ap (λ (s : State). s.in_group) (now_allocates node p version old new a);
 }
 
 pub once_freed : (p : ℕ) (old new : Store) → new ≡ acted (PageBecomes p None) old → ActsOnce old new
-once_freed p old new e = record { action = PageBecomes p None; pids = old.pids; versions = old.versions; is = e; calm = ap (λ (s : State). s.in_group) (ap now e ∙ now_acted (PageBecomes p None) old) }
+once_freed p old new e = record { action = PageBecomes p None; pids = old.pids; versions = old.versions; is = e; pids_stay = λ q e. e; versions_stay = λ v e. e; calm = ap (λ (s : State). s.in_group) (ap now e ∙ now_acted (PageBecomes p None) old) }
 
 pub once_rooted : (t : Tree) (r : Option ℕ) (old new : Store) → new ≡ acted (RootBecomes t r) old → ActsOnce old new
-once_rooted t r old new e = record { action = RootBecomes t r; pids = old.pids; versions = old.versions; is = e; calm = ap (λ (s : State). s.in_group) (ap now e ∙ now_acted (RootBecomes t r) old) }
+once_rooted t r old new e = record { action = RootBecomes t r; pids = old.pids; versions = old.versions; is = e; pids_stay = λ q e. e; versions_stay = λ v e. e; calm = ap (λ (s : State). s.in_group) (ap now e ∙ now_acted (RootBecomes t r) old) }
 
 -- a node that should not split, though it is open, has room
 pub not_long : {P : Type 0} (b : Bool) (c : ℕ) → IsTrue b ↔ ((16 < c) × P) → b ≡ false → P → c ≤ 16

@@ -1,9 +1,10 @@
 -- The steps of a merge.
-use Rattle.std.proofs.Common.{◌≡◌, ◌≢◌, ℕ, ◌≤◌, ◌⊎◌, true, false, List, [], ◌∷◌, Option, Some, None, Ok, Err, sym, refl, ap, ◌∙◌, subst, inl, inr}
+use Rattle.std.proofs.Common.{◌≡◌, ◌≢◌, ℕ, ◌≤◌, ◌⊎◌, true, false, List, [], ◌∷◌, Option, Some, None, Ok, Err, sym, refl, ap, ◌∙◌, subst, inl}
 use Rattle.sled_pages.specs.Order.{Key, Below, UpTo}
 use Rattle.sled_pages.specs.In.{In}
 use Rattle.sled_pages.specs.Halves.{received}
-use Rattle.sled_pages.specs.Node.{count, applied, intended}
+use Rattle.sled_pages.specs.Among.{IsPointerBefore}
+use Rattle.sled_pages.specs.Node.{count, applied, intended, pointers}
 use Rattle.sled_pages.specs.Store.{Store, now, view_of, Changes}
 use Rattle.sled_pages.specs.declared.node.Node.{Node}
 use Rattle.sled_pages.specs.declared.node.Data.TheVariants.{Index}
@@ -30,7 +31,8 @@ use Rattle.sled_tree.specs.declared.flight.Stage.TheVariants as stage
 use Rattle.sled_tree.specs.declared.flight.Next.{Next}
 use Rattle.sled_tree.specs.declared.flight.Next.TheVariants as next
 use Rattle.sled_tree.specs.Stages.{IsStage, owned}
-use Rattle.sled_tree.specs.Moves.{Moves, Helps, ReadsChild, Looks, owned_next}
+use Rattle.sled_tree.specs.Moves.{Moves, ReadsChild, Looks, owned_next}
+use Rattle.sled_tree.specs.Follows.{ResumesMerge, resumed}
 use Rattle.sled_tree.proofs.Facts.{moves_on, quietly, once_acts, stays, rests, same_here, viewed, live_view, leaves_replaced, leaves_read, rid_of_none, some_is}
 use Rattle.sled_tree.proofs.Helping.{helped}
 
@@ -66,25 +68,27 @@ child_read j s a view n read t = record {
 
 -- a page with a merging child was read, whose own merge goes on first
 module _ (view : View) (child : ℕ) (awake : view.node.merging ≡ false) (is_child : view.node.merging_child ≡ Some child) where
-  pub child_helps : (j : Job) (a : Merge) (n : Next) → Helps view child n → ReadsChild j a view n
-  child_helps j a n h = elim h.told [
-    | inl r ↦ subst (ReadsChild j a view) (sym r) (record { touches = λ s. inl refl; told = λ s numbers gave w is named here live k. (refl, (tt, same_here (moment_of s numbers gave) w)) })
-    | inr b ↦ subst (ReadsChild j a view) (sym b.1) (record {
-      touches = λ s. inl refl;
-      told = λ s numbers gave w is named here live k.
-          (refl, (helped is named k.height child b.0 view awake is_child b.2 (subst (λ p. Stood (moment_of s numbers gave) w (place j.tree.name k.height) j.tree.number k.merging.lo p) (sym here) k.merging.c_stood) live, same_here (moment_of s numbers gave) w));
-    })
-  ]
+  pub child_helps : (j : Job) (a : Merge) (n : Next) → ResumesMerge view child n → ReadsChild j a view n
+  child_helps j a n h = subst (ReadsChild j a view) (sym h.is) (go h.before h.is_before)
+    where
+      go : (before : Option ℕ) → IsPointerBefore child (pointers view.node.content) before → ReadsChild j a view (resumed view child before)
+      go None none = record { touches = λ s. inl refl; told = λ s numbers gave w is named here live k. (refl, (tt, same_here (moment_of s numbers gave) w)) }
+      go (Some before) b = record {
+        touches = λ s. inl refl;
+        told = λ s numbers gave w is named here live k.
+            (refl, (helped is named k.height child before view awake is_child b (subst (λ p. Stood (moment_of s numbers gave) w (place j.tree.name k.height) j.tree.number k.merging.lo p) (sym here) k.merging.c_stood) live, same_here (moment_of s numbers gave) w));
+      }
 
-  pub cursor_helps : (j : Job) (a : Seek) (n : Next) → Helps view child n → Looks j a view n
-  cursor_helps j a n h = elim h.told [
-    | inl r ↦ subst (Looks j a view) (sym r) (record { touches = λ s. inl refl; told = λ s numbers gave w is named here live k. (refl, (tt, same_here (moment_of s numbers gave) w)) })
-    | inr b ↦ subst (Looks j a view) (sym b.1) (record {
-      touches = λ s. inl refl;
-      told = λ s numbers gave w is named here live k.
-          (refl, (helped is named k.height child b.0 view awake is_child b.2 (subst (λ p. Stood (moment_of s numbers gave) w (place j.tree.name k.height) j.tree.number k.seeking.lo p) (sym here) k.seeking.stood) live, same_here (moment_of s numbers gave) w));
-    })
-  ]
+  pub cursor_helps : (j : Job) (a : Seek) (n : Next) → ResumesMerge view child n → Looks j a view n
+  cursor_helps j a n h = subst (Looks j a view) (sym h.is) (go h.before h.is_before)
+    where
+      go : (before : Option ℕ) → IsPointerBefore child (pointers view.node.content) before → Looks j a view (resumed view child before)
+      go None none = record { touches = λ s. inl refl; told = λ s numbers gave w is named here live k. (refl, (tt, same_here (moment_of s numbers gave) w)) }
+      go (Some before) b = record {
+        touches = λ s. inl refl;
+        told = λ s numbers gave w is named here live k.
+            (refl, (helped is named k.height child before view awake is_child b (subst (λ p. Stood (moment_of s numbers gave) w (place j.tree.name k.height) j.tree.number k.seeking.lo p) (sym here) k.seeking.stood) live, same_here (moment_of s numbers gave) w));
+      }
 
 -- the child is merging already, or open
 module _ (j : Job) (a : Merge) (view : View) where

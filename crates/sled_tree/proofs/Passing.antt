@@ -1,5 +1,5 @@
 -- Steps on clean paths.
-use Rattle.std.proofs.Common.{◌≡◌, ◌≢◌, ℕ, length, ◌+◌, ◌<◌, ◌≤◌, ◌↔◌, IsTrue, true, false, Bool, not, ◌||◌, List, [], ◌∷◌, Option, Some, None, Err, option_map, sym, refl, ap, ◌∙◌, subst, inl, inr, arith}
+use Rattle.std.proofs.Common.{◌≡◌, ◌≢◌, ℕ, length, ◌+◌, ◌<◌, ◌≤◌, ◌↔◌, IsTrue, true, false, Bool, ◌||◌, List, [], ◌∷◌, Option, Some, None, Err, option_map, sym, refl, ap, ◌∙◌, subst, inl, inr, arith}
 use Rattle.std.specs.List.{list_any}
 use Rattle.std.specs.declared.ops.Bound.TheVariants.{Included}
 use Rattle.std.proofs.lemmas.List.Folds.{list_any-append}
@@ -115,8 +115,8 @@ module _ (j : Job) (view : View) (way : Way) (n : Next) where
   pub shut_unsplit : way.unsplit ≡ true → PassesOn j view way n
   shut_unsplit unsplit = shut (λ nodes pointed passed. true_false (sym unsplit ∙ pointed))
 
-  pub shut_few : {P : Type 0} (b : Bool) → IsTrue b ↔ ((count view.node.content ≤ 3) × P) → b ≡ true → not way.first ≡ true → PassesOn j view way n
-  shut_few b told is later = shut (λ nodes pointed passed. true_false (sym later ∙ ap not (passed.many (told.0 is).0)))
+  pub shut_few : {P : Type 0} (b : Bool) → IsTrue b ↔ ((count view.node.content ≤ 3) × P) → b ≡ true → way.first ≡ false → PassesOn j view way n
+  shut_few b told is later = shut (λ nodes pointed passed. true_false (sym (passed.many (told.0 is).0) ∙ later))
 
   pub shut_behind : (b : Bool) (key : Key) → key ≡ key_of j.call → IsTrue b ↔ ((view.node.hi ≢ []) × UpTo view.node.hi key) → b ≡ true → PassesOn j view way n
   shut_behind b key e told is = shut (λ nodes pointed passed.

@@ -1,5 +1,5 @@
 -- What one page action of a call in flight does.
-use Rattle.std.specs.Prelude.{◌≡◌, ◌≢◌, ℕ, ◌+◌, ◌⊎◌, Bool, false, List, [], ◌++◌, Option, Some, None}
+use Rattle.std.specs.Prelude.{◌≡◌, ◌≢◌, ℕ, ◌+◌, ◌⊎◌, Bool, true, false, List, [], ◌++◌, Option, Some, None}
 use Rattle.sled_pages.specs.In.{In}
 use Rattle.sled_pages.specs.State.{State, Action}
 use Rattle.sled_pages.specs.Store.{Store, acted, now}
@@ -9,8 +9,6 @@ use Rattle.sled_pages.specs.declared.error.Error.{Error}
 use Rattle.sled_pages.specs.declared.error.Error.TheVariants.{Io, NoMemory}
 use Rattle.sled_model.specs.Answer.{answer_of, key_of}
 use Rattle.sled_model.specs.declared.reply.Reply.{Reply}
-use Rattle.sled_pages.specs.Among.{IsBefore}
-use Rattle.sled_pages.specs.Node.{pointers}
 use Rattle.tree_laws.specs.Forest.{Tree, Forest, Place, IsSized, contents}
 use Rattle.tree_laws.specs.Moment.{Moment, moment_of, nodes_at, IsMoment, Goes, Grows, IsFew}
 use Rattle.tree_laws.specs.Stages.{IsHere}
@@ -33,6 +31,9 @@ pub record ActsOnce (old new : Store) : Type 0 where
   pub pids : ℕ → Bool
   pub versions : ℕ → Bool
   pub is : new ≡ record (acted action old) { pids = pids; versions = versions }
+  -- a number or a version that was given stays given
+  pub pids_stay : (p : ℕ) → old.pids p ≡ true → pids p ≡ true
+  pub versions_stay : (v : ℕ) → old.versions v ≡ true → versions v ≡ true
   -- no group begins or ends
   pub calm : (now new).in_group ≡ (now old).in_group
 
@@ -65,12 +66,14 @@ pub record Acts (mine own : List ℕ) (old : Moment) (w : Forest) (new : Moment)
 pub record Same (old : Moment) (w : Forest) (new : Moment) (v : Forest) : Type 0 where
   pub same : (t : Tree) → contents (nodes_at new) v t ≡ contents (nodes_at old) w t
 
--- The call replies and changes its tree as its answer on the contents now says. Without an event nothing is touched
+-- The call replies and changes its tree as its answer on the contents now says. Without an event nothing is touched, and with
+-- one there is exactly one action
 pub record Decides (j : Job) (reply : Reply) (a b : Store) (old : Moment) (w : Forest) (new : Moment) (v : Forest) : Type 0 where
   pub replies : reply ≡ (answer_of j.call (contents (nodes_at old) w j.tree.name)).reply
   pub here : contents (nodes_at new) v j.tree.name ≡ (answer_of j.call (contents (nodes_at old) w j.tree.name)).map
   pub others : (t : Tree) → t ≢ j.tree.name → contents (nodes_at new) v t ≡ contents (nodes_at old) w t
   pub quiet : (answer_of j.call (contents (nodes_at old) w j.tree.name)).event ≡ None → b ≡ a
+  pub loud : (answer_of j.call (contents (nodes_at old) w j.tree.name)).event ≢ None → ActsOnce a b
 
 -- No page is left behind: what was the call's own still is, or was freed, or stands in a tree; and a page that was made, or that
 -- its parent is to merge no more, is the call's own
@@ -132,20 +135,6 @@ pub record Arrives (j : Job) (view : View) (way : Way) (next : Next) : Type 0 wh
 -- the page is live as it was read
 abbrev pub IsLive : Moment → View → Type 0
 IsLive m v = m.state.pages v.pid ≡ Some (record { version = v.version; node = v.node })
-
--- the merge of this child of the index, into the page whose pointer stands before the child's
-pub record IsMergeUnder (index : View) (child : ℕ) (merge : Merge) : Type 0 where
-  pub above : merge.parent ≡ index
-  pub is : merge.child ≡ child
-  pub before : IsBefore child (pointers index.node.content) merge.before
-
--- a merge that is to go on from the reading of the child, or else the call begins again
-pub record Helps (view : View) (child : ℕ) (next : Next) : Type 0 where
-  pub told : (next ≡ Go stage.Root) ⊎ ((merge : Merge) × (next ≡ Go (stage.Child merge)) × IsMergeUnder view child merge)
-
--- a merge that is to begin, or else the call begins again
-pub record Begins (parent : View) (child : ℕ) (next : Next) : Type 0 where
-  pub told : (next ≡ Go stage.Root) ⊎ ((merge : Merge) × (next ≡ Go (stage.Intend merge)) × IsMergeUnder parent child merge)
 
 -- what comes after a merging child was read
 pub record ReadsChild (j : Job) (merge : Merge) (view : View) (next : Next) : Type 0 where

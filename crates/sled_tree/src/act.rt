@@ -3,6 +3,7 @@ ghost use Rattle.std.specs.Prelude.{◌≡◌, IfOk, IfErr};
 ghost use Rattle.sled_pages.specs.Store.{now};
 ghost use Rattle.sled_pages.specs.declared.error.Error.TheVariants.{NoMemory};
 ghost use Rattle.sled_tree.specs.Moves.{Moves};
+ghost use Rattle.sled_tree.specs.Follows.{OrRefused, follows_act};
 ghost use Rattle.sled_tree.specs.Passing.{Passes};
 ghost use Rattle.sled_tree.specs.Change.{IsChangeOf, link_of};
 
@@ -59,6 +60,7 @@ fn prepare(job: &Job, node: &Node) -> Result<Option<Change>>
 pub(crate) fn act<P: Pages>(pages: &mut P, job: &Job, view: View) -> Next
     ensures moves { Moves job.now (P.store pages.old) (Stage.Act view) result (P.store pages.new) }
     ensures passes { Passes job.now (now (P.store pages.old)) (Stage.Act view) result (now (P.store pages.new)) }
+    ensures follows { OrRefused (P.store pages.old) (P.store pages.new) result (follows_act job.now (P.store pages.old) (P.store pages.new) view result) }
 {
     let change = match prepare(job, &view.node) {
         Err(e) => {

@@ -2,10 +2,12 @@
 ghost use Rattle.std.specs.Prelude.{◌<◌};
 ghost use Rattle.sled_pages.specs.Store.{now};
 ghost use Rattle.sled_tree.specs.Moves.{Moves, Advances};
+ghost use Rattle.sled_tree.specs.Follows.{Follows, FollowsOn};
 ghost use Rattle.sled_tree.specs.Passing.{Passes, GoesFurther};
 ghost use Rattle.sled_tree.specs.Stages.{IsOfMerge};
 
 use crate::act::act;
+use crate::descent::{Descent, at_leaf, descend, settle};
 use crate::flight::{Flight, Job, Next, Stage, Went};
 use crate::hoist::{crown, hoist};
 use crate::merge::{cap, confirm, intend, read_child, receive, seek};
@@ -19,6 +21,7 @@ use std::alloc::Global;
 fn step<P: Pages>(pages: &mut P, alloc: Global, job: &Job, stage: Stage) -> Next
     ensures moves { Moves job.now (P.store pages.old) stage result (P.store pages.new) }
     ensures passes { Passes job.now (now (P.store pages.old)) stage result (now (P.store pages.new)) }
+    ensures follows { Follows job.now (P.store pages.old) stage result (P.store pages.new) }
 {
     match stage {
         Stage::Root => read_root(pages, alloc, job),
@@ -39,6 +42,7 @@ fn step_of_merge<P: Pages>(pages: &mut P, alloc: Global, job: &Job, stage: Stage
     requires { IsOfMerge stage }
     ensures moves { Moves job.now (P.store pages.old) stage result (P.store pages.new) }
     ensures passes { Passes job.now (now (P.store pages.old)) stage result (now (P.store pages.new)) }
+    ensures follows { Follows job.now (P.store pages.old) stage result (P.store pages.new) }
 {
     match stage {
         Stage::Intend(merge) => intend(pages, alloc, job, merge),
@@ -51,11 +55,12 @@ fn step_of_merge<P: Pages>(pages: &mut P, alloc: Global, job: &Job, stage: Stage
     }
 }
 
-/// Does one step of a call in flight that has turns left: at most one page action.
-pub fn advance<P: Pages>(pages: &mut P, alloc: Global, flight: &mut Flight) -> Went
+// Does one step of a call in flight that has turns left, whatever its stage is: the stage is moved out, and the next one in.
+fn advance_stage<P: Pages>(pages: &mut P, alloc: Global, flight: &mut Flight) -> Went
     requires { flight.old.turns < MAX_LOOPS }
     ensures advances { Advances (P.store pages.old) flight.old result (P.store pages.new) flight.new }
     ensures passes { GoesFurther (now (P.store pages.old)) flight.old result (now (P.store pages.new)) flight.new }
+    ensures follows { FollowsOn (P.store pages.old) flight.old result (P.store pages.new) flight.new }
 {
     let stage = std::mem::replace(&mut flight.stage, Stage::Root);
     match step(pages, alloc, &flight.job, stage) {
@@ -67,5 +72,23 @@ pub fn advance<P: Pages>(pages: &mut P, alloc: Global, flight: &mut Flight) -> W
         }
         Next::Decided(reply) => Went::Decided(reply),
         Next::Refused(e) => Went::Refused(e),
+    }
+}
+
+/// Does one step of a call in flight that has turns left: at most one page action.
+pub fn advance<P: Pages>(pages: &mut P, alloc: Global, flight: &mut Flight) -> Went
+    requires { flight.old.turns < MAX_LOOPS }
+    ensures advances { Advances (P.store pages.old) flight.old result (P.store pages.new) flight.new }
+    ensures passes { GoesFurther (now (P.store pages.old)) flight.old result (now (P.store pages.new)) flight.new }
+    ensures follows { FollowsOn (P.store pages.old) flight.old result (P.store pages.new) flight.new }
+{
+    match descend(pages, alloc, &flight.job, &mut flight.stage) {
+        Descent::None => advance_stage(pages, alloc, flight),
+        Descent::Further => {
+            flight.turns += 1;
+            Went::Moved
+        }
+        Descent::Leaf(view) => at_leaf(flight, view),
+        Descent::Next(next) => settle(flight, next),
     }
 }

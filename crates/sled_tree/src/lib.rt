@@ -7,6 +7,7 @@
 #![tactic(auto)]
 
 mod act;
+mod descent;
 mod dispatch;
 mod flight;
 mod half;

@@ -7,7 +7,8 @@ ghost use Rattle.std.specs.Prelude.{◌≡◌, ◌≢◌, ◌↔◌, ◌⊎◌, 
 ghost use Rattle.sled_pages.specs.declared.error.Error.TheVariants.{NoMemory};
 ghost use Rattle.sled_pages.specs.Order.{UpTo};
 ghost use Rattle.sled_tree.specs.Moves.{Moves};
-ghost use Rattle.sled_tree.specs.Moves.{Begins, Helps, ReadsChild, Looks};
+ghost use Rattle.sled_tree.specs.Follows.{ResumesMerge, BeginsMerge, follows_child, follows_cursor, follows_search, follows_met, FollowsPage, OrRefused, follows_intend, follows_cap, follows_receive, follows_confirm};
+ghost use Rattle.sled_tree.specs.Moves.{ReadsChild, Looks};
 ghost use Rattle.sled_tree.specs.declared.flight.Next.TheVariants.{Go};
 ghost use Rattle.sled_tree.specs.declared.flight.Stage.TheVariants as stage;
 
@@ -15,14 +16,10 @@ use crate::flight::{Cap, Confirm, Job, Merge, Next, Own, Posting, Receive, Seek,
 use sled_pages::{Link, Node, Pages, Pid, Result, Shared, View};
 use std::alloc::Global;
 
-// A page merges into the one before it, where its parent can have it for its merging child.
+// A page merges into the one before it.
 pub(crate) fn begin(parent: View, child: Pid) -> Next
-    ensures { Begins parent child result }
+    ensures { BeginsMerge parent child result }
 {
-    if !parent.node.can_merge_child() {
-        drop(parent);
-        return Next::Go(Stage::Root);
-    }
     match parent.node.pointer_before(child) {
         None => {
             drop(parent);
@@ -58,7 +55,8 @@ fn merging(alloc: Global, node: &Node) -> Result<Shared>
 
 // The parent takes the page for its merging child. All that wants memory comes before the link.
 pub(crate) fn intend<P: Pages>(pages: &mut P, alloc: Global, job: &Job, merge: Merge) -> Next
-    ensures { Moves job.now (P.store pages.old) (Stage.Intend merge) result (P.store pages.new) }
+    ensures moves { Moves job.now (P.store pages.old) (Stage.Intend merge) result (P.store pages.new) }
+    ensures follows { OrRefused (P.store pages.old) (P.store pages.new) result (follows_intend (P.store pages.old) (P.store pages.new) merge result) }
 {
     let Merge {
         parent,
@@ -93,7 +91,7 @@ pub(crate) fn intend<P: Pages>(pages: &mut P, alloc: Global, job: &Job, merge: M
 
 // A page was read that has a merging child: that merge goes on first.
 pub(crate) fn help(view: View, child: Pid) -> Next
-    ensures { Helps view child result }
+    ensures { ResumesMerge view child result }
 {
     match view.node.pointer_before(child) {
         None => {
@@ -110,7 +108,8 @@ pub(crate) fn help(view: View, child: Pid) -> Next
 
 // Reads the merging child.
 pub(crate) fn read_child<P: Pages>(pages: &P, alloc: Global, job: &Job, merge: Merge) -> Next
-    ensures { Moves job.now (P.store pages.now) (Stage.Child merge) result (P.store pages.now) }
+    ensures moves { Moves job.now (P.store pages.now) (Stage.Child merge) result (P.store pages.now) }
+    ensures follows { FollowsPage (P.store pages.now) merge.child (follows_child merge) result }
 {
     match pages.read(alloc, merge.child) {
         Err(e) => {
@@ -127,7 +126,8 @@ pub(crate) fn read_child<P: Pages>(pages: &P, alloc: Global, job: &Job, merge: M
 
 // What comes after the merging child was read.
 fn at_child(job: &Job, merge: Merge, view: View) -> Next
-    ensures { ReadsChild job.now merge view result }
+    ensures reads { ReadsChild job.now merge view result }
+    ensures follows { follows_child merge view result }
 {
     let read: &Node = &view.node;
     if read.merging {
@@ -154,7 +154,8 @@ fn at_child(job: &Job, merge: Merge, view: View) -> Next
 
 // Caps the merging child. All that wants memory comes before the link.
 pub(crate) fn cap<P: Pages>(pages: &mut P, alloc: Global, job: &Job, cap: Cap) -> Next
-    ensures { Moves job.now (P.store pages.old) (Stage.Cap cap) result (P.store pages.new) }
+    ensures moves { Moves job.now (P.store pages.old) (Stage.Cap cap) result (P.store pages.new) }
+    ensures follows { OrRefused (P.store pages.old) (P.store pages.new) result (follows_cap (P.store pages.old) (P.store pages.new) cap result) }
 {
     let Cap {
         merge,
@@ -214,7 +215,8 @@ fn reaches(view: &View, seek: &Seek) -> bool
 
 // Reads the cursor of the search for the page before the merging child.
 pub(crate) fn seek<P: Pages>(pages: &P, alloc: Global, job: &Job, seek: Seek) -> Next
-    ensures { Moves job.now (P.store pages.now) (Stage.Seek seek) result (P.store pages.now) }
+    ensures moves { Moves job.now (P.store pages.now) (Stage.Seek seek) result (P.store pages.now) }
+    ensures follows { FollowsPage (P.store pages.now) seek.cursor (follows_cursor seek) result }
 {
     match pages.read(alloc, seek.cursor) {
         Err(e) => {
@@ -231,7 +233,8 @@ pub(crate) fn seek<P: Pages>(pages: &P, alloc: Global, job: &Job, seek: Seek) ->
 
 // What comes after the cursor of the search was read.
 fn at_cursor(job: &Job, seek: Seek, view: View) -> Next
-    ensures { Looks job.now seek view result }
+    ensures looks { Looks job.now seek view result }
+    ensures follows { follows_cursor seek view result }
 {
     let node: &Node = &view.node;
     if node.merging {
@@ -250,7 +253,8 @@ fn at_cursor(job: &Job, seek: Seek, view: View) -> Next
 fn compare(job: &Job, seek: Seek, view: View) -> Next
     requires awake { view.node.merging ≡ false }
     requires free { view.node.merging_child ≡ None }
-    ensures { Looks job.now seek view result }
+    ensures looks { Looks job.now seek view result }
+    ensures follows { follows_search seek view result }
 {
     if leads_to(&view, &seek) {
         return meet(job, seek, view);
@@ -277,7 +281,8 @@ fn meet(job: &Job, seek: Seek, view: View) -> Next
     requires awake { view.node.merging ≡ false }
     requires free { view.node.merging_child ≡ None }
     requires leads { view.node.next ≡ Some seek.merge.child }
-    ensures { Looks job.now seek view result }
+    ensures looks { Looks job.now seek view result }
+    ensures follows { follows_met seek view result }
 {
     if view.node.should_split() {
         drop(seek);
@@ -339,7 +344,8 @@ fn further(seek: Seek, cursor: Pid) -> Next
 
 // The page before the merging child receives it.
 pub(crate) fn receive<P: Pages>(pages: &mut P, alloc: Global, job: &Job, receive: Receive) -> Next
-    ensures { Moves job.now (P.store pages.old) (Stage.Receive receive) result (P.store pages.new) }
+    ensures moves { Moves job.now (P.store pages.old) (Stage.Receive receive) result (P.store pages.new) }
+    ensures follows { OrRefused (P.store pages.old) (P.store pages.new) result (follows_receive (P.store pages.old) (P.store pages.new) receive result) }
 {
     let Receive {
         merge,
@@ -389,7 +395,8 @@ pub(crate) fn receive<P: Pages>(pages: &mut P, alloc: Global, job: &Job, receive
 
 // The pointer to the received child goes.
 pub(crate) fn confirm<P: Pages>(pages: &mut P, job: &Job, confirm: Confirm) -> Next
-    ensures { Moves job.now (P.store pages.old) (Stage.Confirm confirm) result (P.store pages.new) }
+    ensures moves { Moves job.now (P.store pages.old) (Stage.Confirm confirm) result (P.store pages.new) }
+    ensures follows { OrRefused (P.store pages.old) (P.store pages.new) result (follows_confirm (P.store pages.old) (P.store pages.new) confirm result) }
 {
     let Confirm {
         parent,

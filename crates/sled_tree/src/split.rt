@@ -2,6 +2,7 @@
 //!
 //! Between any two of these steps the tree is whole. A right half that nobody came to want is freed.
 ghost use Rattle.sled_tree.specs.Moves.{Moves};
+ghost use Rattle.sled_tree.specs.Follows.{OrRefused, follows_split, follows_shorten, follows_post, FreesOwn};
 
 use crate::flight::{Hoist, Job, Next, Own, Post, Posting, Shorten, Split, Stage};
 use crate::half::Half;
@@ -10,7 +11,8 @@ use std::alloc::Global;
 
 // Makes the right half.
 pub(crate) fn halve<P: Pages>(pages: &mut P, alloc: Global, job: &Job, split: Split) -> Next
-    ensures { Moves job.now (P.store pages.old) (Stage.Split split) result (P.store pages.new) }
+    ensures moves { Moves job.now (P.store pages.old) (Stage.Split split) result (P.store pages.new) }
+    ensures follows { OrRefused (P.store pages.old) (P.store pages.new) result (follows_split (P.store pages.old) (P.store pages.new) split result) }
 {
     if !split.page.node.should_split() {
         drop(split);
@@ -64,7 +66,8 @@ pub(crate) fn halve<P: Pages>(pages: &mut P, alloc: Global, job: &Job, split: Sp
 
 // Replaces the page by its left half.
 pub(crate) fn shorten<P: Pages>(pages: &mut P, job: &Job, split: Shorten) -> Next
-    ensures { Moves job.now (P.store pages.old) (Stage.Shorten split) result (P.store pages.new) }
+    ensures moves { Moves job.now (P.store pages.old) (Stage.Shorten split) result (P.store pages.new) }
+    ensures follows { OrRefused (P.store pages.old) (P.store pages.new) result (follows_shorten (P.store pages.old) (P.store pages.new) split result) }
 {
     let Shorten {
         page,
@@ -115,7 +118,8 @@ pub(crate) fn shorten<P: Pages>(pages: &mut P, job: &Job, split: Shorten) -> Nex
 
 // Puts a pointer to a page into its parent, where it has none.
 pub(crate) fn post<P: Pages>(pages: &mut P, alloc: Global, job: &Job, post: Post) -> Next
-    ensures { Moves job.now (P.store pages.old) (Stage.Post post) result (P.store pages.new) }
+    ensures moves { Moves job.now (P.store pages.old) (Stage.Post post) result (P.store pages.new) }
+    ensures follows { OrRefused (P.store pages.old) (P.store pages.new) result (follows_post (P.store pages.old) (P.store pages.new) post result) }
 {
     let Post { parent, at, pid } = post;
     let (index, version) = (parent.pid, parent.version);
@@ -147,7 +151,8 @@ pub(crate) fn post<P: Pages>(pages: &mut P, alloc: Global, job: &Job, post: Post
 
 // Frees a page that is no part of any tree.
 pub(crate) fn free<P: Pages>(pages: &mut P, job: &Job, own: Own) -> Next
-    ensures { Moves job.now (P.store pages.old) (Stage.Free own) result (P.store pages.new) }
+    ensures moves { Moves job.now (P.store pages.old) (Stage.Free own) result (P.store pages.new) }
+    ensures follows { OrRefused (P.store pages.old) (P.store pages.new) result (FreesOwn (P.store pages.old) (P.store pages.new) own result) }
 {
     match pages.free(own.pid, own.version) {
         Err(e) => Next::Refused(e),

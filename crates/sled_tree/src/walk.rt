@@ -10,6 +10,9 @@ ghost use Rattle.sled_pages.specs.Node.{Covers, count};
 ghost use Rattle.sled_model.specs.Answer.{key_of};
 ghost use Rattle.sled_tree.specs.Change.{IsLeaf, IsIndex};
 ghost use Rattle.sled_tree.specs.Moves.{Moves, Arrives};
+ghost use Rattle.sled_tree.specs.Follows.{follows_root, follows_walk, follows_read, follows_here, follows_few, follows_leaf, posting_of, onward, pointed, OrNoMemory, MayMerge, GoesDown};
+ghost use Rattle.sled_tree.specs.declared.flight.Next.TheVariants.{Go};
+ghost use Rattle.sled_tree.specs.declared.flight.Stage.TheVariants as stage;
 ghost use Rattle.sled_tree.specs.Passing.{Passes, PassesOn};
 
 use crate::flight::{Hoist, Job, Next, Post, Posting, Split, Stage, Walk};
@@ -32,7 +35,7 @@ pub(crate) struct Way {
 
 // Whether the key lies within the node's bounds.
 #[tactic(auto, unfolding(sled_pages::specs::Order::key_cmp))]
-fn covers(node: &Node, key: &[u8]) -> bool
+pub(crate) fn covers(node: &Node, key: &[u8]) -> bool
     ensures { IsTrue result ↔ Covers node.now key.now }
 {
     node.lo.as_ref().cmp(key).is_le() && (node.hi.len() == 0 || key.cmp(node.hi.as_ref()).is_lt())
@@ -50,6 +53,7 @@ fn ends_before(node: &Node, key: &[u8]) -> bool
 pub(crate) fn read_root<P: Pages>(pages: &P, alloc: Global, job: &Job) -> Next
     ensures moves { Moves job.now (P.store pages.now) Stage.Root result (P.store pages.now) }
     ensures passes { Passes job.now (now (P.store pages.now)) Stage.Root result (now (P.store pages.now)) }
+    ensures follows { follows_root job.now (P.store pages.now) ((now (P.store pages.now)).roots job.now.tree.name) result }
 {
     let Some(root) = pages.root(job.tree.name.as_ref()) else {
         return Next::Go(Stage::Root);
@@ -73,6 +77,7 @@ pub(crate) fn read_root<P: Pages>(pages: &P, alloc: Global, job: &Job) -> Next
 pub(crate) fn read_cursor<P: Pages>(pages: &P, alloc: Global, job: &Job, walk: Walk) -> Next
     ensures moves { Moves job.now (P.store pages.now) (Stage.Walk walk) result (P.store pages.now) }
     ensures passes { Passes job.now (now (P.store pages.now)) (Stage.Walk walk) result (now (P.store pages.now)) }
+    ensures follows { follows_walk job.now (P.store pages.now) walk result }
 {
     match pages.read(alloc, walk.cursor) {
         Err(e) => {
@@ -96,9 +101,10 @@ pub(crate) fn read_cursor<P: Pages>(pages: &P, alloc: Global, job: &Job, walk: W
 }
 
 // What comes after a page was read.
-fn arrive(job: &Job, view: View, way: Way) -> Next
+pub(crate) fn arrive(job: &Job, view: View, way: Way) -> Next
     ensures arrives { Arrives job.now view way result }
     ensures passes { PassesOn job.now view way result }
+    ensures follows { follows_read job.now view way result }
 {
     let node: &Node = &view.node;
     if node.merging {
@@ -128,7 +134,8 @@ fn arrive(job: &Job, view: View, way: Way) -> Next
 fn split(job: &Job, view: View, way: Way) -> Next
     requires awake { view.node.merging ≡ false }
     requires free { view.node.merging_child ≡ None }
-    ensures { Arrives job.now view way result }
+    ensures arrives { Arrives job.now view way result }
+    ensures follows { result ≡ Go (stage.Split (record { page = view; posting = posting_of way.parent })) }
 {
     let Way { parent, .. } = way;
     match parent {
@@ -149,7 +156,8 @@ fn go_on(job: &Job, view: View, way: Way) -> Next
     requires free { view.node.merging_child ≡ None }
     requires bounded { view.node.hi ≢ [] }
     requires behind { UpTo view.node.hi (key_of job.now.call) }
-    ensures { Arrives job.now view way result }
+    ensures arrives { Arrives job.now view way result }
+    ensures follows { OrNoMemory result (onward view view.node.next way.parent) }
 {
     let pid = view.pid;
     let Way { parent, .. } = way;
@@ -183,6 +191,19 @@ fn go_on(job: &Job, view: View, way: Way) -> Next
     }
 }
 
+// Whether a page that was reached so may merge: by a later pointer, and its parent can have it for its merging child.
+fn may_merge(way: &Way) -> bool
+    ensures { IsTrue result ↔ MayMerge way.now }
+{
+    if way.first {
+        return false;
+    }
+    match &way.parent {
+        None => false,
+        Some(parent) => parent.node.can_merge_child(),
+    }
+}
+
 // A page that covers the key.
 fn at_key(job: &Job, view: View, way: Way) -> Next
     requires awake { view.node.merging ≡ false }
@@ -191,11 +212,12 @@ fn at_key(job: &Job, view: View, way: Way) -> Next
     requires few { count view.node.content ≤ 16 }
     ensures arrives { Arrives job.now view way result }
     ensures passes { PassesOn job.now view way result }
+    ensures follows { follows_here job.now view way result }
 {
     if way.unsplit {
         return post(job, view, way);
     }
-    if !way.first && view.node.should_merge() {
+    if may_merge(&way) && view.node.should_merge() {
         return merge(job, view, way);
     }
     match &view.node.content {
@@ -209,7 +231,8 @@ fn post(job: &Job, view: View, way: Way) -> Next
     requires awake { view.node.merging ≡ false }
     requires free { view.node.merging_child ≡ None }
     requires unsplit { way.unsplit ≡ true }
-    ensures { Arrives job.now view way result }
+    ensures arrives { Arrives job.now view way result }
+    ensures follows { OrNoMemory result (pointed view way.parent) }
 {
     let pid = view.pid;
     let at = view.node.lo.clone();
@@ -233,9 +256,10 @@ fn merge(job: &Job, view: View, way: Way) -> Next
     requires awake { view.node.merging ≡ false }
     requires free { view.node.merging_child ≡ None }
     requires few { count view.node.content ≤ 3 }
-    requires later { way.first ≡ false }
+    requires may { MayMerge way }
     requires pointed { way.unsplit ≡ false }
-    ensures { Arrives job.now view way result }
+    ensures arrives { Arrives job.now view way result }
+    ensures follows { follows_few way.parent view.pid result }
 {
     let pid = view.pid;
     drop(view);
@@ -255,6 +279,7 @@ fn go_down(job: &Job, view: View, way: Way) -> Next
     requires index { IsIndex view.node.content }
     ensures arrives { Arrives job.now view way result }
     ensures passes { PassesOn job.now view way result }
+    ensures follows { GoesDown job.now view result }
 {
     drop(way);
     match view.node.pointer(Bound::Included(job.call.key().as_ref())) {
@@ -280,6 +305,7 @@ fn at_leaf(job: &Job, view: View, way: Way) -> Next
     requires leaf { IsLeaf view.node.content }
     ensures arrives { Arrives job.now view way result }
     ensures passes { PassesOn job.now view way result }
+    ensures follows { follows_leaf job.now view result }
 {
     drop(way);
     let value = match view.node.get(job.call.key().as_ref()) {

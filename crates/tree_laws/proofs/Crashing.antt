@@ -8,8 +8,8 @@ use Rattle.sled_pages.specs.declared.node.Node.{Node}
 use Rattle.sled_pages.specs.Crash.{left_from, states_left}
 use Rattle.sled_pages.specs.Facts.{after_last}
 use Rattle.tree_laws.specs.Contents.{trees_of}
-use Rattle.tree_laws.specs.Crashes.{IsWell, IsWhole, IsCrashSafe, Repeats, Matches, Trees, Extends, Flushes, Adds}
-use Rattle.tree_laws.specs.CrashLaws.{ExtendsLaw, RestsLaw, DecidesLaw, UnseenLaw, InsideGroupLaw, AgainLaw, FlushesLaw, WholeLaw, FlushesWholeLaw}
+use Rattle.tree_laws.specs.Crashes.{IsWhole, Repeats, Matches, Trees, Extends, Flushes, Adds}
+use Rattle.tree_laws.specs.CrashLaws.{ExtendsLaw, RestsLaw, DecidesLaw, UnseenLaw, InsideGroupLaw, AgainLaw, WholeLaw, FlushesWholeLaw}
 use Rattle.tree_laws.proofs.Runs.{In_cases, In-right}
 
 -- the lists that are equal but for repeats
@@ -137,18 +137,18 @@ module _ {act : Action} {a b : Store} (d : Adds act a b) where
   grown_out out = grown ∙ ap (λ c. map trees_of (states_left a) ++ map trees_of (cond c [] (now b ∷ []))) out
 
   -- an action outside every group adds the trees that it leaves
-  pub adds_extends : (now b).in_group ≡ false → IsWell (now b) → Extends (trees_of (now b) ∷ []) a b
+  pub adds_extends : (now b).in_group ≡ false → IsWhole (now b) → Extends (trees_of (now b) ∷ []) a b
   adds_extends out well = record {
     base = d.base;
     added = act ∷ [];
     recent = d.recent;
     actions = adds_count;
     grew = subst (λ l. Matches l (map trees_of (states_left a) ++ trees_of (now b) ∷ [])) (sym (grown_out out)) (matches_same _);
-    safe = λ s. record { well = adds_each IsWell s.well (λ e. well) };
+    safe = λ s. record { whole = adds_each IsWhole s.whole (λ e. well) };
   }
 
   -- and nothing where they are as before
-  pub adds_unseen : (now a).in_group ≡ false → (now b).in_group ≡ false → IsWell (now b) → trees_of (now b) ≡ trees_of (now a) → Extends [] a b
+  pub adds_unseen : (now a).in_group ≡ false → (now b).in_group ≡ false → IsWhole (now b) → trees_of (now b) ≡ trees_of (now a) → Extends [] a b
   adds_unseen before out well same =
       let last = left_last a.base a.recent before in
       let was : map trees_of (states_left a) ≡ map trees_of last.0 ++ trees_of (now a) ∷ [] = ap (map trees_of) last.1 ∙ map-append trees_of last.0 (now a ∷ []) in
@@ -159,7 +159,7 @@ module _ {act : Action} {a b : Store} (d : Adds act a b) where
         recent = d.recent;
         actions = adds_count;
         grew = subst (λ l. Matches l (map trees_of (states_left a) ++ [])) (sym is) (subst (λ l. Matches ((map trees_of last.0 ++ trees_of (now a) ∷ []) ++ trees_of (now a) ∷ []) l) (sym (append-nil _ ∙ was)) (matches_back (matches_again _ _)));
-        safe = λ s. record { well = adds_each IsWell s.well (λ e. well) };
+        safe = λ s. record { whole = adds_each IsWhole s.whole (λ e. well) };
       }
 
   -- an action inside a group adds no state that a crash may leave
@@ -172,7 +172,7 @@ module _ {act : Action} {a b : Store} (d : Adds act a b) where
         recent = d.recent;
         actions = adds_count;
         grew = subst (λ l. Matches l (map trees_of (states_left a) ++ [])) (ap (map trees_of) (sym same)) (subst (λ l. Matches (map trees_of (states_left a)) l) (sym (append-nil _)) (matches_same _));
-        safe = λ s. record { well = λ x i. s.well x (subst (λ l. In x l) same i) };
+        safe = λ s. record { whole = λ x i. s.whole x (subst (λ l. In x l) same i) };
       }
 
 pub same_left : (a b : Store) → b.base ≡ a.base → b.recent ≡ a.recent → states_left b ≡ states_left a
@@ -188,7 +188,7 @@ extends_nothing a b base recent actions =
       recent = recent ∙ sym (append-nil a.recent);
       actions = actions ∙ zero_more a.actions;
       grew = subst (λ l. Matches l (map trees_of (states_left a) ++ [])) (ap (map trees_of) (sym same)) (subst (λ l. Matches (map trees_of (states_left a)) l) (sym (append-nil _)) (matches_same _));
-      safe = λ s. record { well = λ x i. s.well x (subst (λ l. In x l) same i) };
+      safe = λ s. record { whole = λ x i. s.whole x (subst (λ l. In x l) same i) };
     }
   where
     zero_more : (n : ℕ) → n ≡ n + 0
@@ -237,9 +237,6 @@ flushes_left {a} {b} d out = ap (λ s. left_from s b.recent) d.base ∙ ap (λ l
 pub flushes_now : {a b : Store} → Flushes a b → now b ≡ now a
 flushes_now {a} {b} d = ap (λ s. after_all b.recent s) d.base ∙ ap (λ l. after_all l (now a)) d.recent
 
-pub flushes_safe : {a b : Store} → Flushes a b → (now a).in_group ≡ false → IsWell (now a) → IsCrashSafe b
-flushes_safe {a} {b} d out well = record { well = λ x i. elim (subst (λ l. In x l) (flushes_left d out) i) [ inl e ↦ subst IsWell (sym e) well | inr e ↦ absurd e ] }
-
 pub flushes_same : (a : Store) → Flushes a (flushed a)
 flushes_same a = record { base = refl; recent = refl; actions = refl }
 
@@ -273,9 +270,6 @@ inside_group_law act a b d = adds_inside d
 
 pub again_law : AgainLaw
 again_law maps a b e = extends_again e
-
-pub flushes_law : FlushesLaw
-flushes_law a b d = flushes_safe d
 
 pub whole_law : WholeLaw
 whole_law act a b d old new = record { whole = adds_each d IsWhole old.whole new }

@@ -51,11 +51,11 @@ changed_law m w n v t change is is' numbers here others = (
 
 -- the state at a moment has the shape of a forest
 pub well_law : WellLaw
-well_law m w is = (record { forest = w; formed = is.formed }, λ sized. record { forest = w; formed = is.formed; sized = sized })
+well_law m w is sized = record { forest = w; formed = is.formed; sized = sized }
 
 -- an action that no tree's contents show leaves what a crash may leave as it was, outside every group
 pub quiet_crash_law : QuietCrashLaw
-quiet_crash_law act a b numbers given w v adds before after is is' same = adds_unseen adds before after (well_law _ v is').0 (quiet_law (moment_of a numbers given) w (moment_of b numbers given) v is is' (λ t. refl) same)
+quiet_crash_law act a b numbers given w v adds before after is is' sized same = adds_unseen adds before after (well_law _ v is' sized) (quiet_law (moment_of a numbers given) w (moment_of b numbers given) v is is' (λ t. refl) same)
 
 -- a new tree, over a page that is the call's own
 pub plants_law : PlantsLaw

@@ -3,7 +3,7 @@ use Rattle.std.specs.Prelude.{◌≡◌, ℕ, nat_eq, true, false, List, [], ◌
 use Rattle.sled_pages.specs.State.{Action}
 use Rattle.sled_pages.specs.Store.{Store, now}
 use Rattle.tree_laws.specs.Contents.{trees_of}
-use Rattle.tree_laws.specs.Crashes.{IsWell, IsWhole, IsCrashSafe, IsCrashWhole, Trees, Matches, Extends, Flushes, Adds}
+use Rattle.tree_laws.specs.Crashes.{IsWhole, IsCrashWhole, Trees, Matches, Extends, Flushes, Adds}
 
 -- growths follow one another, and their trees stand one behind the other
 abbrev pub ExtendsLaw : Type 0
@@ -15,11 +15,11 @@ RestsLaw = (a b : Store) → b.base ≡ a.base → b.recent ≡ a.recent → b.a
 
 -- an action outside every group that leaves a well-formed state adds the trees of that state
 abbrev pub DecidesLaw : Type 0
-DecidesLaw = (act : Action) (a b : Store) → Adds act a b → (now b).in_group ≡ false → IsWell (now b) → Extends (trees_of (now b) ∷ []) a b
+DecidesLaw = (act : Action) (a b : Store) → Adds act a b → (now b).in_group ≡ false → IsWhole (now b) → Extends (trees_of (now b) ∷ []) a b
 
 -- .. and adds no trees where they are as they were
 abbrev pub UnseenLaw : Type 0
-UnseenLaw = (act : Action) (a b : Store) → Adds act a b → (now a).in_group ≡ false → (now b).in_group ≡ false → IsWell (now b) → trees_of (now b) ≡ trees_of (now a) → Extends [] a b
+UnseenLaw = (act : Action) (a b : Store) → Adds act a b → (now a).in_group ≡ false → (now b).in_group ≡ false → IsWhole (now b) → trees_of (now b) ≡ trees_of (now a) → Extends [] a b
 
 -- an action inside a group adds nothing that a crash may leave
 abbrev pub InsideGroupLaw : Type 0
@@ -29,15 +29,11 @@ InsideGroupLaw = (act : Action) (a b : Store) → Adds act a b → (now b).in_gr
 abbrev pub AgainLaw : Type 0
 AgainLaw = (maps : List Trees) (a b : Store) → Extends maps a b → (now b).in_group ≡ false → Extends (maps ++ trees_of (now b) ∷ []) a b
 
--- a flush of a well-formed state outside every group leaves it alone for a crash
-abbrev pub FlushesLaw : Type 0
-FlushesLaw = (a b : Store) → Flushes a b → (now a).in_group ≡ false → IsWell (now a) → IsCrashSafe b
-
--- the size is kept in each state that a crash may leave, as the shape is
+-- the shape and the size are kept in each state that a crash may leave
 abbrev pub WholeLaw : Type 0
 WholeLaw = (act : Action) (a b : Store) → Adds act a b → IsCrashWhole a → ((now b).in_group ≡ false → IsWhole (now b)) → IsCrashWhole b
 
--- and after a flush of a state that has it
+-- and after a flush of a state that has them
 abbrev pub FlushesWholeLaw : Type 0
 FlushesWholeLaw = (a b : Store) → Flushes a b → (now a).in_group ≡ false → IsWhole (now a) → IsCrashWhole b
 

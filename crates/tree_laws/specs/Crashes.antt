@@ -8,15 +8,6 @@ use Rattle.sled_pages.specs.Crash.{states_left}
 use Rattle.tree_laws.specs.Forest.{Tree, Forest, WellFormed, IsSized}
 use Rattle.tree_laws.specs.Contents.{trees_of}
 
--- the pages and roots have the shape of a forest
-pub record IsWell (s : State) : Type 0 where
-  pub forest : Forest
-  pub formed : WellFormed (nodes_of s) s.roots forest
-
--- each state that a crash may leave has the shape of a forest
-pub record IsCrashSafe (s : Store) : Type 0 where
-  pub well : (x : State) → In x (states_left s) → IsWell x
-
 -- the pages and roots have the shape of a forest, and its size
 pub record IsWhole (s : State) : Type 0 where
   pub forest : Forest
@@ -45,14 +36,14 @@ abbrev pub Trees : Type 0
 Trees = Tree → Option (List (Key × Key))
 
 -- What is kept since the last flush grows: the base stays, actions are added and counted, the trees after the states that a
--- crash may leave go on by these, in order, and all of those states have the shape of a forest if they had it before
+-- crash may leave go on by these, in order, and all of those states have the shape and the size of a forest if they had them before
 pub record Extends (maps : List Trees) (a b : Store) : Type 0 where
   pub base : b.base ≡ a.base
   pub added : List Action
   pub recent : b.recent ≡ a.recent ++ added
   pub actions : b.actions ≡ a.actions + length added
   pub grew : Matches (map trees_of (states_left b)) (map trees_of (states_left a) ++ maps)
-  pub safe : IsCrashSafe a → IsCrashSafe b
+  pub safe : IsCrashWhole a → IsCrashWhole b
 
 -- all is flushed, and nothing else done: the state before is the base, and a crash can leave no other
 pub record Flushes (a b : Store) : Type 0 where

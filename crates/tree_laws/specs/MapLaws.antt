@@ -8,7 +8,7 @@ use Rattle.sled_pages.specs.declared.node.Data.TheVariants.{Leaf}
 use Rattle.tree_laws.specs.Forest.{Tree, Forest, place, head, IsSized, contents}
 use Rattle.tree_laws.specs.Contents.{trees_of}
 use Rattle.tree_laws.specs.Moment.{Moment, moment_of, nodes_at, IsMoment}
-use Rattle.tree_laws.specs.Crashes.{IsWell, IsWhole, Extends, Adds}
+use Rattle.tree_laws.specs.Crashes.{IsWhole, Extends, Adds}
 use Rattle.tree_laws.specs.Stages.{IsOwn}
 use Rattle.tree_laws.specs.Drops.{IsLeft}
 use Rattle.tree_laws.specs.Laws.{Steps, no_forest, planted, dropped}
@@ -28,14 +28,14 @@ ChangedLaw = (m : Moment) (w : Forest) (n : Moment) (v : Forest) (t : Tree) (cha
     → contents (nodes_at n) v t ≡ change (contents (nodes_at m) w t) → ((u : Tree) → u ≢ t → contents (nodes_at n) v u ≡ contents (nodes_at m) w u)
     → (trees_of n.state t ≡ option_map change (trees_of m.state t)) × ((u : Tree) → u ≢ t → trees_of n.state u ≡ trees_of m.state u)
 
--- the state at a moment has the shape of a forest, and its size if the forest has it
+-- the state at a moment has the shape of a forest, and its size where the forest has it
 abbrev pub WellLaw : Type 0
-WellLaw = (m : Moment) (w : Forest) → IsMoment m w → IsWell m.state × (IsSized (nodes_at m) w → IsWhole m.state)
+WellLaw = (m : Moment) (w : Forest) → IsMoment m w → IsSized (nodes_at m) w → IsWhole m.state
 
 -- an action outside every group that no tree's contents show adds no trees to what a crash may leave
 abbrev pub QuietCrashLaw : Type 0
 QuietCrashLaw = (act : Action) (a b : Store) (numbers : Tree → Option ℕ) (given : ℕ → Bool) (w v : Forest) → Adds act a b → (now a).in_group ≡ false → (now b).in_group ≡ false
-    → IsMoment (moment_of a numbers given) w → IsMoment (moment_of b numbers given) v
+    → IsMoment (moment_of a numbers given) w → IsMoment (moment_of b numbers given) v → IsSized (nodes_at (moment_of b numbers given)) v
     → ((t : Tree) → contents (nodes_at (moment_of b numbers given)) v t ≡ contents (nodes_at (moment_of a numbers given)) w t) → Extends [] a b
 
 -- an empty leaf with empty bounds

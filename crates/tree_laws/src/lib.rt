@@ -1,14 +1,14 @@
 //! The theory of the tree: what is well formed, what a tree's contents are, and what page actions keep of both.
 //!
-//! Nothing here runs. Each public function is empty, and its contract is a law about the definitions of `specs/`. A crate
-//! above cites the lemma of `proofs/` that the law names, or calls the function, after which the law is at hand.
+//! Nothing here runs, and there is no function. A law is a type in `specs/` that speaks of the definitions there, and a lemma of
+//! `proofs/` of that type proves it; a crate above cites the lemma.
 //!
 //! # The form
 //!
 //! A tree is its name. A place is a tree and a height above its leaves: leaves stand at height 0 and a hoist adds a level
 //! on top, so the place of a page never changes. A forest is the witness of well-formedness: the chain of pages at each
 //! place, and the home of each page that stands in a chain, or that was received and still has its pointer. The pages and
-//! the roots determine it (`law_one`), so that two crates that each say "there is a forest" speak of the same one.
+//! the roots determine it (`OneLaw`), so that two crates that each say "there is a forest" speak of the same one.
 //!
 //! Shape and size are two records, `WellFormed` and `IsSized`. A law that keeps the shape says beside it what has to be
 //! small for the size to be kept.
@@ -46,9 +46,9 @@
 //! - Nothing is asked of where a received page's own pointers and `next` lead, nor that its bounds rise.
 //!
 //! *Of pages that no tree names nothing is asked*: they have no home. A home is no freedom of whoever says that there is a forest:
-//! a page has one exactly if it stands in a chain, or is the merging child of a page of a chain (`law_one`).
+//! a page has one exactly if it stands in a chain, or is the merging child of a page of a chain (`OneLaw`).
 //!
-//! `law_refused_images` has images that break these lines, which no forest has; `law_accepted_images` has what a
+//! `RefusedImages` has images that break these lines, which no forest has; `AcceptedImages` has what a
 //! split, a hoist and each stage of a merge leave when they stop half done.
 //!
 //! # Contents
@@ -60,34 +60,34 @@
 //! - *From the root down by first pointers to a leaf*: `first_leaf`. *Then along `next` to the end*: `along`. *The pairs are
 //!   joined*: in the order of the pages.
 //! - It has fuel for as many steps as there are page numbers, which is never used up where the pages are well formed: there it is
-//!   what the forest says (`law_contents`). Elsewhere a page that is missing has no pairs, no pointer and no `next`.
+//!   what the forest says (`ContentsLaw`). Elsewhere a page that is missing has no pairs, no pointer and no `next`.
 //!
-//! What the leaf that covers a key has at it is what the tree has at it (`law_find`), the pairs ascend (`law_sorted`), and a leaf's
-//! pairs are the part of the contents within its bounds (`law_range`).
+//! What the leaf that covers a key has at it is what the tree has at it (`FindLaw`), the pairs ascend (`SortedLaw`), and a leaf's
+//! pairs are the part of the contents within its bounds (`RangeLaw`).
 //!
 //! # Clean paths and reads
 //!
 //! A clean path of a key (`IsClean`) is a list of pages that a walk to the key passes without a repair:
 //!
 //! - *It begins at the root*: `is_root`. *It goes down by the last pointer at or below the key, to a leaf*: `CleanFrom`. So it has
-//!   a page of each level (`law_clean`), and a walk goes one down the list with each step (`law_clean_step`).
+//!   a page of each level (`CleanLaw`), and a walk goes one down the list with each step (`CleanStepLaw`).
 //! - *Each page covers the key*: `IsPassed.covers`. *None is merging or has a merging child*: `is_open`. *None should split*: an open
 //!   page should where it has more than 16 entries (`few`). *One that should merge is the root or was reached by a first
 //!   pointer*: an open page should where it has 3 or fewer (`many`).
 //!
-//! `law_clean_paths` has a path for each of these lines that breaks it. A reading walk looks at each page of a tree at most once
+//! `CleanPaths` has a path for each of these lines that breaks it. A reading walk looks at each page of a tree at most once
 //! (`IsAhead`), and how many pages stand in a tree's chains is a function of pages and roots (`tree_pages`).
 //!
 //! # Crashes
 //!
-//! - *Each state that a crash may leave is well formed*: `IsCrashSafe` says so of the shape, `IsCrashWhole` of the size too. Which
+//! - *Each state that a crash may leave is well formed*: `IsCrashWhole` says so of the shape and the size. Which
 //!   states a crash may leave is said where the pages are (`states_left`): the base after each beginning of the recent actions
 //!   that ends outside every group, the shortest first.
 //! - *The base stays, actions are only added at the end, and are counted*: `Extends.base`, `recent` and `actions`. The count
 //!   refuses what takes a root away, flushes, and puts it back and flushes again, after which all else is as it was.
 //! - *The contents after the states that a crash may leave go on by the contents after each call, in order, and by no others,
-//!   equal neighbours taken once*: `Extends.grew`, over `Matches` (`law_matches`). *Those states stay well formed*: `safe`, of the shape;
-//!   `law_whole` and `law_flushes_whole` keep the size.
+//!   equal neighbours taken once*: `Extends.grew`, over `Matches` (`MatchesLaw`). *Those states stay well formed*: `safe`; so do they
+//!   after a flush (`FlushesWholeLaw`).
 //! - *A flush alone does otherwise: the base becomes the state before it, nothing is recent, the count stays*: `Flushes`.
 //!
 //! # Calls in flight
@@ -95,170 +95,129 @@
 //! A moment is a store now, with each tree's number. Whatever an action does, `Goes` is what it gives to every other call:
 //! numbers and versions never come again, a page of a chain stands there or is merging, a merging page and another call's own
 //! page stay as they are, and a page that left its chain never comes back. What a call knows at a stage survives that
-//! (`law_stages`), whether or not its view is stale. A tree that was dropped takes its number with it, and of a call whose
+//! (`StagesLaw`), whether or not its view is stale. A tree that was dropped takes its number with it, and of a call whose
 //! number is not the name's now nothing is claimed.
 //!
 //! # The laws
 //!
 //! `actions`: what page actions do to the shape, the size and the contents of trees.
 //!
-//! - `law_empty`: A store with no page and no tree is well formed.
-//! - `law_set`: A `Set` at a leaf of a chain that covers the key puts the pair into the tree, and changes no other tree.
-//! - `law_del`: A `Del` at such a leaf takes the key out, and changes no other tree.
-//! - `law_plant`: A new tree over an empty leaf is empty, and the others stay.
-//! - `law_hoist`: A new root over the old one changes no tree.
-//! - `law_drop`: A dropped tree goes, its pages have no home then, and the others stay.
+//! - `EmptyLaw`: A store with no page and no tree is well formed.
+//! - `SetLaw`: A `Set` at a leaf of a chain that covers the key puts the pair into the tree, and changes no other tree.
+//! - `DelLaw`: A `Del` at such a leaf takes the key out, and changes no other tree.
+//! - `PlantLaw`: A new tree over an empty leaf is empty, and the others stay.
+//! - `HoistLaw`: A new root over the old one changes no tree.
+//! - `DropLaw`: A dropped tree goes, its pages have no home then, and the others stay.
 //!
 //! `crashes`: what an action adds to the states that a crash may leave.
 //!
-//! - `law_extends`: Growths follow one another.
-//! - `law_rests`: Without an action nothing grows.
-//! - `law_decides`: An action outside every group adds the trees that it leaves.
-//! - `law_unseen`: An action outside every group that leaves the trees as they were adds none.
-//! - `law_inside_group`: An action inside a group adds nothing that a crash may leave.
-//! - `law_again`: A call that is decided without a change adds the trees as they are.
-//! - `law_flushes`: After a flush a crash leaves the flushed state alone.
-//! - `law_whole`: The size is kept in each state that a crash may leave, as the shape is.
-//! - `law_flushes_whole`: After a flush of a state that has the size, each state that a crash may leave has it.
-//! - `law_matches`: Lists match exactly if they are the same once each run of equal neighbours is taken once.
+//! - `ExtendsLaw`: Growths follow one another.
+//! - `RestsLaw`: Without an action nothing grows.
+//! - `DecidesLaw`: An action outside every group adds the trees that it leaves.
+//! - `UnseenLaw`: An action outside every group that leaves the trees as they were adds none.
+//! - `InsideGroupLaw`: An action inside a group adds nothing that a crash may leave.
+//! - `AgainLaw`: A call that is decided without a change adds the trees as they are.
+//! - `WholeLaw`: The shape and the size are kept in each state that a crash may leave.
+//! - `FlushesWholeLaw`: After a flush of a state that has them, each state that a crash may leave has them.
+//! - `MatchesLaw`: Lists match exactly if they are the same once each run of equal neighbours is taken once.
 //!
 //! `images`: pages and roots that are well formed, and such that are not.
 //!
-//! - `law_accepted_images`: What half-done work leaves is well formed, and has the pairs that the tree had.
-//! - `law_refused_images`: No forest has the shape and the size of an image that breaks one of the lines of well-formedness.
-//! - `law_clean_paths`: A clean path is one over pages that a walk passes without a repair, and no path over another page is clean.
-//! - `law_false_laws`: Laws of the actions that ask for less are false: each would lead to a state that is not well formed, or change another call's page.
+//! - `AcceptedImages`: What half-done work leaves is well formed, and has the pairs that the tree had.
+//! - `RefusedImages`: No forest has the shape and the size of an image that breaks one of the lines of well-formedness.
+//! - `CleanPaths`: A clean path is one over pages that a walk passes without a repair, and no path over another page is clean.
+//! - `FalseLaws`: Laws of the actions that ask for less are false: each would lead to a state that is not well formed, or change another call's page.
 //!
 //! `kept`: what a call in flight knows survives each action of others.
 //!
-//! - `law_view`: A kept view speaks of its page while the version is the same.
-//! - `law_stood`: What is known of a page that stood in a chain stays known: its tree lost its number, or it is gone, or merging, or stands there.
-//! - `law_now`: A page that stood in a chain, is live and not merging, and whose tree has its number, stands there now.
-//! - `law_acting`: A leaf that a call means to change stays so.
+//! - `ViewLaw`: A kept view speaks of its page while the version is the same.
+//! - `StoodLaw`: What is known of a page that stood in a chain stays known: its tree lost its number, or it is gone, or merging, or stands there.
+//! - `NowLaw`: A page that stood in a chain, is live and not merging, and whose tree has its number, stands there now.
+//! - `ActingLaw`: A leaf that a call means to change stays so.
 //!
 //! `levels`: how the pages of a level lie under those of the level above, and what a node's own functions make of it.
 //!
-//! - `law_inside`: A page lies within the bounds of the index above that covers where it begins.
-//! - `law_reached`: A merge that was done is seen at the page before.
-//! - `law_halved`: The halves of a node of two entries or more make a split, whatever its height.
-//! - `law_joined`: A node with what the node behind it holds is sound, whatever its height.
-//! - `law_before`: The pointer before one to a page has a lower key.
-//! - `law_before_child`: A merging child has a pointer before its own, which leads into the chain at a lower key.
-//! - `law_leads_down`: An index that begins within an upper bound has a pointer within it.
+//! - `InsideLaw`: A page lies within the bounds of the index above that covers where it begins.
+//! - `ReachedLaw`: A merge that was done is seen at the page before.
+//! - `HalvedLaw`: The halves of a node of two entries or more make a split, whatever its height.
+//! - `JoinedLaw`: A node with what the node behind it holds is sound, whatever its height.
+//! - `BeforeLaw`: The pointer before one to a page has a lower key.
+//! - `BeforeChildLaw`: A merging child has a pointer before its own, which leads into the chain at a lower key.
+//! - `LeadsDownLaw`: An index that begins within an upper bound has a pointer within it.
 //!
 //! `maps`: the contents of all trees, as a function of pages and roots.
 //!
-//! - `law_new`: A store with no page and no root is well formed.
-//! - `law_well`: The state at a well-formed moment has the shape of a forest, and its size if the forest has it.
-//! - `law_map`: The map of a name with a root is the contents of its tree.
-//! - `law_quiet`: Where no tree's contents change, no map does.
-//! - `law_changed`: Where one tree's contents change, its map changes so, and no other does.
-//! - `law_quiet_crash`: An action outside every group that no tree's contents show adds nothing to what a crash may leave.
-//! - `law_plants`: A new name over an empty leaf of the call's own has an empty map, and every other map is as it was.
-//! - `law_drops`: A name that is dropped has no map, every other map is as it was, and its chains are left to be freed.
+//! - `NewLaw`: A store with no page and no root is well formed.
+//! - `WellLaw`: The state at a well-formed moment has the shape of a forest, and its size where the forest has it.
+//! - `MapLaw`: The map of a name with a root is the contents of its tree.
+//! - `QuietLaw`: Where no tree's contents change, no map does.
+//! - `ChangedLaw`: Where one tree's contents change, its map changes so, and no other does.
+//! - `QuietCrashLaw`: An action outside every group that no tree's contents show adds nothing to what a crash may leave.
+//! - `PlantsLaw`: A new name over an empty leaf of the call's own has an empty map, and every other map is as it was.
+//! - `DropsLaw`: A name that is dropped has no map, every other map is as it was, and its chains are left to be freed.
 //!
 //! `meaning`: what the pages say of the trees.
 //!
-//! - `law_find`: What the leaf that covers a key has at it is what the tree has at it.
-//! - `law_range`: A leaf's pairs are the part of the tree's contents that lies within its bounds.
-//! - `law_sorted`: The contents of a tree ascend.
-//! - `law_one`: The pages and the roots determine the forest.
-//! - `law_contents`: The contents as a function of pages and roots are the forest's.
+//! - `FindLaw`: What the leaf that covers a key has at it is what the tree has at it.
+//! - `RangeLaw`: A leaf's pairs are the part of the tree's contents that lies within its bounds.
+//! - `SortedLaw`: The contents of a tree ascend.
+//! - `OneLaw`: The pages and the roots determine the forest.
+//! - `ContentsLaw`: The contents as a function of pages and roots are the forest's.
 //!
 //! `paths`: reading walks and clean paths.
 //!
-//! - `law_pointer_in`: Where a pointer that is not to the merging child leads stands in the chain below, and begins at its key.
-//! - `law_next_in`: The next page stands in the chain, and begins where this one ends.
-//! - `law_ahead`: A reading walk has fewer pages ahead of it with each step, so that it looks at each page at most once.
-//! - `law_last_pointer`: The last pointer within a bound is one alone, and a later one if it is not the first.
-//! - `law_clean_step`: A walk at the first page of a clean path repairs nothing there, and goes one down the path.
-//! - `law_clean`: A clean path has a page of each level.
-//! - `law_pages`: The number of a tree's pages as a function of pages and roots is the forest's.
+//! - `PointerInLaw`: Where a pointer that is not to the merging child leads stands in the chain below, and begins at its key.
+//! - `NextInLaw`: The next page stands in the chain, and begins where this one ends.
+//! - `AheadLaw`: A reading walk has fewer pages ahead of it with each step, so that it looks at each page at most once.
+//! - `LastPointerLaw`: The last pointer within a bound is one alone, and a later one if it is not the first.
+//! - `CleanStepLaw`: A walk at the first page of a clean path repairs nothing there, and goes one down the path.
+//! - `CleanLaw`: A clean path has a page of each level.
+//! - `PagesLaw`: The number of a tree's pages as a function of pages and roots is the forest's.
 //!
 //! `splits`: what the actions of splits and merges do to the shape, the size and the contents of trees.
 //!
-//! - `law_split`: A split of an open page changes no tree, and the new page then stands in the chain.
-//! - `law_post`: A pointer that goes into an open index changes no tree.
-//! - `law_intention`: The intention of a merge changes no tree.
-//! - `law_cap`: The cap of a merging child changes no tree.
-//! - `law_receive`: The merge of a capped page into the page before it changes no tree, and the capped page then is in no chain.
-//! - `law_confirm`: The confirmation of a merge changes no tree, and the child then has no home.
+//! - `SplitLaw`: A split of an open page changes no tree, and the new page then stands in the chain.
+//! - `PostLaw`: A pointer that goes into an open index changes no tree.
+//! - `IntentionLaw`: The intention of a merge changes no tree.
+//! - `CapLaw`: The cap of a merging child changes no tree.
+//! - `ReceiveLaw`: The merge of a capped page into the page before it changes no tree, and the capped page then is in no chain.
+//! - `ConfirmLaw`: The confirmation of a merge changes no tree, and the child then has no home.
 //!
 //! `stages`: what a call in flight knows at its stages, and what its steps do.
 //!
-//! - `law_stages`: What a call knows at its stage it knows still after an action of another call.
-//! - `law_apart`: No page becomes two calls' own.
-//! - `law_root_here`: What is known of the root as it is read.
-//! - `law_cursor_here`: What is known of the cursor of a walk as it is read.
-//! - `law_here`: What a walk knows after it read an open page, by what it goes on to.
-//! - `law_merge_here`: Where a walk read a page with a merging child, that merge begins.
-//! - `law_stood_merges`: Where a page of a level was read with a merging child of its own, that merge begins.
-//! - `law_half`: A split begins with its right half as a new page, and changes no tree.
-//! - `law_left_half`: The page that is split becomes its left half, which changes no tree, and its right half is to be posted or hoisted over.
-//! - `law_pointer`: The pointer to the right half goes into the parent, which changes no tree.
-//! - `law_raise`: A hoist begins with the new root as a new page.
-//! - `law_swap`: The new root becomes the root, which changes no tree.
-//! - `law_frees`: A page that is a call's own is freed, which changes no tree.
-//! - `law_intend`: The parent takes its merging child, which changes no tree, and the merge begins.
-//! - `law_child_seeks`: Where the merging child was read and is merging already, the page before it is looked for.
-//! - `law_child_caps`: Where the merging child was read and is open, it is to be capped.
-//! - `law_caps`: The merging child is capped, which changes no tree, and the page before it is looked for.
-//! - `law_seek`: What the search for the page before the child knows after it read an open page.
-//! - `law_receives`: The page before the child receives it, which changes no tree.
-//! - `law_seek_again`: Where the page before the child changed before it could receive, it is looked for again.
-//! - `law_confirms`: The pointer to the received child goes, which changes no tree, and the child is the call's own.
+//! - `StagesLaw`: What a call knows at its stage it knows still after an action of another call.
+//! - `ApartLaw`: No page becomes two calls' own.
+//! - `RootHereLaw`: What is known of the root as it is read.
+//! - `CursorHereLaw`: What is known of the cursor of a walk as it is read.
+//! - `HereLaw`: What a walk knows after it read an open page, by what it goes on to.
+//! - `MergeHereLaw`: Where a walk read a page with a merging child, that merge begins.
+//! - `StoodMergesLaw`: Where a page of a level was read with a merging child of its own, that merge begins.
+//! - `HalfLaw`: A split begins with its right half as a new page, and changes no tree.
+//! - `LeftHalfLaw`: The page that is split becomes its left half, which changes no tree, and its right half is to be posted or hoisted over.
+//! - `PointerLaw`: The pointer to the right half goes into the parent, which changes no tree.
+//! - `RaiseLaw`: A hoist begins with the new root as a new page.
+//! - `SwapLaw`: The new root becomes the root, which changes no tree.
+//! - `FreesLaw`: A page that is a call's own is freed, which changes no tree.
+//! - `IntendLaw`: The parent takes its merging child, which changes no tree, and the merge begins.
+//! - `ChildSeeksLaw`: Where the merging child was read and is merging already, the page before it is looked for.
+//! - `ChildCapsLaw`: Where the merging child was read and is open, it is to be capped.
+//! - `CapsLaw`: The merging child is capped, which changes no tree, and the page before it is looked for.
+//! - `SeekLaw`: What the search for the page before the child knows after it read an open page.
+//! - `ReceivesLaw`: The page before the child receives it, which changes no tree.
+//! - `SeekAgainLaw`: Where the page before the child changed before it could receive, it is looked for again.
+//! - `ConfirmsLaw`: The pointer to the received child goes, which changes no tree, and the child is the call's own.
 //!
 //! `steps`: page actions as steps of a store, which keep what every other call knows.
 //!
-//! - `law_replaced`: A change of a page at its version is a step.
-//! - `law_allocated`: A new page is a step that changes no tree.
-//! - `law_freed`: To free a page without a home is a step that changes no tree.
-//! - `law_planted`: A first root, with a number never given, is a step.
-//! - `law_hoisted`: Another root for a tree is a step.
-//! - `law_dropped`: To drop a tree, with its number, is a step.
-//! - `law_write`: A call that knows a leaf covers its key, and finds it at the version it knows, puts the pair into the tree.
-//! - `law_erase`: A call that knows a leaf covers its key, and finds it at the version it knows, takes the key out of the tree.
-//! - `law_left`: Right after the drop of a tree all of each chain is left.
-//! - `law_frees_left`: To free the first page that is left of a level of a dropped tree is a step, and the rest of the level is left.
-//! - `law_answer`: What such a leaf has at the key is what the tree has at it.
+//! - `ReplaceLaw`: A change of a page at its version is a step.
+//! - `AllocateLaw`: A new page is a step that changes no tree.
+//! - `FreeLaw`: To free a page without a home is a step that changes no tree.
+//! - `PlantedLaw`: A first root, with a number never given, is a step.
+//! - `HoistedLaw`: Another root for a tree is a step.
+//! - `DroppedLaw`: To drop a tree, with its number, is a step.
+//! - `WriteLaw`: A call that knows a leaf covers its key, and finds it at the version it knows, puts the pair into the tree.
+//! - `EraseLaw`: A call that knows a leaf covers its key, and finds it at the version it knows, takes the key out of the tree.
+//! - `LeftLaw`: Right after the drop of a tree all of each chain is left.
+//! - `FreesLeftLaw`: To free the first page that is left of a level of a dropped tree is a step, and the rest of the level is left.
+//! - `AnswerLaw`: What such a leaf has at the key is what the tree has at it.
 #![tactic(auto)]
-
-mod actions;
-mod crashes;
-mod images;
-mod kept;
-mod levels;
-mod maps;
-mod meaning;
-mod paths;
-mod splits;
-mod stages;
-mod steps;
-
-pub use actions::{law_del, law_drop, law_empty, law_hoist, law_plant, law_set};
-pub use crashes::{
-    law_again, law_decides, law_extends, law_flushes, law_flushes_whole, law_inside_group,
-    law_matches, law_rests, law_unseen, law_whole,
-};
-pub use images::{law_accepted_images, law_clean_paths, law_false_laws, law_refused_images};
-pub use kept::{law_acting, law_now, law_stood, law_view};
-pub use levels::{
-    law_before, law_before_child, law_halved, law_inside, law_joined, law_leads_down, law_reached,
-};
-pub use maps::{
-    law_changed, law_drops, law_map, law_new, law_plants, law_quiet, law_quiet_crash, law_well,
-};
-pub use meaning::{law_contents, law_find, law_one, law_range, law_sorted};
-pub use paths::{
-    law_ahead, law_clean, law_clean_step, law_last_pointer, law_next_in, law_pages, law_pointer_in,
-};
-pub use splits::{law_cap, law_confirm, law_intention, law_post, law_receive, law_split};
-pub use stages::{
-    law_apart, law_caps, law_child_caps, law_child_seeks, law_confirms, law_cursor_here, law_frees,
-    law_half, law_here, law_intend, law_left_half, law_merge_here, law_pointer, law_raise,
-    law_receives, law_root_here, law_seek, law_seek_again, law_stages, law_stood_merges, law_swap,
-};
-pub use steps::{
-    law_allocated, law_answer, law_dropped, law_erase, law_freed, law_frees_left, law_hoisted,
-    law_left, law_planted, law_replaced, law_write,
-};

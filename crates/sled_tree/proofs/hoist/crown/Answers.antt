@@ -2,8 +2,8 @@ use Rattle.sled_tree.proofs.Facts.{refused}
 use Rattle.sled_tree.proofs.Splits.{crowned}
 use Rattle.sled_tree.proofs.hoist.crown.Goals as goal
 
-pub returns-in-Err : goal.returns-in-Err
-returns-in-Err g c = refused _ _ _ _ _ c.in-Err.ensures.err
+pub returns-in-Err-clause-moves : goal.returns-in-Err-clause-moves
+returns-in-Err-clause-moves g c = refused _ _ _ _ _ c.in-Err.ensures.err
 
-pub returns-in-Ok-Ok : goal.returns-in-Ok-Ok
-returns-in-Ok-Ok g c = crowned _ _ _ _ _ _ c.as_ref.ensures (rw c.in-Ok-Ok.field-0-is at c.in-Ok-Ok.ensures.ok)
+pub returns-in-Ok-Ok-clause-moves : goal.returns-in-Ok-Ok-clause-moves
+returns-in-Ok-Ok-clause-moves g c = crowned _ _ _ _ _ _ c.as_ref.ensures (rw c.in-Ok-Ok.field-0-is at c.in-Ok-Ok.ensures.ok)

@@ -1,8 +1,8 @@
 use Rattle.sled_tree.proofs.Merges.{child_helps, child_caps}
 use Rattle.sled_tree.proofs.merge.at_child.Goals as goal
 
-pub returns-in-Some : goal.returns-in-Some
-returns-in-Some c = child_helps _ _ (rw c.deref-read.ensures at c.if-read.false) (rw c.deref-read.ensures at c.in-Some.is) _ _ _ c.help.ensures
+pub returns-in-Some-clause-reads : goal.returns-in-Some-clause-reads
+returns-in-Some-clause-reads c = child_helps _ _ (rw c.deref-read.ensures at c.if-read.false) (rw c.deref-read.ensures at c.in-Some.is) _ _ _ c.help.ensures
 
-pub returns : goal.returns
-returns c = child_caps _ _ _ (rw c.deref-read.ensures at c.if-read.false) (rw c.deref-read.ensures at c.in_default.is)
+pub returns-clause-reads : goal.returns-clause-reads
+returns-clause-reads c = child_caps _ _ _ (rw c.deref-read.ensures at c.if-read.false) (rw c.deref-read.ensures at c.in_default.is)

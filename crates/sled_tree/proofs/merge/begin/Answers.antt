@@ -1,5 +1,5 @@
-use Rattle.std.proofs.Common.{refl, inr}
+use Rattle.std.proofs.Common.{None, refl}
 use Rattle.sled_tree.proofs.merge.begin.Goals as goal
 
-pub returns-in-Some : goal.returns-in-Some
-returns-in-Some c = record { told = inr (_, refl, record { above = refl; is = refl; before = rw c.deref-2.ensures at c.in-Some.ensures }) }
+pub returns-in-None : goal.returns-in-None
+returns-in-None c = record { before = None; is_before = rw c.deref.ensures at c.in-None.ensures; is = refl }

@@ -2,5 +2,5 @@ use Rattle.std.proofs.Common.{sym, ◌∙◌}
 use Rattle.sled_tree.proofs.Merges.{child_read}
 use Rattle.sled_tree.proofs.merge.read_child.Goals as goal
 
-pub returns-in-Ok-Some : goal.returns-in-Ok-Some
-returns-in-Ok-Some g c = child_read _ _ _ _ _ (sym c.in-Ok-Some.field-0-is ∙ c.in-Ok-Some.ensures.ok) c.at_child.ensures
+pub returns-in-Ok-Some-clause-moves : goal.returns-in-Ok-Some-clause-moves
+returns-in-Ok-Some-clause-moves g c = child_read _ _ _ _ _ (sym c.in-Ok-Some.field-0-is ∙ c.in-Ok-Some.ensures.ok) c.at_child.ensures.reads

@@ -1,0 +1,248 @@
+-- What is known of a call that comes to its change, or is decided before it: it did nothing, and the leaf stands as it was read.
+use Rattle.std.proofs.Common.{◌≡◌, ℕ, ◌⊎◌, Bool, Option, Some, None, MatchOption, Result, Ok, Err, sym, refl, ap, ◌∙◌, subst, inl, inr}
+use Rattle.sled_pages.specs.Node.{applied}
+use Rattle.sled_pages.specs.Store.{Store, now, view_of}
+use Rattle.sled_pages.specs.declared.error.Error.{Error}
+use Rattle.sled_pages.specs.declared.link.Link.{Link}
+use Rattle.sled_pages.specs.declared.node.Node.{Node}
+use Rattle.sled_pages.specs.declared.node.Data.{Data}
+use Rattle.sled_pages.specs.declared.node.Data.TheVariants.{Leaf, Index}
+use Rattle.sled_pages.specs.declared.page.Page.{Page}
+use Rattle.sled_pages.specs.declared.page.View.{View}
+use Rattle.sled_model.specs.Answer.{key_of}
+use Rattle.sled_model.specs.declared.decision.Effect.{Effect}
+use Rattle.sled_model.specs.declared.decision.Effect.TheVariants as effect
+use Rattle.sled_model.specs.declared.reply.Reply.{Reply}
+use Rattle.sled_tree.specs.Change.{decision_at, link_of}
+use Rattle.sled_tree.specs.declared.flight.Crown.{Crown}
+use Rattle.sled_tree.specs.declared.flight.Job.{Job}
+use Rattle.sled_tree.specs.declared.flight.Merge.{Merge}
+use Rattle.sled_tree.specs.declared.flight.Next.{Next}
+use Rattle.sled_tree.specs.declared.flight.Next.TheVariants as next
+use Rattle.sled_tree.specs.declared.flight.Posting.{Posting}
+use Rattle.sled_tree.specs.declared.flight.Posting.TheVariants as posting
+use Rattle.sled_tree.specs.declared.flight.Receive.{Receive}
+use Rattle.sled_tree.specs.declared.flight.Seek.{Seek}
+use Rattle.sled_tree.specs.declared.flight.Shorten.{Shorten}
+use Rattle.sled_tree.specs.declared.flight.Stage.{Stage}
+use Rattle.sled_tree.specs.declared.flight.Stage.TheVariants as stage
+use Rattle.sled_tree.specs.declared.walk.Way.{Way}
+use Rattle.sled_tree.specs.Passing.{IsUnchanged}
+use Rattle.sled_tree.specs.Follows.{resumed, begun, follows_few, onward, pointed, down, by_effect, OrNoMemory, follows_content, follows_here, follows_open, follows_awake, follows_read, follows_child, follows_child_awake, follows_cursor, follows_cursor_awake, follows_search, follows_met, searched, FollowsPage, follows_root, follows_act, OrRefused, Takes, shortened, crowned, read_again, sought_again, follows_as, Follows}
+
+none_some : {P X : Type 0} {x : X} → None ≡ Some x → P
+none_some e = cc
+
+some_is : {X : Type 0} {x y : X} → Some x ≡ Some y → x ≡ y
+some_is e = cc
+
+-- the leaf of the change that comes next
+abbrev acting : Next → Option View
+acting (next.Go (stage.Act v)) = Some v
+acting other = None
+
+-- the reply where the call is decided
+abbrev deciding : Next → Option Reply
+deciding (next.Decided reply) = Some reply
+deciding other = None
+
+-- the stage reads a page
+abbrev pub IsReading : Stage → Type 0
+IsReading stage.Root = Unit {0}
+IsReading (stage.Walk a) = Unit {0}
+IsReading (stage.Child a) = Unit {0}
+IsReading (stage.Seek a) = Unit {0}
+IsReading other = ⊥
+
+-- What comes next is of one of these kinds. An action of a repair leads to none of it
+module _ {X : Type 0} (kind : Next → Option X) (x : X) (n : Next) (is : kind n ≡ Some x) where
+  none_of : {P : Type 0} (m : Next) → n ≡ m → kind m ≡ None → P
+  none_of m e none = none_some (sym none ∙ sym (ap kind e) ∙ is)
+
+  module _ (refused : (e : Error) → kind (next.Refused e) ≡ None) where
+    or_refused : {P : Type 0} {old new : Store} {comes : Type 0} → OrRefused old new n comes → (comes → P) → P
+    or_refused (inl c) f = f c
+    or_refused (inr r) f = none_of _ r.1 (refused r.0)
+
+    module _ (goes : (a : Stage) → ((v : View) → a ≡ stage.Act v → ⊥) → kind (next.Go a) ≡ None) where
+      taken : {P : Type 0} {change : Node → Node} {pid version : ℕ} {old new : Store} {took : ℕ → Next} {late : Option ℕ → Next}
+          → ((given : ℕ) → kind (took given) ≡ None) → ((present : Option ℕ) → kind (late present) ≡ None) → Takes change pid version old new n took late → P
+      taken t l (inl k) = none_of _ k.2 (t k.0)
+      taken t l (inr k) = none_of _ k.2 (l k.0)
+
+      root : kind (next.Go stage.Root) ≡ None
+      root = goes stage.Root (λ v e. cc)
+
+      shortened_none : (a : Shorten) (p : Posting) → kind (shortened a p) ≡ None
+      shortened_none a (posting.Parent parent) = goes _ (λ v e. cc)
+      shortened_none a posting.Root = goes _ (λ v e. cc)
+      shortened_none a posting.Nowhere = root
+
+      crowned_none : (a : Crown) (answer : Result (Unit {0}) (Option ℕ)) → kind (crowned a answer) ≡ None
+      crowned_none a (Ok done) = root
+      crowned_none a (Err present) = goes _ (λ v e. cc)
+
+      read_again_none : (a : Merge) (present : Option ℕ) → kind (read_again a present) ≡ None
+      read_again_none a None = root
+      read_again_none a (Some p) = goes _ (λ v e. cc)
+
+      sought_again_none : (a : Receive) (present : Option ℕ) → kind (sought_again a present) ≡ None
+      sought_again_none a None = root
+      sought_again_none a (Some p) = goes _ (λ v e. cc)
+
+      -- so it comes of a read, or of the call's change
+      pub reads_or_acts : (j : Job) (old new : Store) (a : Stage) → follows_as j old a n new → (IsReading a × (new ≡ old)) ⊎ ((v : View) × (a ≡ stage.Act v))
+      reads_or_acts j old new stage.Root f = inl (tt, f.0)
+      reads_or_acts j old new (stage.Walk a) f = inl (tt, f.0)
+      reads_or_acts j old new (stage.Act v) f = inr (v, refl)
+      reads_or_acts j old new (stage.Split a) f = or_refused f (λ c. elim c [ inl k ↦ none_of _ k.1.is (goes _ (λ v e. cc)) | inr k ↦ none_of _ k.1.1 root ])
+      reads_or_acts j old new (stage.Shorten a) f = or_refused f (taken (λ given. shortened_none a a.posting) (λ present. goes _ (λ v e. cc)))
+      reads_or_acts j old new (stage.Post a) f = or_refused f (λ c. elim c [ inl k ↦ taken (λ given. root) (λ present. root) k.1 | inr k ↦ none_of _ k.1.1 root ])
+      reads_or_acts j old new (stage.Hoist a) f = or_refused f (λ c. none_of _ c.is (goes _ (λ v e. cc)))
+      reads_or_acts j old new (stage.Crown a) f = or_refused f (λ c. none_of _ c.is (crowned_none a c.answer))
+      reads_or_acts j old new (stage.Free a) f = or_refused f (λ c. none_of _ c.is root)
+      reads_or_acts j old new (stage.Intend a) f = or_refused f (taken (λ given. goes _ (λ v e. cc)) (λ present. root))
+      reads_or_acts j old new (stage.Child a) f = inl (tt, f.0)
+      reads_or_acts j old new (stage.Cap a) f = or_refused f (taken (λ given. goes _ (λ v e. cc)) (read_again_none a.merge))
+      reads_or_acts j old new (stage.Seek a) f = inl (tt, f.0)
+      reads_or_acts j old new (stage.Receive a) f = or_refused f (taken (λ given. goes _ (λ v e. cc)) (sought_again_none a))
+      reads_or_acts j old new (stage.Confirm a) f = or_refused f (taken (λ given. goes _ (λ v e. cc)) (λ present. root))
+
+-- a call that is decided elsewhere than by its change is decided at a read, which leaves the store as it is
+pub decided_law : (j : Job) (old new : Store) (a : Stage) (reply : Reply) → Follows j old a (next.Decided reply) new → (IsReading a × (new ≡ old)) ⊎ ((v : View) × (a ≡ stage.Act v))
+decided_law j old new a reply f = reads_or_acts deciding reply (next.Decided reply) refl (λ e. refl) (λ b plain. refl) j old new a f.is
+
+module _ (v : View) (n : Next) (is : n ≡ next.Go (stage.Act v)) where
+  -- nothing else comes next
+  off : {P : Type 0} (m : Next) → n ≡ m → acting m ≡ None → P
+  off m e none = none_some (sym none ∙ sym (ap acting e) ∙ ap acting is)
+
+  resumed_off : {P : Type 0} (u : View) (child : ℕ) (before : Option ℕ) → n ≡ resumed u child before → P
+  resumed_off u child None e = off _ e refl
+  resumed_off u child (Some before) e = off _ e refl
+
+  onward_off : {P : Type 0} (u : View) (q : Option ℕ) (parent : Option View) → OrNoMemory n (onward u q parent) → P
+  onward_off u None parent (inl e) = off _ e refl
+  onward_off u (Some q) None (inl e) = off _ e refl
+  onward_off u (Some q) (Some parent) (inl e) = off _ e refl
+  onward_off u q parent (inr e) = off _ e refl
+
+  pointed_off : {P : Type 0} (u : View) (parent : Option View) → OrNoMemory n (pointed u parent) → P
+  pointed_off u None (inl e) = off _ e refl
+  pointed_off u (Some parent) (inl e) = off _ e refl
+  pointed_off u parent (inr e) = off _ e refl
+
+  begun_off : {P : Type 0} (parent : View) (child : ℕ) (before : Option ℕ) → n ≡ begun parent child before → P
+  begun_off parent child None e = off _ e refl
+  begun_off parent child (Some before) e = off _ e refl
+
+  few_off : {P : Type 0} (parent : Option View) (child : ℕ) → follows_few parent child n → P
+  few_off None child e = off _ e refl
+  few_off (Some parent) child b = begun_off parent child b.before b.is
+
+  down_off : {P : Type 0} (u : View) (found : Option (ℕ × Bool)) → n ≡ down u found → P
+  down_off u None e = off _ e refl
+  down_off u (Some c) e = off _ e refl
+
+  -- the leaf that was read is the one of the change
+  leaf_at : (u : View) (e : Effect) (reply : Reply) → n ≡ by_effect e u reply → u ≡ v
+  leaf_at u effect.Nothing reply e = off _ e refl
+  leaf_at u (effect.Set value) reply e = some_is (sym (ap acting e) ∙ ap acting is)
+  leaf_at u effect.Remove reply e = some_is (sym (ap acting e) ∙ ap acting is)
+
+  content_at : (j : Job) (u : View) (d : Data) → follows_content d j u n → u ≡ v
+  content_at j u (Index es) d = down_off u d.found d.is
+  content_at j u (Leaf es) (inl e) = leaf_at u _ _ e
+  content_at j u (Leaf es) (inr e) = off _ e refl
+
+  here_at : (j : Job) (u : View) (way : Way) → follows_here j u way n → u ≡ v
+  here_at j u way (inl (c, f)) = pointed_off u way.parent f
+  here_at j u way (inr (c, inl (d, f))) = few_off way.parent u.pid f
+  here_at j u way (inr (c, inr (d, f))) = content_at j u u.node.content f
+
+  open_at : (j : Job) (u : View) (way : Way) → follows_open j u way n → u ≡ v
+  open_at j u way (inl (c, e)) = off _ e refl
+  open_at j u way (inr (c, inl (d, f))) = onward_off u u.node.next way.parent f
+  open_at j u way (inr (c, inr (d, inl (k, f)))) = here_at j u way f
+  open_at j u way (inr (c, inr (d, inr (k, e)))) = off _ e refl
+
+  awake_at : (j : Job) (u : View) (way : Way) (child : Option ℕ) → follows_awake child j u way n → u ≡ v
+  awake_at j u way None f = open_at j u way f
+  awake_at j u way (Some child) r = resumed_off u child r.before r.is
+
+  read_at : (j : Job) (u : View) (way : Way) → follows_read j u way n → u ≡ v
+  read_at j u way (inl (c, e)) = off _ e refl
+  read_at j u way (inr (c, f)) = awake_at j u way u.node.merging_child f
+
+  child_off : {P : Type 0} (a : Merge) (u : View) → follows_child a u n → P
+  child_off {P} a u (inl (c, e)) = off _ e refl
+  child_off {P} a u (inr (c, f)) = go u.node.merging_child f
+    where
+      go : (child : Option ℕ) → follows_child_awake child a u n → P
+      go None e = off _ e refl
+      go (Some child) r = resumed_off u child r.before r.is
+
+  met_off : {P : Type 0} (a : Seek) (u : View) → follows_met a u n → P
+  met_off a u (inl (c, e)) = off _ e refl
+  met_off a u (inr (c, e)) = off _ e refl
+
+  searched_off : {P : Type 0} (a : Seek) (q : Option ℕ) → n ≡ searched a q → P
+  searched_off a None e = off _ e refl
+  searched_off a (Some q) e = off _ e refl
+
+  search_off : {P : Type 0} (a : Seek) (u : View) → follows_search a u n → P
+  search_off a u (inl (c, f)) = met_off a u f
+  search_off a u (inr (c, inl (d, e))) = off _ e refl
+  search_off a u (inr (c, inr (d, e))) = searched_off a u.node.next e
+
+  cursor_off : {P : Type 0} (a : Seek) (u : View) → follows_cursor a u n → P
+  cursor_off {P} a u (inl (c, e)) = off _ e refl
+  cursor_off {P} a u (inr (c, f)) = go u.node.merging_child f
+    where
+      go : (child : Option ℕ) → follows_cursor_awake child a u n → P
+      go None f = search_off a u f
+      go (Some child) r = resumed_off u child r.before r.is
+
+  -- the page that was read is the leaf, and stands as it was read
+  page_at : (s : Store) (pid : ℕ) (found : View → Next → Type 0) → ((u : View) → found u n → u ≡ v) → FollowsPage s pid found n → IsUnchanged (now s) v
+  page_at s pid found at f = elim f.is [
+    | inl r ↦ go ((now s).pages pid) refl r.1
+    | inr r ↦ off _ r.1 refl
+  ]
+    where
+      go : (o : Option Page) → (now s).pages pid ≡ o → MatchOption (view_of pid o) (n ≡ next.Go stage.Root) (λ u. found u n) → IsUnchanged (now s) v
+      go None live e = off _ e refl
+      go (Some g) live f = subst (λ (u : View). IsUnchanged (now s) u) (at _ f) live
+
+  root_at : (j : Job) (s : Store) (root : Option ℕ) → follows_root j s root n → IsUnchanged (now s) v
+  root_at j s None e = off _ e refl
+  root_at j s (Some root) f = page_at s root _ (λ u. read_at j u _) f
+
+  -- the change of the call leads to no change,
+  act_off : {P : Type 0} (j : Job) (old new : Store) (u : View) → follows_act j old new u n → P
+  act_off {P} j old new u f = go (link_of (decision_at j.call u.node.content).effect (key_of j.call)) f
+    where
+      go : (link : Option Link) → MatchOption link ((new ≡ old) × (n ≡ next.Go stage.Root)) (λ l. Takes (applied l) u.pid u.version old new n (λ _. next.Decided (decision_at j.call u.node.content).reply) (λ _. next.Go stage.Root)) → P
+      go None e = off _ e.1 refl
+      go (Some l) (inl k) = off _ k.2 refl
+      go (Some l) (inr k) = off _ k.2 refl
+
+  -- and what leads to one is a read of the leaf
+  unchanged_at : (j : Job) (old new : Store) (a : Stage) → follows_as j old a n new → (IsReading a × (new ≡ old)) ⊎ ((u : View) × (a ≡ stage.Act u)) → (new ≡ old) × IsUnchanged (now new) v
+  unchanged_at j old new a f (inr b) = elim (subst (λ s. follows_as j old s n new) b.1 f) [
+    | inl c ↦ act_off j old new b.0 c
+    | inr r ↦ off _ r.1 refl
+  ]
+  unchanged_at j old new stage.Root f (inl r) = (r.1, subst (λ (s : Store). IsUnchanged (now s) v) (sym r.1) (root_at j old ((now old).roots j.tree.name) f.1))
+  unchanged_at j old new (stage.Walk a) f (inl r) = (r.1, subst (λ (s : Store). IsUnchanged (now s) v) (sym r.1) (page_at old a.cursor _ (λ u. read_at j u _) f.1))
+  unchanged_at j old new (stage.Child a) f (inl r) = (r.1, subst (λ (s : Store). IsUnchanged (now s) v) (sym r.1) (page_at old a.child _ (λ u. child_off a u) f.1))
+  unchanged_at j old new (stage.Seek a) f (inl r) = (r.1, subst (λ (s : Store). IsUnchanged (now s) v) (sym r.1) (page_at old a.cursor _ (λ u. cursor_off a u) f.1))
+  unchanged_at j old new other f (inl r) = absurd r.0
+
+-- a call that comes to its change comes to it by the read of the leaf, which stands as it was read
+pub change_law : (j : Job) (old new : Store) (a : Stage) (v : View) → Follows j old a (next.Go (stage.Act v)) new → (new ≡ old) × IsUnchanged (now new) v
+change_law j old new a v f = unchanged_at v (next.Go (stage.Act v)) refl j old new a f.is (reads_or_acts acting v (next.Go (stage.Act v)) refl (λ e. refl) plainly j old new a f.is)
+  where
+    plainly : (b : Stage) → ((u : View) → b ≡ stage.Act u → ⊥) → acting (next.Go b) ≡ None
+    plainly (stage.Act u) plain = absurd (plain u refl)
+    plainly other plain = refl

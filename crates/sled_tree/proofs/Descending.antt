@@ -1,0 +1,203 @@
+-- Steps at pages where nothing is to be repaired.
+use native.Mathlib.Omega.{arith}
+use Rattle.std.proofs.Common.{◌≡◌, ◌≢◌, ℕ, ◌+◌, ◌<◌, ◌≤◌, true, false, Bool, Option, Some, None, Result, Ok, Err, IfOk, IfErr, OnOk, MatchOption, refl, sym, ap, ◌∙◌, subst, inl, inr}
+use Rattle.std.specs.declared.ops.Bound.TheVariants.{Included}
+use Rattle.sled_pages.specs.Order.{Key}
+use Rattle.sled_pages.specs.Among.{IsPointer}
+use Rattle.sled_pages.specs.Node.{Covers, count, pointers}
+use Rattle.sled_pages.specs.Store.{Store, now, view_of, RefusedRead}
+use Rattle.sled_pages.specs.declared.error.Error.{Error}
+use Rattle.sled_pages.specs.declared.error.Error.TheVariants.{NoMemory}
+use Rattle.sled_pages.specs.declared.node.Data.{Data}
+use Rattle.sled_pages.specs.declared.node.Data.TheVariants.{Leaf, Index}
+use Rattle.sled_pages.specs.declared.page.View.{View}
+use Rattle.sled_model.specs.Answer.{key_of}
+use Rattle.sled_model.specs.declared.decision.Effect.{Effect}
+use Rattle.sled_model.specs.declared.decision.Effect.TheVariants.{Nothing, Set, Remove}
+use Rattle.sled_model.specs.declared.reply.Reply.{Reply}
+use Rattle.sled_tree.specs.Change.{IsLeaf, IsIndex, decision_at}
+use Rattle.sled_tree.specs.Descent.{way_of, met_as, IsClean, Meets, Leads, Descends, Settles}
+use Rattle.sled_tree.specs.Follows.{Follows, FollowsPage, EndsBefore, by_effect, done_at, follows_read, follows_root, follows_leaf, follows_content}
+use Rattle.sled_tree.specs.Moves.{Arrives}
+use Rattle.sled_tree.specs.Passing.{PassesOn}
+use Rattle.sled_tree.specs.declared.descent.Descent.TheVariants as descent
+use Rattle.sled_tree.specs.declared.flight.Flight.{Flight}
+use Rattle.sled_tree.specs.declared.flight.Job.{Job}
+use Rattle.sled_tree.specs.declared.flight.Next.{Next}
+use Rattle.sled_tree.specs.declared.flight.Next.TheVariants.{Go, Decided, Refused}
+use Rattle.sled_tree.specs.declared.flight.Stage.{Stage}
+use Rattle.sled_tree.specs.declared.flight.Stage.TheVariants as stage
+use Rattle.sled_tree.specs.declared.flight.Walk.{Walk}
+use Rattle.sled_tree.specs.declared.flight.Went.TheVariants as went
+use Rattle.sled_tree.specs.declared.walk.Way.{Way}
+use Rattle.sled_tree.proofs.Facts.{unable, unread, restarts}
+use Rattle.sled_tree.proofs.Arriving.{root_read, cursor_read, descends, acts, answers}
+use Rattle.sled_tree.proofs.Following.{opened, true_false}
+use Rattle.tree_laws.proofs.Order.{below_not_upto}
+use Rattle.sled_tree.proofs.Passing.{root_gone, cursor_gone, root_passes, cursor_passes, down_passes, leaf_passes}
+
+-- a page that was read says what comes
+page_follows : (s : Store) (pid : ℕ) (found : View → Next → Type 0) (view : View) (next : Next) → s.is_readable pid ≡ true → Some view ≡ view_of pid ((now s).pages pid) → found view next → FollowsPage s pid found next
+page_follows s pid found view next readable read f = record { is = inl (readable, subst (λ o. MatchOption o (next ≡ Go stage.Root) (λ v. found v next)) read f) }
+
+-- and so does that there is none
+gone_follows : (s : Store) (pid : ℕ) (found : View → Next → Type 0) → s.is_readable pid ≡ true → None ≡ view_of pid ((now s).pages pid) → FollowsPage s pid found (Go stage.Root)
+gone_follows s pid found readable read = record { is = inl (readable, subst (λ o. MatchOption o (Go stage.Root ≡ Go stage.Root) (λ v. found v (Go stage.Root))) read refl) }
+
+-- a page that has the key does not end before it
+not_behind : (j : Job) (view : View) → Covers view.node (key_of j.call) → EndsBefore view.node (key_of j.call) → ⊥
+not_behind j view covers beyond = elim covers.1 [ inl endless ↦ beyond.0 endless | inr below ↦ below_not_upto (key_of j.call) view.node.hi below beyond.1 ]
+
+-- what comes of a page where nothing is to be repaired is what comes of its content
+clean_follows : (j : Job) (view : View) (way : Way) (next : Next) → IsClean j way view → follows_content view.node.content j view next → follows_read j view way next
+clean_follows j view way next clean f = opened j view way next clean.awake clean.free (inr (
+  (λ long. absurd (not_long clean.few long)),
+  inr (not_behind j view clean.covers, inl (clean.covers, inr ((λ unsplit. true_false (sym clean.pointed ∙ unsplit)), inr ((λ merges. not_few (clean.many merges.0.0) merges.1), f)))),
+))
+  where
+    not_long : count view.node.content ≤ 16 → 16 < count view.node.content → ⊥
+    not_long few long = omega (arith, few, long)
+
+    not_few : 3 < count view.node.content → count view.node.content ≤ 3 → ⊥
+    not_few many few = omega (arith, many, few)
+
+-- at a leaf
+leaf_follows : (j : Job) (view : View) (next : Next) (d : Data) → IsLeaf d → follows_leaf j view next → follows_content d j view next
+leaf_follows j view next (Leaf es) is f = f
+leaf_follows j view next (Index es) is f = absurd is
+
+index_follows : (j : Job) (view : View) (c : ℕ) (first : Bool) (d : Data) → IsIndex d → IsPointer (Included (key_of j.call)) (pointers view.node.content) c first → follows_content d j view (Go (stage.Walk (record { cursor = c; parent = view; first = first; unsplit = false })))
+index_follows j view c first (Leaf es) is k = absurd is
+index_follows j view c first (Index es) is k = record { found = Some (c, first); is_last = k; is = refl }
+
+acts_on : (e : Effect) (view : View) (reply : Reply) → e ≢ Nothing → by_effect e view reply ≡ Go (stage.Act view)
+acts_on Nothing view reply changes = absurd (changes refl)
+acts_on (Set value) view reply changes = refl
+acts_on Remove view reply changes = refl
+
+-- a stage that is no walk comes to its page as one that begins
+pub other_way : (a : Stage) → ((w : Walk) → a ≡ stage.Walk w → ⊥) → way_of a ≡ record { parent = None; first = true; unsplit = false }
+other_way stage.Root walk = refl
+other_way (stage.Walk w) walk = absurd (walk w refl)
+other_way (stage.Act a) walk = refl
+other_way (stage.Split a) walk = refl
+other_way (stage.Shorten a) walk = refl
+other_way (stage.Post a) walk = refl
+other_way (stage.Hoist a) walk = refl
+other_way (stage.Crown a) walk = refl
+other_way (stage.Free a) walk = refl
+other_way (stage.Intend a) walk = refl
+other_way (stage.Child a) walk = refl
+other_way (stage.Cap a) walk = refl
+other_way (stage.Seek a) walk = refl
+other_way (stage.Receive a) walk = refl
+other_way (stage.Confirm a) walk = refl
+
+-- what a store answers to a read
+record IsAnswer (s : Store) (pid : ℕ) (found : Result (Option View) Error) : Type 0 where
+  ok : IfOk found (λ view. view ≡ view_of pid ((now s).pages pid))
+  readable : OnOk found (s.is_readable pid ≡ true)
+  err : IfErr found (λ e. RefusedRead pid s e)
+
+module _ (j : Job) (s : Store) where
+  -- the root of a tree,
+  module _ (name : Key) (root : Option ℕ) (pid : ℕ) (called : name ≡ j.tree.name) (is_root : root ≡ (now s).roots name) (is_some : root ≡ Some pid) where
+    at_root : (next : Next) → FollowsPage s pid (λ v. follows_read j v (record { parent = None; first = true; unsplit = false })) next → Follows j s stage.Root next s
+    at_root next f = record { is = (refl, subst (λ o. follows_root j s o next) (sym is_some ∙ (is_root ∙ ap (now s).roots called)) f) }
+
+    root_met_as : (found : Result (Option View) Error) → IsAnswer s pid found → met_as s j stage.Root found
+    root_met_as (Ok None) k = record {
+      moves = restarts j s stage.Root (λ q i. i);
+      passes = root_gone j (now s) name root pid _ called is_root is_some k.ok;
+      follows = at_root _ (gone_follows s pid _ k.readable k.ok);
+    }
+    root_met_as (Ok (Some view)) k = record {
+      moves = λ next t. root_read j s name root pid view next called is_root is_some k.ok t;
+      passes = λ next t. root_passes j (now s) name root pid view next called is_root is_some k.ok t;
+      follows = λ next t. at_root next (page_follows s pid _ view next k.readable k.ok t);
+    }
+    root_met_as (Err e) k = record {
+      moves = unread j s stage.Root pid e k.err;
+      passes = record { told = λ path p. tt };
+      follows = at_root _ (record { is = inr (e, refl, k.err) });
+    }
+
+    pub root_met : (found : Result (Option View) Error) → IfOk found (λ view. view ≡ view_of pid ((now s).pages pid)) → OnOk found (s.is_readable pid ≡ true) → IfErr found (λ e. RefusedRead pid s e) → met_as s j stage.Root found
+    root_met found ok readable err = root_met_as found (record { ok = ok; readable = readable; err = err })
+
+  -- or the cursor of a walk
+  module _ (a : Walk) where
+    cursor_met_as : (found : Result (Option View) Error) → IsAnswer s a.cursor found → met_as s j (stage.Walk a) found
+    cursor_met_as (Ok None) k = record {
+      moves = restarts j s (stage.Walk a) (λ q i. i);
+      passes = cursor_gone j (now s) a _ k.ok;
+      follows = record { is = (refl, gone_follows s a.cursor _ k.readable k.ok) };
+    }
+    cursor_met_as (Ok (Some view)) k = record {
+      moves = λ next t. cursor_read j s a view next k.ok t;
+      passes = λ next t. cursor_passes j (now s) a view next k.ok t;
+      follows = λ next t. record { is = (refl, page_follows s a.cursor _ view next k.readable k.ok t) };
+    }
+    cursor_met_as (Err e) k = record {
+      moves = unread j s (stage.Walk a) a.cursor e k.err;
+      passes = record { told = λ path p. tt };
+      follows = record { is = (refl, record { is = inr (e, refl, k.err) }) };
+    }
+
+    pub cursor_met : (found : Result (Option View) Error) → IfOk found (λ view. view ≡ view_of a.cursor ((now s).pages a.cursor)) → OnOk found (s.is_readable a.cursor ≡ true) → IfErr found (λ e. RefusedRead a.cursor s e) → met_as s j (stage.Walk a) found
+    cursor_met found ok readable err = cursor_met_as found (record { ok = ok; readable = readable; err = err })
+
+  module _ (a : Stage) (view : View) (m : Meets s j a view) where
+    -- an index leads down,
+    pub leads : (c : ℕ) (first : Bool) → IsClean j (way_of a) view → IsIndex view.node.content → IsPointer (Included (key_of j.call)) (pointers view.node.content) c first
+        → Descends s j a descent.Further (stage.Walk (record { cursor = c; parent = view; first = first; unsplit = false }))
+    leads c first clean index k = record {
+      told = record {
+        moves = m.moves _ (descends j view (way_of a) clean.awake clean.free clean.covers clean.few c first index k);
+        passes = m.passes _ (down_passes j view (way_of a) c first index k);
+        follows = m.follows _ (clean_follows j view (way_of a) _ clean (index_follows j view c first _ index k));
+      };
+    }
+
+    -- and where something is to be repaired the walk comes to that
+    pub repairs : (b : Stage) (next : Next) → Arrives j view (way_of a) next → PassesOn j view (way_of a) next → follows_read j view (way_of a) next → Descends s j a (descent.Next next) b
+    repairs b next arrives passes follows = record { told = record { moves = m.moves next arrives; passes = m.passes next passes; follows = m.follows next follows } }
+
+-- a step that was made is one of the call
+module _ (s : Store) (f : Flight) where
+  pub settles_go : (b : Stage) → Leads s f.job f.stage (Go b) → Settles s f went.Moved (record { job = f.job; stage = b; turns = f.turns + 1 })
+  settles_go b l = record { advances = record { told = (refl, refl, l.moves) }; passes = record { told = λ path k. l.passes.told path k }; follows = record { is = l.follows } }
+
+  pub settles_decided : (b : Stage) (reply : Reply) → Leads s f.job f.stage (Decided reply) → Settles s f (went.Decided reply) (record { job = f.job; stage = b; turns = f.turns })
+  settles_decided b reply l = record { advances = record { told = l.moves }; passes = record { told = tt }; follows = record { is = l.follows } }
+
+  pub settles_refused : (b : Stage) (e : Error) → Leads s f.job f.stage (Refused e) → Settles s f (went.Refused e) (record { job = f.job; stage = b; turns = f.turns })
+  settles_refused b e l = record { advances = record { told = l.moves }; passes = record { told = tt }; follows = record { is = l.follows } }
+
+  -- at the leaf the call goes on to its change,
+  module _ (view : View) (leaf : IsLeaf view.node.content) (clean : IsClean f.job (way_of f.stage) view) (m : Meets s f.job f.stage view) where
+    at_leaf_follows : (next : Next) → follows_leaf f.job view next → Follows f.job s f.stage next s
+    at_leaf_follows next t = m.follows next (clean_follows f.job view (way_of f.stage) next clean (leaf_follows f.job view next _ leaf t))
+
+    pub comes_to_act : (decision_at f.job.call view.node.content).effect ≢ Nothing → Settles s f went.Moved (record { job = f.job; stage = stage.Act view; turns = f.turns + 1 })
+    comes_to_act changes = settles_go (stage.Act view) (record {
+      moves = m.moves _ (acts f.job view (way_of f.stage) clean.awake clean.free clean.covers clean.few leaf changes);
+      passes = m.passes _ (leaf_passes f.job view (way_of f.stage) leaf changes);
+      follows = at_leaf_follows _ (inl (sym (acts_on _ view _ changes)));
+    })
+
+    -- or is decided,
+    pub comes_to_reply : (reply : Reply) → decision_at f.job.call view.node.content ≡ record { effect = Nothing; reply = reply } → Settles s f (went.Decided reply) f
+    comes_to_reply reply e = record {
+      advances = record { told = m.moves _ (answers f.job view (way_of f.stage) clean.awake clean.free clean.covers clean.few leaf reply e) };
+      passes = record { told = tt };
+      follows = record { is = at_leaf_follows _ (inl (sym (ap (done_at view) e))) };
+    }
+
+    -- or there is no memory
+    pub comes_to_nothing : (e : Error) → e ≡ NoMemory → Settles s f (went.Refused e) f
+    comes_to_nothing e none = record {
+      advances = record { told = unable f.job s f.stage e none };
+      passes = record { told = tt };
+      follows = record { is = at_leaf_follows _ (inr (ap Refused none)) };
+    }

@@ -1,0 +1,343 @@
+-- What a call does next: after a page that it read, and after an action.
+--
+-- Each table is total: of its lines the first one whose condition holds says what comes.
+use Rattle.std.specs.Prelude.{◌≡◌, ◌≢◌, ℕ, ◌<◌, ◌≤◌, ◌⊎◌, Bool, true, false, [], Option, Some, None, MatchOption, Result, Ok, Err}
+use Rattle.std.specs.declared.ops.Bound.TheVariants.{Included}
+use Rattle.sled_pages.specs.Order.{Key, UpTo}
+use Rattle.sled_pages.specs.Among.{IsPointerFor, IsPointerBefore}
+use Rattle.sled_pages.specs.Halves.{left_half, right_half, received}
+use Rattle.sled_pages.specs.Node.{Covers, count, pointers, applied}
+use Rattle.sled_pages.specs.Posting.{IsOpen, IsIndex, with_pointer, takes_pointer}
+use Rattle.sled_pages.specs.Store.{Store, now, view_of, Allocates, Changes, Frees, SwapsRoot, RefusedRead, Refused as IsRefused}
+use Rattle.sled_pages.specs.declared.error.Error.{Error}
+use Rattle.sled_pages.specs.declared.error.Error.TheVariants.{NoMemory}
+use Rattle.sled_pages.specs.declared.link.Link.TheVariants.{ParentMergeIntention, ParentMergeConfirm, ChildMergeCap}
+use Rattle.sled_pages.specs.declared.node.Node.{Node}
+use Rattle.sled_pages.specs.declared.node.Data.{Data}
+use Rattle.sled_pages.specs.declared.node.Data.TheVariants.{Leaf, Index}
+use Rattle.sled_pages.specs.declared.page.View.{View}
+use Rattle.sled_model.specs.Answer.{key_of}
+use Rattle.sled_model.specs.declared.decision.Decision.{Decision}
+use Rattle.sled_model.specs.declared.decision.Effect.{Effect}
+use Rattle.sled_model.specs.declared.decision.Effect.TheVariants as effect
+use Rattle.sled_model.specs.declared.reply.Reply.{Reply}
+use Rattle.tree_laws.specs.Stages.{IsOver}
+use Rattle.sled_tree.specs.Change.{decision_at, link_of}
+use Rattle.sled_tree.specs.declared.flight.Flight.{Flight}
+use Rattle.sled_tree.specs.declared.flight.Went.{Went}
+use Rattle.sled_tree.specs.declared.flight.Split.{Split}
+use Rattle.sled_tree.specs.declared.flight.Shorten.{Shorten}
+use Rattle.sled_tree.specs.declared.flight.Post.{Post}
+use Rattle.sled_tree.specs.declared.flight.Hoist.{Hoist}
+use Rattle.sled_tree.specs.declared.flight.Crown.{Crown}
+use Rattle.sled_tree.specs.declared.flight.Own.{Own}
+use Rattle.sled_tree.specs.declared.flight.Cap.{Cap}
+use Rattle.sled_tree.specs.declared.flight.Receive.{Receive}
+use Rattle.sled_tree.specs.declared.flight.Confirm.{Confirm}
+use Rattle.sled_tree.specs.declared.flight.Went.TheVariants as went
+use Rattle.sled_tree.specs.declared.flight.Job.{Job}
+use Rattle.sled_tree.specs.declared.flight.Merge.{Merge}
+use Rattle.sled_tree.specs.declared.flight.Seek.{Seek}
+use Rattle.sled_tree.specs.declared.flight.Walk.{Walk}
+use Rattle.sled_tree.specs.declared.flight.Posting.{Posting}
+use Rattle.sled_tree.specs.declared.flight.Posting.TheVariants as posting
+use Rattle.sled_tree.specs.declared.flight.Next.{Next}
+use Rattle.sled_tree.specs.declared.flight.Next.TheVariants.{Go, Decided, Refused}
+use Rattle.sled_tree.specs.declared.flight.Stage.{Stage}
+use Rattle.sled_tree.specs.declared.flight.Stage.TheVariants as stage
+use Rattle.sled_tree.specs.declared.walk.Way.{Way}
+
+-- one line of a table and the lines below it: the one where the condition holds, and else the other
+abbrev pub Where : Type 0 → Type 0 → Type 0 → Type 0
+Where condition here below = (condition × here) ⊎ ((condition → ⊥) × below)
+
+-- .. or the call is refused for want of memory
+abbrev pub OrNoMemory : Next → Next → Type 0
+OrNoMemory next comes = (next ≡ comes) ⊎ (next ≡ Refused NoMemory)
+
+-- a half-done merge goes on from the reading of its child, where a pointer stands before the child's
+abbrev pub resumed : View → ℕ → Option ℕ → Next
+resumed v child None = Go stage.Root
+resumed v child (Some before) = Go (stage.Child (record { parent = v; child = child; before = before }))
+
+pub record ResumesMerge (v : View) (child : ℕ) (next : Next) : Type 0 where
+  pub before : Option ℕ
+  pub is_before : IsPointerBefore child (pointers v.node.content) before
+  pub is : next ≡ resumed v child before
+
+-- a merge begins, where a pointer of the parent stands before the page's
+abbrev pub begun : View → ℕ → Option ℕ → Next
+begun parent child None = Go stage.Root
+begun parent child (Some before) = Go (stage.Intend (record { parent = parent; child = child; before = before }))
+
+pub record BeginsMerge (parent : View) (child : ℕ) (next : Next) : Type 0 where
+  pub before : Option ℕ
+  pub is_before : IsPointerBefore child (pointers parent.node.content) before
+  pub is : next ≡ begun parent child before
+
+-- the index can have a merging child
+abbrev pub takes_child : Option View → Type 0
+takes_child None = ⊥
+takes_child (Some parent) = IsIndex parent.node.content × IsOpen parent.node
+
+-- the page was reached by a later pointer of an index that can have it for its merging child
+abbrev pub MayMerge : Way → Type 0
+MayMerge way = (way.first ≡ false) × takes_child way.parent
+
+abbrev pub follows_few : Option View → ℕ → Next → Type 0
+follows_few None child next = next ≡ Go stage.Root
+follows_few (Some parent) child next = BeginsMerge parent child next
+
+-- the right half of a page that is split gets its pointer in the index that the walk came through, or in a new root
+abbrev pub posting_of : Option View → Posting
+posting_of None = posting.Root
+posting_of (Some parent) = posting.Parent parent
+
+-- the page next to one that ends before the key: below a parent it is read, beside the root a new root comes over both
+abbrev pub onward : View → Option ℕ → Option View → Next
+onward v None parent = Go stage.Root
+onward v (Some q) None = Go (stage.Hoist (record { left = v.pid; at = v.node.hi; right = q }))
+onward v (Some q) (Some parent) = Go (stage.Walk (record { cursor = q; parent = parent; first = true; unsplit = true }))
+
+-- a page that was reached by `next` gets a pointer
+abbrev pub pointed : View → Option View → Next
+pointed v None = Go stage.Root
+pointed v (Some parent) = Go (stage.Post (record { parent = parent; at = v.node.lo; pid = v.pid }))
+
+-- the last pointer of an index at or below the key is followed
+abbrev pub down : View → Option (ℕ × Bool) → Next
+down v None = Go stage.Root
+down v (Some c) = Go (stage.Walk (record { cursor = c.0; parent = v; first = c.1; unsplit = false }))
+
+pub record GoesDown (j : Job) (v : View) (next : Next) : Type 0 where
+  pub found : Option (ℕ × Bool)
+  pub is_last : IsPointerFor (Included (key_of j.call)) (pointers v.node.content) found
+  pub is : next ≡ down v found
+
+-- a call that changes nothing is decided at its leaf, and any other is to link its change
+abbrev pub by_effect : Effect → View → Reply → Next
+by_effect effect.Nothing v reply = Decided reply
+by_effect (effect.Set value) v reply = Go (stage.Act v)
+by_effect effect.Remove v reply = Go (stage.Act v)
+
+abbrev pub done_at : View → Decision → Next
+done_at v d = by_effect d.effect v d.reply
+
+abbrev pub follows_leaf : Job → View → Next → Type 0
+follows_leaf j v next = OrNoMemory next (done_at v (decision_at j.call v.node.content))
+
+abbrev pub follows_content : Data → Job → View → Next → Type 0
+follows_content (Index es) j v next = GoesDown j v next
+follows_content (Leaf es) j v next = follows_leaf j v next
+
+-- an open page of at most 16 entries that covers the key
+abbrev pub follows_here : Job → View → Way → Next → Type 0
+follows_here j v way next =
+    Where (way.unsplit ≡ true) (OrNoMemory next (pointed v way.parent))
+    (Where (MayMerge way × (count v.node.content ≤ 3)) (follows_few way.parent v.pid next)
+    (follows_content v.node.content j v next))
+
+-- the node ends before the key
+abbrev pub EndsBefore : Node → Key → Type 0
+EndsBefore n key = (n.hi ≢ []) × UpTo n.hi key
+
+-- an open page
+abbrev pub follows_open : Job → View → Way → Next → Type 0
+follows_open j v way next =
+    Where (16 < count v.node.content) (next ≡ Go (stage.Split (record { page = v; posting = posting_of way.parent })))
+    (Where (EndsBefore v.node (key_of j.call)) (OrNoMemory next (onward v v.node.next way.parent))
+    (Where (Covers v.node (key_of j.call)) (follows_here j v way next)
+    (next ≡ Go stage.Root)))
+
+abbrev pub follows_awake : Option ℕ → Job → View → Way → Next → Type 0
+follows_awake (Some child) j v way next = ResumesMerge v child next
+follows_awake None j v way next = follows_open j v way next
+
+-- a page of a walk
+abbrev pub follows_read : Job → View → Way → Next → Type 0
+follows_read j v way next = Where (v.node.merging ≡ true) (next ≡ Go stage.Root) (follows_awake v.node.merging_child j v way next)
+
+-- the merging child: one that is capped already is looked for from the page before it on, and an open one is to be capped
+abbrev pub follows_child_awake : Option ℕ → Merge → View → Next → Type 0
+follows_child_awake (Some child) merge v next = ResumesMerge v child next
+follows_child_awake None merge v next = next ≡ Go (stage.Cap (record { merge = merge; version = v.version; node = v.node }))
+
+abbrev pub follows_child : Merge → View → Next → Type 0
+follows_child merge v next =
+    Where (v.node.merging ≡ true) (next ≡ Go (stage.Seek (record { merge = merge; version = v.version; node = v.node; cursor = merge.before })))
+    (follows_child_awake v.node.merging_child merge v next)
+
+-- The search for the page before the merging child. The one that leads to the child receives it, and splits first where it is
+-- too long; where the search came past the child, that was received already
+abbrev pub searched : Seek → Option ℕ → Next
+searched seek None = Go stage.Root
+searched seek (Some q) = Go (stage.Seek (record { merge = seek.merge; version = seek.version; node = seek.node; cursor = q }))
+
+-- the node reaches to the key or beyond it
+abbrev pub ReachesTo : Node → Key → Type 0
+ReachesTo n key = (n.hi ≡ []) ⊎ UpTo key n.hi
+
+abbrev pub follows_met : Seek → View → Next → Type 0
+follows_met seek v next =
+    Where (16 < count v.node.content) (next ≡ Go (stage.Split (record { page = v; posting = posting.Nowhere })))
+    (next ≡ Go (stage.Receive (record { merge = seek.merge; version = seek.version; node = seek.node; left = v })))
+
+abbrev pub follows_search : Seek → View → Next → Type 0
+follows_search seek v next =
+    Where (v.node.next ≡ Some seek.merge.child) (follows_met seek v next)
+    (Where (ReachesTo v.node seek.node.lo) (next ≡ Go (stage.Confirm (record { parent = seek.merge.parent; child = seek.merge.child; version = seek.version })))
+    (next ≡ searched seek v.node.next))
+
+abbrev pub follows_cursor_awake : Option ℕ → Seek → View → Next → Type 0
+follows_cursor_awake (Some child) seek v next = ResumesMerge v child next
+follows_cursor_awake None seek v next = follows_search seek v next
+
+abbrev pub follows_cursor : Seek → View → Next → Type 0
+follows_cursor seek v next = Where (v.node.merging ≡ true) (next ≡ Go stage.Root) (follows_cursor_awake v.node.merging_child seek v next)
+
+-- The page that a stage reads says what comes next. Where there is none the call begins again. Where the page is not readable
+-- the call is refused: for that, or for want of memory
+pub record FollowsPage (s : Store) (pid : ℕ) (found : View → Next → Type 0) (next : Next) : Type 0 where
+  pub is : ((s.is_readable pid ≡ true) × MatchOption (view_of pid ((now s).pages pid)) (next ≡ Go stage.Root) (λ v. found v next)) ⊎ ((e : Error) × (next ≡ Refused e) × RefusedRead pid s e)
+
+abbrev pub follows_root : Job → Store → Option ℕ → Next → Type 0
+follows_root j s None next = next ≡ Go stage.Root
+follows_root j s (Some root) next = FollowsPage s root (λ v. follows_read j v (record { parent = None; first = true; unsplit = false })) next
+
+abbrev pub follows_walk : Job → Store → Walk → Next → Type 0
+follows_walk j s a next = FollowsPage s a.cursor (λ v. follows_read j v (record { parent = Some a.parent; first = a.first; unsplit = a.unsplit })) next
+
+-- A stage that acts
+
+-- an action comes to this, or the store refuses it, and then the call is refused
+abbrev pub OrRefused : Store → Store → Next → Type 0 → Type 0
+OrRefused old new next comes = comes ⊎ ((e : Error) × (next ≡ Refused e) × IsRefused e old new)
+
+-- a page is changed where it has the version, and what comes is told by the new version; else by the one that it has
+abbrev pub Takes : (Node → Node) → ℕ → ℕ → Store → Store → Next → (ℕ → Next) → (Option ℕ → Next) → Type 0
+Takes change pid version old new next took late =
+    ((given : ℕ) × Changes change pid version old new (Ok given) × (next ≡ took given))
+    ⊎ ((present : Option ℕ) × Changes change pid version old new (Err present) × (next ≡ late present))
+
+-- a change is linked at the version of the leaf that was read, and then the call is decided
+abbrev pub follows_act : Job → Store → Store → View → Next → Type 0
+follows_act j old new v next =
+    MatchOption (link_of (decision_at j.call v.node.content).effect (key_of j.call))
+    ((new ≡ old) × (next ≡ Go stage.Root))
+    (λ link. Takes (applied link) v.pid v.version old new next (λ _. Decided (decision_at j.call v.node.content).reply) (λ _. Go stage.Root))
+
+-- the right half of a long page is made,
+pub record Halves (old new : Store) (a : Split) (next : Next) : Type 0 where
+  pub right : ℕ
+  pub version : ℕ
+  pub made : Allocates (right_half a.page.node) right version old new
+  pub is : next ≡ Go (stage.Shorten (record { page = a.page; posting = a.posting; left = record (left_half a.page.node) { next = Some right }; at = (right_half a.page.node).lo; right = right; version = version }))
+
+abbrev pub follows_split : Store → Store → Split → Next → Type 0
+follows_split old new a next = Where ((16 < count a.page.node.content) × IsOpen a.page.node) (Halves old new a next) ((new ≡ old) × (next ≡ Go stage.Root))
+
+-- the page becomes the left one, and the right one gets its pointer, or else it goes,
+abbrev pub shortened : Shorten → Posting → Next
+shortened a (posting.Parent parent) = Go (stage.Post (record { parent = parent; at = a.at; pid = a.right }))
+shortened a posting.Root = Go (stage.Hoist (record { left = a.page.pid; at = a.at; right = a.right }))
+shortened a posting.Nowhere = Go stage.Root
+
+abbrev pub follows_shorten : Store → Store → Shorten → Next → Type 0
+follows_shorten old new a next = Takes (λ _. a.left) a.page.pid a.page.version old new next (λ _. shortened a a.posting) (λ _. Go (stage.Free (record { pid = a.right; version = a.version })))
+
+-- in an index that has none at its key,
+abbrev pub follows_post : Store → Store → Post → Next → Type 0
+follows_post old new a next =
+    Where (takes_pointer a.at a.parent.node.content ≡ true)
+    (Takes (λ _. record (a.parent.node) { content = with_pointer a.at a.pid a.parent.node.content }) a.parent.pid a.parent.version old new next (λ _. Go stage.Root) (λ _. Go stage.Root))
+    ((new ≡ old) × (next ≡ Go stage.Root))
+
+-- or in a new root, which is made and then set
+pub record Hoists (old new : Store) (a : Hoist) (next : Next) : Type 0 where
+  pub root : ℕ
+  pub version : ℕ
+  pub node : Node
+  pub over : IsOver node a.left a.at a.right
+  pub made : Allocates node root version old new
+  pub is : next ≡ Go (stage.Crown (record { old = a.left; new = root; version = version }))
+
+abbrev pub crowned : Crown → Result (Unit {0}) (Option ℕ) → Next
+crowned a (Ok done) = Go stage.Root
+crowned a (Err present) = Go (stage.Free (record { pid = a.new; version = a.version }))
+
+pub record Crowns (name : Key) (old new : Store) (a : Crown) (next : Next) : Type 0 where
+  pub answer : Result (Unit {0}) (Option ℕ)
+  pub swaps : SwapsRoot name (Some a.old) (Some a.new) old new answer
+  pub is : next ≡ crowned a answer
+
+-- a page that no tree came to have is freed
+pub record FreesOwn (old new : Store) (a : Own) (next : Next) : Type 0 where
+  pub answer : Result (Unit {0}) (Option ℕ)
+  pub frees : Frees a.pid a.version old new answer
+  pub is : next ≡ Go stage.Root
+
+-- a merge: the parent takes the child,
+abbrev pub follows_intend : Store → Store → Merge → Next → Type 0
+follows_intend old new a next =
+    Takes (applied (ParentMergeIntention a.child)) a.parent.pid a.parent.version old new next
+    (λ given. Go (stage.Child (record { parent = record { pid = a.parent.pid; version = given; node = record (a.parent.node) { merging_child = Some a.child } }; child = a.child; before = a.before })))
+    (λ _. Go stage.Root)
+
+-- which is capped,
+abbrev pub read_again : Merge → Option ℕ → Next
+read_again a None = Go stage.Root
+read_again a (Some present) = Go (stage.Child a)
+
+abbrev pub follows_cap : Store → Store → Cap → Next → Type 0
+follows_cap old new a next =
+    Takes (applied ChildMergeCap) a.merge.child a.version old new next
+    (λ given. Go (stage.Seek (record { merge = a.merge; version = given; node = record (a.node) { merging = true }; cursor = a.merge.before })))
+    (read_again a.merge)
+
+-- received,
+abbrev pub sought_again : Receive → Option ℕ → Next
+sought_again a None = Go stage.Root
+sought_again a (Some present) = Go (stage.Seek (record { merge = a.merge; version = a.version; node = a.node; cursor = a.left.pid }))
+
+abbrev pub follows_receive : Store → Store → Receive → Next → Type 0
+follows_receive old new a next =
+    Takes (λ _. received a.left.node a.node) a.left.pid a.left.version old new next
+    (λ _. Go (stage.Confirm (record { parent = a.merge.parent; child = a.merge.child; version = a.version })))
+    (sought_again a)
+
+-- and loses its pointer, after which it is freed
+abbrev pub follows_confirm : Store → Store → Confirm → Next → Type 0
+follows_confirm old new a next =
+    Takes (applied ParentMergeConfirm) a.parent.pid a.parent.version old new next
+    (λ _. Go (stage.Free (record { pid = a.child; version = a.version })))
+    (λ _. Go stage.Root)
+
+-- what a step from a stage does, and what it leads to
+abbrev pub follows_as : Job → Store → Stage → Next → Store → Type 0
+follows_as j old stage.Root next new = (new ≡ old) × follows_root j old ((now old).roots j.tree.name) next
+follows_as j old (stage.Walk a) next new = (new ≡ old) × follows_walk j old a next
+follows_as j old (stage.Act v) next new = OrRefused old new next (follows_act j old new v next)
+follows_as j old (stage.Split a) next new = OrRefused old new next (follows_split old new a next)
+follows_as j old (stage.Shorten a) next new = OrRefused old new next (follows_shorten old new a next)
+follows_as j old (stage.Post a) next new = OrRefused old new next (follows_post old new a next)
+follows_as j old (stage.Hoist a) next new = OrRefused old new next (Hoists old new a next)
+follows_as j old (stage.Crown a) next new = OrRefused old new next (Crowns j.tree.name old new a next)
+follows_as j old (stage.Free a) next new = OrRefused old new next (FreesOwn old new a next)
+follows_as j old (stage.Intend a) next new = OrRefused old new next (follows_intend old new a next)
+follows_as j old (stage.Child a) next new = (new ≡ old) × FollowsPage old a.child (follows_child a) next
+follows_as j old (stage.Cap a) next new = OrRefused old new next (follows_cap old new a next)
+follows_as j old (stage.Seek a) next new = (new ≡ old) × FollowsPage old a.cursor (follows_cursor a) next
+follows_as j old (stage.Receive a) next new = OrRefused old new next (follows_receive old new a next)
+follows_as j old (stage.Confirm a) next new = OrRefused old new next (follows_confirm old new a next)
+
+pub record Follows (j : Job) (old : Store) (stage : Stage) (next : Next) (new : Store) : Type 0 where
+  pub is : follows_as j old stage next new
+
+abbrev pub went_as : Store → Flight → Went → Store → Flight → Type 0
+went_as old f went.Moved new g = Follows f.job old f.stage (Go g.stage) new
+went_as old f (went.Decided reply) new g = Follows f.job old f.stage (Decided reply) new
+went_as old f (went.Refused e) new g = Follows f.job old f.stage (Refused e) new
+
+-- a step of a call in flight leads where its stage does
+pub record FollowsOn (old : Store) (f : Flight) (went : Went) (new : Store) (g : Flight) : Type 0 where
+  pub is : went_as old f went new g

@@ -1,0 +1,20 @@
+-- What holds of the calls in flight between two steps.
+use Rattle.std.specs.Prelude.{◌≡◌, ℕ, ◌≤◌}
+use Rattle.sled_pages.specs.In.{In}
+use Rattle.sled_model.specs.declared.TheConstants.{MAX_LOOPS}
+use Rattle.tree_laws.specs.Forest.{Forest}
+use Rattle.tree_laws.specs.Moment.{Moment, IsMoment}
+use Rattle.sled_tree.specs.Stages.{IsStage, owned}
+use Rattle.sled_tree.specs.declared.flight.Flight.{Flight}
+use Rattle.sled_tree.specs.declared.flight.Stage.TheVariants.{Root}
+
+-- What a call in flight knows of the pages is true at this moment, and it has no more turns than it may have. Without a turn it
+-- has yet to begin
+pub record IsKnown (m : Moment) (f : Flight) : Type 0 where
+  pub told : (w : Forest) → IsMoment m w → IsStage m w f.job f.stage
+  pub few : f.turns ≤ MAX_LOOPS
+  pub begins : f.turns ≡ 0 → f.stage ≡ Root
+
+-- no page is the two calls' own
+pub record AreApart (f g : Flight) : Type 0 where
+  pub off : (q : ℕ) → In q (owned f.stage) → In q (owned g.stage) → ⊥

@@ -1,0 +1,234 @@
+//! The way down. Most steps are on it, at pages where nothing is to be repaired, so these are made in place: a stage is neither
+//! moved nor made anew.
+ghost use Rattle.std.specs.Prelude.{◌≡◌, ◌<◌, false, IfSome, IsTrue, IfOk, IfErr};
+ghost use Rattle.sled_pages.specs.Store.{Store};
+ghost use Rattle.sled_pages.specs.declared.error.Error.TheVariants.{NoMemory};
+ghost use Rattle.sled_tree.specs.Change.{IsLeaf, IsIndex};
+ghost use Rattle.sled_tree.specs.Descent.{way_of, IsClean, Meets, Leads, met_as, IsReplyAt, Descends, Settles};
+ghost use Rattle.sled_tree.specs.declared.flight.Stage.{Stage};
+ghost use Rattle.sled_tree.specs.declared.flight.Stage.TheVariants as variant;
+
+use crate::flight::{Flight, Job, Next, Stage, Walk, Went};
+use crate::walk::{Way, arrive, covers};
+use sled_model::{Decision, Effect, MAX_LOOPS, Reply};
+use sled_pages::{Data, Node, Pages, Pid, Result, View};
+use std::alloc::Global;
+use std::ops::Bound;
+
+// How far a step down came.
+#[derive(Drop)]
+pub(crate) enum Descent {
+    // The stage does not go down, or its tree has no root. Nothing was done.
+    None,
+    // It passed an index.
+    Further,
+    // It read the leaf of the call's key, where nothing is to be repaired. Nothing else was done so far.
+    Leaf(View),
+    // It read a page where something is to be repaired, or none, and this comes next.
+    Next(Next),
+}
+
+// Reads the page of a stage that goes down, if it does.
+fn meet<P: Pages>(
+    pages: &P,
+    alloc: Global,
+    job: &Job,
+    stage: &Stage,
+) -> Option<Result<Option<View>>>
+    ensures { IfSome result (met_as (P.store pages.now) job.now stage.now) }
+{
+    match stage {
+        Stage::Root => {
+            let Some(root) = pages.root(job.tree.name.as_ref()) else {
+                return None;
+            };
+            Some(pages.read(alloc, root))
+        }
+        Stage::Walk(walk) => Some(pages.read(alloc, walk.cursor)),
+        _ => None,
+    }
+}
+
+// Whether the page of a stage is reached by a first pointer, and whether by the page beside it.
+fn reached(stage: &Stage) -> (bool, bool)
+    ensures { result ≡ ((way_of stage.now).first, (way_of stage.now).unsplit) }
+{
+    match stage {
+        Stage::Walk(walk) => (walk.first, walk.unsplit),
+        _ => (true, false),
+    }
+}
+
+// How a stage comes to its page. The stage is taken.
+fn take_way(stage: &mut Stage) -> Way
+    ensures { result ≡ way_of stage.old }
+{
+    match std::mem::replace(stage, Stage::Root) {
+        Stage::Walk(walk) => Way {
+            parent: Some(walk.parent),
+            first: walk.first,
+            unsplit: walk.unsplit,
+        },
+        other => {
+            drop(other);
+            Way {
+                parent: None,
+                first: true,
+                unsplit: false,
+            }
+        }
+    }
+}
+
+// Whether nothing is to be repaired at a page, and its bounds have the key.
+fn is_clean(job: &Job, stage: &Stage, view: &View) -> bool
+    ensures { IsTrue result → IsClean job.now (way_of stage.now) view.now }
+{
+    let (first, unsplit) = reached(stage);
+    let node: &Node = &view.node;
+    !node.merging
+        && node.merging_child.is_none()
+        && !unsplit
+        && !node.should_split()
+        && (first || !node.should_merge())
+        && covers(node, job.call.key().as_ref())
+}
+
+// The reply of a call at its leaf that changes nothing there.
+fn reply_at(job: &Job, node: &Node) -> Result<Option<Reply>>
+    ensures ok { IfOk result (IsReplyAt job.now.call node.now.content) }
+    ensures err { IfErr result (λ e. e ≡ NoMemory) }
+{
+    let Decision { effect, reply } = job.call.decide(node.get(job.call.key().as_ref())?)?;
+    match &effect {
+        Effect::Nothing => {
+            drop(effect);
+            Ok(Some(reply))
+        }
+        _ => {
+            drop(effect);
+            drop(reply);
+            Ok(None)
+        }
+    }
+}
+
+// Puts another stage in the place of one.
+fn set(stage: &mut Stage, new: Stage)
+    ensures { stage.new ≡ new }
+{
+    let old = std::mem::replace(stage, new);
+    drop(old);
+}
+
+// The walk goes on below an index. One that is under way is changed in place.
+fn walk_on(stage: &mut Stage, cursor: Pid, parent: View, first: bool)
+    ensures { stage.new ≡ variant.Walk (record { cursor = cursor; parent = parent; first = first; unsplit = false }) }
+{
+    match stage {
+        Stage::Walk(walk) => {
+            walk.cursor = cursor;
+            walk.first = first;
+            walk.unsplit = false;
+            let old = std::mem::replace(&mut walk.parent, parent);
+            drop(old);
+        }
+        _ => set(
+            stage,
+            Stage::Walk(Walk {
+                cursor,
+                parent,
+                first,
+                unsplit: false,
+            }),
+        ),
+    }
+}
+
+// At a page where something is to be repaired.
+fn repair(job: &Job, view: View, stage: &mut Stage) -> Descent
+    ensures { (s : Store) → Meets s job.now stage.old view → Descends s job.now stage.old result stage.new }
+{
+    let way = take_way(stage);
+    Descent::Next(arrive(job, view, way))
+}
+
+// At an index.
+fn at_index(job: &Job, view: View, stage: &mut Stage) -> Descent
+    requires index { IsIndex view.node.content }
+    requires clean { IsClean job.now (way_of stage.old) view }
+    ensures { (s : Store) → Meets s job.now stage.old view → Descends s job.now stage.old result stage.new }
+{
+    match view.node.pointer(Bound::Included(job.call.key().as_ref())) {
+        None => repair(job, view, stage),
+        Some((cursor, first)) => {
+            walk_on(stage, cursor, view, first);
+            Descent::Further
+        }
+    }
+}
+
+// At the page of a stage that goes down.
+fn arrive_in_place(job: &Job, view: View, stage: &mut Stage) -> Descent
+    ensures { (s : Store) → Meets s job.now stage.old view → Descends s job.now stage.old result stage.new }
+{
+    if !is_clean(job, stage, &view) {
+        return repair(job, view, stage);
+    }
+    match &view.node.content {
+        Data::Leaf(_) => Descent::Leaf(view),
+        Data::Index(_) => at_index(job, view, stage),
+    }
+}
+
+// Does the step of a stage that goes down. It reads one page at most.
+pub(crate) fn descend<P: Pages>(pages: &P, alloc: Global, job: &Job, stage: &mut Stage) -> Descent
+    ensures { Descends (P.store pages.now) job.now stage.old result stage.new }
+{
+    match meet(pages, alloc, job, stage) {
+        None => Descent::None,
+        Some(Ok(Some(view))) => arrive_in_place(job, view, stage),
+        Some(Ok(None)) => Descent::Next(Next::Go(Stage::Root)),
+        Some(Err(e)) => Descent::Next(Next::Refused(e)),
+    }
+}
+
+// The call goes on from a stage, or ends.
+pub(crate) fn settle(flight: &mut Flight, next: Next) -> Went
+    requires { flight.old.turns < MAX_LOOPS }
+    ensures { (s : Store) (a : Stage) → Leads s flight.old.job a next → Settles s (record { job = flight.old.job; stage = a; turns = flight.old.turns }) result flight.new }
+{
+    match next {
+        Next::Go(stage) => {
+            set(&mut flight.stage, stage);
+            flight.turns += 1;
+            Went::Moved
+        }
+        Next::Decided(reply) => Went::Decided(reply),
+        Next::Refused(e) => Went::Refused(e),
+    }
+}
+
+// The rest of the step at the leaf. A call that changes nothing is decided.
+pub(crate) fn at_leaf(flight: &mut Flight, view: View) -> Went
+    requires room { flight.old.turns < MAX_LOOPS }
+    requires leaf { IsLeaf view.node.content }
+    requires clean { IsClean flight.old.job (way_of flight.old.stage) view }
+    ensures { (s : Store) → Meets s flight.old.job flight.old.stage view → Settles s flight.old result flight.new }
+{
+    match reply_at(&flight.job, &view.node) {
+        Err(e) => {
+            drop(view);
+            Went::Refused(e)
+        }
+        Ok(Some(reply)) => {
+            drop(view);
+            Went::Decided(reply)
+        }
+        Ok(None) => {
+            set(&mut flight.stage, Stage::Act(view));
+            flight.turns += 1;
+            Went::Moved
+        }
+    }
+}
