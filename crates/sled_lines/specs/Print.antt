@@ -11,12 +11,19 @@ use Rattle.sled_model.specs.declared.reply.CompareAndSwapError.{CompareAndSwapEr
 use Rattle.sled_model.specs.declared.outcome.Outcome.{Outcome}
 use Rattle.sled_model.specs.declared.outcome.Outcome.TheVariants.{Begun, Moved, Decided, Refused, Abandoned, NoSuchSlot}
 use Rattle.sled_lines.specs.Words.{printed, word_of}
+use Rattle.sled_lines.specs.declared.print.Piece.{Piece}
+use Rattle.sled_lines.specs.declared.print.Piece.TheVariants as piece
 use Rattle.sled_lines.specs.declared.print.Shown.{Shown}
 use Rattle.sled_lines.specs.declared.print.Shown.TheVariants as shown
 
 -- each line ends so
 abbrev pub end : List ℕ
 end = 10 ∷ []
+
+abbrev pub piece_text : Piece → List ℕ
+piece_text (piece.Text text) = text.now
+piece_text (piece.Number n) = decimal n
+piece_text (piece.Word bytes) = printed bytes.now
 
 -- a get shows the value that stands, an insert and a removal the one that stood; a swap replies no such value
 abbrev pub shown_of : Call → Shown

@@ -191,13 +191,21 @@ fn swap_of(alloc: Global, arguments: Option<&[u8]>) -> Result<Option<Call>>
     let Some(key) = read_word(alloc, key)? else {
         return Ok(None);
     };
-    let Some(old) = read_value(alloc, old)? else {
-        return Ok(None);
+    let old = match read_value(alloc, old) {
+        Ok(Some(old)) => old,
+        other => {
+            drop(key);
+            return other.map(|_| None);
+        }
     };
-    let Some(new) = read_value(alloc, new)? else {
-        return Ok(None);
-    };
-    Ok(Some(Call::CompareAndSwap(key, old, new)))
+    match read_value(alloc, new) {
+        Ok(Some(new)) => Ok(Some(Call::CompareAndSwap(key, old, new))),
+        other => {
+            drop(key);
+            drop(old);
+            other.map(|_| None)
+        }
+    }
 }
 
 // The call of a name and its arguments.

@@ -1,5 +1,5 @@
 //! The lines of an input, and where they stop: what was printed is out before a read that may wait.
-ghost use Rattle.std.specs.Prelude.{◌≡◌, length, true, IfOk, OnOk, IfSome};
+ghost use Rattle.std.specs.Prelude.{◌≡◌, ◌≤◌, length, true, IfOk, OnOk, IfSome};
 ghost use Rattle.std.specs.Vec.{vec_len};
 ghost use Rattle.std.specs.Io.KnownBytes.{Keeps, IsAtEnd};
 ghost use Rattle.std.specs.Io.BufRead.{take_through, strip_last, DropsThrough};
@@ -36,33 +36,63 @@ impl<T: Drop> From<AllocFailed<T>> for Stopped {
     }
 }
 
-// What a reader holds: how many bytes, and whether they have a whole line or the input ends behind them.
+// What a reader holds: how many bytes of whole lines, and whether the input ends.
 #[derive(Clone, Copy)]
 struct Held {
-    bytes: usize,
-    ends: bool,
+    whole: usize,
+    at_end: bool,
+}
+
+// How many bytes there are up to the last line end.
+fn whole_lines(bytes: &[u8]) -> usize
+    ensures { result ≤ length bytes.now }
+{
+    let mut end = bytes.len();
+    while end > 0 && bytes[end - 1] != b'\n' {
+        end -= 1;
+    }
+    end
 }
 
 // Looks at what the reader holds; where that is nothing it reads.
 fn look<R: BufRead>(input: &mut R) -> io::Result<Held>
     ensures same { Keeps (R.remaining input.old) (R.remaining input.new) }
-    ensures end { IfOk result (λ held. held.bytes ≡ 0 → held.ends ≡ true → IsAtEnd (R.remaining input.old)) }
+    ensures end { IfOk result (λ held. held.at_end ≡ true → IsAtEnd (R.remaining input.old)) }
 {
     match input.fill_buf() {
         Ok(bytes) => Ok(Held {
-            bytes: bytes.len(),
-            ends: bytes.is_empty() || bytes.contains(&b'\n'),
+            whole: whole_lines(bytes),
+            at_end: bytes.is_empty(),
         }),
         Err(e) if e.kind() == ErrorKind::Interrupted => Ok(Held {
-            bytes: 0,
-            ends: false,
+            whole: 0,
+            at_end: false,
         }),
         Err(e) => Err(e),
     }
 }
 
+// Whether the input ends here. Where no whole line is held a read may wait, so the output is flushed first.
+fn is_at_end<R: BufRead, W: Write>(
+    input: &mut R,
+    output: &mut W,
+    left: &mut usize,
+) -> Result<bool, Stopped>
+    ensures same { OnOk result (Keeps (R.remaining input.old) (R.remaining input.new)) }
+    ensures end { IfOk result (λ ends. ends ≡ true → IsAtEnd (R.remaining input.old)) }
+{
+    if *left > 0 {
+        return Ok(false);
+    }
+    output.flush()?;
+    let held = look(input)?;
+    *left = held.whole;
+    Ok(held.at_end)
+}
+
 /// Reads the next line with the byte that ends it, and answers how long it is: 0 at the end of the input. `left` is how many
-/// bytes the reader holds behind the line, so far as that is known. Where a read may wait the output is flushed first.
+/// bytes of whole lines the reader holds behind the line, so far as that is known. Where a read may wait the output is flushed
+/// first.
 pub fn read_line<R: BufRead, W: Write>(
     input: &mut R,
     output: &mut W,
@@ -75,22 +105,11 @@ pub fn read_line<R: BufRead, W: Write>(
     ensures end { IfOk result (λ n. n ≡ 0 → IsAtEnd (R.remaining input.old)) }
 {
     line.clear();
-    if *left == 0 {
-        output.flush()?;
-    }
-    let held = look(input)?;
-    if held.bytes == 0 && held.ends {
+    if is_at_end(input, output, left)? {
         return Ok(0);
     }
-    if !held.ends {
-        output.flush()?;
-    }
     let read = input.read_until(b'\n', line)?;
-    *left = if held.ends {
-        held.bytes.saturating_sub(read)
-    } else {
-        0
-    };
+    *left = left.saturating_sub(read);
     Ok(read)
 }
 

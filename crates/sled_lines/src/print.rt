@@ -2,9 +2,10 @@
 //! the line may stand there then.
 ghost use Rattle.std.specs.Prelude.{◌≡◌, ◌++◌, OnOk, IfErr, decimal};
 ghost use Rattle.std.specs.Option.{option_copied};
+ghost use Rattle.std.specs.List.{flat_map};
 ghost use Rattle.sled_pages.specs.declared.error.Error.TheVariants.{NoMemory};
 ghost use Rattle.sled_lines.specs.Words.{word_of};
-ghost use Rattle.sled_lines.specs.Print.{end, shown_of, name_of, conflict_line, reply_line, error_number, refused_line, slot_line, outcome_line, pair_line, end_line, recovered_line, bad_line};
+ghost use Rattle.sled_lines.specs.Print.{end, piece_text, shown_of, name_of, conflict_line, reply_line, error_number, refused_line, slot_line, outcome_line, pair_line, end_line, recovered_line, bad_line};
 
 use crate::words::push_word;
 use sled_model::{Call, CompareAndSwapError, Outcome, Reply};
@@ -50,6 +51,40 @@ pub fn push_number(out: &mut Vec<u8>, number: u64) -> Result<()>
         Ok(()) => Ok(()),
         Err(_) => Err(Error::NoMemory),
     }
+}
+
+/// A piece of what is printed.
+#[derive(Clone, Copy)]
+pub enum Piece<'a> {
+    /// Text as it is.
+    Text(&'a [u8]),
+    /// A number in decimal.
+    Number(u64),
+    /// The word of a byte string.
+    Word(&'a [u8]),
+}
+
+// Adds a piece.
+fn push_piece(out: &mut Vec<u8>, piece: Piece<'_>) -> Result<()>
+    ensures ok { OnOk result (out.new.items ≡ out.old.items ++ piece_text piece.entry) }
+    ensures err { IfErr result (λ e. e ≡ NoMemory) }
+{
+    match piece {
+        Piece::Text(text) => push_text(out, text),
+        Piece::Number(number) => push_number(out, number),
+        Piece::Word(bytes) => push_word(out, bytes),
+    }
+}
+
+/// Adds pieces, one after the other.
+pub fn push_pieces(out: &mut Vec<u8>, pieces: &[Piece<'_>]) -> Result<()>
+    ensures ok { OnOk result (out.new.items ≡ out.old.items ++ flat_map piece_text pieces.now) }
+    ensures err { IfErr result (λ e. e ≡ NoMemory) }
+{
+    for piece in pieces {
+        push_piece(out, *piece)?;
+    }
+    Ok(())
 }
 
 /// Adds a line that is a name and a number.
@@ -152,17 +187,27 @@ pub fn push_outcome(out: &mut Vec<u8>, shown: Shown, outcome: &Outcome) -> Resul
 }
 
 /// Adds the line of a pair of the tree of this name.
-pub fn push_pair(out: &mut Vec<u8>, tree: &[u8], key: &[u8], value: &[u8]) -> Result<()>
+pub fn push_pair<'a>(
+    out: &mut Vec<u8>,
+    tree: &'a [u8],
+    key: &'a [u8],
+    value: &'a [u8],
+) -> Result<()>
     ensures ok { OnOk result (out.new.items ≡ out.old.items ++ pair_line tree.now key.now value.now) }
     ensures err { IfErr result (λ e. e ≡ NoMemory) }
 {
-    push_text(out, b"pair ")?;
-    push_word(out, tree)?;
-    push_text(out, b" ")?;
-    push_word(out, key)?;
-    push_text(out, b" ")?;
-    push_word(out, value)?;
-    push_text(out, b"\n")
+    push_pieces(
+        out,
+        &[
+            Piece::Text(b"pair "),
+            Piece::Word(tree),
+            Piece::Text(b" "),
+            Piece::Word(key),
+            Piece::Text(b" "),
+            Piece::Word(value),
+            Piece::Text(b"\n"),
+        ],
+    )
 }
 
 /// Adds the line at the end of so many pairs.

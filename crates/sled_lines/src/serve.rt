@@ -37,7 +37,7 @@ enum Line {
     Command(Command),
 }
 
-// The line and what it prints, the number of the line, and how many bytes the reader holds behind it.
+// The line and what it prints, the number of the line, and how many bytes of whole lines the reader holds behind it.
 #[derive(Drop)]
 struct Buffers {
     line: Vec<u8>,

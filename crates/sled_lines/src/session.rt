@@ -1,7 +1,6 @@
-//! A session: a database over pages in memory from its opening to a crash or the end.
+//! A session: a database from its opening to a crash or the end.
 ghost use Rattle.std.specs.Prelude.{◌≡◌, false, IfErr};
 ghost use Rattle.sled_pages.specs.Store.{now};
-ghost use Rattle.sled_pages.specs.Memory.{store_of};
 ghost use Rattle.tree_laws.specs.Crashes.{IsWhole, IsCrashWhole};
 
 use crate::command::Command;
@@ -9,8 +8,8 @@ use crate::input::Stopped;
 use crate::print::{Shown, push_end, push_outcome, push_pair};
 use sled::{Collection, Db};
 use sled_machine::Machine;
-use sled_model::{Call, MergeOperator, Outcome, Slot, Tree, Whole};
-use sled_pages::{Error, IVec, MemPages};
+use sled_model::{Call, MergeOperator, Outcome, Slot, Step, Tree, Whole};
+use sled_pages::{Error, IVec, MemPages, Pages};
 use std::alloc::Global;
 use std::io::Write;
 
@@ -25,21 +24,21 @@ enum Act {
     Abandon,
 }
 
-/// A machine over pages in memory, the current tree, and the slots that the lines began.
+/// A machine, the current tree, and the slots that the lines began.
 #[derive(Drop)]
-pub struct Session<M = Box<dyn MergeOperator + Send>> {
-    machine: Machine<MemPages, M>,
+pub struct Session<P: Pages = MemPages, M = Box<dyn MergeOperator + Send>> {
+    machine: Machine<P, M>,
     tree: Tree,
     // The slot that each `begin` took, in order, and what the value in its reply is.
     slots: Vec<(Slot, Shown)>,
 }
 
-impl<M: MergeOperator> Session<M> {
+impl<P: Pages, M: MergeOperator> Session<P, M> {
     /// A session over a database, whose default tree is current. Where that is refused it gives the pages back.
-    pub fn over(alloc: Global, db: Db<MemPages, M>) -> Result<Session<M>, (MemPages, Error)>
-        ensures whole { IfErr result (λ e. IsCrashWhole (store_of e.0)) }
-        ensures well { IfErr result (λ e. IsWhole (now (store_of e.0))) }
-        ensures calm { IfErr result (λ e. (now (store_of e.0)).in_group ≡ false) }
+    pub fn over(alloc: Global, db: Db<P, M>) -> Result<Session<P, M>, (P, Error)>
+        ensures whole { IfErr result (λ e. IsCrashWhole (P.store e.0)) }
+        ensures well { IfErr result (λ e. IsWhole (now (P.store e.0))) }
+        ensures calm { IfErr result (λ e. (now (P.store e.0)).in_group ≡ false) }
     {
         match db.default_tree() {
             Ok(tree) => Ok(Session {
@@ -52,7 +51,7 @@ impl<M: MergeOperator> Session<M> {
     }
 
     /// The database.
-    pub fn db(&self) -> &Db<MemPages, M> {
+    pub fn db(&self) -> &Db<P, M> {
         self.machine.db()
     }
 
@@ -62,7 +61,7 @@ impl<M: MergeOperator> Session<M> {
     }
 
     /// The database. The calls in flight are given up.
-    pub fn into_db(self) -> Db<MemPages, M> {
+    pub fn into_db(self) -> Db<P, M> {
         let Session {
             machine,
             tree,
@@ -85,11 +84,29 @@ impl<M: MergeOperator> Session<M> {
         self.slots.get(place).copied()
     }
 
-    // A call from its begin to its end.
+    /// A call on the current tree from its begin to its end.
+    pub fn complete(&mut self, call: Call) -> Outcome {
+        self.machine.complete(&self.tree, call)
+    }
+
+    /// A step of the call of this number.
+    pub fn step(&mut self, number: u64) -> Outcome {
+        self.act(number, Act::Step).1
+    }
+
+    /// Makes all durable.
+    pub fn flush(&mut self) -> Outcome {
+        self.machine.whole(Whole::Flush)
+    }
+
+    /// Does a list of steps. They name slots by the machine's numbers.
+    pub fn perform(&mut self, steps: &[Step]) -> sled_pages::Result<Vec<Outcome>> {
+        self.machine.run(steps)
+    }
+
+    // A call from its begin to its end, and what the value in its reply is.
     fn point(&mut self, call: Call) -> (Shown, Outcome) {
-        let shown = Shown::of(&call);
-        let outcome = self.machine.complete(&self.tree, call);
-        (shown, outcome)
+        (Shown::of(&call), self.complete(call))
     }
 
     // A call takes a slot, which is printed by its number among those that lines began.
@@ -143,7 +160,7 @@ impl<M: MergeOperator> Session<M> {
             Command::Step(number) => self.act(number, Act::Step),
             Command::Finish(number) => self.act(number, Act::Finish),
             Command::Abandon(number) => self.act(number, Act::Abandon),
-            Command::Flush => (Shown::Value, self.machine.whole(Whole::Flush)),
+            Command::Flush => (Shown::Value, self.flush()),
             Command::Crash(_) => return Ok(()),
             Command::Dump => return self.dump(output, out),
         };

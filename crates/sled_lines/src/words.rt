@@ -78,11 +78,25 @@ fn push_byte(out: &mut Vec<u8>, byte: u8) -> Result<()>
     push_escape(out, byte)
 }
 
+// Whether each byte stands for itself. It looks at all of them, so that the compiler can test many at a time.
+fn all_plain(bytes: &[u8]) -> bool
+    ensures { result ≡ list_all is_plain bytes.now }
+{
+    let mut plain = true;
+    for byte in bytes {
+        plain = plain & is_plain(*byte);
+    }
+    plain
+}
+
 // How many bytes in front stand for themselves.
 fn count_plain(bytes: &[u8]) -> usize
     ensures within { result ≤ length bytes.now }
     ensures plain { list_all is_plain (take result bytes.now) ≡ true }
 {
+    if all_plain(bytes) {
+        return bytes.len();
+    }
     for (at, byte) in bytes.iter().enumerate() {
         if !is_plain(*byte) {
             return at;

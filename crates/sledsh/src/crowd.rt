@@ -1,124 +1,123 @@
 //! Eight calls in flight at once, and crashes, beside the plain program, in an order that looks random.
 
+use crate::calls::{call_of, mixed, tell, tell_outcome};
 use crate::plain::{Pairs, Plain, copied};
 use crate::store::Kept;
-use sled::{DEFAULT_TREE, Db};
+use sled::{Collection, DEFAULT_TREE, Db};
 use sled_lines::input::{Stopped, without_end};
-use sled_lines::print::{Shown, push_number, push_numbered, push_outcome, push_text};
+use sled_lines::print::Piece::{Number, Text, Word};
 use sled_machine::Machine;
 use sled_model::{Call, Outcome, Reply, Slot, Tree, Whole};
-use sled_pages::{Error, IVec, MemPages, Result};
-use std::alloc::{AllocFailed, Global};
+use sled_pages::{IVec, MemPages};
+use std::alloc::Global;
 
-// Why a crowd ends early: there was no memory, or something differed, which is told.
-#[derive(Drop)]
-enum Halt {
-    Stopped,
-    Differed,
+// What a life does.
+#[derive(Clone, Copy)]
+enum Kind {
+    // Moves of any kind over five keys; the slots may be any.
+    Mix,
+    // Eight calls over 300 keys, of which most are inserts, or removals.
+    Grows,
+    Shrinks,
 }
 
-impl From<Error> for Halt {
-    fn from(_: Error) -> Self {
-        Halt::Stopped
-    }
-}
-
-impl From<Stopped> for Halt {
-    fn from(_: Stopped) -> Self {
-        Halt::Stopped
-    }
-}
-
-impl<T: Drop> From<AllocFailed<T>> for Halt {
-    fn from(_: AllocFailed<T>) -> Self {
-        Halt::Stopped
-    }
-}
-
-type Run<T> = std::result::Result<T, Halt>;
-
-// The next number of a sequence that looks random.
-fn mixed(number: u64) -> u64 {
-    let number = number ^ (number << 13);
-    let number = number ^ (number >> 7);
-    number ^ (number << 17)
-}
-
-// How a life goes.
+// How a life goes, and how many actions its crash keeps.
 #[derive(Clone, Copy)]
 struct Life {
     steps: u64,
-    // Whether the keys are five and the slots may be any, or there are eight calls over 300 keys.
-    is_mix: bool,
-    // Whether most calls are inserts, or removals.
-    grows: bool,
+    kind: Kind,
+    keep: u64,
+    // Whether all is flushed at the end.
+    flushes: bool,
 }
 
-// How a life ends.
+impl Life {
+    // Whether the pairs after each decided call are kept, one of which a crash leaves.
+    fn is_short(self) -> bool {
+        self.steps <= 50
+    }
+}
+
+// A call by its name, and what stands behind its key.
+type Form = (&'static str, [Behind; 2]);
+
 #[derive(Clone, Copy)]
-enum End {
-    All,
-    Flushed,
-    Some(u64),
+enum Behind {
+    Nothing,
+    // `-`, which is no value.
+    None,
+    Old,
+    New,
 }
 
-impl End {
-    // How many actions the crash keeps.
-    fn keep(self) -> u64 {
-        match self {
-            End::All => u64::MAX,
-            End::Flushed => 0,
-            End::Some(keep) => keep,
-        }
+const INSERT: Form = ("insert ", [Behind::New, Behind::Nothing]);
+
+const GET: Form = ("get ", [Behind::Nothing, Behind::Nothing]);
+
+const REMOVE: Form = ("remove ", [Behind::Nothing, Behind::Nothing]);
+
+const PLANT: Form = ("cas ", [Behind::None, Behind::New]);
+
+const CLEAR: Form = ("cas ", [Behind::Old, Behind::None]);
+
+const SWAP: Form = ("cas ", [Behind::Old, Behind::New]);
+
+const KEYS: [&str; 5] = ["a", "b", "", "abc", "b0"];
+
+// What stands behind a key; the values are small.
+fn text_of(behind: Behind, number: u64) -> &'static [u8] {
+    let values = [" 1", " 2", " 3"];
+    match behind {
+        Behind::Nothing => b"",
+        Behind::None => b" -",
+        Behind::Old => values[(number >> 16) as usize % 3].as_bytes(),
+        Behind::New => values[(number >> 24) as usize % 3].as_bytes(),
     }
 }
 
-// A small value.
-fn value(alloc: Global, number: u64) -> Result<IVec> {
-    IVec::from_slice(alloc, &[b'1' + (number % 3) as u8])
+// The form of a call by a number.
+fn form_of(number: u64, kind: Kind) -> Form {
+    match (kind, (number >> 34) % 8, (number >> 40) % 8) {
+        (Kind::Mix, 0..=2, _) => INSERT,
+        (Kind::Mix, 3, _) => GET,
+        (Kind::Mix, 4, _) => REMOVE,
+        (Kind::Mix, 5, _) => PLANT,
+        (Kind::Mix, 6, _) => CLEAR,
+        (Kind::Mix, _, _) => SWAP,
+        (_, _, 7) => GET,
+        (Kind::Grows, _, 6) => REMOVE,
+        (Kind::Grows, _, _) => INSERT,
+        (Kind::Shrinks, _, 0) => INSERT,
+        (Kind::Shrinks, _, _) => REMOVE,
+    }
 }
 
-// One of five keys, or of 300.
-fn key(alloc: Global, number: u64, life: Life) -> Result<IVec> {
-    if !life.is_mix {
-        let place = number % 300;
-        return IVec::from_slice(alloc, &[(place / 256) as u8, (place % 256) as u8]);
-    }
-    let bytes = match number % 5 {
-        0 => b"a".as_slice(),
-        1 => b"b",
-        2 => b"",
-        3 => b"abc",
-        _ => b"b0",
+// A call by a number.
+fn chosen(alloc: Global, number: u64, kind: Kind) -> Result<Call, Stopped> {
+    let (name, [first, second]) = form_of(number, kind);
+    let (first, second) = (text_of(first, number), text_of(second, number));
+    let place = (number >> 8) % 300;
+    let wide = [(place / 256) as u8, (place % 256) as u8];
+    let key: &[u8] = match kind {
+        Kind::Mix => KEYS[((number >> 8) % 5) as usize].as_bytes(),
+        _ => &wide,
     };
-    IVec::from_slice(alloc, bytes)
+    call_of(
+        alloc,
+        &[Text(name.as_bytes()), Word(key), Text(first), Text(second)],
+    )
 }
 
-// A call of any kind.
-fn any_call(alloc: Global, number: u64, key: IVec) -> Result<Call> {
-    let (old, new) = (value(alloc, number >> 16)?, value(alloc, number >> 24)?);
-    Ok(match (number >> 34) % 8 {
-        0 | 1 | 2 => Call::Insert(key, new),
-        3 => Call::Get(key),
-        4 => Call::Remove(key),
-        5 => Call::CompareAndSwap(key, None, Some(new)),
-        6 => Call::CompareAndSwap(key, Some(old), None),
-        _ => Call::CompareAndSwap(key, Some(old), Some(new)),
-    })
-}
-
-// A call by a number. While the tree is to grow it is mostly an insert, else mostly a removal.
-fn chosen(alloc: Global, number: u64, life: Life) -> Result<Call> {
-    let key = key(alloc, number >> 8, life)?;
-    if life.is_mix {
-        return any_call(alloc, number, key);
+// Whether the default tree is there alone, with these pairs.
+fn are_pairs(trees: &[Collection], pairs: &[(IVec, IVec)]) -> bool {
+    match trees {
+        [(kind, name, all)] => {
+            kind.as_ref() == b"tree".as_slice()
+                && name.as_ref() == DEFAULT_TREE.as_bytes()
+                && all.as_slice() == pairs
+        }
+        _ => false,
     }
-    let inserts = if life.grows { 6 } else { 1 };
-    Ok(match (number >> 40) % 8 {
-        kind if kind < inserts => Call::Insert(key, value(alloc, number >> 24)?),
-        7 => Call::Get(key),
-        _ => Call::Remove(key),
-    })
 }
 
 // The machine and its tree.
@@ -126,6 +125,59 @@ fn chosen(alloc: Global, number: u64, life: Life) -> Result<Call> {
 struct Side {
     machine: Machine<MemPages>,
     tree: Tree,
+}
+
+impl Side {
+    fn over(db: Db<MemPages>) -> Result<Side, Stopped> {
+        match db.default_tree() {
+            Ok(tree) => Ok(Side {
+                machine: Machine::new(db),
+                tree,
+            }),
+            Err(error) => {
+                drop(error);
+                drop(db);
+                Err(Stopped)
+            }
+        }
+    }
+
+    // What a crash leaves that keeps so many actions.
+    fn crash(self, alloc: Global, keep: u64) -> Result<Kept, Stopped> {
+        let Side { machine, tree } = self;
+        drop(tree);
+        Kept::of(machine.into_db()).crash(alloc, keep)
+    }
+
+    fn begin(&mut self, call: Call) -> Outcome {
+        match self.machine.begin(&self.tree, call) {
+            Ok(slot) => Outcome::Begun(slot),
+            Err(error) => Outcome::Refused(error),
+        }
+    }
+}
+
+// Adds how one side came out, and how the other.
+fn tell_difference<'a>(
+    out: &mut Vec<u8>,
+    did: &'a str,
+    slot: Slot,
+    is: &'a [u8],
+    wanted: &'a [u8],
+) -> Result<(), Stopped> {
+    tell(
+        out,
+        &[
+            Text(b"differed: "),
+            Text(did.as_bytes()),
+            Number(slot.0),
+            Text(b" came out as `"),
+            Text(without_end(is)),
+            Text(b"` and not `"),
+            Text(without_end(wanted)),
+            Text(b"`\n"),
+        ],
+    )
 }
 
 // The plain program, and what both are to do.
@@ -136,332 +188,308 @@ struct Crowd {
     number: u64,
     // So many calls are still to begin.
     left: u64,
-    // The pairs at the last flush and after each decided call since, in a short life.
+    // In a short life the pairs at the last flush and after each decided call since; else those that a crash is to leave.
     maps: Vec<Pairs>,
-    out: Vec<u8>,
+    // What differed first; empty where nothing did.
+    differs: Vec<u8>,
+    // Whether there was no memory.
+    stopped: bool,
 }
 
 impl Crowd {
-    // Tells what differed.
-    fn differed<T>(&mut self, what: &[u8]) -> Run<T> {
-        push_text(&mut self.out, b"differed: ")?;
-        push_text(&mut self.out, what)?;
-        push_text(&mut self.out, b"\n")?;
-        Err(Halt::Differed)
+    // Takes down what differed.
+    fn differed(&mut self, what: &'static str) {
+        if self.differs.is_empty() {
+            let told = tell(
+                &mut self.differs,
+                &[Text(b"differed: "), Text(what.as_bytes()), Text(b"\n")],
+            );
+            self.stopped |= told.is_err();
+        }
     }
 
-    // Tells how one side came out, and how the other.
-    fn tell(&mut self, did: &[u8], slot: Slot, is: &[u8], wanted: &[u8]) -> Run<()> {
-        push_text(&mut self.out, b"differed: ")?;
-        push_text(&mut self.out, did)?;
-        push_number(&mut self.out, slot.0)?;
-        push_text(&mut self.out, b" came out as `")?;
-        push_text(&mut self.out, without_end(is))?;
-        push_text(&mut self.out, b"` and not `")?;
-        push_text(&mut self.out, without_end(wanted))?;
-        push_text(&mut self.out, b"`\n")?;
-        Err(Halt::Differed)
+    fn is_over(&self) -> bool {
+        self.stopped || !self.differs.is_empty() || self.left == 0
     }
 
     // Compares how both sides came out.
-    fn same(&mut self, did: &[u8], slot: Slot, one: Outcome, other: Outcome) -> Run<()> {
-        let (mut is, mut wanted) = (Vec::new(self.alloc), Vec::new(self.alloc));
-        let is_pushed = push_outcome(&mut is, Shown::Value, &one).is_ok();
-        drop(one);
-        let are_pushed = is_pushed && push_outcome(&mut wanted, Shown::Value, &other).is_ok();
-        drop(other);
-        if !are_pushed {
-            return Err(Halt::Stopped);
+    fn compare(&mut self, did: &'static str, slot: Slot, outcome: &Outcome, wanted: &Outcome) {
+        let (mut one, mut other) = (Vec::new(self.alloc), Vec::new(self.alloc));
+        let told = tell_outcome(&mut one, outcome).and(tell_outcome(&mut other, wanted));
+        self.stopped |= told.is_err();
+        if one.as_slice() != other.as_slice() && self.differs.is_empty() {
+            let (is, wanted) = (one.as_slice(), other.as_slice());
+            let told = tell_difference(&mut self.differs, did, slot, is, wanted);
+            self.stopped |= told.is_err();
         }
-        if is.as_slice() == wanted.as_slice() {
-            return Ok(());
-        }
-        self.tell(did, slot, is.as_slice(), wanted.as_slice())
-    }
-
-    // The call of the present number begins on the one side.
-    fn begun(&mut self, side: &mut Side, life: Life) -> Run<Outcome> {
-        let call = chosen(self.alloc, self.number, life)?;
-        match side.machine.begin(&side.tree, call) {
-            Ok(slot) => Ok(Outcome::Begun(slot)),
-            Err(error) => Ok(Outcome::Refused(error)),
-        }
-    }
-
-    // .. and on the other.
-    fn begun_plain(&mut self, life: Life) -> Run<Outcome> {
-        let call = chosen(self.alloc, self.number, life)?;
-        Ok(self.plain.begin(call)?)
     }
 
     // Begins the call of the present number on both sides.
-    fn begin(&mut self, side: &mut Side, life: Life) -> Run<Slot> {
+    fn begin(&mut self, side: &mut Side, life: Life) -> Slot {
         self.left = self.left.saturating_sub(1);
-        let one = self.begun(side, life)?;
-        let other = match self.begun_plain(life) {
-            Ok(other) => other,
-            Err(halt) => {
-                drop(one);
-                return Err(halt);
-            }
+        let Ok(call) = chosen(self.alloc, self.number, life.kind) else {
+            self.stopped = true;
+            return Slot(0);
         };
+        let wanted = match self.plain.begin(&call) {
+            Ok(slot) => Outcome::Begun(slot),
+            Err(error) => Outcome::Refused(error),
+        };
+        let outcome = side.begin(call);
         let slot = Slot(self.plain.given);
-        self.same(b"begin ", slot, one, other)?;
-        Ok(slot)
+        self.compare("begin ", slot, &outcome, &wanted);
+        drop(outcome);
+        drop(wanted);
+        slot
     }
 
     // Steps a call on both sides: whether it was decided.
-    fn step(&mut self, side: &mut Side, slot: Slot, life: Life) -> Run<bool> {
-        let one = side.machine.step(slot);
-        let decided = matches!(&one, Outcome::Decided(_));
-        let other = match self.plain.step(slot, decided) {
-            Ok(other) => other,
-            Err(error) => {
-                drop(one);
-                return Err(Halt::from(error));
-            }
+    fn step(&mut self, side: &mut Side, slot: Slot, life: Life) -> bool {
+        let outcome = side.machine.step(slot);
+        let decided = matches!(&outcome, Outcome::Decided(_));
+        let wanted = if decided {
+            self.plain.decide(slot)
+        } else {
+            self.plain.step(slot)
         };
-        self.same(b"step ", slot, one, other)?;
-        if decided && life.steps <= 50 {
-            self.note()?;
+        self.compare("step ", slot, &outcome, &wanted);
+        drop(outcome);
+        drop(wanted);
+        if decided && life.is_short() {
+            self.note();
         }
-        Ok(decided)
+        decided
     }
 
     // Gives a call up on both sides.
-    fn abandon(&mut self, side: &mut Side, slot: Slot) -> Run<()> {
-        let (one, other) = (side.machine.abandon(slot), self.plain.abandon(slot));
-        self.same(b"abandon ", slot, one, other)
+    fn abandon(&mut self, side: &mut Side, slot: Slot) {
+        let (outcome, wanted) = (side.machine.abandon(slot), self.plain.abandon(slot));
+        self.compare("abandon ", slot, &outcome, &wanted);
+        drop(outcome);
+        drop(wanted);
     }
 
-    fn flush(&mut self, side: &mut Side) -> Run<()> {
+    fn flush(&mut self, side: &mut Side) {
         let outcome = side.machine.whole(Whole::Flush);
-        let is_flushed = matches!(&outcome, Outcome::Decided(Reply::Number(_)));
-        drop(outcome);
-        if !is_flushed {
-            return self.differed(b"a flush was refused");
+        if !matches!(&outcome, Outcome::Decided(Reply::Number(_))) {
+            self.differed("a flush was refused");
         }
-        self.maps.clear();
-        self.note()
+        drop(outcome);
+        self.note_alone();
     }
 
     // Notes the pairs as they are now.
-    fn note(&mut self) -> Run<()> {
-        let pairs = copied(self.alloc, self.plain.pairs.as_slice())?;
-        Ok(self.maps.push(pairs)?)
+    fn note(&mut self) {
+        match copied(self.alloc, self.plain.pairs.as_slice()) {
+            Ok(pairs) => self.stopped |= self.maps.push(pairs).is_err(),
+            Err(error) => {
+                drop(error);
+                self.stopped = true;
+            }
+        }
     }
 
-    // The pairs of the machine, which has the default tree alone.
-    fn pairs(&mut self, side: &Side) -> Run<Pairs> {
-        let Ok(mut all) = side.machine.db().export() else {
-            return self.differed(b"an export was refused");
-        };
-        let is_one = all.len() == 1;
-        let last = all.pop();
-        drop(all);
-        let Some((kind, name, pairs)) = last else {
-            return self.differed(b"an export has no tree");
-        };
-        let is_default = is_one
-            && kind.as_slice() == b"tree".as_slice()
-            && name.as_slice() == DEFAULT_TREE.as_bytes();
-        drop(kind);
-        drop(name);
-        if is_default {
-            return Ok(pairs);
-        }
-        drop(pairs);
-        self.differed(b"an export has other trees")
+    // .. and no others.
+    fn note_alone(&mut self) {
+        self.maps.clear();
+        self.note();
     }
 
     // Both have the same pairs.
-    fn same_pairs(&mut self, side: &Side) -> Run<()> {
-        let pairs = self.pairs(side)?;
-        if pairs.as_slice() == self.plain.pairs.as_slice() {
-            return Ok(());
+    fn compare_pairs(&mut self, side: &Side) {
+        let trees = side.machine.db().export();
+        let are_same = match &trees {
+            Ok(trees) => are_pairs(trees.as_slice(), self.plain.pairs.as_slice()),
+            Err(_) => false,
+        };
+        drop(trees);
+        if !are_same {
+            self.differed("the pairs");
         }
-        self.differed(b"the pairs")
     }
 
     // One of eight calls takes a step. One that was decided makes room for another, and now and then one is given up.
-    fn turn(&mut self, side: &mut Side, slot: Slot, life: Life) -> Run<Slot> {
-        let decided = self.step(side, slot, life)?;
+    fn turn(&mut self, side: &mut Side, slot: Slot, life: Life) -> Slot {
+        let decided = self.step(side, slot, life);
         let given_up = !decided && (self.number >> 50) % 64 == 0;
         if given_up {
-            self.abandon(side, slot)?;
+            self.abandon(side, slot);
         }
         if (decided || given_up) && self.left > 0 {
             return self.begin(side, life);
         }
-        Ok(slot)
+        slot
     }
 
     // Steps of eight calls.
-    fn eight(&mut self, side: &mut Side, life: Life) -> Run<()> {
+    fn eight(&mut self, side: &mut Side, life: Life) {
         let mut slots = [Slot(0); 8];
         for slot in slots.iter_mut() {
             self.number = mixed(self.number);
             if self.left > 0 {
-                *slot = self.begin(side, life)?;
+                *slot = self.begin(side, life);
             }
         }
         for step in 0..life.steps {
             self.number = mixed(self.number);
             let i = (self.number % 8) as usize;
-            slots[i] = self.turn(side, slots[i], life)?;
+            slots[i] = self.turn(side, slots[i], life);
             if step % 20 == 0 {
-                self.same_pairs(side)?;
+                self.compare_pairs(side);
             }
         }
-        Ok(())
     }
 
-    // Moves of any kind over five keys; mostly a call is in the slot.
-    fn mix(&mut self, side: &mut Side, life: Life) -> Run<()> {
+    // A move of any kind; mostly a call is in the slot.
+    fn move_any(&mut self, side: &mut Side, life: Life) {
+        let back = (self.number >> 40) % 4;
+        let on = (self.number >> 50) % 2;
+        let slot = Slot(self.plain.given.wrapping_sub(back).wrapping_add(on));
+        match self.number % 16 {
+            0..=4 if self.left > 0 => {
+                self.begin(side, life);
+            }
+            5 => self.abandon(side, slot),
+            6 => self.flush(side),
+            _ => {
+                self.step(side, slot, life);
+            }
+        }
+    }
+
+    fn mix(&mut self, side: &mut Side, life: Life) {
         for _ in 0..life.steps {
             self.number = mixed(self.number);
-            let back = (self.number >> 40) % 4;
-            let on = (self.number >> 50) % 2;
-            let slot = Slot(self.plain.given.wrapping_sub(back).wrapping_add(on));
-            match self.number % 16 {
-                0..=4 if self.left > 0 => {
-                    self.begin(side, life)?;
-                }
-                5 => self.abandon(side, slot)?,
-                6 => self.flush(side)?,
-                _ => {
-                    self.step(side, slot, life)?;
-                }
-            }
-            self.same_pairs(side)?;
+            self.move_any(side, life);
+            self.compare_pairs(side);
         }
-        Ok(())
     }
 
-    // The pairs are those that a crash may leave; the plain program goes on from them.
-    fn recover(&mut self, side: &Side, last: End) -> Run<()> {
-        let pairs = self.pairs(side)?;
-        let is_one = match last {
-            End::Some(_) => {
-                let is = |map: &Pairs| map.as_slice() == pairs.as_slice();
-                self.maps.iter().any(is)
+    // The pairs are among those that a crash may leave; the plain program goes on from them.
+    fn recover(&mut self, side: &Side) {
+        let trees = side.machine.db().export().unwrap_or(Vec::new(self.alloc));
+        for _ in 0..self.maps.len() {
+            let Some(pairs) = self.maps.pop() else {
+                break;
+            };
+            if are_pairs(trees.as_slice(), pairs.as_slice()) {
+                drop(trees);
+                let old = std::mem::replace(&mut self.plain, Plain::new(self.alloc, pairs));
+                drop(old);
+                return self.note_alone();
             }
-            _ => self.plain.pairs.as_slice() == pairs.as_slice(),
-        };
-        if !is_one {
-            return self.differed(b"the pairs after a crash");
+            drop(pairs);
         }
-        let old = std::mem::replace(&mut self.plain, Plain::new(self.alloc, pairs));
-        drop(old);
-        Ok(())
+        drop(trees);
+        self.differed("the pairs after a crash");
     }
 
-    // The life of this place in the order, and how it ends.
-    fn next(&mut self, place: u64) -> (Life, End) {
+    // The life of this place in the order.
+    fn life(&mut self, place: u64) -> Life {
         self.number = mixed(self.number);
-        let life = Life {
-            steps: match place % 8 {
-                0 => 2000,
-                4 => 400,
-                _ => 50,
-            },
-            is_mix: place % 4 == 3,
-            grows: place % 32 < 16,
+        let steps = match place % 8 {
+            0 => 2000,
+            4 => 400,
+            _ => 50,
         };
-        let end = match (self.number >> 8) % 4 {
-            0 => End::All,
-            1 => End::Flushed,
-            _ if life.steps <= 50 => End::Some((self.number >> 16) % 30),
-            _ => End::All,
+        let kind = match place % 32 {
+            place if place % 4 == 3 => Kind::Mix,
+            0..=15 => Kind::Grows,
+            _ => Kind::Shrinks,
         };
-        (life, end)
+        let ending = (self.number >> 8) % 4;
+        let keep = match ending {
+            1 => 0,
+            2 | 3 if steps <= 50 => (self.number >> 16) % 30,
+            _ => u64::MAX,
+        };
+        Life {
+            steps,
+            kind,
+            keep,
+            flushes: ending == 1,
+        }
     }
 
-    // What comes between an opening after a life that ended so and the next crash: how it ends, `None` where all calls were
-    // begun.
-    fn live(&mut self, side: &mut Side, last: End, place: u64) -> Run<Option<End>> {
-        self.recover(side, last)?;
-        if self.left == 0 {
-            return Ok(None);
+    // What comes between an opening and the next crash: how many actions that keeps; `None` where all calls were begun, or
+    // something differed.
+    fn live(&mut self, side: &mut Side, place: u64) -> Option<u64> {
+        self.recover(side);
+        if self.is_over() {
+            return None;
         }
-        self.maps.clear();
-        self.note()?;
-        let (life, end) = self.next(place);
-        if life.is_mix {
-            self.mix(side, life)?;
-        } else {
-            self.eight(side, life)?;
+        let life = self.life(place);
+        match life.kind {
+            Kind::Mix => self.mix(side, life),
+            _ => self.eight(side, life),
         }
-        if matches!(end, End::Flushed) {
-            self.flush(side)?;
+        if life.flushes {
+            self.flush(side);
+        } else if life.keep == u64::MAX {
+            self.note_alone();
         }
-        Ok(Some(end))
+        Some(life.keep)
     }
 }
 
-// One life: the pages after its crash and how it ended, `None` where all calls were begun.
-fn live(crowd: &mut Crowd, kept: Kept, last: End, place: u64) -> Run<Option<(Kept, End)>> {
+// One life over a database: the pages after its crash, or `None` where it is the last.
+fn live_over(crowd: &mut Crowd, db: Db<MemPages>, place: u64) -> Result<Option<Kept>, Stopped> {
+    let mut side = Side::over(db)?;
+    match crowd.live(&mut side, place) {
+        Some(keep) => Ok(Some(side.crash(crowd.alloc, keep)?)),
+        None => {
+            drop(side);
+            Ok(None)
+        }
+    }
+}
+
+// The same over pages, which are opened.
+fn live(crowd: &mut Crowd, kept: Kept, place: u64) -> Result<Option<Kept>, Stopped> {
     let (pages, _) = kept.into_pages();
-    let db = match Db::open(crowd.alloc, pages, b"crowd") {
-        Ok(db) => db,
+    match Db::open(crowd.alloc, pages, b"crowd") {
+        Ok(db) => live_over(crowd, db, place),
         Err(refused) => {
             drop(refused);
-            return Err(Halt::Stopped);
+            Err(Stopped)
         }
-    };
-    let tree = db.default_tree()?;
-    let mut side = Side {
-        machine: Machine::new(db),
-        tree,
-    };
-    let end = match crowd.live(&mut side, last, place) {
-        Ok(Some(end)) => end,
-        ended => {
-            drop(side);
-            return ended.map(|_| None);
-        }
-    };
-    let Side { machine, tree } = side;
-    drop(tree);
-    let kept = Kept::of(machine.into_db());
-    Ok(Some((kept.crash(crowd.alloc, end.keep())?, end)))
+    }
 }
 
 // Lives until all calls were begun.
-fn run(crowd: &mut Crowd) -> Run<()> {
+fn run(crowd: &mut Crowd) -> Result<(), Stopped> {
     let mut kept = Kept::empty(crowd.alloc);
-    let mut last = End::All;
+    crowd.note();
     for place in 0..u64::MAX {
-        match live(crowd, kept, last, place)? {
-            Some((left, end)) => {
-                kept = left;
-                last = end;
-            }
+        match live(crowd, kept, place)? {
+            Some(left) => kept = left,
             None => return Ok(()),
         }
     }
     drop(kept);
-    Ok(())
+    Err(Stopped)
 }
 
 /// Runs so many calls on a store of its own beside the plain program, and adds whether all came out the same.
-pub fn run_calls(
-    alloc: Global,
-    seed: u64,
-    calls: u64,
-    out: &mut Vec<u8>,
-) -> std::result::Result<(), Stopped> {
+pub fn run_calls(alloc: Global, seed: u64, calls: u64, out: &mut Vec<u8>) -> Result<(), Stopped> {
     let mut crowd = Crowd {
         alloc,
         plain: Plain::new(alloc, Vec::new(alloc)),
         number: seed,
         left: calls,
         maps: Vec::new(alloc),
-        out: Vec::new(alloc),
+        differs: Vec::new(alloc),
+        stopped: false,
     };
-    match run(&mut crowd) {
-        Ok(()) => Ok(push_numbered(out, b"agreed ", calls)?),
-        Err(Halt::Differed) => Ok(push_text(out, crowd.out.as_slice())?),
-        Err(Halt::Stopped) => Err(Stopped),
-    }
+    let ran = run(&mut crowd);
+    let told = match ran {
+        Ok(()) if crowd.stopped => Err(Stopped),
+        Ok(()) if crowd.differs.is_empty() => {
+            tell(out, &[Text(b"agreed "), Number(calls), Text(b"\n")])
+        }
+        Ok(()) => tell(out, &[Text(crowd.differs.as_slice())]),
+        Err(stopped) => Err(stopped),
+    };
+    drop(crowd);
+    told
 }

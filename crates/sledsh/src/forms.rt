@@ -1,397 +1,456 @@
-//! The forms of the lines, what a line asks for, and why a line has none of them.
+//! The commands: what each line asks for, and why a line asks for nothing.
 
+use crate::calls::tell;
 use sled_lines::command::{self, parse};
-use sled_lines::print::push_text;
-use sled_lines::words::{first_word, read_number, read_value, read_word};
+use sled_lines::input::Stopped;
+use sled_lines::print::Piece::Text;
+use sled_lines::print::push_pieces;
+use sled_lines::words::{first_word, read_number, read_value};
 use sled_pages::Result;
 use std::alloc::Global;
 
-/// The form of each command, and behind a colon what it does. In a form K, V, OLD and NEW are byte strings, other words in
-/// capitals are numbers, and `..` stands for more of the word before it.
-pub const HELP: &str = "insert K V: sets the value at a key, and prints the one that stood there
-get K: prints the value at a key
-remove K: takes a key out, and prints the value that stood there
-cas K OLD NEW: sets the value at a key to NEW where it is OLD; - is no value
-begin insert K V: begins the same call in a slot, which is printed
-begin get K: begins a get in a slot
-begin remove K: begins a removal in a slot
-begin cas K OLD NEW: begins a swap in a slot
-step N: does one step of the call in a slot
-finish N: does the steps of the call in a slot to its end
-abandon N: gives the call in a slot up
-turns N: prints how often the call in a slot went on so far
-flush: makes all durable
-crash N: a crash that keeps N actions since the last flush, and an opening
-dump: prints all pairs
-new: an empty store, opened
-new refuse N ..: the same, where the store refuses its calls of these numbers
-reopen: opens the store again
-reopen refuse N ..: the same, where the store refuses its calls of these numbers
-reopen unreadable PID ..: the same, where these pages cannot be read
-reopen mark N: the same, where ids up to N are set aside
-recover: a crash that keeps all actions, and an opening
-recover refuse N ..: the same, where the store left refuses its calls of these numbers
-recovered: prints whether the store is what a crash left
-pages: prints how many pages each level of the tree has, and the most entries of one of them
-crowd SEED CALLS: runs CALLS calls, eight at once, beside a plain program, and compares
-help: prints these lines
-quit: ends
-";
+/// Which command it is.
+#[derive(Clone, Copy)]
+pub enum Verb {
+    /// One that `sledrun` knows too.
+    Line,
+    Turns,
+    Crash,
+    New,
+    Reopen,
+    Refuse,
+    Unreadable,
+    Mark,
+    Recover,
+    Recovered,
+    Pages,
+    Crowd,
+    Run,
+    Reads,
+    Load,
+    Find,
+    Overtake,
+    Help,
+    Quit,
+}
+
+// A command's own words, what it takes, and what it does.
+type Form = (&'static str, &'static str, Verb, &'static str);
+
+// What a command takes has words of its own: K, V, OLD and NEW are byte strings, STEP a step of a call in flight, and the others
+// numbers; `..` stands for more of the word before it.
+const FORMS: [Form; 33] = [
+    (
+        "insert",
+        "K V",
+        Verb::Line,
+        "sets the value at a key, and prints the one that stood there",
+    ),
+    ("get", "K", Verb::Line, "prints the value at a key"),
+    (
+        "remove",
+        "K",
+        Verb::Line,
+        "takes a key out, and prints the value that stood there",
+    ),
+    (
+        "cas",
+        "K OLD NEW",
+        Verb::Line,
+        "sets the value at a key to NEW where it is OLD; - is no value",
+    ),
+    (
+        "begin insert",
+        "K V",
+        Verb::Line,
+        "begins the same call in a slot, which is printed",
+    ),
+    ("begin get", "K", Verb::Line, "begins a get in a slot"),
+    (
+        "begin remove",
+        "K",
+        Verb::Line,
+        "begins a removal in a slot",
+    ),
+    (
+        "begin cas",
+        "K OLD NEW",
+        Verb::Line,
+        "begins a swap in a slot",
+    ),
+    (
+        "step",
+        "N",
+        Verb::Line,
+        "does one step of the call in a slot",
+    ),
+    (
+        "finish",
+        "N",
+        Verb::Line,
+        "does the steps of the call in a slot to its end",
+    ),
+    ("abandon", "N", Verb::Line, "gives the call in a slot up"),
+    (
+        "turns",
+        "N",
+        Verb::Turns,
+        "prints how often the call in a slot went on so far",
+    ),
+    ("flush", "", Verb::Line, "makes all durable"),
+    (
+        "crash",
+        "N",
+        Verb::Crash,
+        "a crash that keeps N actions since the last flush, and an opening",
+    ),
+    ("dump", "", Verb::Line, "prints all pairs"),
+    ("new", "", Verb::New, "an empty store, opened"),
+    (
+        "new refuse",
+        "N ..",
+        Verb::New,
+        "the same, where the store refuses its calls of these numbers",
+    ),
+    ("reopen", "", Verb::Reopen, "opens the store again"),
+    (
+        "reopen refuse",
+        "N ..",
+        Verb::Refuse,
+        "the same, where the store refuses its calls of these numbers",
+    ),
+    (
+        "reopen unreadable",
+        "PID ..",
+        Verb::Unreadable,
+        "the same, where these pages cannot be read",
+    ),
+    (
+        "reopen mark",
+        "N",
+        Verb::Mark,
+        "the same, where ids up to N are set aside",
+    ),
+    (
+        "recover",
+        "",
+        Verb::Recover,
+        "a crash that keeps all actions, and an opening",
+    ),
+    (
+        "recover refuse",
+        "N ..",
+        Verb::Recover,
+        "the same, where the store left refuses its calls of these numbers",
+    ),
+    (
+        "recovered",
+        "",
+        Verb::Recovered,
+        "prints whether the store is what a crash left",
+    ),
+    (
+        "pages",
+        "",
+        Verb::Pages,
+        "prints how many pages each level of the tree has, and the most entries of one of them",
+    ),
+    (
+        "crowd",
+        "SEED CALLS",
+        Verb::Crowd,
+        "runs CALLS calls, eight at once, beside a plain program, and compares",
+    ),
+    (
+        "run",
+        "STEP, ..",
+        Verb::Run,
+        "does these steps by one call; they name slots as a machine does that numbers all calls",
+    ),
+    (
+        "reads",
+        "",
+        Verb::Reads,
+        "prints how many pages were read since this was asked last",
+    ),
+    (
+        "load",
+        "N MOST ALL",
+        Verb::Load,
+        "inserts N keys: whether each read MOST pages and all of them ALL at the most",
+    ),
+    (
+        "find",
+        "N PAGES",
+        Verb::Find,
+        "gets the first N of those keys: whether each get read so many pages",
+    ),
+    (
+        "overtake",
+        "N COUNT",
+        Verb::Overtake,
+        "so often an insert comes between two steps of the call in a slot; prints its turns",
+    ),
+    ("help", "", Verb::Help, "prints these lines"),
+    ("quit", "", Verb::Quit, "ends"),
+];
+
+const NO_NUMBER: &str = "is no number: decimal digits without leading zeros";
+
+const NO_BYTES: &str =
+    "is no byte string: % and two lower-case hexadecimal digits stand for a byte";
 
 /// What a line asks for.
 #[derive(Drop)]
 pub enum Command {
     /// What `sledrun` knows too.
     Line(command::Command),
-    Ask(Ask),
-    Change(Change),
-    /// Calls from this seed, so many, beside the plain program.
-    Crowd(u64, u64),
-    /// The lines that there are.
-    Help,
-    Quit,
+    /// A command of the shell's own.
+    Own(Verb),
 }
 
-/// What is asked of a database.
+// What a command takes and what a line has for it, where the line begins with the command's own words.
 #[derive(Clone, Copy)]
-pub enum Ask {
-    /// How often the call of this number went on.
-    Turns(u64),
-    /// Whether the store is what a crash left.
-    Recovered,
+struct Match<'a> {
+    form: Form,
+    words: Option<&'a [u8]>,
 }
 
-/// What is done between two openings.
-#[derive(Drop)]
-pub enum Change {
-    /// A crash that keeps so many actions.
-    Crash(u64),
-    /// A crash that keeps all; the store left refuses these calls.
-    Recover(Vec<u64>),
-    /// An empty store that refuses these calls.
-    New(Vec<u64>),
-    /// The store is opened again.
-    Reopen,
-    /// The same; it refuses these calls.
-    Refuse(Vec<u64>),
-    /// The same; these pages cannot be read.
-    Unreadable(Vec<u64>),
-    /// The same; ids up to this one are set aside.
-    Mark(u64),
-    /// The same; the levels of the tree are printed.
-    Pages,
-}
-
-// Why a line does not have a form.
+// Why a line has the words of no command.
 #[derive(Clone, Copy)]
 enum Misfit<'a> {
-    // Its first word is another.
+    // Its first word is none of a command.
     Name,
-    // It ends where the form has another word of the command's.
+    // It ends behind a word that is not the last of a command's own.
     Short,
-    // This word of the command's is another.
+    // Behind its first word stands another than in any command.
     Other(&'a [u8]),
-    // It has too few words or too many.
-    Count,
-    Number(&'a [u8]),
-    Bytes(&'a [u8]),
 }
 
-fn is_bytes(alloc: Global, word: &[u8]) -> Result<bool> {
-    Ok(read_word(alloc, word)?.is_some())
-}
-
-fn is_value(alloc: Global, word: &[u8]) -> Result<bool> {
-    Ok(read_value(alloc, word)?.is_some())
-}
-
-// Whether a part of a form is one of these.
-fn is_one_of(part: &[u8], names: &[&[u8]]) -> bool {
-    names.iter().any(|name| *name == part)
-}
-
-// Why a word is not what a form has in its place.
-fn odd<'a>(alloc: Global, part: &[u8], word: &'a [u8]) -> Result<Option<Misfit<'a>>> {
-    if is_one_of(part, &[b"K", b"V"]) && !is_bytes(alloc, word)? {
-        return Ok(Some(Misfit::Bytes(word)));
-    }
-    if is_one_of(part, &[b"OLD", b"NEW"]) && !is_value(alloc, word)? {
-        return Ok(Some(Misfit::Bytes(word)));
-    }
-    if is_one_of(part, &[b"N", b"PID", b"SEED", b"CALLS"]) && read_number(word).is_none() {
-        return Ok(Some(Misfit::Number(word)));
-    }
-    Ok(None)
-}
-
-// Whether a part of a form is one of the command's own words.
-fn is_own(part: &[u8]) -> bool {
-    part.iter().all(|byte| byte.is_ascii_lowercase())
-}
-
-// How a line differs from a form, and how many of the command's own words it has.
-#[derive(Clone, Copy)]
-struct Fit<'a> {
-    own: usize,
-    misfit: Option<Misfit<'a>>,
-}
-
-// Why a line whose words are these does not have a form, where a word of the command's is another.
-fn other<'a>(own: usize, word: &'a [u8]) -> Misfit<'a> {
-    if own == 0 {
-        Misfit::Name
-    } else {
-        Misfit::Other(word)
-    }
-}
-
-// Why a line does not have a form, where the words of the one or the other were compared.
-fn uneven<'a>(parts: Option<&[u8]>, words: Option<&[u8]>) -> Option<Misfit<'a>> {
-    let Some(parts) = parts else {
-        return words.map(|_| Misfit::Count);
-    };
-    if parts == b"..".as_slice() {
-        None
-    } else if is_own(first_word(parts).0) {
-        Some(Misfit::Short)
-    } else {
-        Some(Misfit::Count)
-    }
-}
-
-// Compares the words of a line with those of a form.
-fn compare<'a>(alloc: Global, form: &[u8], line: &'a [u8]) -> Result<Fit<'a>> {
-    let mut own = 0usize;
-    let mut misfit = None;
-    let (mut parts, mut words) = (Some(form), Some(line));
-    let mut last = form;
-    for _ in 0..u64::MAX {
-        let (Some(rest), Some(line)) = (parts, words) else {
-            break;
-        };
-        let (part, others) = first_word(rest);
-        let (word, more) = first_word(line);
-        words = more;
-        if part != b"..".as_slice() {
-            parts = others;
-            last = part;
-        }
-        if !is_own(part) {
-            misfit = match misfit {
-                None => odd(alloc, last, word)?,
-                first => first,
-            };
-        } else if part == word {
-            own = own.saturating_add(1);
-        } else {
-            let misfit = Some(other(own, word));
-            return Ok(Fit { own, misfit });
-        }
-    }
-    let misfit = uneven(parts, words).or(misfit);
-    Ok(Fit { own, misfit })
-}
-
-// The form in a line of the help.
-fn form_of(text: &[u8]) -> &[u8] {
-    match text.split(|byte| *byte == b':').next() {
-        Some(form) => form,
-        None => text,
-    }
-}
-
-fn count(words: &[u8]) -> &'static [u8] {
-    if words.ends_with(b"..") {
-        return b"one word or more";
-    }
-    match words.iter().filter(|byte| **byte == b' ').count() {
-        0 => b"one word",
-        1 => b"two words",
-        _ => b"three words",
-    }
-}
-
-fn push_quoted(out: &mut Vec<u8>, word: &[u8], rest: &[u8]) -> Result<()> {
-    push_text(out, b"`")?;
-    push_text(out, word)?;
-    push_text(out, b"` ")?;
-    push_text(out, rest)
-}
-
-// Adds what stands behind the command's own words in a form.
-fn push_count(out: &mut Vec<u8>, form: &[u8]) -> Result<()> {
-    let (own, mut rest) = first_word(form);
-    push_text(out, b"`")?;
-    push_text(out, own)?;
-    if let Some(words) = rest {
-        let (second, others) = first_word(words);
-        if is_own(second) {
-            push_text(out, b" ")?;
-            push_text(out, second)?;
-            rest = others;
-        }
-    }
-    push_text(out, b"` takes ")?;
-    match rest {
+// The command whose own words a line begins with.
+fn find<'a>(forms: &[Form], line: &'a [u8]) -> std::result::Result<Match<'a>, Misfit<'a>> {
+    let (name, words) = first_word(line);
+    let (second, more) = match words {
         Some(words) => {
-            push_text(out, words)?;
-            push_text(out, b", ")?;
-            push_text(out, count(words))
+            let (second, more) = first_word(words);
+            (Some(second), more)
         }
-        None => push_text(out, b"no words"),
+        None => (None, None),
+    };
+    let (mut alone, mut leads) = (None, false);
+    for form in forms {
+        let (own, follows) = first_word(form.0.as_bytes());
+        if own != name {
+            continue;
+        }
+        if follows.is_none() {
+            alone = Some(*form);
+        } else if follows == second {
+            return Ok(Match {
+                form: *form,
+                words: more,
+            });
+        } else {
+            leads = true;
+        }
+    }
+    match (alone, second) {
+        (Some(form), Some(_)) if !leads => Ok(Match { form, words }),
+        (Some(form), None) => Ok(Match { form, words }),
+        (None, _) if !leads => Err(Misfit::Name),
+        (_, None) => Err(Misfit::Short),
+        (_, Some(word)) => Err(Misfit::Other(word)),
     }
 }
 
-// Adds the reason why a line does not have a form.
-fn push_reason(out: &mut Vec<u8>, form: &[u8], line: &[u8], misfit: Misfit<'_>) -> Result<()> {
+fn is_space(byte: &u8) -> bool {
+    *byte == b' '
+}
+
+/// Adds a word in quotes, and what is said of it.
+pub fn quote<'a>(why: &mut Vec<u8>, word: &'a [u8], said: &'a str) -> Result<()> {
+    push_pieces(
+        why,
+        &[Text(b"`"), Text(word), Text(b"` "), Text(said.as_bytes())],
+    )
+}
+
+// Adds why a line has the words of no command.
+fn push_misfit<'a>(why: &mut Vec<u8>, line: &'a [u8], misfit: Misfit<'a>) -> Result<()> {
     let name = first_word(line).0;
     match misfit {
-        Misfit::Name => push_quoted(out, name, b"is no command; `help` lists them"),
-        Misfit::Short => push_quoted(out, line, b"takes a word more; `help` lists which"),
-        Misfit::Other(word) => {
-            push_quoted(out, word, b"does not follow `")?;
-            push_text(out, name)?;
-            push_text(out, b"`; `help` lists what does")
+        Misfit::Name => quote(why, name, "is no command; `help` lists them"),
+        Misfit::Short => quote(why, line, "takes a word more; `help` lists which"),
+        Misfit::Other(word) => push_pieces(
+            why,
+            &[
+                Text(b"`"),
+                Text(word),
+                Text(b"` does not follow `"),
+                Text(name),
+                Text(b"`; `help` lists what does"),
+            ],
+        ),
+    }
+}
+
+// The words of a text; none where there is no text.
+fn words_of<'a>(alloc: Global, text: Option<&'a [u8]>) -> Result<Vec<&'a [u8]>> {
+    let mut words = Vec::new(alloc);
+    let mut rest = text;
+    for _ in 0..u64::MAX {
+        let Some(text) = rest else {
+            break;
+        };
+        let (word, others) = first_word(text);
+        words.push(word)?;
+        rest = others;
+    }
+    Ok(words)
+}
+
+// Whether a command takes any number of words.
+fn takes_many(form: &Form) -> bool {
+    form.1.as_bytes().ends_with(b"..")
+}
+
+// How many words a command takes that takes so many, or any number of them.
+fn count_of(form: &Form, count: usize) -> &'static str {
+    if takes_many(form) {
+        return ", one word or more";
+    }
+    match count {
+        0 => "no words",
+        1 => ", one word",
+        2 => ", two words",
+        _ => ", three words",
+    }
+}
+
+// What is said of a word that is not what a command takes in its place; nothing where it is.
+fn odd(alloc: Global, part: &[u8], word: &[u8]) -> Result<&'static str> {
+    match part {
+        b"K" | b"V" if word == b"-".as_slice() => Ok(NO_BYTES),
+        b"K" | b"V" | b"OLD" | b"NEW" => {
+            let value = read_value(alloc, word)?;
+            let said = if value.is_some() { "" } else { NO_BYTES };
+            drop(value);
+            Ok(said)
         }
-        Misfit::Count => push_count(out, form),
-        Misfit::Number(word) => push_quoted(
-            out,
-            word,
-            b"is no number: decimal digits without leading zeros",
-        ),
-        Misfit::Bytes(word) => push_quoted(
-            out,
-            word,
-            b"is no byte string: % and two lower-case hexadecimal digits stand for a byte",
-        ),
+        _ if read_number(word).is_some() => Ok(""),
+        _ => Ok(NO_NUMBER),
     }
 }
 
-// The commands that `sledrun` does not know, and a crash.
-#[derive(Clone, Copy)]
-enum Kind {
-    Crash,
-    Recover,
-    New,
-    Reopen,
-    Refuse,
-    Unreadable,
-    Mark,
-    Pages,
-    Crowd,
-    Turns,
-    Recovered,
-    Help,
-    Quit,
-}
-
-// The command of a form that changes the pages.
-fn changing(form: &[u8]) -> Option<Kind> {
-    if form.starts_with(b"crash ") {
-        Some(Kind::Crash)
-    } else if form.starts_with(b"new") {
-        Some(Kind::New)
-    } else if form.starts_with(b"reopen refuse") {
-        Some(Kind::Refuse)
-    } else if form.starts_with(b"reopen unreadable") {
-        Some(Kind::Unreadable)
-    } else if form.starts_with(b"reopen mark") {
-        Some(Kind::Mark)
-    } else if form.starts_with(b"reopen") {
-        Some(Kind::Reopen)
+// Adds why words are not those that a command takes, if they are not.
+fn compare(
+    alloc: Global,
+    form: &Form,
+    takes: &[&[u8]],
+    words: &[&[u8]],
+    why: &mut Vec<u8>,
+) -> Result<()> {
+    let fits = if takes_many(form) {
+        !words.is_empty()
     } else {
-        None
+        words.len() == takes.len()
+    };
+    if !fits {
+        let (own, all, count) = (
+            form.0.as_bytes(),
+            form.1.as_bytes(),
+            count_of(form, takes.len()).as_bytes(),
+        );
+        return push_pieces(
+            why,
+            &[
+                Text(b"`"),
+                Text(own),
+                Text(b"` takes "),
+                Text(all),
+                Text(count),
+            ],
+        );
     }
+    for (place, word) in words.iter().enumerate() {
+        let part = takes.get(place).copied().unwrap_or(b"N");
+        let said = odd(alloc, part, *word)?;
+        if !said.is_empty() {
+            return quote(why, *word, said);
+        }
+    }
+    Ok(())
 }
 
-// The command of a form.
-fn kind_of(form: &[u8]) -> Option<Kind> {
-    if form.starts_with(b"recovered") {
-        Some(Kind::Recovered)
-    } else if form.starts_with(b"recover") {
-        Some(Kind::Recover)
-    } else if form.starts_with(b"pages") {
-        Some(Kind::Pages)
-    } else if form.starts_with(b"crowd") {
-        Some(Kind::Crowd)
-    } else if form.starts_with(b"turns") {
-        Some(Kind::Turns)
-    } else if form.starts_with(b"help") {
-        Some(Kind::Help)
-    } else if form.starts_with(b"quit") {
-        Some(Kind::Quit)
-    } else {
-        changing(form)
+// Adds why a line does not have the words that its command takes, if it has not. Steps are read where they are done.
+fn check(alloc: Global, found: Match<'_>, why: &mut Vec<u8>) -> Result<()> {
+    if matches!(found.form.2, Verb::Run) && found.words.is_some() {
+        return Ok(());
     }
+    let taken = found.form.1.as_bytes();
+    let takes = words_of(alloc, if taken.is_empty() { None } else { Some(taken) })?;
+    let words = words_of(alloc, found.words)?;
+    compare(alloc, &found.form, takes.as_slice(), words.as_slice(), why)
 }
 
-// The numbers among the words of a line.
-fn numbers(alloc: Global, line: &[u8]) -> Result<Vec<u64>> {
-    let mut numbers = Vec::new(alloc);
-    for word in line.split(|byte| *byte == b' ') {
+// Takes down the numbers among words.
+fn read_numbers(words: Option<&[u8]>, numbers: &mut Vec<u64>) -> Result<()> {
+    for word in words.unwrap_or(b"").split(is_space) {
         if let Some(number) = read_number(word) {
             numbers.push(number)?;
         }
     }
-    Ok(numbers)
+    Ok(())
 }
 
-// The last number of a line, and the one before it; 0 where there is none.
-fn last_numbers(line: &[u8]) -> (u64, u64) {
-    let (mut before, mut last) = (0, 0);
-    for word in line.split(|byte| *byte == b' ') {
-        if let Some(number) = read_number(word) {
-            (before, last) = (last, number);
-        }
+// What a line asks for that has the words of a command.
+fn command_of(alloc: Global, line: &[u8], verb: Verb) -> Result<Option<Command>> {
+    match verb {
+        Verb::Line => Ok(parse(alloc, line)?.map(Command::Line)),
+        verb => Ok(Some(Command::Own(verb))),
     }
-    (before, last)
 }
 
-// The command of a line of this kind.
-fn made(alloc: Global, kind: Kind, line: &[u8]) -> Result<Command> {
-    let (before, last) = last_numbers(line);
-    let change = match kind {
-        Kind::Turns => return Ok(Command::Ask(Ask::Turns(last))),
-        Kind::Recovered => return Ok(Command::Ask(Ask::Recovered)),
-        Kind::Crowd => return Ok(Command::Crowd(before, last)),
-        Kind::Help => return Ok(Command::Help),
-        Kind::Quit => return Ok(Command::Quit),
-        Kind::Crash => Change::Crash(last),
-        Kind::Recover => Change::Recover(numbers(alloc, line)?),
-        Kind::New => Change::New(numbers(alloc, line)?),
-        Kind::Reopen => Change::Reopen,
-        Kind::Refuse => Change::Refuse(numbers(alloc, line)?),
-        Kind::Unreadable => Change::Unreadable(numbers(alloc, line)?),
-        Kind::Mark => Change::Mark(last),
-        Kind::Pages => Change::Pages,
+/// What a line asks for, and its numbers; `None` where it cannot be read, and then the reason is added.
+pub fn read(
+    alloc: Global,
+    line: &[u8],
+    numbers: &mut Vec<u64>,
+    why: &mut Vec<u8>,
+) -> Result<Option<Command>> {
+    let verb = match find(&FORMS, line) {
+        Ok(found) => {
+            check(alloc, found, why)?;
+            read_numbers(found.words, numbers)?;
+            found.form.2
+        }
+        Err(misfit) => {
+            push_misfit(why, line, misfit)?;
+            Verb::Line
+        }
     };
-    Ok(Command::Change(change))
+    if !why.is_empty() {
+        return Ok(None);
+    }
+    command_of(alloc, line, verb)
 }
 
-// The command of a line that has this form.
-fn command_of(alloc: Global, form: &[u8], line: &[u8]) -> Result<Option<Command>> {
-    match kind_of(form) {
-        Some(kind) => Ok(Some(made(alloc, kind, line)?)),
-        None => Ok(parse(alloc, line)?.map(Command::Line)),
+/// Adds a line for each command.
+pub fn push_help(out: &mut Vec<u8>) -> std::result::Result<(), Stopped> {
+    for form in &FORMS {
+        let (own, takes, _, does) = *form;
+        let space = if takes.is_empty() { "" } else { " " };
+        tell(
+            out,
+            &[
+                Text(own.as_bytes()),
+                Text(space.as_bytes()),
+                Text(takes.as_bytes()),
+                Text(b": "),
+                Text(does.as_bytes()),
+                Text(b"\n"),
+            ],
+        )?;
     }
-}
-
-/// What a line asks for; `None` where it cannot be read, and then the reason is added.
-pub fn read(alloc: Global, line: &[u8], out: &mut Vec<u8>) -> Result<Option<Command>> {
-    let (mut best, mut own, mut why) = (line, 0, Misfit::Name);
-    for text in HELP.as_bytes().split(|byte| *byte == b'\n') {
-        let form = form_of(text);
-        if form.is_empty() {
-            continue;
-        }
-        let fits = compare(alloc, form, line)?;
-        let Some(misfit) = fits.misfit else {
-            return command_of(alloc, form, line);
-        };
-        if fits.own > 0 && fits.own >= own {
-            (best, own, why) = (form, fits.own, misfit);
-        }
-    }
-    push_reason(out, best, line, why)?;
-    Ok(None)
+    Ok(())
 }

@@ -1,48 +1,57 @@
 //! The levels of a tree, from its pages.
 
-use sled_lines::print::{push_number, push_numbered, push_refused, push_text};
-use sled_pages::{Data, Node, Pages, Pid, Result};
+use crate::calls::tell_refused;
+use sled_lines::input::Stopped;
+use sled_lines::print::Piece::{Number, Text};
+use sled_lines::print::push_pieces;
+use sled_pages::{Data, Pages, Pid, Result};
 use std::alloc::Global;
+use std::ops::Bound;
 
-// What a page has: how many entries, the page under its first pointer, and the next one.
+// The pages of a level: how many there are, the most entries of one of them, and the first page of the level below.
 #[derive(Clone, Copy)]
-struct Seen {
-    entries: usize,
-    under: Option<Pid>,
-    next: Option<Pid>,
+struct Level {
+    pages: u64,
+    most: usize,
+    below: Option<Pid>,
 }
 
-fn look(alloc: Global, node: &Node) -> Result<Seen> {
-    let next = node.next;
-    match &node.content {
-        Data::Leaf(leaf) => Ok(Seen {
-            entries: leaf.len(),
-            under: None,
-            next,
-        }),
-        Data::Index(index) => {
-            let pointers = index.pairs(alloc)?;
-            let under = match pointers.first() {
-                Some(pointer) => Some(pointer.1),
-                None => None,
-            };
-            Ok(Seen {
-                entries: pointers.len(),
-                under,
-                next,
-            })
-        }
-    }
-}
-
-// What the page of this number has, if there is one.
-fn page<P: Pages>(alloc: Global, pages: &P, pid: Pid) -> Result<Option<Seen>> {
+// Counts a page of a level, and answers the next one.
+fn count<P: Pages>(alloc: Global, pages: &P, pid: Pid, level: &mut Level) -> Result<Option<Pid>> {
     let Some(view) = pages.read(alloc, pid)? else {
         return Ok(None);
     };
-    let found = look(alloc, &view.node);
+    let next = view.node.next;
+    let entries = match &view.node.content {
+        Data::Leaf(leaf) => leaf.len(),
+        Data::Index(index) => index.len(),
+    };
+    // The first pointer of a level is at the least key.
+    let first = view.node.pointer(Bound::Included(b""));
     drop(view);
-    Ok(Some(found?))
+    if let (0, Some((pid, _))) = (level.pages, first) {
+        level.below = Some(pid);
+    }
+    level.pages = level.pages.saturating_add(1);
+    level.most = entries.max(level.most);
+    Ok(next)
+}
+
+// The level that begins with a page.
+fn level_from<P: Pages>(alloc: Global, pages: &P, first: Pid) -> Result<Level> {
+    let mut level = Level {
+        pages: 0,
+        most: 0,
+        below: None,
+    };
+    let mut next = Some(first);
+    for _ in 0..u64::MAX {
+        let Some(pid) = next else {
+            break;
+        };
+        next = count(alloc, pages, pid, &mut level)?;
+    }
+    Ok(level)
 }
 
 // Adds the line of the level that begins with a page, and answers the first page of the level below.
@@ -52,52 +61,35 @@ fn push_level<P: Pages>(
     first: Pid,
     out: &mut Vec<u8>,
 ) -> Result<Option<Pid>> {
-    let mut count = 0u64;
-    let mut most = 0usize;
-    let mut below = None;
-    let mut cursor = Some(first);
-    for _ in 0..u64::MAX {
-        let Some(pid) = cursor else {
-            break;
-        };
-        let Some(found) = page(alloc, pages, pid)? else {
-            break;
-        };
-        if count == 0 {
-            below = found.under;
-        }
-        count = count.saturating_add(1);
-        most = found.entries.max(most);
-        cursor = found.next;
-    }
-    push_text(out, b"level ")?;
-    push_number(out, count)?;
-    push_numbered(out, b" ", most as u64)?;
-    Ok(below)
+    let level = level_from(alloc, pages, first)?;
+    let (count, most) = (Number(level.pages), Number(level.most as u64));
+    push_pieces(
+        out,
+        &[Text(b"level "), count, Text(b" "), most, Text(b"\n")],
+    )?;
+    Ok(level.below)
 }
 
-fn push_all<P: Pages>(alloc: Global, pages: &P, name: &[u8], out: &mut Vec<u8>) -> Result<()> {
-    let mut levels = 0u64;
+fn push_levels<P: Pages>(alloc: Global, pages: &P, name: &[u8], out: &mut Vec<u8>) -> Result<()> {
     let mut first = pages.root(name);
-    for level in 0..u64::MAX {
+    for levels in 0..u64::MAX {
         let Some(pid) = first else {
-            break;
+            return push_pieces(out, &[Text(b"end "), Number(levels), Text(b"\n")]);
         };
         first = push_level(alloc, pages, pid, out)?;
-        levels = level.saturating_add(1);
     }
-    push_numbered(out, b"end ", levels)
+    Ok(())
 }
 
 /// Adds a line for each level of the tree of this name, from the root down, or the refusal of a read.
-pub fn push_levels<P: Pages>(
+pub fn tell_levels<P: Pages>(
     alloc: Global,
     pages: &P,
     name: &[u8],
     out: &mut Vec<u8>,
-) -> Result<()> {
-    match push_all(alloc, pages, name, out) {
+) -> std::result::Result<(), Stopped> {
+    match push_levels(alloc, pages, name, out) {
         Ok(()) => Ok(()),
-        Err(error) => push_refused(out, &error),
+        Err(error) => tell_refused(out, error),
     }
 }

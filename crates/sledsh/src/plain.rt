@@ -1,4 +1,6 @@
 //! A plain program beside the machine: a list of pairs and a list of calls in flight, slow and short enough to read.
+ghost use Rattle.std.specs.Prelude.{◌≤◌, length};
+
 use sled_model::{Call, Decision, Effect, Outcome, Slot};
 use sled_pages::{IVec, Result};
 use std::alloc::Global;
@@ -15,31 +17,64 @@ pub fn copied(alloc: Global, pairs: &[(IVec, IVec)]) -> Result<Pairs> {
     Ok(copy)
 }
 
-fn value_at(pairs: &[(IVec, IVec)], key: &IVec) -> Result<Option<IVec>> {
-    for pair in pairs {
-        if *key == pair.0 {
-            return Ok(Some(pair.1.clone()?));
+// How many pairs stand before a key.
+fn count_before(pairs: &[(IVec, IVec)], key: &IVec) -> usize
+    ensures { result ≤ length pairs.now }
+{
+    for (place, pair) in pairs.iter().enumerate() {
+        if *key <= pair.0 {
+            return place;
         }
     }
-    Ok(None)
+    pairs.len()
 }
 
-// Puts a pair in its place, without the one of the same key.
-fn put(pairs: &mut Pairs, key: &IVec, value: IVec) -> Result<()> {
+// The value at a key, and its place among the pairs.
+fn value_at(pairs: &[(IVec, IVec)], key: &IVec) -> Result<Option<IVec>> {
+    match pairs.get(count_before(pairs, key)) {
+        Some(pair) if *key == pair.0 => Ok(Some(pair.1.clone()?)),
+        _ => Ok(None),
+    }
+}
+
+// Takes the pair of a key out, if there is one.
+fn take_out(pairs: &mut Pairs, key: &IVec) {
     pairs.retain(|pair| *key != pair.0);
-    let greater = pairs.iter().position(|pair| *key < pair.0);
-    let place = greater.unwrap_or(pairs.len());
-    pairs.insert(place, (key.clone()?, value))?;
+}
+
+// Does to the pairs what a call was decided to do at its key.
+fn apply(pairs: &mut Pairs, key: &IVec, effect: Effect) -> Result<()> {
+    match effect {
+        Effect::Nothing => {}
+        Effect::Remove => take_out(pairs, key),
+        Effect::Set(value) => {
+            take_out(pairs, key);
+            let place = count_before(pairs.as_slice(), key);
+            pairs.insert(place, (key.clone()?, value))?;
+        }
+    }
     Ok(())
 }
 
-fn call_in(flights: &[(u64, Call)], slot: u64) -> Option<&Call> {
-    for flight in flights {
-        if flight.0 == slot {
-            return Some(&flight.1);
+// Does a call on the pairs.
+fn decide(pairs: &mut Pairs, call: &Call) -> Result<Outcome> {
+    let value = value_at(pairs.as_slice(), call.key())?;
+    let Decision { effect, reply } = call.decide(value)?;
+    match apply(pairs, call.key(), effect) {
+        Ok(()) => Ok(Outcome::Decided(reply)),
+        Err(error) => {
+            drop(reply);
+            Err(error)
         }
     }
-    None
+}
+
+// How a call came out, which is refused where there is no memory.
+fn outcome_of(answer: Result<Outcome>) -> Outcome {
+    match answer {
+        Ok(outcome) => outcome,
+        Err(error) => Outcome::Refused(error),
+    }
 }
 
 /// Pairs, and the calls in flight by slot.
@@ -61,45 +96,51 @@ impl Plain {
     }
 
     /// A call takes the next slot.
-    pub fn begin(&mut self, call: Call) -> Result<Outcome> {
+    pub fn begin(&mut self, call: &Call) -> Result<Slot> {
         self.given = self.given.saturating_add(1);
-        self.flights.push((self.given, call))?;
-        Ok(Outcome::Begun(Slot(self.given)))
+        self.flights.push((self.given, call.clone()?))?;
+        Ok(Slot(self.given))
     }
 
-    /// A step of the call in the slot, which decides or not.
-    pub fn step(&mut self, slot: Slot, decides: bool) -> Result<Outcome> {
-        let Some(call) = call_in(self.flights.as_slice(), slot.0) else {
-            return Ok(Outcome::NoSuchSlot);
-        };
-        if !decides {
-            return Ok(Outcome::Moved);
-        }
-        let value = value_at(self.pairs.as_slice(), call.key())?;
-        let Decision { effect, reply } = call.decide(value)?;
-        let key = call.key();
-        let done = match effect {
-            Effect::Nothing => Ok(()),
-            Effect::Set(value) => put(&mut self.pairs, key, value),
-            Effect::Remove => {
-                self.pairs.retain(|pair| *key != pair.0);
-                Ok(())
+    // Takes the call in the slot out, if there is one.
+    fn take(&mut self, slot: Slot) -> Option<Call> {
+        for place in 0..self.flights.len() {
+            if self.flights[place].0 == slot.0 {
+                return Some(self.flights.swap_remove(place).1);
             }
-        };
-        if let Err(e) = done {
-            drop(reply);
-            return Err(e);
         }
-        self.flights.retain(|flight| flight.0 != slot.0);
-        Ok(Outcome::Decided(reply))
+        None
+    }
+
+    /// The last step of the call in the slot.
+    pub fn decide(&mut self, slot: Slot) -> Outcome {
+        let Some(call) = self.take(slot) else {
+            return Outcome::NoSuchSlot;
+        };
+        let answer = decide(&mut self.pairs, &call);
+        drop(call);
+        outcome_of(answer)
+    }
+
+    /// A step of the call in the slot that is not its last.
+    pub fn step(&self, slot: Slot) -> Outcome {
+        for flight in self.flights.as_slice() {
+            if flight.0 == slot.0 {
+                return Outcome::Moved;
+            }
+        }
+        Outcome::NoSuchSlot
     }
 
     /// The call in the slot is given up.
     pub fn abandon(&mut self, slot: Slot) -> Outcome {
-        if call_in(self.flights.as_slice(), slot.0).is_none() {
-            return Outcome::NoSuchSlot;
+        let call = self.take(slot);
+        let is_there = call.is_some();
+        drop(call);
+        if is_there {
+            Outcome::Abandoned
+        } else {
+            Outcome::NoSuchSlot
         }
-        self.flights.retain(|flight| flight.0 != slot.0);
-        Outcome::Abandoned
     }
 }

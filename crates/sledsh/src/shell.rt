@@ -1,50 +1,53 @@
 //! A session of the shell: lines, from opening to opening.
 
+use crate::calls::{ask, run_steps, tell, tell_refused, tell_turns};
+use crate::counting::Counting;
 use crate::crowd::run_calls;
-use crate::forms::{Ask, Change, Command, HELP, read};
-use crate::levels::push_levels;
+use crate::forms::{Command, Verb, push_help, read};
+use crate::levels::tell_levels;
 use crate::store::Kept;
 use sled::{DEFAULT_TREE, Db};
 use sled_lines::command;
 use sled_lines::files::Program;
 use sled_lines::input::{Stopped, read_line, without_end};
-use sled_lines::print::{push_number, push_numbered, push_refused, push_text};
+use sled_lines::print::Piece::{Number, Text};
 use sled_lines::session::{Session, write};
-use sled_model::MergeOperator;
-use sled_pages::{Error, MemPages};
+use sled_pages::Error;
 use std::alloc::Global;
 use std::io::{BufRead, Write};
+use std::sync::atomic::{AtomicU64, Ordering};
 
 // The name that databases are opened under.
 const DATABASE: &[u8] = b"sledsh";
 
+// What is printed of the opening after a command.
+fn opening(last: Verb) -> &'static [u8] {
+    match last {
+        Verb::Crash => b"recovered\n",
+        Verb::Pages | Verb::Quit => b"",
+        _ => b"opened\n",
+    }
+}
+
 // The store: opened, or the pages that a refused opening gave back.
 #[derive(Drop)]
-enum State<M = Box<dyn MergeOperator + Send>> {
-    Open(Session<M>),
+enum State<'a> {
+    Open(Session<Counting<'a>>),
     Shut(Kept),
 }
 
-impl<M: MergeOperator> State<M> {
+impl State<'_> {
     fn into_kept(self) -> Kept {
         match self {
-            State::Open(session) => Kept::of(session.into_db()),
+            State::Open(session) => Kept::of_counting(session.into_db()),
             State::Shut(kept) => kept,
         }
     }
 }
 
-// What comes after a command.
-#[derive(Drop)]
-enum Next {
-    Line,
-    Change(Change),
-    End,
-}
-
 // The line that was read last and its number, and what is to be printed.
 #[derive(Drop)]
-struct Shell {
+struct Shell<'a> {
     alloc: Global,
     prompts: bool,
     line: Vec<u8>,
@@ -53,82 +56,100 @@ struct Shell {
     // Whether each line could be read.
     good: bool,
     out: Vec<u8>,
+    // The numbers of the line.
+    numbers: Vec<u64>,
     // Why the line cannot be read; empty where it can be.
     why: Vec<u8>,
     mark: u64,
-    // What the next opening prints, or why there is none.
-    opened: &'static [u8],
+    // The command that changed the store last, or ended; and why the pages cannot be opened after it.
+    last: Verb,
     refused: Option<Error>,
+    // How many pages were read since that was asked.
+    reads: &'a AtomicU64,
 }
 
-fn push_turns(out: &mut Vec<u8>, turns: Option<u64>) -> sled_pages::Result<()> {
-    match turns {
-        Some(turns) => push_numbered(out, b"number ", turns),
-        None => push_text(out, b"no slot\n"),
-    }
-}
-
-// Adds the answer of a database.
-fn push_answer<M: MergeOperator>(
-    out: &mut Vec<u8>,
-    session: &Session<M>,
-    ask: Ask,
-) -> sled_pages::Result<()> {
-    match ask {
-        Ask::Turns(number) => push_turns(out, session.turns(number)),
-        Ask::Recovered if session.db().was_recovered() => push_text(out, b"yes\n"),
-        Ask::Recovered => push_text(out, b"no\n"),
-    }
-}
-
-// Adds what is answered where there is no database.
-fn push_none(out: &mut Vec<u8>, ask: Ask) -> sled_pages::Result<()> {
-    match ask {
-        Ask::Turns(_) => push_turns(out, None),
-        Ask::Recovered => push_refused(out, &Error::Closed),
+// The first three numbers, or 0 where there are fewer.
+fn three(numbers: &[u64]) -> [u64; 3] {
+    match numbers {
+        [] => [0, 0, 0],
+        [first] => [*first, 0, 0],
+        [first, second] => [*first, *second, 0],
+        [first, second, third, ..] => [*first, *second, *third],
     }
 }
 
 // Adds what a line prints that `sledrun` knows too, where there is no database.
-fn push_shut(out: &mut Vec<u8>, line: &command::Command) -> sled_pages::Result<()> {
-    match line {
-        command::Command::Step(_) | command::Command::Finish(_) | command::Command::Abandon(_) =>
-            push_turns(out, None),
-        _ => push_refused(out, &Error::Closed),
+fn tell_shut(out: &mut Vec<u8>, line: command::Command) -> Result<(), Stopped> {
+    let names_slot = matches!(
+        &line,
+        command::Command::Step(_) | command::Command::Finish(_) | command::Command::Abandon(_)
+    );
+    drop(line);
+    if names_slot {
+        tell_turns(out, None)
+    } else {
+        tell_refused(out, Error::Closed)
     }
 }
 
-impl Shell {
+// Adds the line of one that cannot be read.
+fn push_bad(out: &mut Vec<u8>, number: u64, why: &[u8]) -> Result<(), Stopped> {
+    tell(
+        out,
+        &[
+            Text(b"bad line "),
+            Number(number),
+            Text(b": "),
+            Text(why),
+            Text(b"\n"),
+        ],
+    )
+}
+
+impl<'a> Shell<'a> {
     // Adds the line of one that cannot be read, if there is a reason why.
     fn tell_bad(&mut self) -> Result<(), Stopped> {
         if self.why.is_empty() {
             return Ok(());
         }
         self.good = false;
-        push_text(&mut self.out, b"bad line ")?;
-        push_number(&mut self.out, self.number)?;
-        push_text(&mut self.out, b": ")?;
-        push_text(&mut self.out, self.why.as_slice())?;
-        Ok(push_text(&mut self.out, b"\n")?)
+        push_bad(&mut self.out, self.number, self.why.as_slice())
     }
 
     // Adds why ids cannot be set aside.
     fn tell_below(&mut self, upto: u64) -> Result<(), Stopped> {
-        push_text(&mut self.why, b"`")?;
-        push_number(&mut self.why, upto)?;
-        push_text(&mut self.why, b"` is below the mark, which is ")?;
-        push_number(&mut self.why, self.mark)?;
+        tell(
+            &mut self.why,
+            &[
+                Text(b"`"),
+                Number(upto),
+                Text(b"` is below the mark, which is "),
+                Number(self.mark),
+            ],
+        )?;
         self.tell_bad()
     }
 
-    // What the line asks for, if it does and can be read.
+    fn tell_reads(&mut self) -> Result<(), Stopped> {
+        let reads = self.reads.swap(0, Ordering::Relaxed);
+        tell(
+            &mut self.out,
+            &[Text(b"reads "), Number(reads), Text(b"\n")],
+        )
+    }
+
+    // What the line asks for, if it does. One that cannot be read is told.
     fn command(&mut self) -> Result<Option<Command>, Stopped> {
         self.why.clear();
+        self.numbers.clear();
         let line = without_end(self.line.as_slice());
         if line.is_empty() || line.starts_with(b"#") {
             return Ok(None);
         }
-        Ok(read(self.alloc, line, &mut self.why)?)
+        match read(self.alloc, line, &mut self.numbers, &mut self.why)? {
+            Some(command) => Ok(Some(command)),
+            None => self.tell_bad().map(|()| None),
+        }
     }
 
     // Writes what is to be printed, and reads a line: whether there is one.
@@ -137,16 +158,15 @@ impl Shell {
         input: &mut R,
         output: &mut W,
     ) -> Result<bool, Stopped> {
+        let prompt = if self.prompts { "> " } else { "" };
+        tell(&mut self.out, &[Text(prompt.as_bytes())])?;
         write(output, &mut self.out)?;
-        if self.prompts {
-            output.write_all(b"> ")?;
-        }
         let length = read_line(input, output, &mut self.line, &mut self.left)?;
         self.number = self.number.saturating_add(1);
         Ok(length > 0)
     }
 
-    // Reads lines up to the next command. Those that cannot be read are told.
+    // Reads lines up to the next command; at the end of the input it is the last one.
     fn next<R: BufRead, W: Write>(
         &mut self,
         input: &mut R,
@@ -156,114 +176,116 @@ impl Shell {
             if !self.read(input, output)? {
                 break;
             }
-            match self.command()? {
-                Some(command) => return Ok(command),
-                None => self.tell_bad()?,
+            if let Some(command) = self.command()? {
+                return Ok(command);
             }
         }
-        Ok(Command::Quit)
+        Ok(Command::Own(Verb::Quit))
+    }
+
+    // Does steps of calls in flight, which the line says.
+    fn run_steps(&mut self, session: &mut Session<Counting<'a>>) -> Result<(), Stopped> {
+        run_steps(
+            self.alloc,
+            session,
+            self.line.as_slice(),
+            &mut self.out,
+            &mut self.why,
+        )?;
+        self.tell_bad()
+    }
+
+    // Answers a command that asks a database.
+    fn ask(&mut self, state: &mut State<'a>, verb: Verb, numbers: [u64; 3]) -> Result<(), Stopped> {
+        match (state, verb) {
+            (State::Open(session), Verb::Run) => self.run_steps(session),
+            (State::Open(session), verb) => {
+                ask(
+                    self.alloc,
+                    session,
+                    self.reads,
+                    verb,
+                    numbers,
+                    &mut self.out,
+                )
+            }
+            (State::Shut(_), Verb::Turns | Verb::Overtake) => tell_turns(&mut self.out, None),
+            (State::Shut(_), _) => tell_refused(&mut self.out, Error::Closed),
+        }
+    }
+
+    // Answers a command of the shell's own that does not change the store: whether it is one.
+    fn answers(&mut self, state: &mut State<'a>, verb: Verb) -> Result<bool, Stopped> {
+        let numbers = three(self.numbers.as_slice());
+        let is_shut = matches!(&*state, State::Shut(_));
+        let told = match verb {
+            Verb::Turns | Verb::Recovered | Verb::Run | Verb::Load | Verb::Find | Verb::Overtake =>
+                self.ask(state, verb, numbers),
+            Verb::Pages if is_shut => tell_refused(&mut self.out, Error::Closed),
+            Verb::Mark if numbers[0] < self.mark => self.tell_below(numbers[0]),
+            Verb::Crowd => run_calls(self.alloc, numbers[0], numbers[1], &mut self.out),
+            Verb::Reads => self.tell_reads(),
+            Verb::Help => push_help(&mut self.out),
+            _ => return Ok(false),
+        };
+        told.map(|()| true)
     }
 
     // Runs a line that `sledrun` knows too.
-    fn line<M: MergeOperator, W: Write>(
+    fn line<W: Write>(
         &mut self,
-        state: &mut State<M>,
+        state: &mut State<'a>,
         line: command::Command,
         output: &mut W,
-    ) -> Result<Next, Stopped> {
+    ) -> Result<(), Stopped> {
         match state {
-            State::Open(session) => session.run(line, output, &mut self.out)?,
-            State::Shut(_) => {
-                let pushed = push_shut(&mut self.out, &line);
-                drop(line);
-                pushed?;
-            }
-        }
-        Ok(Next::Line)
-    }
-
-    fn answer<M: MergeOperator>(&mut self, state: &State<M>, ask: Ask) -> Result<Next, Stopped> {
-        match state {
-            State::Open(session) => push_answer(&mut self.out, session, ask)?,
-            State::Shut(_) => push_none(&mut self.out, ask)?,
-        }
-        Ok(Next::Line)
-    }
-
-    fn crowd(&mut self, seed: u64, calls: u64) -> Result<Next, Stopped> {
-        run_calls(self.alloc, seed, calls, &mut self.out)?;
-        Ok(Next::Line)
-    }
-
-    fn help(&mut self) -> Result<Next, Stopped> {
-        push_text(&mut self.out, HELP.as_bytes())?;
-        Ok(Next::Line)
-    }
-
-    // Whether a change cannot be made, which is told.
-    fn bars(&mut self, is_shut: bool, change: &Change) -> Result<bool, Stopped> {
-        match change {
-            Change::Mark(upto) if *upto < self.mark => self.tell_below(*upto)?,
-            Change::Pages if is_shut => push_refused(&mut self.out, &Error::Closed)?,
-            _ => return Ok(false),
-        }
-        Ok(true)
-    }
-
-    // Goes on to a change, if it can be made.
-    fn change(&mut self, is_shut: bool, change: Change) -> Result<Next, Stopped> {
-        match self.bars(is_shut, &change) {
-            Ok(false) => Ok(Next::Change(change)),
-            barred => {
-                drop(change);
-                barred.map(|_| Next::Line)
-            }
+            State::Open(session) => session.run(line, output, &mut self.out),
+            State::Shut(_) => tell_shut(&mut self.out, line),
         }
     }
 
-    fn run_command<M: MergeOperator, W: Write>(
+    // Answers a line, unless it changes the store.
+    fn answer<W: Write>(
         &mut self,
-        state: &mut State<M>,
+        state: &mut State<'a>,
         command: Command,
         output: &mut W,
-    ) -> Result<Next, Stopped> {
+    ) -> Result<Option<Verb>, Stopped> {
         match command {
-            Command::Line(line) => self.line(state, line, output),
-            Command::Ask(ask) => self.answer(state, ask),
-            Command::Change(change) => self.change(matches!(&*state, State::Shut(_)), change),
-            Command::Crowd(seed, calls) => self.crowd(seed, calls),
-            Command::Help => self.help(),
-            Command::Quit => Ok(Next::End),
+            Command::Line(line) => self.line(state, line, output).map(|()| None),
+            Command::Own(verb) => match self.answers(state, verb) {
+                Ok(true) => Ok(None),
+                Ok(false) => Ok(Some(verb)),
+                Err(stopped) => Err(stopped),
+            },
         }
     }
 
-    // Answers lines up to one that changes the store, or to the end.
-    fn lines<M: MergeOperator, R: BufRead, W: Write>(
+    // Answers lines up to one that changes the store, or ends.
+    fn lines<R: BufRead, W: Write>(
         &mut self,
-        state: &mut State<M>,
+        state: &mut State<'a>,
         input: &mut R,
         output: &mut W,
-    ) -> Result<Option<Change>, Stopped> {
+    ) -> Result<Verb, Stopped> {
         for _ in 0..u64::MAX {
             let command = self.next(input, output)?;
-            match self.run_command(state, command, output)? {
-                Next::Line => {}
-                Next::Change(change) => return Ok(Some(change)),
-                Next::End => break,
+            if let Some(verb) = self.answer(state, command, output)? {
+                return Ok(verb);
             }
         }
-        Ok(None)
+        Ok(Verb::Quit)
     }
 
-    // Answers lines up to one that changes the store, or to the end, and answers the pages.
-    fn live_in<M: MergeOperator, R: BufRead, W: Write>(
+    // Answers lines up to one that changes the store, or ends: the pages and that line's command.
+    fn live_in<R: BufRead, W: Write>(
         &mut self,
-        mut state: State<M>,
+        mut state: State<'a>,
         input: &mut R,
         output: &mut W,
-    ) -> Result<(Kept, Option<Change>), Stopped> {
+    ) -> Result<(Kept, Verb), Stopped> {
         match self.lines(&mut state, input, output) {
-            Ok(change) => Ok((state.into_kept(), change)),
+            Ok(verb) => Ok((state.into_kept(), verb)),
             Err(stopped) => {
                 drop(state);
                 Err(stopped)
@@ -271,32 +293,31 @@ impl Shell {
         }
     }
 
-    // The same after a refusal, which is printed.
+    // The same after a refusal, which is told.
     fn live_shut<R: BufRead, W: Write>(
         &mut self,
         kept: Kept,
         error: Error,
         input: &mut R,
         output: &mut W,
-    ) -> Result<(Kept, Option<Change>), Stopped> {
-        let pushed = push_refused(&mut self.out, &error);
-        drop(error);
-        if pushed.is_err() {
-            drop(kept);
-            return Err(Stopped);
+    ) -> Result<(Kept, Verb), Stopped> {
+        match tell_refused(&mut self.out, error) {
+            Ok(()) => self.live_in(State::Shut(kept), input, output),
+            Err(stopped) => {
+                drop(kept);
+                Err(stopped)
+            }
         }
-        let state: State = State::Shut(kept);
-        self.live_in(state, input, output)
     }
 
-    // The same after an opening, which is printed.
-    fn live_over<M: MergeOperator, R: BufRead, W: Write>(
+    // The same after an opening, which is told.
+    fn live_over<R: BufRead, W: Write>(
         &mut self,
-        db: Db<MemPages, M>,
+        db: Db<Counting<'a>>,
         input: &mut R,
         output: &mut W,
-    ) -> Result<(Kept, Option<Change>), Stopped> {
-        if push_text(&mut self.out, self.opened).is_err() {
+    ) -> Result<(Kept, Verb), Stopped> {
+        if tell(&mut self.out, &[Text(opening(self.last))]).is_err() {
             drop(db);
             return Err(Stopped);
         }
@@ -309,18 +330,22 @@ impl Shell {
         }
     }
 
-    // Opens the pages and answers lines up to one that changes the store, or to the end.
-    fn live_open<R: BufRead, W: Write>(
+    // Opens the pages, and answers lines up to one that changes the store, or ends.
+    fn open<R: BufRead, W: Write>(
         &mut self,
         kept: Kept,
         input: &mut R,
         output: &mut W,
-    ) -> Result<(Kept, Option<Change>), Stopped> {
+    ) -> Result<(Kept, Verb), Stopped> {
         let (pages, crashes) = kept.into_pages();
-        match Db::open(self.alloc, pages, DATABASE) {
+        let counting = Counting {
+            inner: pages,
+            reads: self.reads,
+        };
+        match Db::open(self.alloc, counting, DATABASE) {
             Ok(db) => self.live_over(db, input, output),
-            Err((pages, error)) => {
-                self.live_shut(Kept::refused(pages, crashes), error, input, output)
+            Err((counting, error)) => {
+                self.live_shut(Kept::refused(counting.inner, crashes), error, input, output)
             }
         }
     }
@@ -330,10 +355,10 @@ impl Shell {
         kept: Kept,
         input: &mut R,
         output: &mut W,
-    ) -> Result<(Kept, Option<Change>), Stopped> {
+    ) -> Result<(Kept, Verb), Stopped> {
         match self.refused.take() {
             Some(error) => self.live_shut(kept, error, input, output),
-            None => self.live_open(kept, input, output),
+            None => self.open(kept, input, output),
         }
     }
 
@@ -350,35 +375,36 @@ impl Shell {
         kept
     }
 
-    // What a line makes of the pages, which are opened then.
-    fn changed(&mut self, kept: Kept, change: Change) -> Result<Kept, Stopped> {
-        self.opened = b"opened\n";
-        match change {
-            Change::Crash(keep) => {
-                self.opened = b"recovered\n";
-                kept.crash(self.alloc, keep)
+    // Adds the levels of the tree. The pages are opened again without a word.
+    fn tell_levels(&mut self, kept: Kept) -> Result<Kept, Stopped> {
+        let tree = DEFAULT_TREE.as_bytes();
+        match tell_levels(self.alloc, kept.pages(), tree, &mut self.out) {
+            Ok(()) => Ok(kept),
+            Err(stopped) => {
+                drop(kept);
+                Err(stopped)
             }
-            Change::Recover(calls) => kept.crash(self.alloc, u64::MAX)?.refuse(calls.as_slice()),
-            Change::New(calls) => {
+        }
+    }
+
+    // What is made of the pages by a line that changes them, which are opened then.
+    fn changed(&mut self, kept: Kept, verb: Verb) -> Result<Kept, Stopped> {
+        self.last = verb;
+        let numbers = self.numbers.as_slice();
+        let [first, ..] = three(numbers);
+        match verb {
+            Verb::Crash => kept.crash(self.alloc, first),
+            Verb::Recover => kept.crash(self.alloc, u64::MAX)?.refuse(numbers),
+            Verb::New => {
                 drop(kept);
                 self.mark = 0;
-                Kept::empty(self.alloc).refuse(calls.as_slice())
+                Kept::empty(self.alloc).refuse(numbers)
             }
-            Change::Refuse(calls) => kept.refuse(calls.as_slice()),
-            Change::Unreadable(pids) => kept.unreadable(pids.as_slice()),
-            Change::Mark(upto) => Ok(self.set_aside(kept, upto)),
-            Change::Pages => {
-                self.opened = b"";
-                let name = DEFAULT_TREE.as_bytes();
-                match push_levels(self.alloc, kept.pages(), name, &mut self.out) {
-                    Ok(()) => Ok(kept),
-                    Err(_) => {
-                        drop(kept);
-                        Err(Stopped)
-                    }
-                }
-            }
-            Change::Reopen => Ok(kept),
+            Verb::Refuse => kept.refuse(numbers),
+            Verb::Unreadable => kept.unreadable(numbers),
+            Verb::Mark => Ok(self.set_aside(kept, first)),
+            Verb::Pages => self.tell_levels(kept),
+            _ => Ok(kept),
         }
     }
 
@@ -387,11 +413,11 @@ impl Shell {
         let mut kept = Kept::empty(self.alloc);
         for _ in 0..u64::MAX {
             match self.live(kept, input, output)? {
-                (left, Some(change)) => kept = self.changed(left, change)?,
-                (left, None) => {
+                (left, Verb::Quit) => {
                     drop(left);
                     return Ok(output.flush()?);
                 }
+                (left, verb) => kept = self.changed(left, verb)?,
             }
         }
         drop(kept);
@@ -406,6 +432,7 @@ pub fn run<R: BufRead, W: Write>(
     output: &mut W,
     prompts: bool,
 ) -> Result<bool, Stopped> {
+    let reads = AtomicU64::new(0);
     let mut shell = Shell {
         alloc,
         prompts,
@@ -414,13 +441,18 @@ pub fn run<R: BufRead, W: Write>(
         number: 0,
         good: true,
         out: Vec::new(alloc),
+        numbers: Vec::new(alloc),
         why: Vec::new(alloc),
         mark: 0,
-        opened: b"",
+        last: Verb::Quit,
         refused: None,
+        reads: &reads,
     };
-    shell.run(input, output)?;
-    Ok(shell.good)
+    let ran = shell.run(input, output);
+    let good = shell.good;
+    drop(shell);
+    ran?;
+    Ok(good)
 }
 
 /// Texts of lines, each a session of its own.

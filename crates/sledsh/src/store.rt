@@ -3,6 +3,7 @@ ghost use Rattle.std.specs.Prelude.{◌≡◌, true, IfOk};
 ghost use Rattle.sled_pages.specs.Memory.{store_of};
 ghost use Rattle.tree_laws.specs.Crashes.{IsCrashWhole};
 
+use crate::counting::Counting;
 use sled::{DEFAULT_TREE, Db, crash_pages, empty_pages};
 use sled_lines::input::Stopped;
 use sled_model::MergeOperator;
@@ -45,6 +46,11 @@ impl Kept {
     /// The pages of a database.
     pub fn of<M: MergeOperator>(db: Db<MemPages, M>) -> Kept {
         Kept::refused(db.into_pages(), true)
+    }
+
+    /// The same, where the pages are counted that are read.
+    pub fn of_counting(db: Db<Counting<'_>>) -> Kept {
+        Kept::refused(db.into_pages().inner, true)
     }
 
     /// Pages that an opening gave back.
