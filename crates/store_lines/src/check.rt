@@ -1,13 +1,15 @@
-//! Texts of lines: what they print, and whether that is what they should print.
+//! Texts of lines: what they print, and where that differs from what they should print.
+use crate::line::Line;
 use crate::store::Store;
-use crate::words::{Result, Stop, Words};
+use crate::values::{compare_values, kind_of};
+use crate::words::{Result, Stop, read_number, split};
 use std::alloc::Global;
 
 /// What the lines of a text print, from a fresh store on.
-pub fn printed(alloc: Global, text: &str) -> Result<String> {
-    let mut out = String::new(alloc);
+pub fn printed_by(alloc: Global, text: &str) -> Result<Line> {
+    let mut out = Line::new(alloc);
     let mut store = Store::new(alloc);
-    let ran = run_lines(alloc, &mut store, text.as_bytes(), &mut out);
+    let ran = run_lines(alloc, &mut store, text, &mut out);
     drop(store);
     match ran {
         Ok(()) => Ok(out),
@@ -18,74 +20,91 @@ pub fn printed(alloc: Global, text: &str) -> Result<String> {
     }
 }
 
-fn run_lines(alloc: Global, store: &mut Store, text: &[u8], out: &mut String) -> Result<()> {
-    let mut answer = String::new(alloc);
+fn run_lines(alloc: Global, store: &mut Store, text: &str, out: &mut Line) -> Result<()> {
+    let mut answer = Line::new(alloc);
     let mut number = 0u64;
-    for line in text.split(|byte| *byte == b'\n') {
+    for line in text.split('\n') {
         number = number.saturating_add(1);
-        if !line.is_empty() && !line.starts_with(b"#") {
-            run_line(store, number, line, &mut answer)?;
-            out.push_str(answer.as_str())?;
-            out.push('\n')?;
+        if !line.is_empty() && !line.starts_with('#') {
+            run_line(alloc, store, number, line, &mut answer)?;
+            out.push_line(&answer);
         }
     }
     Ok(())
 }
 
 // What the line of this number comes to.
-fn run_line(store: &mut Store, number: u64, line: &[u8], answer: &mut String) -> Result<()> {
-    match repeat(store, line, answer) {
+fn run_line(
+    alloc: Global,
+    store: &mut Store,
+    number: u64,
+    line: &str,
+    answer: &mut Line,
+) -> Result<()> {
+    answer.clear();
+    match run_command(alloc, store, line, answer) {
         Err(Stop::BadLine) => {
             answer.clear();
-            write!(answer, "bad line {number}")?;
+            answer.push_numbered("bad line", number);
             Ok(())
         }
         done => done,
     }
 }
 
-// What a line comes to. With `repeat N` before it, what the last of N times comes to.
-fn repeat(store: &mut Store, line: &[u8], answer: &mut String) -> Result<()> {
-    answer.clear();
-    let Some(rest) = line.strip_prefix(b"repeat ") else {
-        return store.run(&mut Words::of(line), answer);
+fn run_command(alloc: Global, store: &mut Store, line: &str, answer: &mut Line) -> Result<()> {
+    if let Some((kind, items)) = kind_of(line) {
+        return compare_values(alloc, kind, items, answer);
+    }
+    let words = split(alloc, line)?;
+    repeat(store, words.as_slice(), answer)
+}
+
+// What a command comes to. With `repeat N` before it, what the last of N times comes to.
+fn repeat(store: &mut Store, words: &[&str], answer: &mut Line) -> Result<()> {
+    let (count, command) = match words {
+        [first, count, command @ ..] if *first == "repeat" => { (read_number(count)?, command) }
+        _ => (1, words),
     };
-    let mut words = Words::of(rest);
-    for _ in 0..words.number()? {
-        let mut command = words;
+    for _ in 0..count {
         answer.clear();
-        store.run(&mut command, answer)?;
+        store.run(command, answer)?;
     }
     Ok(())
 }
 
-/// Whether a text of lines prints what is expected. Adds a line that says so, or shows the first one that differs.
-pub fn check(name: &str, text: &str, expected: &str, out: &mut String) -> Result<bool> {
-    let printed = printed(*out.allocator(), text)?;
-    compare(name, printed.as_str(), expected, out)
-}
+// How many lines two texts have in common, and the lines that come then and differ, where `None` is the end.
+type Difference<'a> = (u64, Option<&'a str>, Option<&'a str>);
 
-fn compare(name: &str, printed: &str, expected: &str, out: &mut String) -> Result<bool> {
+fn first_difference<'a>(printed: &'a str, expected: &'a str) -> Difference<'a> {
     let mut lines = printed.lines();
     let mut others = expected.lines();
     for count in 0..u64::MAX {
-        match (lines.next(), others.next()) {
-            (None, None) => {
-                write!(out, "{name}: {count} lines as expected\n")?;
-                break;
-            }
-            (line, other) => {
-                if line != other {
-                    let line = line.unwrap_or("the end");
-                    let other = other.unwrap_or("the end");
-                    write!(
-                        out,
-                        "{name}: after {count} lines: {line}\n  expected: {other}\n"
-                    )?;
-                    return Ok(false);
-                }
-            }
+        let (line, other) = (lines.next(), others.next());
+        if line != other || line.is_none() {
+            return (count, line, other);
         }
     }
-    Ok(true)
+    (u64::MAX, None, None)
+}
+
+/// Whether a text is the expected one. Adds a line that says so, or shows the first line that differs.
+pub fn compare(name: &str, printed: &str, expected: &str, out: &mut Line) -> bool {
+    out.push(name);
+    match first_difference(printed, expected) {
+        (count, None, None) => {
+            out.push_numbered(":", count);
+            out.push(" lines as expected\n");
+            true
+        }
+        (count, line, other) => {
+            out.push_numbered(": after", count);
+            out.push(" lines: ");
+            out.push(line.unwrap_or("the end"));
+            out.push("\n  expected: ");
+            out.push(other.unwrap_or("the end"));
+            out.push("\n");
+            false
+        }
+    }
 }

@@ -1,4 +1,4 @@
-//! Makes calls of a store in memory and of nodes, one a line, and prints what each of them answers. `HELP` has the lines.
+//! Makes calls of a store in memory and of nodes, one a line, and compares values. It prints what comes of each line; `HELP` has the lines.
 //!
 //! `store_lines FILE ..` runs files, each from a fresh store, and without arguments standard input. `store_lines check NAME ..`
 //! runs the files NAME.lines of the folder that it runs in, and compares what they print with the files NAME.expected. The exit
@@ -6,12 +6,15 @@
 #![tactic(auto)]
 
 mod check;
+mod line;
 mod nodes;
 mod store;
+mod values;
 mod words;
 
+use check::{compare, printed_by};
+use line::Line;
 use std::process::ExitCode;
-use std::rt::{Env, Files};
 use std::{env, fs, io};
 
 const HELP: &str = "\
@@ -65,46 +68,65 @@ get NODE K                            value V, or value -
 pointer NODE BOUND                    first P, or later P, or none
 pointer-before NODE P                 pointer P, or none
 successor NODE BOUND, predecessor NODE BOUND    pair K V, or none
+
+Values, separated by a comma and a space. Each of them prints a line: its text or its name, and for each of the values `=` where
+it equals a copy of that one, < or > where there is an order, and else /. OLD and NEW are byte strings or -. An error is a
+number from 1 to 8, of which 1 has a name K behind it; CALL is `get K`, `insert K V`, `remove K` or `cas K OLD NEW`.
+strings K, ..
+events K NEW, ..                      an insert, or a removal where NEW is -
+conflicts OLD NEW, ..                 why a value was not swapped
+errors N, ..
+calls CALL, ..
+wholes flush, ..
+trees K K N, ..                       the database's name, the tree's own and its number
 ";
 
 // Prints what a text of lines prints.
-fn run_text(rt: &(impl Print + AllocGlobal), text: &str) -> io::Result<()> {
-    rt.print(check::printed(rt.alloc(), text)?.as_str())
+fn run_text(rt: &HostRuntime, text: &str) -> io::Result<()> {
+    let printed = printed_by(rt.alloc(), text)?;
+    rt.print(printed.text()?)
 }
 
-fn run_files(rt: &(impl Files + Print + AllocGlobal), files: &[String]) -> io::Result<()> {
+fn run_files(rt: &HostRuntime, files: &[String]) -> io::Result<()> {
     for file in files {
-        run_text(rt, fs::read_to_string(rt, file.as_str())?.as_str())?;
+        let text = fs::read_to_string(rt, file.as_str())?;
+        run_text(rt, text.as_str())?;
     }
     Ok(())
 }
 
+fn run_input(rt: &HostRuntime) -> io::Result<()> {
+    let text = io::read_to_string(rt.alloc(), rt.reader())?;
+    run_text(rt, text.as_str())
+}
+
 // The file of a name and an ending.
-fn read(rt: &(impl Files + AllocGlobal), name: &str, ending: &str) -> io::Result<String> {
+fn read(rt: &HostRuntime, name: &str, ending: &str) -> io::Result<String> {
     let path = format!(in rt.alloc(); "{name}.{ending}")?;
     fs::read_to_string(rt, path.as_str())
 }
 
-// Whether the lines print what they should. Says so.
-fn check_text(
-    rt: &(impl Print + AllocGlobal),
-    name: &str,
-    lines: &str,
-    expected: &str,
-) -> io::Result<bool> {
-    let mut out = String::new(rt.alloc());
-    let is_same = check::check(name, lines, expected, &mut out)?;
-    rt.print(out.as_str())?;
+// What the lines of a name print.
+fn printed_of(rt: &HostRuntime, name: &str) -> io::Result<Line> {
+    let lines = read(rt, name, "lines")?;
+    Ok(printed_by(rt.alloc(), lines.as_str())?)
+}
+
+// Whether lines of a name print what they should. Says so.
+fn check_printed(rt: &HostRuntime, name: &str, printed: &Line) -> io::Result<bool> {
+    let expected = read(rt, name, "expected")?;
+    let mut out = Line::new(rt.alloc());
+    let is_same = compare(name, printed.text()?, expected.as_str(), &mut out);
+    rt.print(out.text()?)?;
     Ok(is_same)
 }
 
-fn check_name(rt: &(impl Files + Print + AllocGlobal), name: &str) -> io::Result<bool> {
-    let lines = read(rt, name, "lines")?;
-    let expected = read(rt, name, "expected")?;
-    check_text(rt, name, lines.as_str(), expected.as_str())
+fn check_name(rt: &HostRuntime, name: &str) -> io::Result<bool> {
+    let printed = printed_of(rt, name)?;
+    check_printed(rt, name, &printed)
 }
 
-fn check_names(rt: &(impl Files + Print + AllocGlobal), names: &[String]) -> io::Result<bool> {
+fn check_names(rt: &HostRuntime, names: &[String]) -> io::Result<bool> {
     let mut all_same = true;
     for name in names {
         all_same &= check_name(rt, name.as_str())?;
@@ -112,25 +134,18 @@ fn check_names(rt: &(impl Files + Print + AllocGlobal), names: &[String]) -> io:
     Ok(all_same)
 }
 
-fn run_input(rt: &(impl Input + Print + AllocGlobal)) -> io::Result<()> {
-    run_text(rt, io::read_to_string(rt.alloc(), rt.reader())?.as_str())
-}
-
 // Whether no file printed something else than it should.
-fn run(rt: &(impl Files + Input + Print + AllocGlobal), arguments: &[String]) -> io::Result<bool> {
-    let Some((first, others)) = arguments.split_first() else {
-        return run_input(rt).map(|_| true);
+fn run(rt: &HostRuntime, arguments: &[String]) -> io::Result<bool> {
+    let done = match arguments {
+        [] => run_input(rt),
+        [first, names @ ..] if first.as_str() == "check" => return check_names(rt, names),
+        [first, ..] if first.as_str() == "help" => rt.print(HELP),
+        files => run_files(rt, files),
     };
-    if first.as_str() == "check" {
-        return check_names(rt, others);
-    }
-    if first.as_str() == "help" {
-        return rt.print(HELP).map(|_| true);
-    }
-    run_files(rt, arguments).map(|_| true)
+    done.map(|()| true)
 }
 
-fn run_arguments(rt: &(impl Env + Files + Input + Print + AllocGlobal)) -> io::Result<bool> {
+fn run_arguments(rt: &HostRuntime) -> io::Result<bool> {
     let arguments: Vec<String> = env::args(rt)?.skip(1).collect(rt.alloc())?;
     run(rt, arguments.as_slice())
 }

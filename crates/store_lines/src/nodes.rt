@@ -2,35 +2,41 @@
 ghost use Rattle.std.specs.Prelude.{◌≡◌};
 ghost use Rattle.sled_pages.specs.Node.{count};
 
-use crate::words::{
-    Result, Stop, Words, named, push_number, push_number_or_none, push_string, read_bound,
-    read_number, read_string, whether,
-};
+use crate::line::Line;
+use crate::words::{Result, Stop, Word, named, read_two};
 use sled_pages::{Data, IVec, Index, Leaf, Link, Node, Pid};
 use std::alloc::Global;
 use std::ops::Bound;
 
-// What makes or changes a node.
+// What gives a node a name.
 #[derive(Clone, Copy)]
-enum Change {
+enum Make {
     Leaf,
     Index,
+    Clone,
+    Receive,
+    Split,
+}
+
+const MAKES: [(&str, Make); 5] = [
+    ("leaf", Make::Leaf),
+    ("index", Make::Index),
+    ("clone", Make::Clone),
+    ("receive", Make::Receive),
+    ("split", Make::Split),
+];
+
+// What changes a node.
+#[derive(Clone, Copy)]
+enum Change {
     Apply,
     Next,
-    Receive,
-    Clone,
-    Split,
     Post,
 }
 
-const CHANGES: [(&str, Change); 8] = [
-    ("leaf", Change::Leaf),
-    ("index", Change::Index),
+const CHANGES: [(&str, Change); 3] = [
     ("apply", Change::Apply),
     ("next", Change::Next),
-    ("receive", Change::Receive),
-    ("clone", Change::Clone),
-    ("split", Change::Split),
     ("post", Change::Post),
 ];
 
@@ -85,33 +91,46 @@ impl Nodes {
         }
     }
 
-    fn get(&self, name: &[u8]) -> Result<&Node> {
-        for named in self.named.as_slice() {
-            if named.0.as_ref() == name {
-                return Ok(&named.1);
+    fn get(&self, name: &str) -> Result<&Node> {
+        for (other, node) in self.named.as_slice() {
+            if other.as_ref() == name.as_bytes() {
+                return Ok(node);
             }
         }
         Err(Stop::BadLine)
     }
 
-    fn get_mut(&mut self, name: &[u8]) -> Result<&mut Node> {
-        for named in self.named.as_mut_slice() {
-            if named.0.as_ref() == name {
-                return Ok(&mut named.1);
+    fn get_mut(&mut self, name: &str) -> Result<&mut Node> {
+        for (other, node) in self.named.as_mut_slice() {
+            if other.as_ref() == name.as_bytes() {
+                return Ok(node);
             }
         }
         Err(Stop::BadLine)
     }
 
     /// A copy of the node of a name.
-    pub fn copy(&self, name: &[u8]) -> Result<Node> {
-        Ok(self.get(name)?.clone(self.alloc)?)
+    pub fn copy(&self, name: &str) -> Result<Node> {
+        match self.get(name) {
+            Ok(node) => Ok(node.clone(self.alloc)?),
+            Err(stop) => Err(stop),
+        }
     }
 
     /// Gives a node a name, in the place of another one of that name.
-    pub fn put(&mut self, name: &[u8], node: Node) -> Result<()> {
-        self.named.retain(|named| named.0.as_ref() != name);
-        match IVec::from_slice(self.alloc, name) {
+    pub fn put(&mut self, name: &str, node: Node) -> Result<()> {
+        match self.get_mut(name) {
+            Ok(place) => {
+                let old = std::mem::replace(place, node);
+                drop(old);
+                Ok(())
+            }
+            Err(_) => self.add(name, node),
+        }
+    }
+
+    fn add(&mut self, name: &str, node: Node) -> Result<()> {
+        match IVec::from_slice(self.alloc, name.as_bytes()) {
             Ok(name) => Ok(self.named.push((name, node))?),
             Err(error) => {
                 drop(node);
@@ -121,173 +140,212 @@ impl Nodes {
     }
 
     /// Does what a line says whose first word is this one.
-    pub fn run(&mut self, command: &[u8], words: &mut Words<'_>, out: &mut String) -> Result<()> {
-        match named(&CHANGES, command) {
-            Some(change) => Ok(out.push_str(self.change(change, words)?)?),
-            None => self.ask(command, words, out),
+    pub fn run(&mut self, command: &str, words: &[&str], out: &mut Line) -> Result<()> {
+        if let Some(make) = named(&MAKES, command) {
+            return self.make(make, words, out);
+        }
+        let [name, words @ ..] = words else {
+            return Err(Stop::BadLine);
+        };
+        if let Some(change) = named(&CHANGES, command) {
+            return change_node(self.alloc, change, self.get_mut(name)?, words, out);
+        }
+        match self.get(name) {
+            Ok(node) => look(self.alloc, command, node, words, out),
+            Err(stop) => Err(stop),
         }
     }
 
-    fn ask(&self, command: &[u8], words: &mut Words<'_>, out: &mut String) -> Result<()> {
-        let node = self.get(words.word()?)?;
-        if let Some(question) = named(&QUESTIONS, command) {
-            words.end()?;
-            return answer(question, node, out);
+    fn make(&mut self, make: Make, words: &[&str], out: &mut Line) -> Result<()> {
+        match make {
+            Make::Leaf => self.build(true, words)?,
+            Make::Index => self.build(false, words)?,
+            Make::Clone => self.keep_copy(words)?,
+            Make::Receive => self.receive(words)?,
+            Make::Split => return self.split(words, out),
         }
-        match named(&SEARCHES, command) {
-            Some(search) => find(self.alloc, search, node, words.last()?, out),
-            None => Err(Stop::BadLine),
-        }
-    }
-
-    fn change(&mut self, change: Change, words: &mut Words<'_>) -> Result<&'static str> {
-        match change {
-            Change::Leaf => self.build(true, words),
-            Change::Index => self.build(false, words),
-            Change::Apply => self.apply(words),
-            Change::Next => self.lead_on(words),
-            Change::Receive => self.receive(words),
-            Change::Clone => self.keep_copy(words),
-            Change::Split => self.split(words),
-            Change::Post => self.post(words),
-        }
+        out.push("done");
+        Ok(())
     }
 
     // Builds a leaf or an index.
-    fn build(&mut self, is_leaf: bool, words: &mut Words<'_>) -> Result<&'static str> {
-        let name = words.word()?;
-        let node = read_node(self.alloc, is_leaf, words)?;
-        self.put(name, node)?;
-        Ok("done")
-    }
-
-    fn apply(&mut self, words: &mut Words<'_>) -> Result<&'static str> {
-        let name = words.word()?;
-        let link = read_link(self.alloc, words)?;
-        match self.get_mut(name) {
-            Ok(node) => node.apply(link)?,
-            Err(stop) => {
-                drop(link);
-                return Err(stop);
-            }
+    fn build(&mut self, is_leaf: bool, words: &[&str]) -> Result<()> {
+        let [name, words @ ..] = words else {
+            return Err(Stop::BadLine);
+        };
+        match read_node(self.alloc, is_leaf, words) {
+            Ok(node) => self.put(name, node),
+            Err(stop) => Err(stop),
         }
-        Ok("done")
     }
 
-    fn lead_on(&mut self, words: &mut Words<'_>) -> Result<&'static str> {
-        let name = words.word()?;
-        let next = words.pid_or_none()?;
-        words.end()?;
-        self.get_mut(name)?.next = next;
-        Ok("done")
+    fn keep_copy(&mut self, words: &[&str]) -> Result<()> {
+        let [of, name] = words else {
+            return Err(Stop::BadLine);
+        };
+        match self.copy(of) {
+            Ok(copy) => self.put(name, copy),
+            Err(stop) => Err(stop),
+        }
     }
 
-    fn receive(&mut self, words: &mut Words<'_>) -> Result<&'static str> {
-        let left = words.word()?;
-        let right = words.word()?;
-        let name = words.last()?;
-        let both = self.received(left, right)?;
-        self.put(name, both)?;
-        Ok("done")
+    fn receive(&mut self, words: &[&str]) -> Result<()> {
+        let [left, right, name] = words else {
+            return Err(Stop::BadLine);
+        };
+        let (Ok(left), Ok(right)) = (self.get(left), self.get(right)) else {
+            return Err(Stop::BadLine);
+        };
+        let both = left.receive_merge(self.alloc, right)?;
+        self.put(name, both)
     }
 
-    fn received(&self, left: &[u8], right: &[u8]) -> Result<Node> {
-        let right = self.get(right)?;
-        Ok(self.get(left)?.receive_merge(self.alloc, right)?)
-    }
-
-    fn keep_copy(&mut self, words: &mut Words<'_>) -> Result<&'static str> {
-        let of = words.word()?;
-        let name = words.last()?;
-        let copy = self.copy(of)?;
-        self.put(name, copy)?;
-        Ok("done")
-    }
-
-    fn split(&mut self, words: &mut Words<'_>) -> Result<&'static str> {
-        let node = self.get(words.word()?)?;
-        let left_name = words.word()?;
-        let right_name = words.last()?;
+    fn split(&mut self, words: &[&str], out: &mut Line) -> Result<()> {
+        let [of, left_name, right_name] = words else {
+            return Err(Stop::BadLine);
+        };
+        let node = self.get(of)?;
         if len(node) < 2 {
-            return Ok("barred");
+            out.push("barred");
+            return Ok(());
         }
         let (left, right) = node.split(self.alloc)?;
+        out.push("done");
         let left_put = self.put(left_name, left);
         let right_put = self.put(right_name, right);
-        left_put.and(right_put).map(|_| "done")
-    }
-
-    fn post(&mut self, words: &mut Words<'_>) -> Result<&'static str> {
-        let name = words.word()?;
-        let key = words.word()?;
-        let pid = Pid(read_number(words.last()?)?);
-        let key = read_string(self.alloc, key)?;
-        match self.get_mut(name) {
-            Ok(node) => Ok(whether(node.parent_split(key, pid)?)),
-            Err(stop) => {
-                drop(key);
-                Err(stop)
-            }
-        }
+        left_put.and(right_put)
     }
 }
 
-fn answer(question: Question, node: &Node, out: &mut String) -> Result<()> {
-    match question {
-        Question::Show => push_node(out, node),
-        Question::Len => {
-            out.push_str("number")?;
-            push_number(out, len(node) as u64)
-        }
-        Question::ShouldSplit => Ok(out.push_str(whether(node.should_split()))?),
-        Question::ShouldMerge => Ok(out.push_str(whether(node.should_merge()))?),
-        Question::CanMergeChild => Ok(out.push_str(whether(node.can_merge_child()))?),
+fn change_node(
+    alloc: Global,
+    change: Change,
+    node: &mut Node,
+    words: &[&str],
+    out: &mut Line,
+) -> Result<()> {
+    match change {
+        Change::Apply => apply(alloc, node, words, out),
+        Change::Next => lead_on(alloc, node, words, out),
+        Change::Post => post(alloc, node, words, out),
     }
+}
+
+fn apply(alloc: Global, node: &mut Node, words: &[&str], out: &mut Line) -> Result<()> {
+    let link = read_link(alloc, words)?;
+    node.apply(link)?;
+    out.push("done");
+    Ok(())
+}
+
+fn lead_on(alloc: Global, node: &mut Node, words: &[&str], out: &mut Line) -> Result<()> {
+    let [next] = words else {
+        return Err(Stop::BadLine);
+    };
+    node.next = Option::read(alloc, next)?;
+    out.push("done");
+    Ok(())
+}
+
+fn post(alloc: Global, node: &mut Node, words: &[&str], out: &mut Line) -> Result<()> {
+    let [key, pid] = words else {
+        return Err(Stop::BadLine);
+    };
+    let (key, pid) = read_two(alloc, key, pid)?;
+    out.push_whether(node.parent_split(key, pid)?);
+    Ok(())
+}
+
+// Looks at a node.
+fn look(alloc: Global, command: &str, node: &Node, words: &[&str], out: &mut Line) -> Result<()> {
+    match words {
+        [] => ask(command, node, out),
+        [word] => find(alloc, command, node, word, out),
+        _ => Err(Stop::BadLine),
+    }
+}
+
+// Answers a question about a node.
+fn ask(question: &str, node: &Node, out: &mut Line) -> Result<()> {
+    match named(&QUESTIONS, question) {
+        Some(Question::Show) => return push_node(out, node),
+        Some(Question::Len) => out.push_numbered("number", len(node) as u64),
+        Some(Question::ShouldSplit) => out.push_whether(node.should_split()),
+        Some(Question::ShouldMerge) => out.push_whether(node.should_merge()),
+        Some(Question::CanMergeChild) => out.push_whether(node.can_merge_child()),
+        None => return Err(Stop::BadLine),
+    }
+    Ok(())
 }
 
 // Finds what a word asks for.
-fn find(alloc: Global, search: Search, node: &Node, word: &[u8], out: &mut String) -> Result<()> {
+fn find(alloc: Global, search: &str, node: &Node, word: &str, out: &mut Line) -> Result<()> {
+    match named(&SEARCHES, search) {
+        Some(Search::Get) => find_value(alloc, node, word, out),
+        Some(Search::PointerBefore) => find_before(alloc, node, word, out),
+        Some(search) => find_within(alloc, search, node, word, out),
+        None => Err(Stop::BadLine),
+    }
+}
+
+fn find_value(alloc: Global, node: &Node, word: &str, out: &mut Line) -> Result<()> {
+    let key = IVec::read(alloc, word)?;
+    let value = node.get(key.as_ref())?;
+    out.push("value");
+    value.print(out);
+    Ok(())
+}
+
+fn find_before(alloc: Global, node: &Node, word: &str, out: &mut Line) -> Result<()> {
+    let pid = Pid::read(alloc, word)?;
+    push_found(out, "pointer", node.pointer_before(pid));
+    Ok(())
+}
+
+// Finds what a word bounds that is `[K`, `(K` or `..`.
+fn find_within(
+    alloc: Global,
+    search: Search,
+    node: &Node,
+    word: &str,
+    out: &mut Line,
+) -> Result<()> {
+    if word == ".." {
+        return find_from(search, node, Bound::Unbounded, out);
+    }
+    let Some((key, is_included)) = key_of(word) else {
+        return Err(Stop::BadLine);
+    };
+    let key = IVec::read(alloc, key)?;
+    let key = key.as_ref();
+    let bound = if is_included {
+        Bound::Included(key)
+    } else {
+        Bound::Excluded(key)
+    };
+    find_from(search, node, bound, out)
+}
+
+// The key of a bound, and whether it is included.
+fn key_of(bound: &str) -> Option<(&str, bool)> {
+    match bound.strip_prefix('[') {
+        Some(key) => Some((key, true)),
+        None => Some((bound.strip_prefix('(')?, false)),
+    }
+}
+
+fn find_from(search: Search, node: &Node, bound: Bound<&[u8]>, out: &mut Line) -> Result<()> {
     match search {
-        Search::Get => find_value(alloc, node, word, out),
-        Search::PointerBefore => {
-            let before = node.pointer_before(Pid(read_number(word)?));
-            push_page(out, "pointer", before)
-        }
+        Search::Successor => push_pair(out, node.successor(bound)),
+        Search::Predecessor => push_pair(out, node.predecessor(bound)),
         _ => {
-            let bound = read_bound(alloc, word)?;
-            find_within(search, node, as_bytes(&bound), out)
+            match node.pointer(bound) {
+                Some((pid, true)) => push_found(out, "first", Some(pid)),
+                Some((pid, false)) => push_found(out, "later", Some(pid)),
+                None => push_found(out, "first", None),
+            }
+            Ok(())
         }
-    }
-}
-
-fn find_value(alloc: Global, node: &Node, word: &[u8], out: &mut String) -> Result<()> {
-    let key = read_string(alloc, word)?;
-    let value = node.get(key.as_ref());
-    drop(key);
-    out.push_str("value")?;
-    match value? {
-        Some(value) => push_string(out, value.as_ref()),
-        None => Ok(out.push_str(" -")?),
-    }
-}
-
-fn find_within(search: Search, node: &Node, bound: Bound<&[u8]>, out: &mut String) -> Result<()> {
-    match search {
-        Search::Successor => push_pair(out, node.successor(bound)?),
-        Search::Predecessor => push_pair(out, node.predecessor(bound)?),
-        _ => match node.pointer(bound) {
-            Some((pid, true)) => push_page(out, "first", Some(pid)),
-            Some((pid, false)) => push_page(out, "later", Some(pid)),
-            None => push_page(out, "first", None),
-        },
-    }
-}
-
-fn as_bytes(bound: &Bound<IVec>) -> Bound<&[u8]> {
-    match bound {
-        Bound::Included(key) => Bound::Included(key.as_ref()),
-        Bound::Excluded(key) => Bound::Excluded(key.as_ref()),
-        Bound::Unbounded => Bound::Unbounded,
     }
 }
 
@@ -303,39 +361,25 @@ fn len(node: &Node) -> usize
 
 const MERGING: [(&str, bool); 2] = [("merging", true), ("-", false)];
 
-// What a node is but for its bounds and its entries.
-#[derive(Clone, Copy)]
-struct Marks {
-    next: Option<Pid>,
-    merging_child: Option<Pid>,
-    merging: bool,
-}
-
-fn read_marks(words: &mut Words<'_>) -> Result<Marks> {
-    let next = words.pid_or_none()?;
-    let merging_child = words.pid_or_none()?;
-    match named(&MERGING, words.word()?) {
-        Some(merging) => Ok(Marks {
-            next,
-            merging_child,
-            merging,
-        }),
-        None => Err(Stop::BadLine),
-    }
-}
-
-fn read_node(alloc: Global, is_leaf: bool, words: &mut Words<'_>) -> Result<Node> {
-    let lo = words.word()?;
-    let hi = words.word()?;
-    let marks = read_marks(words)?;
+// A node, but for its name.
+fn read_node(alloc: Global, is_leaf: bool, words: &[&str]) -> Result<Node> {
+    let [lo, hi, next, child, merging, entries @ ..] = words else {
+        return Err(Stop::BadLine);
+    };
+    let (Ok((next, merging_child)), Some(merging)) = (
+        read_two(alloc, next, child),
+        named(&MERGING, merging),
+    ) else {
+        return Err(Stop::BadLine);
+    };
     let (lo, hi) = read_two(alloc, lo, hi)?;
-    match read_content(alloc, is_leaf, words) {
+    match read_content(alloc, is_leaf, entries) {
         Ok(content) => Ok(Node {
             lo,
             hi,
-            next: marks.next,
-            merging: marks.merging,
-            merging_child: marks.merging_child,
+            next,
+            merging,
+            merging_child,
             content,
         }),
         Err(stop) => {
@@ -346,182 +390,109 @@ fn read_node(alloc: Global, is_leaf: bool, words: &mut Words<'_>) -> Result<Node
     }
 }
 
-// Two byte strings.
-fn read_two(alloc: Global, first: &[u8], second: &[u8]) -> Result<(IVec, IVec)> {
-    let first = read_string(alloc, first)?;
-    Ok((first, read_string(alloc, second)?))
-}
-
-// A leaf of the pairs that are the rest of the line.
-fn read_leaf(alloc: Global, words: &mut Words<'_>) -> Result<Leaf> {
-    let mut pairs = Vec::new(alloc);
-    if let Err(stop) = read_pairs(alloc, words, &mut pairs) {
-        drop(pairs);
-        return Err(stop);
-    }
-    let leaf = Leaf::from_pairs(alloc, pairs.as_slice());
-    drop(pairs);
-    Ok(leaf?)
-}
-
-// An index of the pointers that are the rest of the line.
-fn read_index(alloc: Global, words: &mut Words<'_>) -> Result<Index> {
-    let mut pointers = Vec::new(alloc);
-    if let Err(stop) = read_pointers(alloc, words, &mut pointers) {
-        drop(pointers);
-        return Err(stop);
-    }
-    let index = Index::from_pairs(alloc, pointers.as_slice());
-    drop(pointers);
-    Ok(index?)
-}
-
-// The entries, which are the rest of the line.
-fn read_content(alloc: Global, is_leaf: bool, words: &mut Words<'_>) -> Result<Data> {
+fn read_content(alloc: Global, is_leaf: bool, words: &[&str]) -> Result<Data> {
     if is_leaf {
-        Ok(Data::Leaf(read_leaf(alloc, words)?))
+        let pairs = read_entries(alloc, words)?;
+        Ok(Data::Leaf(Leaf::from_pairs(alloc, pairs.as_slice())?))
     } else {
-        Ok(Data::Index(read_index(alloc, words)?))
+        let pointers = read_entries(alloc, words)?;
+        Ok(Data::Index(Index::from_pairs(alloc, pointers.as_slice())?))
     }
 }
 
-fn read_pairs(alloc: Global, words: &mut Words<'_>, pairs: &mut Vec<(IVec, IVec)>) -> Result<()> {
-    for _ in 0..u64::MAX {
-        if words.is_empty() {
-            break;
-        }
-        pairs.push(read_two(alloc, words.word()?, words.word()?)?)?;
+fn read_entries<W: Word>(alloc: Global, words: &[&str]) -> Result<Vec<(IVec, W)>> {
+    let mut entries = Vec::new(alloc);
+    for entry in words.chunks(2) {
+        push_entry(alloc, entry, &mut entries)?;
     }
-    Ok(())
+    Ok(entries)
 }
 
-fn read_pointers(
-    alloc: Global,
-    words: &mut Words<'_>,
-    pointers: &mut Vec<(IVec, Pid)>,
-) -> Result<()> {
-    for _ in 0..u64::MAX {
-        if words.is_empty() {
-            break;
-        }
-        let key = words.word()?;
-        let pid = words.pid()?;
-        pointers.push((read_string(alloc, key)?, pid))?;
-    }
-    Ok(())
-}
-
-#[derive(Clone, Copy)]
-enum LinkName {
-    Set,
-    Del,
-    Intend,
-    Confirm,
-    Cap,
-}
-
-const LINKS: [(&str, LinkName); 5] = [
-    ("set", LinkName::Set),
-    ("del", LinkName::Del),
-    ("intend", LinkName::Intend),
-    ("confirm", LinkName::Confirm),
-    ("cap", LinkName::Cap),
-];
-
-/// A link, which is the rest of the line.
-pub fn read_link(alloc: Global, words: &mut Words<'_>) -> Result<Link> {
-    let Some(name) = named(&LINKS, words.word()?) else {
+fn push_entry<W: Word>(alloc: Global, words: &[&str], entries: &mut Vec<(IVec, W)>) -> Result<()> {
+    let [key, beside] = words else {
         return Err(Stop::BadLine);
     };
-    match name {
-        LinkName::Set => read_set(alloc, words),
-        LinkName::Del => read_del(alloc, words),
-        LinkName::Intend => Ok(Link::ParentMergeIntention(Pid(read_number(words.last()?)?))),
-        LinkName::Confirm => {
-            words.end()?;
-            Ok(Link::ParentMergeConfirm)
-        }
-        LinkName::Cap => {
-            words.end()?;
-            Ok(Link::ChildMergeCap)
-        }
+    match read_two(alloc, key, beside) {
+        Ok(entry) => Ok(entries.push(entry)?),
+        Err(stop) => Err(stop),
     }
 }
 
-fn read_set(alloc: Global, words: &mut Words<'_>) -> Result<Link> {
-    let (key, value) = read_two(alloc, words.word()?, words.last()?)?;
-    Ok(Link::Set(key, value))
+/// A link.
+pub fn read_link(alloc: Global, words: &[&str]) -> Result<Link> {
+    let [name, words @ ..] = words else {
+        return Err(Stop::BadLine);
+    };
+    match words {
+        [] => link_alone(name),
+        [word] => link_of_one(alloc, name, word),
+        [key, value] if *name == "set" => {
+            let (key, value) = read_two(alloc, key, value)?;
+            Ok(Link::Set(key, value))
+        }
+        _ => Err(Stop::BadLine),
+    }
 }
 
-fn read_del(alloc: Global, words: &mut Words<'_>) -> Result<Link> {
-    Ok(Link::Del(read_string(alloc, words.last()?)?))
+fn link_alone(name: &str) -> Result<Link> {
+    match name {
+        "confirm" => Ok(Link::ParentMergeConfirm),
+        "cap" => Ok(Link::ChildMergeCap),
+        _ => Err(Stop::BadLine),
+    }
+}
+
+fn link_of_one(alloc: Global, name: &str, word: &str) -> Result<Link> {
+    match name {
+        "del" => Ok(Link::Del(IVec::read(alloc, word)?)),
+        "intend" => Ok(Link::ParentMergeIntention(Pid::read(alloc, word)?)),
+        _ => Err(Stop::BadLine),
+    }
 }
 
 // Adds a word and the number of a page, or `none`.
-fn push_page(out: &mut String, word: &str, page: Option<Pid>) -> Result<()> {
+fn push_found(out: &mut Line, word: &str, page: Option<Pid>) {
     match page {
-        Some(pid) => {
-            out.push_str(word)?;
-            push_number(out, pid.0)
+        Some(pid) => out.push_numbered(word, pid.0),
+        None => out.push("none"),
+    }
+}
+
+fn push_pair(out: &mut Line, found: sled_pages::Result<Option<(IVec, IVec)>>) -> Result<()> {
+    match found? {
+        Some((key, value)) => {
+            out.push("pair");
+            key.print(out);
+            value.print(out);
         }
-        None => Ok(out.push_str("none")?),
-    }
-}
-
-fn push_pair(out: &mut String, pair: Option<(IVec, IVec)>) -> Result<()> {
-    match pair {
-        Some(pair) => {
-            out.push_str("pair")?;
-            push_entry(out, &pair)
-        }
-        None => Ok(out.push_str("none")?),
-    }
-}
-
-fn push_entry(out: &mut String, pair: &(IVec, IVec)) -> Result<()> {
-    push_string(out, pair.0.as_ref())?;
-    push_string(out, pair.1.as_ref())
-}
-
-/// Adds keys with the numbers of their pages.
-pub fn push_pointers(out: &mut String, pointers: &[(IVec, Pid)]) -> Result<()> {
-    for pointer in pointers {
-        push_string(out, pointer.0.as_ref())?;
-        push_number(out, pointer.1.0)?;
-    }
-    Ok(())
-}
-
-fn push_pairs(out: &mut String, pairs: &[(IVec, IVec)]) -> Result<()> {
-    for pair in pairs {
-        push_entry(out, pair)?;
+        None => out.push("none"),
     }
     Ok(())
 }
 
 /// Adds a node as a line builds it, but for its name.
-pub fn push_node(out: &mut String, node: &Node) -> Result<()> {
+pub fn push_node(out: &mut Line, node: &Node) -> Result<()> {
     match &node.content {
         Data::Leaf(leaf) => {
-            push_frame(out, "leaf", node)?;
-            let pairs = leaf.pairs(*out.allocator())?;
-            push_pairs(out, pairs.as_slice())
+            push_frame(out, "leaf", node);
+            let pairs = leaf.pairs(out.alloc())?;
+            out.push_entries(pairs.as_slice());
         }
         Data::Index(index) => {
-            push_frame(out, "index", node)?;
-            let pointers = index.pairs(*out.allocator())?;
-            push_pointers(out, pointers.as_slice())
+            push_frame(out, "index", node);
+            let pointers = index.pairs(out.alloc())?;
+            out.push_entries(pointers.as_slice());
         }
     }
+    Ok(())
 }
 
 // Adds what a node is but for its entries.
-fn push_frame(out: &mut String, kind: &str, node: &Node) -> Result<()> {
-    out.push_str(kind)?;
-    push_string(out, node.lo.as_ref())?;
-    push_string(out, node.hi.as_ref())?;
-    push_number_or_none(out, node.next.map(|pid| pid.0))?;
-    push_number_or_none(out, node.merging_child.map(|pid| pid.0))?;
-    out.push_str(if node.merging { " merging" } else { " -" })?;
-    Ok(())
+fn push_frame(out: &mut Line, kind: &str, node: &Node) {
+    out.push(kind);
+    node.lo.print(out);
+    node.hi.print(out);
+    node.next.print(out);
+    node.merging_child.print(out);
+    out.push(if node.merging { " merging" } else { " -" });
 }

@@ -1,9 +1,8 @@
 //! A store in memory, to which each line makes one call.
-use crate::nodes::{Nodes, push_node, push_pointers, read_link};
-use crate::words::{
-    Result, Stop, Words, named, push_number, push_number_or_none, read_number, read_string, whether,
-};
-use sled_pages::{Error, IVec, MemPages, Node, Pages, Pid, Version, View};
+use crate::line::Line;
+use crate::nodes::{Nodes, push_node, read_link};
+use crate::words::{Result, Stop, Word, named, read_number, read_two};
+use sled_pages::{IVec, MemPages, Node, Pages, Pid, Version, View};
 use std::alloc::Global;
 
 type Changed = sled_pages::Result<std::result::Result<Version, Option<Version>>>;
@@ -19,65 +18,66 @@ enum Alone {
     Mark,
     WasRecovered,
     New,
-}
-
-const ALONE: [(&str, Alone); 8] = [
-    ("roots", Alone::Roots),
-    ("begin", Alone::Begin),
-    ("seal", Alone::Seal),
-    ("in-group", Alone::InGroup),
-    ("flush", Alone::Flush),
-    ("mark", Alone::Mark),
-    ("was-recovered", Alone::WasRecovered),
-    ("new", Alone::New),
-];
-
-// A call of any store.
-#[derive(Clone, Copy)]
-enum Call {
-    Allocate,
-    Read,
-    Link,
-    Replace,
-    Free,
-    Swap,
-    Root,
-    SetAside,
-}
-
-const CALLS: [(&str, Call); 8] = [
-    ("allocate", Call::Allocate),
-    ("read", Call::Read),
-    ("link", Call::Link),
-    ("replace", Call::Replace),
-    ("free", Call::Free),
-    ("swap", Call::Swap),
-    ("root", Call::Root),
-    ("set-aside", Call::SetAside),
-];
-
-// A call of a store in memory alone.
-#[derive(Clone, Copy)]
-enum Tool {
-    Crash,
-    Refuse,
-    Unreadable,
-    ImagePage,
-    ImageRoot,
-    Image,
-    Hold,
     LetGo,
 }
 
-const TOOLS: [(&str, Tool); 8] = [
-    ("crash", Tool::Crash),
-    ("refuse", Tool::Refuse),
-    ("unreadable", Tool::Unreadable),
-    ("image-page", Tool::ImagePage),
-    ("image-root", Tool::ImageRoot),
-    ("image", Tool::Image),
-    ("hold", Tool::Hold),
-    ("let-go", Tool::LetGo),
+// A call with a number.
+#[derive(Clone, Copy)]
+enum Numbered {
+    SetAside,
+    Crash,
+    Unreadable,
+    Image,
+    Hold,
+}
+
+// A call on a page at a version.
+#[derive(Clone, Copy)]
+enum Versioned {
+    Link,
+    Replace,
+    Free,
+}
+
+#[derive(Clone, Copy)]
+enum Call {
+    Alone(Alone),
+    Numbered(Numbered),
+    Versioned(Versioned),
+    Allocate,
+    Read,
+    Root,
+    Swap,
+    Refuse,
+    ImagePage,
+    ImageRoot,
+}
+
+const CALLS: [(&str, Call); 24] = [
+    ("roots", Call::Alone(Alone::Roots)),
+    ("begin", Call::Alone(Alone::Begin)),
+    ("seal", Call::Alone(Alone::Seal)),
+    ("in-group", Call::Alone(Alone::InGroup)),
+    ("flush", Call::Alone(Alone::Flush)),
+    ("mark", Call::Alone(Alone::Mark)),
+    ("was-recovered", Call::Alone(Alone::WasRecovered)),
+    ("new", Call::Alone(Alone::New)),
+    ("let-go", Call::Alone(Alone::LetGo)),
+    ("set-aside", Call::Numbered(Numbered::SetAside)),
+    ("crash", Call::Numbered(Numbered::Crash)),
+    ("unreadable", Call::Numbered(Numbered::Unreadable)),
+    ("image", Call::Numbered(Numbered::Image)),
+    ("hold", Call::Numbered(Numbered::Hold)),
+    ("link", Call::Versioned(Versioned::Link)),
+    ("replace", Call::Versioned(Versioned::Replace)),
+    ("free", Call::Versioned(Versioned::Free)),
+    ("allocate", Call::Allocate),
+    ("read", Call::Read),
+    ("root", Call::Root),
+    ("swap", Call::Swap),
+    ("refuse", Call::Refuse),
+    ("image-page", Call::ImagePage),
+    ("image-root", Call::ImageRoot),
 ];
 
 /// A store, and what lines made beside it.
@@ -108,63 +108,106 @@ impl Store {
         }
     }
 
-    /// Does what a line says, and adds what that comes to.
-    pub fn run(&mut self, words: &mut Words<'_>, out: &mut String) -> Result<()> {
-        let word = words.word()?;
-        if let Some(call) = named(&ALONE, word) {
-            words.end()?;
-            self.alone(call, out)
-        } else if let Some(call) = named(&CALLS, word) {
-            self.call(call, words, out)
-        } else if let Some(tool) = named(&TOOLS, word) {
-            self.tool(tool, words, out)
-        } else {
-            self.nodes.run(word, words, out)
+    /// Does what the words of a line say, and adds what that comes to.
+    pub fn run(&mut self, words: &[&str], out: &mut Line) -> Result<()> {
+        let [name, words @ ..] = words else {
+            return Err(Stop::BadLine);
+        };
+        match named(&CALLS, name) {
+            Some(call) => self.call(call, words, out),
+            None => self.nodes.run(name, words, out),
         }
     }
 
-    fn alone(&mut self, call: Alone, out: &mut String) -> Result<()> {
+    fn call(&mut self, call: Call, words: &[&str], out: &mut Line) -> Result<()> {
         match call {
-            Alone::Roots => self.roots(out),
-            Alone::Begin => self.begin(out),
-            Alone::Seal => self.seal(out),
-            Alone::InGroup => push(out, whether(self.pages.in_group())),
-            Alone::Flush => self.flush(out),
-            Alone::Mark => push_numbered(out, "number", self.pages.mark()),
-            Alone::WasRecovered => push(out, whether(self.pages.was_recovered())),
-            Alone::New => {
-                self.put_new(MemPages::new(self.alloc));
-                push(out, "done")
-            }
-        }
-    }
-
-    fn call(&mut self, call: Call, words: &mut Words<'_>, out: &mut String) -> Result<()> {
-        match call {
+            Call::Alone(call) => self.alone(call, words, out),
+            Call::Numbered(call) => self.numbered(call, words, out),
+            Call::Versioned(call) => self.versioned(call, words, out),
             Call::Allocate => self.allocate(words, out),
             Call::Read => self.read(words, out),
-            Call::Link => self.link(words, out),
-            Call::Replace => self.replace(words, out),
-            Call::Free => self.free(words, out),
-            Call::Swap => self.swap(words, out),
             Call::Root => self.root(words, out),
-            Call::SetAside => self.set_aside(words, out),
+            Call::Swap => self.swap(words, out),
+            Call::Refuse => self.refuse(words, out),
+            Call::ImagePage => self.image_page(words, out),
+            Call::ImageRoot => self.image_root(words, out),
         }
     }
 
-    fn tool(&mut self, tool: Tool, words: &mut Words<'_>, out: &mut String) -> Result<()> {
-        let done = match tool {
-            Tool::Crash => self.crash(words),
-            Tool::Refuse => self.refuse(words),
-            Tool::Unreadable => self.unreadable(words),
-            Tool::ImagePage => self.image_page(words),
-            Tool::ImageRoot => self.image_root(words),
-            Tool::Image => self.image(words),
-            Tool::Hold => self.hold(words),
-            Tool::LetGo => self.let_go(words),
+    fn alone(&mut self, call: Alone, words: &[&str], out: &mut Line) -> Result<()> {
+        if !words.is_empty() {
+            return Err(Stop::BadLine);
+        }
+        match call {
+            Alone::Roots => return self.roots(out),
+            Alone::Begin => self.begin(out),
+            Alone::Seal => self.seal(out),
+            Alone::InGroup => out.push_whether(self.pages.in_group()),
+            Alone::Flush => self.flush(out),
+            Alone::Mark => out.push_numbered("number", self.pages.mark()),
+            Alone::WasRecovered => out.push_whether(self.pages.was_recovered()),
+            Alone::New => {
+                self.put_new(MemPages::new(self.alloc));
+                out.push("done");
+            }
+            Alone::LetGo => {
+                self.held.clear();
+                out.push("done");
+            }
+        }
+        Ok(())
+    }
+
+    fn numbered(&mut self, call: Numbered, words: &[&str], out: &mut Line) -> Result<()> {
+        let [number] = words else {
+            return Err(Stop::BadLine);
+        };
+        let number = read_number(number)?;
+        let done = match call {
+            Numbered::SetAside => return self.set_aside(number, out),
+            Numbered::Crash => self.crash(number),
+            Numbered::Unreadable => self.unreadable(Pid(number)),
+            Numbered::Image => self.image(number),
+            Numbered::Hold => self.hold(Pid(number)),
         };
         done?;
-        push(out, "done")
+        out.push("done");
+        Ok(())
+    }
+
+    fn versioned(&mut self, call: Versioned, words: &[&str], out: &mut Line) -> Result<()> {
+        let [pid, version, words @ ..] = words else {
+            return Err(Stop::BadLine);
+        };
+        let (Ok(pid), Ok(version)) = (Pid::read(self.alloc, pid), self.version(version)) else {
+            return Err(Stop::BadLine);
+        };
+        match call {
+            Versioned::Link => self.link(pid, version, words, out),
+            Versioned::Replace => self.replace(pid, version, words, out),
+            Versioned::Free => self.free(pid, version, words, out),
+        }
+    }
+
+    fn link(&mut self, pid: Pid, version: Version, link: &[&str], out: &mut Line) -> Result<()> {
+        let link = read_link(self.alloc, link)?;
+        let answer = self.pages.link(pid, version, link);
+        self.push_changed(answer, out)
+    }
+
+    fn replace(
+        &mut self,
+        pid: Pid,
+        version: Version,
+        words: &[&str],
+        out: &mut Line,
+    ) -> Result<()> {
+        let [name] = words else {
+            return Err(Stop::BadLine);
+        };
+        let node = self.nodes.copy(name)?;
+        let answer = self.pages.replace(pid, version, node);
+        self.push_changed(answer, out)
     }
 
     // Goes on with another store.
@@ -180,9 +223,9 @@ impl Store {
     }
 
     // The version of this place among those that were met; where there is none, the version of this number.
-    fn version(&self, word: &[u8]) -> Result<Version> {
+    fn version(&self, word: &str) -> Result<Version> {
         let met = self.versions.as_slice();
-        if word == b"last".as_slice() {
+        if word == "last" {
             return met.last().copied().ok_or(Stop::BadLine);
         }
         let number = read_number(word)?;
@@ -190,258 +233,238 @@ impl Store {
         Ok(met.get(place).copied().unwrap_or(Version(number)))
     }
 
-    // Adds the place of a version, which is a new one where it was not met before.
-    fn push_version(&mut self, version: Version, out: &mut String) -> Result<()> {
-        let mut place = 0u64;
-        for met in self.versions.as_slice() {
+    // The place of a version, which is a new one where it was not met before.
+    fn place_of(&mut self, version: Version) -> Result<usize> {
+        for (place, met) in self.versions.as_slice().iter().enumerate() {
             if *met == version {
-                break;
+                return Ok(place);
             }
-            place = place.saturating_add(1);
         }
-        if place == self.versions.len() as u64 {
-            self.versions.push(version)?;
-        }
-        push_numbered(out, " version", place)
+        let place = self.versions.len();
+        self.versions.push(version)?;
+        Ok(place)
+    }
+
+    // Adds the place of a version.
+    fn push_version(&mut self, version: Version, out: &mut Line) -> Result<()> {
+        let place = self.place_of(version)?;
+        out.push_numbered(" version", place as u64);
+        Ok(())
     }
 
     // Adds the line of a page that has another version, or is not there.
-    fn push_found(&mut self, present: Option<Version>, out: &mut String) -> Result<()> {
-        out.push_str("found")?;
+    fn push_found(&mut self, present: Option<Version>, out: &mut Line) -> Result<()> {
+        out.push("found");
         match present {
             Some(version) => self.push_version(version, out),
-            None => push(out, " -"),
+            None => {
+                out.push(" -");
+                Ok(())
+            }
         }
     }
 
-    fn push_changed(&mut self, answer: Changed, out: &mut String) -> Result<()> {
+    fn push_changed(&mut self, answer: Changed, out: &mut Line) -> Result<()> {
         match answer {
             Ok(Ok(version)) => {
-                out.push_str("changed")?;
+                out.push("changed");
                 self.push_version(version, out)
             }
             Ok(Err(present)) => self.push_found(present, out),
-            Err(error) => push_refused(out, error),
+            Err(error) => {
+                out.push_refused(error);
+                Ok(())
+            }
         }
     }
 
     // Adds the number of a page and the place of its version.
-    fn push_page(&mut self, pid: Pid, version: Version, out: &mut String) -> Result<()> {
-        push_numbered(out, "page", pid.0)?;
+    fn push_page(&mut self, pid: Pid, version: Version, out: &mut Line) -> Result<()> {
+        out.push_numbered("page", pid.0);
         self.push_version(version, out)
     }
 
-    fn allocate(&mut self, words: &mut Words<'_>, out: &mut String) -> Result<()> {
-        let node = self.nodes.copy(words.last()?)?;
-        match self.pages.allocate(node) {
+    fn allocate(&mut self, words: &[&str], out: &mut Line) -> Result<()> {
+        let [name] = words else {
+            return Err(Stop::BadLine);
+        };
+        match self.pages.allocate(self.nodes.copy(name)?) {
             Ok((pid, version)) => self.push_page(pid, version, out),
-            Err(error) => push_refused(out, error),
+            Err(error) => {
+                out.push_refused(error);
+                Ok(())
+            }
         }
     }
 
-    fn read(&mut self, words: &mut Words<'_>, out: &mut String) -> Result<()> {
-        let pid = words.pid()?;
-        let name = if words.is_empty() {
-            None
-        } else {
-            Some(words.last()?)
-        };
+    fn read(&mut self, words: &[&str], out: &mut Line) -> Result<()> {
+        match words {
+            [pid] => self.read_page(Pid::read(self.alloc, pid)?, None, out),
+            [pid, name] => self.read_page(Pid::read(self.alloc, pid)?, Some(name), out),
+            _ => Err(Stop::BadLine),
+        }
+    }
+
+    fn read_page(&mut self, pid: Pid, name: Option<&str>, out: &mut Line) -> Result<()> {
         match self.pages.read(self.alloc, pid) {
             Ok(Some(view)) => {
                 let kept = self.keep(&view, name, out);
                 drop(view);
-                kept
+                return kept;
             }
-            Ok(None) => push(out, "none"),
-            Err(error) => push_refused(out, error),
+            Ok(None) => out.push("none"),
+            Err(error) => out.push_refused(error),
         }
+        Ok(())
     }
 
     // Adds the line of a page, and keeps a copy of its node under the name.
-    fn keep(&mut self, view: &View, name: Option<&[u8]>, out: &mut String) -> Result<()> {
-        self.push_view(view, out)?;
+    fn keep(&mut self, view: &View, name: Option<&str>, out: &mut Line) -> Result<()> {
+        self.push_page(view.pid, view.version, out)?;
+        out.push(" ");
+        push_node(out, &view.node)?;
         match name {
             Some(name) => self.nodes.put(name, view.node.clone(self.alloc)?),
             None => Ok(()),
         }
     }
 
-    fn push_view(&mut self, view: &View, out: &mut String) -> Result<()> {
-        self.push_page(view.pid, view.version, out)?;
-        out.push(' ')?;
-        push_node(out, &view.node)
-    }
-
-    fn link(&mut self, words: &mut Words<'_>, out: &mut String) -> Result<()> {
-        let pid = words.pid()?;
-        let version = self.version(words.word()?)?;
-        let link = read_link(self.alloc, words)?;
-        let answer = self.pages.link(pid, version, link);
-        self.push_changed(answer, out)
-    }
-
-    fn replace(&mut self, words: &mut Words<'_>, out: &mut String) -> Result<()> {
-        let pid = words.pid()?;
-        let version = self.version(words.word()?)?;
-        let node = self.nodes.copy(words.last()?)?;
-        let answer = self.pages.replace(pid, version, node);
-        self.push_changed(answer, out)
-    }
-
-    fn free(&mut self, words: &mut Words<'_>, out: &mut String) -> Result<()> {
-        let pid = words.pid()?;
-        let version = self.version(words.last()?)?;
+    fn free(&mut self, pid: Pid, version: Version, words: &[&str], out: &mut Line) -> Result<()> {
+        if !words.is_empty() {
+            return Err(Stop::BadLine);
+        }
         match self.pages.free(pid, version) {
-            Ok(Ok(())) => push(out, "done"),
-            Ok(Err(present)) => self.push_found(present, out),
-            Err(error) => push_refused(out, error),
+            Ok(Ok(())) => out.push("done"),
+            Ok(Err(present)) => return self.push_found(present, out),
+            Err(error) => out.push_refused(error),
         }
+        Ok(())
     }
 
-    fn swap(&mut self, words: &mut Words<'_>, out: &mut String) -> Result<()> {
-        let name = words.word()?;
-        let old = words.pid_or_none()?;
-        let new = words.pid_or_none()?;
-        words.end()?;
-        let name = read_string(self.alloc, name)?;
-        let answer = self.pages.cas_root(name.as_ref(), old, new);
-        drop(name);
-        match answer {
-            Ok(Ok(())) => push(out, "done"),
+    fn swap(&mut self, words: &[&str], out: &mut Line) -> Result<()> {
+        let [name, old, new] = words else {
+            return Err(Stop::BadLine);
+        };
+        let (old, new) = read_two(self.alloc, old, new)?;
+        let name = IVec::read(self.alloc, name)?;
+        match self.pages.cas_root(name.as_ref(), old, new) {
+            Ok(Ok(())) => out.push("done"),
             Ok(Err(present)) => push_root(out, "found", present),
-            Err(error) => push_refused(out, error),
+            Err(error) => out.push_refused(error),
         }
+        drop(name);
+        Ok(())
     }
 
-    fn root(&self, words: &mut Words<'_>, out: &mut String) -> Result<()> {
-        let name = read_string(self.alloc, words.last()?)?;
-        push_root(out, "root", self.pages.root(name.as_ref()))
+    fn root(&self, words: &[&str], out: &mut Line) -> Result<()> {
+        let [name] = words else {
+            return Err(Stop::BadLine);
+        };
+        let name = IVec::read(self.alloc, name)?;
+        push_root(out, "root", self.pages.root(name.as_ref()));
+        Ok(())
     }
 
-    fn roots(&self, out: &mut String) -> Result<()> {
-        out.push_str("roots")?;
+    fn roots(&self, out: &mut Line) -> Result<()> {
         let roots = self.pages.roots(self.alloc)?;
-        push_pointers(out, roots.as_slice())
+        out.push("roots");
+        out.push_entries(roots.as_slice());
+        Ok(())
     }
 
-    fn begin(&mut self, out: &mut String) -> Result<()> {
+    fn begin(&mut self, out: &mut Line) {
         if self.pages.in_group() {
-            return push(out, "barred");
+            out.push("barred");
+        } else {
+            out.push_answer(self.pages.begin_group());
         }
-        push_answer(out, self.pages.begin_group())
     }
 
-    fn seal(&mut self, out: &mut String) -> Result<()> {
-        if !self.pages.in_group() {
-            return push(out, "barred");
-        }
-        push_answer(out, self.pages.seal_group())
-    }
-
-    fn flush(&mut self, out: &mut String) -> Result<()> {
+    fn seal(&mut self, out: &mut Line) {
         if self.pages.in_group() {
-            return push(out, "barred");
+            out.push_answer(self.pages.seal_group());
+        } else {
+            out.push("barred");
+        }
+    }
+
+    fn flush(&mut self, out: &mut Line) {
+        if self.pages.in_group() {
+            out.push("barred");
+            return;
         }
         match self.pages.flush() {
-            Ok(count) => push_numbered(out, "flushed", count as u64),
-            Err(error) => push_refused(out, error),
+            Ok(count) => out.push_numbered("flushed", count as u64),
+            Err(error) => out.push_refused(error),
         }
     }
 
-    fn set_aside(&mut self, words: &mut Words<'_>, out: &mut String) -> Result<()> {
-        let upto = read_number(words.last()?)?;
+    fn set_aside(&mut self, upto: u64, out: &mut Line) -> Result<()> {
         if upto < self.pages.mark() {
-            return push(out, "barred");
+            out.push("barred");
+        } else {
+            out.push_answer(self.pages.set_aside(upto));
         }
-        push_answer(out, self.pages.set_aside(upto))
+        Ok(())
     }
 
-    fn crash(&mut self, words: &mut Words<'_>) -> Result<()> {
-        let keep = usize::try_from(read_number(words.last()?)?).unwrap_or(usize::MAX);
+    fn crash(&mut self, keep: u64) -> Result<()> {
+        let keep = usize::try_from(keep).unwrap_or(usize::MAX);
         let pages = std::mem::replace(&mut self.pages, MemPages::new(self.alloc));
         let left = pages.crash(keep)?;
         self.put(left);
         Ok(())
     }
 
-    fn refuse(&mut self, words: &mut Words<'_>) -> Result<()> {
+    fn refuse(&mut self, words: &[&str], out: &mut Line) -> Result<()> {
         let mut calls = Vec::new(self.alloc);
-        for _ in 0..u64::MAX {
-            if words.is_empty() {
-                break;
-            }
-            calls.push(words.number()?)?;
+        for word in words {
+            calls.push(read_number(word)?)?;
         }
-        Ok(self.pages.refuse_at(calls.as_slice())?)
-    }
-
-    fn unreadable(&mut self, words: &mut Words<'_>) -> Result<()> {
-        let pid = Pid(read_number(words.last()?)?);
-        Ok(self.pages.unreadable(pid)?)
-    }
-
-    fn image_page(&mut self, words: &mut Words<'_>) -> Result<()> {
-        let pid = words.pid()?;
-        let node = self.nodes.copy(words.last()?)?;
-        Ok(self.image_pages.push((pid, node))?)
-    }
-
-    fn image_root(&mut self, words: &mut Words<'_>) -> Result<()> {
-        let name = words.word()?;
-        let pid = Pid(read_number(words.last()?)?);
-        let name = read_string(self.alloc, name)?;
-        Ok(self.image_roots.push((name, pid))?)
-    }
-
-    fn hold(&mut self, words: &mut Words<'_>) -> Result<()> {
-        let pid = words.pid()?;
-        words.end()?;
-        match self.pages.read(self.alloc, pid)? {
-            Some(view) => Ok(self.held.push(view)?),
-            None => Ok(()),
-        }
-    }
-
-    fn let_go(&mut self, words: &mut Words<'_>) -> Result<()> {
-        words.end()?;
-        self.held.clear();
+        out.push_answer(self.pages.refuse_at(calls.as_slice()));
         Ok(())
     }
 
-    fn image(&mut self, words: &mut Words<'_>) -> Result<()> {
-        let mark = read_number(words.last()?)?;
+    fn image_page(&mut self, words: &[&str], out: &mut Line) -> Result<()> {
+        let [pid, name] = words else {
+            return Err(Stop::BadLine);
+        };
+        let pid = Pid::read(self.alloc, pid)?;
+        self.image_pages.push((pid, self.nodes.copy(name)?))?;
+        out.push("done");
+        Ok(())
+    }
+
+    fn image_root(&mut self, words: &[&str], out: &mut Line) -> Result<()> {
+        let [name, pid] = words else {
+            return Err(Stop::BadLine);
+        };
+        self.image_roots.push(read_two(self.alloc, name, pid)?)?;
+        out.push("done");
+        Ok(())
+    }
+
+    fn unreadable(&mut self, pid: Pid) -> Result<()> {
+        Ok(self.pages.unreadable(pid)?)
+    }
+
+    fn image(&mut self, mark: u64) -> Result<()> {
         let pages = std::mem::replace(&mut self.image_pages, Vec::new(self.alloc));
         let roots = std::mem::replace(&mut self.image_roots, Vec::new(self.alloc));
         let made = MemPages::from_image(self.alloc, pages, roots, mark)?;
         self.put_new(made);
         Ok(())
     }
-}
 
-fn push(out: &mut String, text: &str) -> Result<()> {
-    Ok(out.push_str(text)?)
-}
-
-fn push_numbered(out: &mut String, word: &str, number: u64) -> Result<()> {
-    out.push_str(word)?;
-    push_number(out, number)
-}
-
-fn push_root(out: &mut String, word: &str, root: Option<Pid>) -> Result<()> {
-    out.push_str(word)?;
-    push_number_or_none(out, root.map(|pid| pid.0))
-}
-
-fn push_answer(out: &mut String, answer: sled_pages::Result<()>) -> Result<()> {
-    match answer {
-        Ok(()) => push(out, "done"),
-        Err(error) => push_refused(out, error),
+    fn hold(&mut self, pid: Pid) -> Result<()> {
+        match self.pages.read(self.alloc, pid)? {
+            Some(view) => Ok(self.held.push(view)?),
+            None => Ok(()),
+        }
     }
 }
 
-// Adds the line of a refused call.
-fn push_refused(out: &mut String, error: Error) -> Result<()> {
-    let pushed = write!(out, "refused: {error}");
-    drop(error);
-    Ok(pushed?)
+fn push_root(out: &mut Line, word: &str, root: Option<Pid>) {
+    out.push(word);
+    root.print(out);
 }
