@@ -1,5 +1,7 @@
-//! Tests that only code can make: of readers and writers that fail.
+//! Tests that only code can make: of readers and writers that fail, and of the callers in `examples`.
 #![tactic(auto)]
 
+#[cfg(test)]
+mod callers;
 #[cfg(test)]
 mod streams;

@@ -2,4 +2,3 @@ pub mod Keys
 pub mod Calls
 pub mod Opened
 pub mod Surviving
-pub mod Runs

@@ -9,7 +9,6 @@ ghost use Rattle.sled_model.specs.declared.call.Call.TheVariants as call;
 ghost use Rattle.sled.specs.declared.TheConstants.{DEFAULT_TREE};
 ghost use Rattle.examples.specs.Reads.{ReadsAs, PutsOne, maps_now, later, found_in};
 
-use crate::single::new_machine;
 use sled::{DEFAULT_TREE, Db, crash_pages, empty_pages};
 use sled_machine::Machine;
 use sled_model::{Call, MergeOperator, Outcome, Tree};
@@ -58,7 +57,7 @@ pub fn insert_then_get_in_new(
     ensures { IfOk result (λ got. IfSome got (ReadsAs (Some value.now))) }
 {
     let mut machine = match Db::open(alloc, empty_pages(alloc), name) {
-        Ok(db) => new_machine(db),
+        Ok(db) => Machine::new(db),
         Err((pages, e)) => {
             drop(pages);
             return Err(e);

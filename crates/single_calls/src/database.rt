@@ -1,0 +1,95 @@
+//! Calls of a database.
+ghost use Rattle.std.specs.Prelude.{◌≡◌, IfOk, IfErr, OnOk, None, [], ◌∷◌, map, false};
+ghost use Rattle.sled_pages.specs.Store.{now};
+ghost use Rattle.sled_model.specs.Answer.{decision_of};
+ghost use Rattle.sled_model.specs.Refusal.{must_refuse_of};
+ghost use Rattle.tree_laws.specs.Contents.{trees_of};
+ghost use Rattle.tree_laws.specs.Crashes.{Flushes, IsWhole};
+ghost use Rattle.sled.specs.declared.TheConstants.{DEFAULT_TREE};
+ghost use Rattle.sled.specs.Calls.{IsHandle, MustBeRefused};
+ghost use Rattle.sled.specs.Export.{collections};
+ghost use Rattle.sled_tree.specs.Known.{IsKnown};
+ghost use Rattle.sled.specs.Flights.{Flies, FliesToEnd};
+ghost use Rattle.sled.specs.Opens.{Opens};
+ghost use Rattle.sled.specs.Values.{db_state, moment};
+
+use sled::{Collection, Db, empty_pages};
+use sled_machine::Machine;
+use sled_model::{Call, Decision, MergeOperator, Tree};
+use sled_pages::{IVec, Pages, Result};
+use sled_tree::{Flight, Went};
+use std::alloc::Global;
+
+/// The default tree of a new database of this name.
+pub fn new_tree(alloc: Global, name: &[u8]) -> Result<Tree>
+    ensures { IfOk result (λ tree. tree.database ≡ name.now) }
+{
+    match Db::open(alloc, empty_pages(alloc), name) {
+        Ok(db) => {
+            let tree = db.default_tree();
+            drop(db);
+            tree
+        }
+        Err((pages, e)) => {
+            drop(pages);
+            Err(e)
+        }
+    }
+}
+
+/// Flushes a machine's database and ends it: its pages, of which a crash then takes nothing. The calls in flight are given up.
+pub fn close<P: Pages, M: MergeOperator>(machine: Machine<P, M>) -> Result<P>
+    ensures { IfOk result (λ pages. Flushes (P.store machine.db.pages) (P.store pages)) }
+{
+    let mut db = machine.into_db();
+    if let Err(e) = db.flush() {
+        drop(db);
+        return Err(e);
+    }
+    Ok(db.into_pages())
+}
+
+/// Whether calls on the tree may begin.
+pub fn check<P: Pages, M: MergeOperator>(db: &Db<P, M>, tree: &Tree) -> Result<()>
+    ensures ok { OnOk result (must_refuse_of (db_state P.store M.meant db.now) (tree.now ∷ []) ≡ None) }
+    ensures err { IfErr result (MustBeRefused (must_refuse_of (db_state P.store M.meant db.now) (tree.now ∷ []))) }
+{
+    db.check(tree)
+}
+
+/// The tree that every database has.
+pub fn default_tree<P: Pages, M: MergeOperator>(db: &Db<P, M>) -> Result<Tree>
+    ensures { IfOk result (IsHandle db.now DEFAULT_TREE.now) }
+{
+    db.default_tree()
+}
+
+/// The pairs of every tree.
+pub fn export<P: Pages, M: MergeOperator>(db: &Db<P, M>) -> Result<Vec<Collection>>
+    ensures { IfOk result (λ all. map (λ c. (c.0.items, c.1.items, c.2.items)) all.items ≡ collections (trees_of (now (P.store db.now.pages))) db.now.trees) }
+{
+    db.export()
+}
+
+/// One step of a call in flight, without a machine.
+pub fn fly<P: Pages, M: MergeOperator>(db: &mut Db<P, M>, flight: &mut Flight) -> Went
+    requires { IsKnown (moment (P.store db.old.pages) db.old.trees db.old.trees_given) flight.old }
+    ensures { Flies P.store M.meant db.old flight.old result db.new flight.new }
+{
+    db.fly(flight)
+}
+
+/// All steps of a call in flight, to its end, without a machine.
+pub fn fly_to_end<P: Pages, M: MergeOperator>(db: &mut Db<P, M>, flight: &mut Flight) -> Went
+    requires { IsKnown (moment (P.store db.old.pages) db.old.trees db.old.trees_given) flight.old }
+    ensures { FliesToEnd P.store M.meant db.old flight.old result db.new flight.new }
+{
+    db.fly_to_end(flight)
+}
+
+/// What a call comes to where this value stands at its key.
+pub fn decide(call: &Call, value: Option<IVec>) -> Result<Decision>
+    ensures { IfOk result (λ decision. decision ≡ decision_of call.now value) }
+{
+    call.decide(value)
+}

@@ -1,0 +1,9 @@
+//! Public calls one at a time, each under the contract that it has. The edits in `must-fail` show what those contracts rule out:
+//! each turns an argument or the answer, makes another call, or makes none.
+#![tactic(auto)]
+
+mod database;
+mod machine;
+
+pub use database::{check, close, decide, default_tree, export, fly, fly_to_end, new_tree};
+pub use machine::{abandon, begin, complete, finish, new_machine, run, step, turns, whole};

@@ -1,0 +1,92 @@
+//! Calls of a machine.
+ghost use Rattle.std.specs.Prelude.{◌≡◌, IfOk, IfErr, OnErr, []};
+ghost use Rattle.std.specs.Option.{option_map};
+ghost use Rattle.sled_pages.specs.declared.error.Error.TheVariants.{NoMemory};
+ghost use Rattle.sled_model.specs.declared.outcome.Outcome.TheVariants as outcome;
+ghost use Rattle.sled_model.specs.declared.outcome.Step.TheVariants as step;
+ghost use Rattle.sled_machine.specs.Values.{slots_of};
+ghost use Rattle.sled_machine.specs.Crash.{Reaches, Finishes, Completes, Performs};
+
+use sled::Db;
+use sled_machine::Machine;
+use sled_model::{Call, MergeOperator, Outcome, Slot, Step, Tree, Whole};
+use sled_pages::{Pages, Result};
+
+/// A machine over a database, on which no call is in flight.
+pub fn new_machine<P: Pages, M: MergeOperator>(db: Db<P, M>) -> Machine<P, M>
+    ensures db { result.db ≡ db }
+    ensures idle { result.flights ≡ [] }
+    ensures unused { result.slots_given ≡ 0 }
+{
+    Machine::new(db)
+}
+
+/// A call begins.
+pub fn begin<P: Pages, M: MergeOperator>(
+    machine: &mut Machine<P, M>,
+    tree: &Tree,
+    call: Call,
+) -> Result<Slot>
+    ensures ok { IfOk result (λ slot. Reaches P.store M.meant machine.old (step.Begin tree.now call) (outcome.Begun slot) machine.new) }
+    ensures err { IfErr result (λ e. Reaches P.store M.meant machine.old (step.Begin tree.now call) (outcome.Refused e) machine.new) }
+{
+    machine.begin(tree, call)
+}
+
+/// One step of the call in the slot.
+pub fn step<P: Pages, M: MergeOperator>(machine: &mut Machine<P, M>, slot: Slot) -> Outcome
+    ensures { Reaches P.store M.meant machine.old (step.Step slot) result machine.new }
+{
+    machine.step(slot)
+}
+
+/// The call in the slot is given up.
+pub fn abandon<P: Pages, M: MergeOperator>(machine: &mut Machine<P, M>, slot: Slot) -> Outcome
+    ensures { Reaches P.store M.meant machine.old (step.Abandon slot) result machine.new }
+{
+    machine.abandon(slot)
+}
+
+/// How often the call in the slot went on.
+pub fn turns<P: Pages, M: MergeOperator>(machine: &Machine<P, M>, slot: Slot) -> Option<u64>
+    ensures { result ≡ option_map (λ f. f.turns) (slots_of machine.now.flights slot) }
+{
+    machine.turns(slot)
+}
+
+/// All steps of the call in the slot, to its end.
+pub fn finish<P: Pages, M: MergeOperator>(machine: &mut Machine<P, M>, slot: Slot) -> Outcome
+    ensures { Finishes P.store M.meant machine.old slot result machine.new }
+{
+    machine.finish(slot)
+}
+
+/// A call from its begin to its end.
+pub fn complete<P: Pages, M: MergeOperator>(
+    machine: &mut Machine<P, M>,
+    tree: &Tree,
+    call: Call,
+) -> Outcome
+    ensures { Completes P.store M.meant machine.old tree.now call result machine.new }
+{
+    machine.complete(tree, call)
+}
+
+/// A whole call, in one step.
+pub fn whole<P: Pages, M: MergeOperator>(machine: &mut Machine<P, M>, whole: Whole) -> Outcome
+    ensures { Reaches P.store M.meant machine.old (step.Whole whole) result machine.new }
+{
+    machine.whole(whole)
+}
+
+/// A list of steps, one after the other.
+pub fn run<P: Pages, M: MergeOperator>(
+    machine: &mut Machine<P, M>,
+    steps: &[Step],
+) -> Result<Vec<Outcome>>
+    ensures ok { IfOk result (λ outcomes. Performs P.store M.meant machine.old steps.now outcomes.items machine.new) }
+    ensures err { OnErr result (machine.new ≡ machine.old) }
+    ensures cause { IfErr result (λ e. e ≡ NoMemory) }
+{
+    machine.run(steps)
+}

@@ -1,0 +1,10 @@
+//! Callers of a store of pages and of nodes that are proved from public contracts alone. `store` is written as a layer above a
+//! store would be. `single` makes public calls by themselves, each under its own contract; the edits in `must-fail` show what
+//! those contracts rule out.
+#![tactic(auto)]
+
+mod single;
+mod store;
+
+pub use single::{allocate, crash, flush, link, predecessor, receive_merge, replace, split};
+pub use store::{may_leave_base, open_tree, two_links};
