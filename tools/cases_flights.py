@@ -1,4 +1,5 @@
 """Calls in flight beside one another, and pages that split and merge step by step."""
+import re
 from script import GREATEST, case, expect, key, pair
 
 
@@ -8,6 +9,41 @@ def below(end, first=0):
 
 
 # Slots.
+
+STEPS = '''
+    begin insert a 1    slot 1
+    begin insert a 2    slot 2
+    step 1              moved
+    step 2              moved
+    step 2              value -
+    step 1              moved
+    flush               flushed 1
+    step 1              moved
+    step 1              value 2
+    step 1              no slot
+    begin get a         slot 3
+    begin get a         slot 4
+    abandon 3           abandoned
+    abandon 3           no slot
+    step 3              no slot
+    step 5              no slot
+    step 4              value 1
+    step 4              no slot
+'''
+
+
+@case
+def a_list_of_steps_comes_out_as_listed_and_survives(s):
+    """A list of steps comes out as each of them does; a crash keeps what was flushed, and of the rest as many actions as it is
+    told."""
+    steps = [re.split('  +', row.strip()) for row in STEPS.strip().split('\n')]
+    for keep, value in ((0, '2'), (1, '1'), (9, '1')):
+        if keep:
+            s.new()
+        s.line('run ' + ', '.join(step for step, _ in steps), *(printed for _, printed in steps))
+        s.line(f'crash {keep}', 'recovered')
+        s.line('get a', f'value {value}')
+
 
 @case
 def slots_are_counted_by_the_lines_that_began_one(s):

@@ -42,6 +42,18 @@ def keys_in_their_order_make_four_levels(s):
     dumps(s, numbered, 5000)
 
 
+@case
+def a_call_reads_few_more_pages_than_there_are_levels(s):
+    """A tree of 100,000 random keys has five levels, of which a get reads a page each, and to open reads none. An insert splits
+    each level once at most, and after each split it reads its way from the root anew: 5 + 5 + 4 + 3 + 2 + 1. All inserts
+    together read less than half a page more each than there are levels."""
+    s.line('reads', 'reads 0')
+    s.line('load 100000 20 549999', 'yes')
+    s.line('find 2000 5', 'yes')
+    levels = s.ask('pages')
+    expect(levels[-1] == 'end 5', levels)
+
+
 def given_up(s, k, steps):
     """Begins the removal of a key and does so many steps of it, and gives it up where it goes on: whether it was decided, and
     how many actions it did."""

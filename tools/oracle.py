@@ -133,6 +133,7 @@ class Store:
     def forget(self):
         """No call was made yet and none is to be refused."""
         self.calls, self.refused, self.unreadable = 0, frozenset(), set()
+        self.reads = 0
 
     def made(self):
         """A numbered call is made, which may be one to be refused."""
@@ -154,6 +155,7 @@ class Store:
             state[what][where] = new
 
     def read(self, pid):
+        self.reads += 1
         if pid in self.unreadable:
             raise Refused(4)
         return self.pages.get(pid)
@@ -385,7 +387,8 @@ def merge(store, parent, child):
 
 FORMS = """insert K V; get K; remove K; cas K OLD NEW; begin insert K V; begin get K; begin remove K; begin cas K OLD NEW
 step N; finish N; abandon N; turns N; flush; crash N; dump; new; new refuse N ..; reopen; reopen refuse N ..
-reopen unreadable PID ..; reopen mark N; recover; recover refuse N ..; recovered; pages; crowd SEED CALLS; help; quit"""
+reopen unreadable PID ..; reopen mark N; recover; recover refuse N ..; recovered; pages; crowd SEED CALLS; run STEP, ..
+reads; load N MOST ALL; find N PAGES; overtake N COUNT; help; quit"""
 FORMS = [form.split(' ') for form in re.split('; |\n', FORMS)]
 POINT = ('insert', 'get', 'remove', 'cas')
 READERS = {'K': value_of, 'V': value_of, 'OLD': optional, 'NEW': optional}
@@ -414,9 +417,22 @@ def fit(form, words):
         return len(own), None, str(why)
 
 
+def read_step(text):
+    """The words of a step in a list of steps."""
+    try:
+        words = read_line(text)
+    except BadLine:
+        words = ['']
+    if words[0] not in ('begin', 'step', 'abandon', 'flush'):
+        raise BadLine(f'`{text}` is no step of a call in flight')
+    return words
+
+
 def read_line(text):
     """The words of a line: the shell's own, and what the others stand for."""
     words = text.split(' ')
+    if words[0] == 'run' and len(words) > 1:
+        return ['run', [read_step(step.removeprefix(' ')) for step in text[4:].split(',')]]
     best, reason = 1, f'`{words[0]}` is no command; `help` lists them'
     for form in FORMS:
         own, values, why = fit(form, words)
@@ -425,6 +441,16 @@ def read_line(text):
         if own >= best:
             best, reason = own, why
     raise BadLine(reason)
+
+
+def some_keys(count):
+    """Keys of eight bytes that look random: those that `load` inserts."""
+    number = 88172645463325252
+    for _ in range(count):
+        number ^= number << 13 & GREATEST
+        number ^= number >> 7
+        number ^= number << 17 & GREATEST
+        yield number.to_bytes(8, 'big')
 
 
 class Shell:
@@ -464,6 +490,10 @@ class Shell:
             return ['recovered']
         if name == 'crowd':
             return [f'agreed {words[1]}']
+        if name == 'reads':
+            return [f'reads {self.reads()}']
+        if name == 'run':
+            return [line for step in words[0] for line in self.perform(step)]
         if name in ('step', 'finish', 'abandon', 'turns'):
             return [self.slot(name, words[0])]
         if not self.opened:
@@ -474,6 +504,13 @@ class Shell:
             self.begun += 1
             self.slots[self.begun] = [fly(store, words), 0]
             return [f'slot {self.begun}']
+        if name == 'load':
+            reads = [self.reads_of('insert', key, key) for key in some_keys(words[0])]
+            return ['yes' if max(reads) <= words[1] and sum(reads) <= words[2] else 'no']
+        if name == 'find':
+            # a get splits a page that it finds too long, so only the second of a key counts
+            reads = [[self.reads_of('get', key) for _ in range(2)][1] for key in some_keys(words[0])]
+            return ['yes' if set(reads) == {words[1]} else 'no']
         if name == 'flush':
             return [f'flushed {store.flush()}']
         if name == 'recovered':
@@ -489,6 +526,25 @@ class Shell:
         finally:
             self.open()
         return [f'level {len(level)} {max(len(n.entries) for n in level)}' for level in levels] + [f'end {len(levels)}']
+
+    def reads(self):
+        """How many pages were read since this was asked last. Of lines that print pairs or levels nothing is said."""
+        count, self.store.reads = self.store.reads, 0
+        return count
+
+    def reads_of(self, *call):
+        """How many pages a call reads."""
+        self.reads()
+        self.advance([fly(self.store, call), 0], True)
+        return self.reads()
+
+    def perform(self, step):
+        """What a step of a list prints: each value is told as one. Slots are those of lines, so no other calls may have come
+        before."""
+        try:
+            return [line.replace('old', 'value') for line in self.do(*step)]
+        except Refused as refusal:
+            return [f'refused E{refusal}']
 
     def renew(self, name, kind=None, *numbers):
         """Opens other pages, or the same ones anew."""

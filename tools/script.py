@@ -87,6 +87,11 @@ class Plain:
             leaves = shell.levels()[-1]
             self.is_left({k: v for leaf in leaves for k, v in leaf.entries}, words[1] if name == 'crash' else GREATEST)
             self.calls, self.changes = {}, []
+        elif name == 'run':
+            for step, line in zip(words[1], printed):
+                # of a list of steps each value is told as one
+                old = line.startswith('value') and step[0] == 'step' and self.calls[step[1]][0] in ('insert', 'remove')
+                self.meets(step, [line.replace('value', 'old') if old else line], shell)
         elif name in ('reopen', 'pages'):
             self.calls, self.changes = {}, []
 
