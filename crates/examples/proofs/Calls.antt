@@ -1,5 +1,5 @@
 -- What the steps of a call in flight do to the maps.
-use Rattle.std.proofs.Common.{◌≡◌, ◌≢◌, ℕ, zero, suc, ◌+◌, Bool, true, false, cond, nat_eq, List, Option, Some, None, option_map, sym, refl, ap, ◌∙◌, subst, inl, inr, ◌⊎◌, arith}
+use Rattle.std.proofs.Common.{◌≡◌, ◌≢◌, ℕ, zero, suc, ◌+◌, Bool, true, false, cond, nat_eq, List, Option, Some, None, option_map, map, sym, refl, ap, ◌∙◌, subst, inl, inr, ◌⊎◌, arith}
 use Rattle.std.proofs.Math.Path.{fun_ext}
 use Rattle.std.proofs.lemmas.Bool.{eq-eqb, eqb-true}
 use Rattle.std.specs.Str.{bytes_eq}
@@ -7,6 +7,9 @@ use Rattle.sled_pages.specs.Order.{Key}
 use Rattle.sled_pages.specs.Update.{put_at, put_name}
 use Rattle.sled_pages.specs.Facts.{same_name, put_here, put_elsewhere, put_name_here, put_name_elsewhere}
 use Rattle.sled_pages.specs.Store.{Store}
+use Rattle.sled_pages.specs.Crash.{states_left}
+use Rattle.tree_laws.specs.Contents.{trees_of}
+use Rattle.tree_laws.proofs.Crashing.{matches_same}
 use Rattle.sled_model.specs.Maps.{Maps, Merge}
 use Rattle.sled_model.specs.State.{State, NamedTree, Flying, begun}
 use Rattle.sled_model.specs.Answer.{answer_of}
@@ -22,7 +25,9 @@ use Rattle.sled_model.specs.declared.outcome.Outcome.TheVariants as outcome
 use Rattle.sled_model.specs.declared.outcome.Step.TheVariants as step
 use Rattle.sled.specs.Values.{db_state}
 use Rattle.sled_machine.specs.Values.{MachineValue, instant_of, slots_of}
-use Rattle.sled_machine.specs.Crash.{StepsTo, Reaches, Finishes, steps_of, outcomes_of}
+use Rattle.sled_machine.specs.Step.{Reaches}
+use Rattle.sled_machine.specs.Finish.{Finishes, steps_of, outcomes_of}
+use Rattle.sled_machine.proofs.Runs.{model_run}
 use Rattle.examples.specs.Reads.{ReadsAs, PutsOne, found_in, maps_now, later}
 use Rattle.examples.proofs.Keys.{insert_here, insert_there}
 
@@ -147,33 +152,36 @@ get_keeps old new tree key reply a = fun_ext (λ t. ap (option_map (λ (n : Name
     go t false e = refl
 
 -- all steps of a slot until the last
-ends_as : (slot : ℕ) (tree : Tree) (call : Call) (o : Outcome) (n : ℕ) (old new : Instant) (maps : List Maps) → Means old.state.slots slot tree call → RunsBy StepsTo old (steps_of slot n) (outcomes_of n o) new maps → told_as o old.state.trees new.state.trees tree call
-ends_as slot tree call o zero old new maps m (OneMore s NoSteps) = step_told old new slot o _ tree call m s.step
+ends_as : (slot : ℕ) (tree : Tree) (call : Call) (o : Outcome) (n : ℕ) (old new : Instant) (maps : List Maps) → Means old.state.slots slot tree call → RunsBy Steps old (steps_of slot n) (outcomes_of n o) new maps → told_as o old.state.trees new.state.trees tree call
+ends_as slot tree call o zero old new maps m (OneMore s NoSteps) = step_told old new slot o _ tree call m s
 ends_as slot tree call o (suc n) old new maps m (OneMore {m = middle} {maps = rest} s run) =
-    let same : middle.state.trees ≡ old.state.trees = step_told old middle slot outcome.Moved _ tree call m s.step in
-    let then = ends_as slot tree call o n middle new rest (step_means old middle slot outcome.Moved _ slot tree call s.step m) run in
+    let same : middle.state.trees ≡ old.state.trees = step_told old middle slot outcome.Moved _ tree call m s in
+    let then = ends_as slot tree call o n middle new rest (step_means old middle slot outcome.Moved _ slot tree call s m) run in
     subst (λ ts. told_as o ts new.state.trees tree call) same then
 
 -- the same of a machine
-module _ {P M : Type 0} (store : P → Store) (meant : M → Merge) where
+module _ {P M : Type 0} (store : P → Store) (number : P → ℕ) (meant : M → Merge) where
   abbrev slots_at : MachineValue P M → ℕ → Option Flying
   slots_at m = slots_of m.flights
 
   abbrev trees_at : MachineValue P M → Trees
   trees_at m = (db_state store meant m.db).trees
 
-  pub begun_means : (old new : MachineValue P M) (tree : Tree) (call : Call) (slot : ℕ) → Reaches store meant old (step.Begin tree call) (outcome.Begun slot) new → Means (slots_at new) slot tree call
-  begun_means old new tree call slot r = subst (λ (z : State). Means z.slots slot tree call) (sym r.is.step.told.0.is) (means_new (slots_at old) slot tree call)
+  pub begun_means : (old new : MachineValue P M) (tree : Tree) (call : Call) (slot : ℕ) → Reaches store number meant old (step.Begin tree call) (outcome.Begun slot) new → Means (slots_at new) slot tree call
+  begun_means old new tree call slot r = subst (λ (z : State). Means z.slots slot tree call) (sym r.step.step.told.0.is) (means_new (slots_at old) slot tree call)
 
-  pub begun_keeps : (old new : MachineValue P M) (tree : Tree) (call : Call) (slot : ℕ) → Reaches store meant old (step.Begin tree call) (outcome.Begun slot) new → trees_at new ≡ trees_at old
-  begun_keeps old new tree call slot r = ap (λ (z : State). z.trees) r.is.step.told.0.is
+  pub begun_keeps : (old new : MachineValue P M) (tree : Tree) (call : Call) (slot : ℕ) → Reaches store number meant old (step.Begin tree call) (outcome.Begun slot) new → trees_at new ≡ trees_at old
+  begun_keeps old new tree call slot r = ap (λ (z : State). z.trees) r.step.step.told.0.is
 
-  pub finish_told : (old new : MachineValue P M) (slot : ℕ) (tree : Tree) (call : Call) (o : Outcome) → Means (slots_at old) slot tree call → Finishes store meant old slot o new → told_as o (trees_at old) (trees_at new) tree call
-  finish_told old new slot tree call o m f = ends_as slot tree call o f.moves (instant_of store meant old) (instant_of store meant new) f.run.maps m f.run.run
+  pub finish_told : (old new : MachineValue P M) (slot : ℕ) (tree : Tree) (call : Call) (o : Outcome) → Means (slots_at old) slot tree call → Finishes store number meant old slot o new → told_as o (trees_at old) (trees_at new) tree call
+  finish_told old new slot tree call o m f =
+      let k = f.run.keeps (map trees_of (states_left (store old.db.pages))) (record { is = matches_same _ }) in
+      let run = model_run store number meant old new _ (steps_of slot f.moves) (outcomes_of f.moves o) k.last k.run in
+      ends_as slot tree call o f.moves (instant_of store number meant old) (instant_of store number meant new) run.0 m run.1
 
   -- an insert that was begun and decided
   pub inserted : (old begun new : MachineValue P M) (slot : ℕ) (tree : Tree) (key value : Key) (reply : Reply)
-      → Reaches store meant old (step.Begin tree (Insert key value)) (outcome.Begun slot) begun → Finishes store meant begun slot (outcome.Decided reply) new → PutsOne (maps_now store meant old.db) (maps_now store meant new.db) tree.name key value
+      → Reaches store number meant old (step.Begin tree (Insert key value)) (outcome.Begun slot) begun → Finishes store number meant begun slot (outcome.Decided reply) new → PutsOne (maps_now store meant old.db) (maps_now store meant new.db) tree.name key value
   inserted old begun new slot tree key value reply b f =
       insert_puts (trees_at old) (trees_at new) tree key value reply
       (subst (λ ts. Answered ts (trees_at new) tree (Insert key value) reply) (begun_keeps old begun tree (Insert key value) slot b)
@@ -181,7 +189,7 @@ module _ {P M : Type 0} (store : P → Store) (meant : M → Merge) where
 
   -- a call that was begun and not decided
   pub undecided : (old begun new : MachineValue P M) (slot : ℕ) (tree : Tree) (call : Call) (o : Outcome) → ((reply : Reply) → o ≡ outcome.Decided reply → ⊥)
-      → Reaches store meant old (step.Begin tree call) (outcome.Begun slot) begun → Finishes store meant begun slot o new → maps_now store meant new.db ≡ maps_now store meant old.db
+      → Reaches store number meant old (step.Begin tree call) (outcome.Begun slot) begun → Finishes store number meant begun slot o new → maps_now store meant new.db ≡ maps_now store meant old.db
   undecided old begun new slot tree call o off b f =
       go o off (subst (λ ts. told_as o ts (trees_at new) tree call) (begun_keeps old begun tree call slot b) (finish_told begun new slot tree call o (begun_means old begun tree call slot b) f))
     where
@@ -195,7 +203,7 @@ module _ {P M : Type 0} (store : P → Store) (meant : M → Merge) where
 
   -- a get that was begun, and ended
   pub got : (old begun new : MachineValue P M) (slot : ℕ) (tree : Tree) (key : Key) (o : Outcome)
-      → Reaches store meant old (step.Begin tree (Get key)) (outcome.Begun slot) begun → Finishes store meant begun slot o new
+      → Reaches store number meant old (step.Begin tree (Get key)) (outcome.Begun slot) begun → Finishes store number meant begun slot o new
       → ReadsAs (found_in (maps_now store meant old.db tree.name) key) o × (maps_now store meant new.db ≡ maps_now store meant old.db)
   got old begun new slot tree key o b f =
       go o (subst (λ ts. told_as o ts (trees_at new) tree (Get key)) (begun_keeps old begun tree (Get key) slot b) (finish_told begun new slot tree (Get key) o (begun_means old begun tree (Get key) slot b) f))
@@ -210,12 +218,12 @@ module _ {P M : Type 0} (store : P → Store) (meant : M → Merge) where
 
   -- an insert was decided, and then a get of its key ended
   pub inserted_got : (old a middle new : MachineValue P M) (slot : ℕ) (tree : Tree) (key value : Key) (put : Call) (reply : Reply) (o : Outcome) → put ≡ Insert key value
-      → Reaches store meant old (step.Begin tree put) (outcome.Begun slot) a → Finishes store meant a slot (outcome.Decided reply) middle
+      → Reaches store number meant old (step.Begin tree put) (outcome.Begun slot) a → Finishes store number meant a slot (outcome.Decided reply) middle
       → ReadsAs (found_in (maps_now store meant middle.db tree.name) key) o → maps_now store meant new.db ≡ maps_now store meant middle.db
       → ReadsAs (Some value) o × PutsOne (maps_now store meant old.db) (maps_now store meant new.db) tree.name key value
   inserted_got old a middle new slot tree key value put reply o e b f reads same =
       let puts : PutsOne (maps_now store meant old.db) (maps_now store meant middle.db) tree.name key value =
-      inserted old a middle slot tree key value reply (subst (λ c. Reaches store meant old (step.Begin tree c) (outcome.Begun slot) a) e b) f in (
+      inserted old a middle slot tree key value reply (subst (λ c. Reaches store number meant old (step.Begin tree c) (outcome.Begun slot) a) e b) f in (
         subst (λ v. ReadsAs v o) puts.here reads,
         subst (λ m. PutsOne (maps_now store meant old.db) m tree.name key value) (sym same) puts,
       )
@@ -224,12 +232,12 @@ module _ {P M : Type 0} (store : P → Store) (meant : M → Merge) where
 
   -- both have begun, and no map has changed
   pub races_begin : (start a m : MachineValue P M) (one two : ℕ) (tree : Tree) (key first second : Key) (put_one put_two : Call) → put_one ≡ Insert key first → put_two ≡ Insert key second
-      → Reaches store meant start (step.Begin tree put_one) (outcome.Begun one) a → Reaches store meant a (step.Begin tree put_two) (outcome.Begun two) m
+      → Reaches store number meant start (step.Begin tree put_one) (outcome.Begun one) a → Reaches store number meant a (step.Begin tree put_two) (outcome.Begun two) m
       → Means (slots_at m) one tree (Insert key first) × Means (slots_at m) two tree (Insert key second) × (maps_now store meant m.db ≡ maps_now store meant start.db)
   races_begin start a m one two tree key first second put_one put_two e1 e2 r s =
-      let off : one ≢ two = λ same. greater one (same ∙ s.is.step.told.0.next ∙ ap (λ (z : State). z.slots_given + 1) r.is.step.told.0.is) in
+      let off : one ≢ two = λ same. greater one (same ∙ s.step.step.told.0.next ∙ ap (λ (z : State). z.slots_given + 1) r.step.step.told.0.is) in
       let earlier : Means (slots_at m) one tree put_one =
-      subst (λ (z : State). Means z.slots one tree put_one) (sym s.is.step.told.0.is) (means_after (slots_at a) two _ one tree put_one (begun_means start a tree put_one one r) (λ f e same. absurd (off same))) in (
+      subst (λ (z : State). Means z.slots one tree put_one) (sym s.step.step.told.0.is) (means_after (slots_at a) two _ one tree put_one (begun_means start a tree put_one one r) (λ f e same. absurd (off same))) in (
         subst (Means (slots_at m) one tree) e1 earlier,
         subst (Means (slots_at m) two tree) e2 (begun_means a m tree put_two two s),
         ap maps_at (begun_keeps a m tree put_two two s ∙ begun_keeps start a tree put_one one r),
@@ -238,8 +246,8 @@ module _ {P M : Type 0} (store : P → Store) (meant : M → Merge) where
       greater : (n : ℕ) → n ≡ n + 1 → ⊥
       greater n e = omega arith
 
-  pub steps_mean : (old new : MachineValue P M) (at : ℕ) (o : Outcome) (slot : ℕ) (tree : Tree) (call : Call) → Reaches store meant old (step.Step at) o new → Means (slots_at old) slot tree call → Means (slots_at new) slot tree call
-  steps_mean old new at o slot tree call r m = step_means (instant_of store meant old) (instant_of store meant new) at o r.maps slot tree call r.is.step m
+  pub steps_mean : (old new : MachineValue P M) (at : ℕ) (o : Outcome) (slot : ℕ) (tree : Tree) (call : Call) → Reaches store number meant old (step.Step at) o new → Means (slots_at old) slot tree call → Means (slots_at new) slot tree call
+  steps_mean old new at o slot tree call r m = step_means (instant_of store number meant old) (instant_of store number meant new) at o r.step.maps slot tree call r.step.step m
 
   -- what the last step that was decided made of the maps
   abbrev pub LastPut : Maps → Tree → Key → Key → Key → Option Bool → Maps → Type 0
@@ -251,8 +259,8 @@ module _ {P M : Type 0} (store : P → Store) (meant : M → Merge) where
   last_put start old new tree key first second value is_second (Some before) e l p = subst (λ v. PutsOne start new tree.name key v) e (puts_twice start old new tree.name key _ value l p)
 
   pub races : (start : Maps) (old new : MachineValue P M) (slot : ℕ) (o : Outcome) (tree : Tree) (key first second value : Key) (is_second : Bool) (last : Option Bool) → value ≡ cond is_second second first
-      → Means (slots_at old) slot tree (Insert key value) → Reaches store meant old (step.Step slot) o new → LastPut start tree key first second last (maps_now store meant old.db) → LastPut start tree key first second (later o is_second last) (maps_now store meant new.db)
-  races start old new slot o tree key first second value is_second last e m r l = go o (step_told (instant_of store meant old) (instant_of store meant new) slot o r.maps tree (Insert key value) m r.is.step)
+      → Means (slots_at old) slot tree (Insert key value) → Reaches store number meant old (step.Step slot) o new → LastPut start tree key first second last (maps_now store meant old.db) → LastPut start tree key first second (later o is_second last) (maps_now store meant new.db)
+  races start old new slot o tree key first second value is_second last e m r l = go o (step_told (instant_of store number meant old) (instant_of store number meant new) slot o r.step.maps tree (Insert key value) m r.step.step)
     where
       same : trees_at new ≡ trees_at old → LastPut start tree key first second last (maps_now store meant new.db)
       same t = subst (LastPut start tree key first second last) (sym (ap maps_at t)) l

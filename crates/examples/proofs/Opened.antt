@@ -10,10 +10,9 @@ use Rattle.sled_pages.specs.declared.error.Error.{Error}
 use Rattle.sled_model.specs.Maps.{Map, Maps, Merge}
 use Rattle.sled_model.specs.State.{NamedTree}
 use Rattle.tree_laws.specs.Contents.{trees_of, pairs_under}
-use Rattle.sled.specs.declared.TheConstants.{DEFAULT_TREE}
 use Rattle.sled.specs.Opens.{or_empty, with_default, RefusesOpen, Opens}
 use Rattle.sled.specs.Sound.{IsDb}
-use Rattle.sled.specs.Values.{DbValue, numbers_of, named}
+use Rattle.sled.specs.Values.{DbValue, default_name, numbers_of, named}
 use Rattle.sled_model.specs.declared.outcome.Outcome.{Outcome}
 use Rattle.examples.specs.Reads.{ReadsAs, found_in, maps_now}
 
@@ -28,17 +27,18 @@ false_true : {P : Type 0} → false ≡ true → P
 false_true e = cc
 
 -- where there is a default tree no other comes
-with_present : (maps : Maps) (m : Map) → maps DEFAULT_TREE.now ≡ Some m → with_default maps ≡ maps
-with_present maps m e = fun_ext (λ t. go t (bytes_eq t DEFAULT_TREE.now) refl)
+with_present : (maps : Maps) (m : Map) → maps default_name ≡ Some m → with_default maps ≡ maps
+with_present maps m e = fun_ext (λ t. go t (bytes_eq t default_name) refl)
   where
-    go : (t : Key) (b : Bool) → bytes_eq t DEFAULT_TREE.now ≡ b → cond b (or_empty (maps t)) (maps t) ≡ maps t
-    go t true q = let f : maps t ≡ Some m = ap maps (same_name t DEFAULT_TREE.now q) ∙ e in ap or_empty f ∙ sym f
+    go : (t : Key) (b : Bool) → bytes_eq t default_name ≡ b → cond b (or_empty (maps t)) (maps t) ≡ maps t
+    go t true q = let f : maps t ≡ Some m = ap maps (same_name t default_name q) ∙ e in ap or_empty f ∙ sym f
     go t false q = refl
 
 -- a database has a default tree
-present : (s : Store) (trees : List (Key × ℕ)) (given : ℕ) → IsDb s trees given → with_default (trees_of (now s)) ≡ trees_of (now s)
-present s trees given is =
-    let root = is.is.rooted DEFAULT_TREE.now is.default.0 is.default.1 in
+present : {P M : Type 0} (store : P → Store) (d : DbValue P M) → IsDb store d → with_default (trees_of (now (store d.pages))) ≡ trees_of (now (store d.pages))
+present store d is =
+    let s = store d.pages in
+    let root = is.is.rooted default_name is.default.0 is.default.1 in
     with_present (trees_of (now s)) (pairs_under (nodes_of (now s)) root.0) (ap (option_map (pairs_under (nodes_of (now s)))) root.1)
 
 -- a tree that has a number and a map has that map
@@ -49,34 +49,35 @@ map_of_named (Some n) None merge e = false_true (sym e)
 map_of_named (Some n) (Some m) merge e = refl
 
 -- a name has a number where it has a map
-numbered : (s : Store) (trees : List (Key × ℕ)) (given : ℕ) → IsDb s trees given → (t : Key) → is_some (numbers_of trees t) ≡ is_some (trees_of (now s) t)
-numbered s trees given is t = go (numbers_of trees t) ((now s).roots t) refl refl
+numbered : {P M : Type 0} (store : P → Store) (d : DbValue P M) → IsDb store d → (t : Key) → is_some (numbers_of d.trees t) ≡ is_some (trees_of (now (store d.pages)) t)
+numbered store d is t = go (numbers_of d.trees t) ((now (store d.pages)).roots t) refl refl
   where
-    go : (n r : Option ℕ) → numbers_of trees t ≡ n → (now s).roots t ≡ r → is_some n ≡ is_some (option_map (pairs_under (nodes_of (now s))) r)
+    go : (n r : Option ℕ) → numbers_of d.trees t ≡ n → (now (store d.pages)).roots t ≡ r → is_some n ≡ is_some (option_map (pairs_under (nodes_of (now (store d.pages)))) r)
     go None None e f = refl
     go (Some n) (Some r) e f = refl
     go None (Some r) e f = let k = is.is.numbered t r f in none_some (sym e ∙ k.1)
     go (Some n) None e f = let k = is.is.rooted t n e in none_some (sym f ∙ k.1)
 
 -- pages that were given up are opened with the same maps
-pub opened_again : {P M N : Type 0} (store : P → Store) (old : DbValue P M) (before : Store) (called : Key) (new : DbValue P N) → before ≡ store old.pages → IsDb before old.trees old.trees_given → Opens store before called new → HasMapsOf store old new
+pub opened_again : {P M N : Type 0} (store : P → Store) (old : DbValue P M) (before : Store) (called : Key) (new : DbValue P N) → before ≡ store old.pages → IsDb store old → Opens store before called new → HasMapsOf store old new
 opened_again store old before called new same is o = record {
   same = λ meant other. fun_ext (λ t.
       map_of_named (numbers_of new.trees t) (trees_of (now (store new.pages)) t) _ (o.each t)
-      ∙ (ap (λ (ms : Maps). ms t) (o.maps ∙ (present before old.trees old.trees_given is ∙ ap (λ s. trees_of (now s)) same))
-      ∙ sym (map_of_named (numbers_of old.trees t) (trees_of (now (store old.pages)) t) _ (numbered (store old.pages) old.trees old.trees_given (subst (λ s. IsDb s old.trees old.trees_given) same is) t))));
+      ∙ (ap (λ (ms : Maps). ms t) (o.maps ∙ (ap (λ s. with_default (trees_of (now s))) same ∙ present store old is))
+      ∙ sym (map_of_named (numbers_of old.trees t) (trees_of (now (store old.pages)) t) _ (numbered store old is t))));
 }
 
 -- .. and pages that are given back have them too
-pub refused_again : (before after : Store) (trees : List (Key × ℕ)) (given : ℕ) (e : Error) → IsDb before trees given → RefusesOpen before e after → trees_of (now after) ≡ trees_of (now before)
-refused_again before after trees given e is r = elim r.again.grows [ inl g ↦ g.1 | inr g ↦ g.1 ∙ present before trees given is ]
+pub refused_again : {P M : Type 0} (store : P → Store) (old : DbValue P M) (before after : Store) (e : Error) → before ≡ store old.pages → IsDb store old → RefusesOpen before e after → trees_of (now after) ≡ trees_of (now (store old.pages))
+refused_again store old before after e same is r =
+    elim r.again.grows [ inl g ↦ g.1 ∙ ap (λ s. trees_of (now s)) same | inr g ↦ g.1 ∙ (ap (λ s. with_default (trees_of (now s))) same ∙ present store old is) ]
 
 -- the maps of the pages that a second database was opened on
-pub opened_maps : {P N : Type 0} (store : P → Store) (before : Store) (trees : List (Key × ℕ)) (given : ℕ) (called : Key) (new : DbValue P N) → IsDb before trees given → Opens store before called new → trees_of (now (store new.pages)) ≡ trees_of (now before)
-opened_maps store before trees given called new is o = o.maps ∙ present before trees given is
+pub opened_maps : {P M N : Type 0} (store : P → Store) (old : DbValue P M) (before : Store) (called : Key) (new : DbValue P N) → before ≡ store old.pages → IsDb store old → Opens store before called new → trees_of (now (store new.pages)) ≡ trees_of (now (store old.pages))
+opened_maps store old before called new same is o = o.maps ∙ (ap (λ s. with_default (trees_of (now s))) same ∙ present store old is)
 
 -- a get on the second database reads what the first had
 pub read_again : {P M N : Type 0} (store : P → Store) (meant : M → Merge) (other : N → Merge) (old : DbValue P M) (new newer : DbValue P N) (key : Key) (r : Result Outcome Error) → HasMapsOf store old new → newer ≡ new
-    → IfOk r (ReadsAs (found_in (maps_now store other newer DEFAULT_TREE.now) key)) → IfOk r (ReadsAs (found_in (maps_now store meant old DEFAULT_TREE.now) key))
+    → IfOk r (ReadsAs (found_in (maps_now store other newer default_name) key)) → IfOk r (ReadsAs (found_in (maps_now store meant old default_name) key))
 read_again store meant other old new newer key r has is reads =
-    subst (λ m. IfOk r (ReadsAs (found_in m key))) (ap (λ d. maps_now store other d DEFAULT_TREE.now) is ∙ ap (λ (ms : Maps). ms DEFAULT_TREE.now) (has.same meant other)) reads
+    subst (λ m. IfOk r (ReadsAs (found_in m key))) (ap (λ d. maps_now store other d default_name) is ∙ ap (λ (ms : Maps). ms default_name) (has.same meant other)) reads

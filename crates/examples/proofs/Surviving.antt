@@ -1,26 +1,23 @@
 -- What is found after a crash is one of the maps that the run kept.
-use Rattle.std.proofs.Common.{◌≡◌, ℕ, true, false, not, cond, List, [], ◌∷◌, map, Option, Some, None, is_some, option_map, sym, refl, ap, ◌∙◌, subst, inl, inr}
-use Rattle.std.specs.FinMap.Entries.{find, is_sorted}
-use Rattle.sled_pages.specs.Order.{Key, key_cmp}
+use Rattle.std.proofs.Common.{◌≡◌, ℕ, List, [], ◌∷◌, map, sym, refl, ap, ◌∙◌, subst, inl, inr}
+use Rattle.sled_pages.specs.Order.{Key}
 use Rattle.sled_pages.specs.In.{In}
-use Rattle.sled_pages.specs.State.{State as PageState, Action, after_all}
+use Rattle.sled_pages.specs.State.{State as PageState}
 use Rattle.sled_pages.specs.Store.{Store, now}
-use Rattle.sled_pages.specs.Crash.{left_from, states_left, MayLeave, Crashes}
-use Rattle.sled_pages.specs.Memory.{store_of}
+use Rattle.sled_pages.specs.Crash.{states_left, MayLeave, Crashes}
+use Rattle.sled_pages.specs.Memory.{store_of, flush_number_of}
 use Rattle.sled_pages.specs.declared.memory.MemPages.{MemPages}
-use Rattle.sled_model.specs.Maps.{Map, Merge}
-use Rattle.sled_model.specs.State.{NamedTree}
+use Rattle.sled_model.specs.Maps.{Merge}
 use Rattle.sled_model.specs.declared.outcome.Step.{Step}
 use Rattle.sled_model.specs.declared.outcome.Outcome.{Outcome}
 use Rattle.tree_laws.specs.Contents.{trees_of}
 use Rattle.tree_laws.specs.Crashes.{Repeats, Matches}
-use Rattle.sled_tree.specs.declared.flight.Flight.{Flight}
-use Rattle.sled.specs.Values.{DbValue, state_of, named, numbers_of}
-use Rattle.sled.specs.Sound.{IsDb}
+use Rattle.sled.specs.Values.{DbValue}
 use Rattle.sled.specs.Opens.{Opens}
-use Rattle.sled_machine.specs.Values.{MachineValue, instant_of, slots_of}
-use Rattle.sled_machine.specs.Crash.{Leaves, Performs}
-use Rattle.examples.specs.Survive.{IsOpened, Survives}
+use Rattle.sled_machine.specs.CrashMaps.{Leaves}
+use Rattle.sled_machine.specs.Run.{Performs}
+use Rattle.sled_machine.specs.Values.{MachineValue}
+use Rattle.examples.specs.Survive.{machine_over, Survives}
 
 -- an element of a list is one of the list once repetitions are taken out
 once_has : {X : Type 0} (once xs : List X) (y : X) → Repeats once xs → In y xs → In y once
@@ -50,55 +47,28 @@ map_has f [] x i = i
 map_has f (z ∷ xs) x (inl e) = inl (ap f e)
 map_has f (z ∷ xs) x (inr i) = inr (map_has f xs x i)
 
--- where nothing was done since the last flush a crash leaves the state now
-single : (s : Store) → s.recent ≡ [] → (now s).in_group ≡ false → states_left s ≡ now s ∷ []
-single s e calm =
-    subst (λ (r : List Action). (after_all r s.base).in_group ≡ false → left_from s.base r ≡ after_all r s.base ∷ []) (sym e) (λ c. ap (λ b. cond b [] (s.base ∷ [])) c) calm
-
--- a tree's number is the one that its name has
-number_is : (number : Option ℕ) (map : Option Map) (merge : ℕ → Option Merge) → is_some number ≡ is_some map → option_map (λ (t : NamedTree). t.number) (named number map merge) ≡ number
-number_is None map merge e = refl
-number_is (Some n) None merge e = absurd (no e)
-  where
-    no : true ≡ false → ⊥
-    no e = cc
-number_is (Some n) (Some m) merge e = refl
-
 module _ {M : Type 0} (meant : M → Merge) (before : Store) (name : Key) where
-  -- a machine over a database that was just opened
-  is_opened : (d : DbValue MemPages M) (flights : List (ℕ × Flight)) (slots_given : ℕ) → Opens store_of before name d → IsDb (store_of d.pages) d.trees d.trees_given → flights ≡ [] → slots_given ≡ 0
-      → IsOpened name (state_of store_of meant d (slots_of flights) slots_given)
-  is_opened d flights slots_given o db none unused = record {
-    named = o.name;
-    is_open = ap not db.calm;
-    idle = λ slot. ap (λ (fs : List (ℕ × Flight)). slots_of fs slot) none;
-    unused = unused;
-    names = o.names;
-    ascends = sym (ap (is_sorted key_cmp) o.numbers) ∙ o.ascends;
-    numbers = λ t. number_is (numbers_of d.trees t) (trees_of (now (store_of d.pages)) t) _ (o.each t) ∙ ap (find key_cmp t) o.numbers;
-  }
-
-  pub survives : (steps : List Step) (outcomes : List Outcome) (keep : ℕ) (first last : MachineValue MemPages M) (opened : DbValue MemPages M) (pages left : MemPages) (found : DbValue MemPages M) (end : MemPages)
-      → Opens store_of before name opened → IsDb (store_of opened.pages) opened.trees opened.trees_given → first.db ≡ opened → first.flights ≡ [] → first.slots_given ≡ 0 → Performs store_of meant first steps outcomes last → pages ≡ last.db.pages
-      → MayLeave (store_of pages) (store_of left).base → Crashes keep (store_of pages) (store_of left) → Opens store_of (store_of left) name found → end ≡ found.pages
-      → Survives before name steps outcomes keep (store_of end)
-  survives steps outcomes keep first last opened pages left found end o db same none unused run p may crash again out =
-      let at : store_of first.db.pages ≡ store_of opened.pages = ap (λ (d : DbValue MemPages M). store_of d.pages) same in
-      let alone : states_left (store_of first.db.pages) ≡ now (store_of first.db.pages) ∷ [] = subst (λ (s : Store). states_left s ≡ now s ∷ []) (sym at) (single (store_of opened.pages) o.flushes.recent db.calm) in
-      let leaves : Leaves (store_of first.db.pages) (trees_of (now (store_of first.db.pages)) ∷ []) = record { is = subst (λ l. Matches (map trees_of l) (trees_of (now (store_of first.db.pages)) ∷ [])) (sym alone) (record { once = trees_of (now (store_of first.db.pages)) ∷ []; left = (refl, inl tt); right = (refl, inl tt) }) } in
-      let k = run.keeps (trees_of (now (store_of first.db.pages)) ∷ []) leaves in
+  pub survives : (steps : List Step) (outcomes : List Outcome) (keep : ℕ) (start last : MachineValue MemPages M) (first : DbValue MemPages M) (pages left : MemPages) (again : DbValue MemPages M) (end : MemPages)
+      → Opens store_of before name first → start.db ≡ first → start.flights ≡ [] → start.slots_given ≡ 0 → Performs store_of flush_number_of meant start steps outcomes last → pages ≡ last.db.pages
+      → MayLeave (store_of pages) (store_of left).base → Crashes keep (store_of pages) (store_of left) → Opens store_of (store_of left) name again → end ≡ again.pages
+      → Survives meant before name steps outcomes keep (store_of end)
+  survives steps outcomes keep start last first pages left again end o same none unused run p may crash reopens out =
+      let over : start ≡ machine_over first = λ i. record { db = same i; flights = none i; slots_given = unused i } in
+      let leaves : Leaves (store_of first.pages) (trees_of (now (store_of first.pages)) ∷ []) = record { is = subst (λ l. Matches (map trees_of l) (trees_of (now (store_of first.pages)) ∷ [])) (sym o.left) (record { once = trees_of (now (store_of first.pages)) ∷ []; left = (refl, inl tt); right = (refl, inl tt) }) } in
+      let k = (subst (λ (m : MachineValue MemPages M). Performs store_of flush_number_of meant m steps outcomes last) over run).keeps (trees_of (now (store_of first.pages)) ∷ []) leaves in
       let here : In (store_of left).base (states_left (store_of last.db.pages)) = subst (λ (q : MemPages). In (store_of left).base (states_left (store_of q))) p may.is in
       let base : now (store_of left) ≡ (store_of left).base = ap now crash.is ∙ sym (ap (λ (s : Store). s.base) crash.is) in
       let one : In (trees_of (store_of left).base) k.last = matches_has (map trees_of (states_left (store_of last.db.pages))) k.last (trees_of (store_of left).base) k.leaves.is (map_has trees_of (states_left (store_of last.db.pages)) (store_of left).base here) in
       record {
-        first = instant_of store_of meant first;
-        opened = subst (λ (d : DbValue MemPages M). IsOpened name (state_of store_of meant d (slots_of first.flights) first.slots_given)) (sym same) (is_opened opened first.flights first.slots_given o db none unused);
-        begins = ap (λ (s : Store). trees_of (now s)) at ∙ o.maps;
-        last = instant_of store_of meant last;
-        kept = k.last;
-        run = k.run;
+        first = first;
+        opens = o;
+        last = last;
+        runs = k;
         left = store_of left;
-        crash = subst (λ (q : MemPages). Crashes keep (store_of q) (store_of left)) p crash;
+        crashes = subst (λ (q : MemPages). Crashes keep (store_of q) (store_of left)) p crash;
         one = subst (λ (z : PageState). In (trees_of z) k.last) (sym base) one;
-        is = ap (λ (q : MemPages). trees_of (now (store_of q))) out ∙ again.maps;
+        again = again;
+        reopens = reopens;
+        is = ap store_of out;
+        maps = ap (λ (q : MemPages). trees_of (now (store_of q))) out ∙ reopens.maps;
       }

@@ -1,40 +1,36 @@
 -- What a crash leaves of a run.
-use Rattle.std.specs.Prelude.{◌≡◌, ℕ, true, List, [], ◌∷◌, None, option_map}
-use Rattle.std.specs.FinMap.Entries.{find, is_sorted}
+use Rattle.std.specs.Prelude.{◌≡◌, ℕ, List, [], ◌∷◌}
 use Rattle.sled_pages.specs.In.{In}
-use Rattle.sled_pages.specs.Order.{Key, key_cmp}
+use Rattle.sled_pages.specs.Order.{Key}
 use Rattle.sled_pages.specs.Store.{Store, now}
 use Rattle.sled_pages.specs.Crash.{Crashes}
-use Rattle.sled_model.specs.Maps.{Maps}
-use Rattle.sled_model.specs.State.{State}
-use Rattle.sled_model.specs.Steps.{Instant}
+use Rattle.sled_pages.specs.Memory.{store_of, flush_number_of}
+use Rattle.sled_pages.specs.declared.memory.MemPages.{MemPages}
+use Rattle.sled_model.specs.Maps.{Merge}
 use Rattle.sled_model.specs.declared.outcome.Step.{Step}
 use Rattle.sled_model.specs.declared.outcome.Outcome.{Outcome}
 use Rattle.tree_laws.specs.Contents.{trees_of}
-use Rattle.sled.specs.Opens.{with_default, numbered}
-use Rattle.sled_machine.specs.Crash.{RunsKeeping}
+use Rattle.sled.specs.Opens.{with_default, Opens}
+use Rattle.sled.specs.Values.{DbValue}
+use Rattle.sled_machine.specs.Run.{Keeps}
+use Rattle.sled_machine.specs.Values.{MachineValue}
 
--- An open database of this name as it was opened: no call is in flight, and its trees are numbered from 1 in the order of their names
-pub record IsOpened (name : Key) (s : State) : Type 0 where
-  pub named : s.name ≡ name
-  pub is_open : s.is_open ≡ true
-  pub idle : (slot : ℕ) → s.slots slot ≡ None
-  pub unused : s.slots_given ≡ 0
-  pub names : List Key
-  pub ascends : is_sorted key_cmp (numbered 0 names) ≡ true
-  pub numbers : (t : Key) → option_map (λ tree. tree.number) (s.trees t) ≡ find key_cmp t (numbered 0 names)
+-- a machine over this database, on which no call is in flight
+abbrev pub machine_over : {P M : Type 0} → DbValue P M → MachineValue P M
+machine_over d = record { db = d; flights = []; slots_given = 0 }
 
--- The steps were run from a database that was just opened, whose maps are those of the pages, with the default tree. The run
--- keeps a list of maps: the one at the last flush (at first, that of opening), and the one after each call that was decided since.
--- What is found after the crash, which keeps so many of the last actions, is one of the list
-pub record Survives (before : Store) (name : Key) (steps : List Step) (outcomes : List Outcome) (keep : ℕ) (found : Store) : Type 0 where
-  pub first : Instant
-  pub opened : IsOpened name first.state
-  pub begins : trees_of (now first.store) ≡ with_default (trees_of (now before))
-  pub last : Instant
-  pub kept : List Maps
-  pub run : RunsKeeping first (trees_of (now first.store) ∷ []) steps outcomes last kept
+-- A database was opened, the steps were run on a machine over it, its store crashed and kept so many of the last actions, and what was
+-- left of it was opened again. The run keeps a list of maps: at first that of the opening, then the one at the last flush, and the one
+-- after each call that was decided since. What is found is one of the list
+pub record Survives {M : Type 0} (meant : M → Merge) (before : Store) (name : Key) (steps : List Step) (outcomes : List Outcome) (keep : ℕ) (found : Store) : Type 0 where
+  pub first : DbValue MemPages M
+  pub opens : Opens store_of before name first
+  pub last : MachineValue MemPages M
+  pub runs : Keeps store_of flush_number_of meant (machine_over first) steps outcomes last (trees_of (now (store_of first.pages)) ∷ [])
   pub left : Store
-  pub crash : Crashes keep last.store left
-  pub one : In (trees_of (now left)) kept
-  pub is : trees_of (now found) ≡ with_default (trees_of (now left))
+  pub crashes : Crashes keep (store_of last.db.pages) left
+  pub one : In (trees_of (now left)) runs.last
+  pub again : DbValue MemPages M
+  pub reopens : Opens store_of left name again
+  pub is : found ≡ store_of again.pages
+  pub maps : trees_of (now found) ≡ with_default (trees_of (now left))

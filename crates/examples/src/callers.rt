@@ -6,10 +6,10 @@ ghost use Rattle.sled_pages.specs.Memory.{store_of};
 ghost use Rattle.tree_laws.specs.Contents.{trees_of};
 ghost use Rattle.tree_laws.specs.Crashes.{IsWhole};
 ghost use Rattle.sled_model.specs.declared.call.Call.TheVariants as call;
-ghost use Rattle.sled.specs.declared.TheConstants.{DEFAULT_TREE};
+ghost use Rattle.sled.specs.Values.{default_name};
 ghost use Rattle.examples.specs.Reads.{ReadsAs, PutsOne, maps_now, later, found_in};
 
-use sled::{DEFAULT_TREE, Db, crash_pages, empty_pages};
+use sled::{Db, crash_pages, empty_pages};
 use sled_machine::Machine;
 use sled_model::{Call, MergeOperator, Outcome, Tree};
 use sled_pages::{Error, IVec, MemPages, Pages, Result};
@@ -127,14 +127,14 @@ fn get_in_default<P: Pages, M: MergeOperator>(
     machine: &mut Machine<P, M>,
     key: &IVec,
 ) -> Result<Outcome>
-    ensures { IfOk result (ReadsAs (found_in (maps_now P.store M.meant machine.old.db DEFAULT_TREE.now) key.now)) }
+    ensures { IfOk result (ReadsAs (found_in (maps_now P.store M.meant machine.old.db default_name) key.now)) }
 {
     let tree = machine.db().default_tree()?;
     get(machine, &tree, key)
 }
 
 /// Ends a machine, opens its pages again under a name, and ends that database too: the pages. The calls in flight are given
-/// up. Whether it could be opened or not, every tree has its map of before.
+/// up. Whether it could be opened or not, every tree has its map of before. Where a group is open it is refused with `Closed`.
 pub fn reopen<P: Pages, M: MergeOperator>(
     alloc: Global,
     machine: Machine<P, M>,
@@ -143,23 +143,32 @@ pub fn reopen<P: Pages, M: MergeOperator>(
     ensures same { IfOk result (λ pages. trees_of (now (P.store pages)) ≡ trees_of (now (P.store machine.db.pages))) }
     ensures kept { IfErr result (λ e. trees_of (now (P.store e.0)) ≡ trees_of (now (P.store machine.db.pages))) }
 {
-    match Db::open(alloc, machine.into_db().into_pages(), name) {
+    let pages = machine.into_db().into_pages();
+    if pages.in_group() {
+        return Err((pages, Error::Closed));
+    }
+    match Db::open(alloc, pages, name) {
         Ok(db) => Ok(db.into_pages()),
         Err(e) => Err(e),
     }
 }
 
 /// Ends a machine, opens its pages again under a name, and gets a key of the default tree there: how the get came out. It
-/// reads what the first database had.
+/// reads what the first database had. Where a group is open it is refused with `Closed`.
 pub fn reopen_then_get<P: Pages, M: MergeOperator>(
     alloc: Global,
     machine: Machine<P, M>,
     name: &[u8],
     key: &IVec,
 ) -> Result<Outcome>
-    ensures { IfOk result (ReadsAs (found_in (maps_now P.store M.meant machine.db DEFAULT_TREE.now) key.now)) }
+    ensures { IfOk result (ReadsAs (found_in (maps_now P.store M.meant machine.db default_name) key.now)) }
 {
-    let db = match Db::open(alloc, machine.into_db().into_pages(), name) {
+    let pages = machine.into_db().into_pages();
+    if pages.in_group() {
+        drop(pages);
+        return Err(Error::Closed);
+    }
+    let db = match Db::open(alloc, pages, name) {
         Ok(db) => db,
         Err((pages, e)) => {
             drop(pages);
@@ -172,7 +181,8 @@ pub fn reopen_then_get<P: Pages, M: MergeOperator>(
     got
 }
 
-/// Ends a database, and crashes its pages so that they keep this many actions at most: what is left can be opened again.
+/// Ends a database, and crashes its pages so that they keep this many actions at most: what is left can be opened again. It may be
+/// that a group is open.
 pub fn crash<M: MergeOperator>(db: Db<MemPages, M>, keep: usize) -> Result<MemPages>
     ensures well { IfOk result (λ left. IsWhole (now (store_of left))) }
     ensures calm { IfOk result (λ left. (now (store_of left)).in_group ≡ false) }

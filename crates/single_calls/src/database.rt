@@ -5,13 +5,14 @@ ghost use Rattle.sled_model.specs.Answer.{decision_of};
 ghost use Rattle.sled_model.specs.Refusal.{must_refuse_of};
 ghost use Rattle.tree_laws.specs.Contents.{trees_of};
 ghost use Rattle.tree_laws.specs.Crashes.{Flushes, IsWhole};
-ghost use Rattle.sled.specs.declared.TheConstants.{DEFAULT_TREE};
 ghost use Rattle.sled.specs.Calls.{IsHandle, MustBeRefused};
 ghost use Rattle.sled.specs.Export.{collections};
 ghost use Rattle.sled_tree.specs.Known.{IsKnown};
-ghost use Rattle.sled.specs.Flights.{Flies, FliesToEnd};
+ghost use Rattle.sled_tree.specs.Passing.{GoesFurther};
+ghost use Rattle.sled.specs.Flights.{DbStep, DbActs, DbFollows, DbLeaves, DbKnows, LosesNone, FliesToEnd};
+ghost use Rattle.sled.specs.Flush.{FlushesDb};
 ghost use Rattle.sled.specs.Opens.{Opens};
-ghost use Rattle.sled.specs.Values.{db_state, moment};
+ghost use Rattle.sled.specs.Values.{db_state, default_name, moment_of_db};
 
 use sled::{Collection, Db, empty_pages};
 use sled_machine::Machine;
@@ -49,6 +50,13 @@ pub fn close<P: Pages, M: MergeOperator>(machine: Machine<P, M>) -> Result<P>
     Ok(db.into_pages())
 }
 
+/// A flush of a database, with the store's number.
+pub fn flush<P: Pages, M: MergeOperator>(db: &mut Db<P, M>) -> Result<usize>
+    ensures { IfOk result (λ number. FlushesDb P.store P.flush_number M.meant db.old number db.new) }
+{
+    db.flush()
+}
+
 /// Whether calls on the tree may begin.
 pub fn check<P: Pages, M: MergeOperator>(db: &Db<P, M>, tree: &Tree) -> Result<()>
     ensures ok { OnOk result (must_refuse_of (db_state P.store M.meant db.now) (tree.now ∷ []) ≡ None) }
@@ -59,7 +67,7 @@ pub fn check<P: Pages, M: MergeOperator>(db: &Db<P, M>, tree: &Tree) -> Result<(
 
 /// The tree that every database has.
 pub fn default_tree<P: Pages, M: MergeOperator>(db: &Db<P, M>) -> Result<Tree>
-    ensures { IfOk result (IsHandle db.now DEFAULT_TREE.now) }
+    ensures { IfOk result (IsHandle db.now default_name) }
 {
     db.default_tree()
 }
@@ -73,15 +81,21 @@ pub fn export<P: Pages, M: MergeOperator>(db: &Db<P, M>) -> Result<Vec<Collectio
 
 /// One step of a call in flight, without a machine.
 pub fn fly<P: Pages, M: MergeOperator>(db: &mut Db<P, M>, flight: &mut Flight) -> Went
-    requires { IsKnown (moment (P.store db.old.pages) db.old.trees db.old.trees_given) flight.old }
-    ensures { Flies P.store M.meant db.old flight.old result db.new flight.new }
+    requires { IsKnown (moment_of_db P.store db.old) flight.old }
+    ensures step { DbStep P.store M.meant db.old flight.old result db.new flight.new }
+    ensures does { DbActs P.store M.meant db.old flight.old result db.new }
+    ensures follows { DbFollows P.store M.meant db.old flight.old result db.new flight.new }
+    ensures passes { GoesFurther (now (P.store db.old.pages)) flight.old result (now (P.store db.new.pages)) flight.new }
+    ensures loses { LosesNone None (moment_of_db P.store db.old) (moment_of_db P.store db.new) }
+    ensures leaves { DbLeaves P.store db.old flight.old result db.new flight.new }
+    ensures knows { DbKnows P.store db.old flight.old result db.new flight.new }
 {
     db.fly(flight)
 }
 
 /// All steps of a call in flight, to its end, without a machine.
 pub fn fly_to_end<P: Pages, M: MergeOperator>(db: &mut Db<P, M>, flight: &mut Flight) -> Went
-    requires { IsKnown (moment (P.store db.old.pages) db.old.trees db.old.trees_given) flight.old }
+    requires { IsKnown (moment_of_db P.store db.old) flight.old }
     ensures { FliesToEnd P.store M.meant db.old flight.old result db.new flight.new }
 {
     db.fly_to_end(flight)

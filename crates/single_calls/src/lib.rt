@@ -5,5 +5,5 @@
 mod database;
 mod machine;
 
-pub use database::{check, close, decide, default_tree, export, fly, fly_to_end, new_tree};
+pub use database::{check, close, decide, default_tree, export, flush, fly, fly_to_end, new_tree};
 pub use machine::{abandon, begin, complete, finish, new_machine, run, step, turns, whole};

@@ -5,7 +5,9 @@ ghost use Rattle.sled_pages.specs.declared.error.Error.TheVariants.{NoMemory};
 ghost use Rattle.sled_model.specs.declared.outcome.Outcome.TheVariants as outcome;
 ghost use Rattle.sled_model.specs.declared.outcome.Step.TheVariants as step;
 ghost use Rattle.sled_machine.specs.Values.{slots_of};
-ghost use Rattle.sled_machine.specs.Crash.{Reaches, Finishes, Completes, Performs};
+ghost use Rattle.sled_machine.specs.Step.{MachineStep, MachineActs, MachineFollows, MachinePasses, MachineSlots, MachineLoses, MachineLeaves, Reaches};
+ghost use Rattle.sled_machine.specs.Run.{Performs, ReachesAll};
+ghost use Rattle.sled_machine.specs.Finish.{Finishes, Completes};
 
 use sled::Db;
 use sled_machine::Machine;
@@ -27,22 +29,28 @@ pub fn begin<P: Pages, M: MergeOperator>(
     tree: &Tree,
     call: Call,
 ) -> Result<Slot>
-    ensures ok { IfOk result (λ slot. Reaches P.store M.meant machine.old (step.Begin tree.now call) (outcome.Begun slot) machine.new) }
-    ensures err { IfErr result (λ e. Reaches P.store M.meant machine.old (step.Begin tree.now call) (outcome.Refused e) machine.new) }
+    ensures ok { IfOk result (λ slot. Reaches P.store P.flush_number M.meant machine.old (step.Begin tree.now call) (outcome.Begun slot) machine.new) }
+    ensures err { IfErr result (λ e. Reaches P.store P.flush_number M.meant machine.old (step.Begin tree.now call) (outcome.Refused e) machine.new) }
 {
     machine.begin(tree, call)
 }
 
 /// One step of the call in the slot.
 pub fn step<P: Pages, M: MergeOperator>(machine: &mut Machine<P, M>, slot: Slot) -> Outcome
-    ensures { Reaches P.store M.meant machine.old (step.Step slot) result machine.new }
+    ensures step { MachineStep P.store P.flush_number M.meant machine.old (step.Step slot) result machine.new }
+    ensures does { MachineActs P.store M.meant machine.old (step.Step slot) result machine.new }
+    ensures follows { MachineFollows P.store M.meant machine.old (step.Step slot) result machine.new }
+    ensures passes { MachinePasses P.store machine.old (step.Step slot) result machine.new }
+    ensures slots { MachineSlots machine.old (step.Step slot) result machine.new }
+    ensures loses { MachineLoses P.store machine.old machine.new }
+    ensures leaves { MachineLeaves P.store machine.old (step.Step slot) result machine.new }
 {
     machine.step(slot)
 }
 
 /// The call in the slot is given up.
 pub fn abandon<P: Pages, M: MergeOperator>(machine: &mut Machine<P, M>, slot: Slot) -> Outcome
-    ensures { Reaches P.store M.meant machine.old (step.Abandon slot) result machine.new }
+    ensures { Reaches P.store P.flush_number M.meant machine.old (step.Abandon slot) result machine.new }
 {
     machine.abandon(slot)
 }
@@ -56,7 +64,7 @@ pub fn turns<P: Pages, M: MergeOperator>(machine: &Machine<P, M>, slot: Slot) ->
 
 /// All steps of the call in the slot, to its end.
 pub fn finish<P: Pages, M: MergeOperator>(machine: &mut Machine<P, M>, slot: Slot) -> Outcome
-    ensures { Finishes P.store M.meant machine.old slot result machine.new }
+    ensures { Finishes P.store P.flush_number M.meant machine.old slot result machine.new }
 {
     machine.finish(slot)
 }
@@ -67,14 +75,14 @@ pub fn complete<P: Pages, M: MergeOperator>(
     tree: &Tree,
     call: Call,
 ) -> Outcome
-    ensures { Completes P.store M.meant machine.old tree.now call result machine.new }
+    ensures { Completes P.store P.flush_number M.meant machine.old tree.now call result machine.new }
 {
     machine.complete(tree, call)
 }
 
 /// A whole call, in one step.
 pub fn whole<P: Pages, M: MergeOperator>(machine: &mut Machine<P, M>, whole: Whole) -> Outcome
-    ensures { Reaches P.store M.meant machine.old (step.Whole whole) result machine.new }
+    ensures { Reaches P.store P.flush_number M.meant machine.old (step.Whole whole) result machine.new }
 {
     machine.whole(whole)
 }
@@ -84,7 +92,8 @@ pub fn run<P: Pages, M: MergeOperator>(
     machine: &mut Machine<P, M>,
     steps: &[Step],
 ) -> Result<Vec<Outcome>>
-    ensures ok { IfOk result (λ outcomes. Performs P.store M.meant machine.old steps.now outcomes.items machine.new) }
+    ensures ok { IfOk result (λ outcomes. Performs P.store P.flush_number M.meant machine.old steps.now outcomes.items machine.new) }
+    ensures each { IfOk result (λ outcomes. ReachesAll P.store P.flush_number M.meant machine.old steps.now outcomes.items machine.new) }
     ensures err { OnErr result (machine.new ≡ machine.old) }
     ensures cause { IfErr result (λ e. e ≡ NoMemory) }
 {

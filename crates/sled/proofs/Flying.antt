@@ -1,5 +1,5 @@
 -- One step of a call in flight.
-use Rattle.std.proofs.Common.{◌≡◌, ◌≢◌, ℕ, ◌+◌, ◌-◌, ◌<◌, ◌≤◌, Bool, true, false, not, cond, List, [], ◌∷◌, Option, Some, None, option_map, sym, refl, ap, ◌∙◌, subst, inl, inr, arith}
+use Rattle.std.proofs.Common.{◌≡◌, ◌≢◌, ℕ, zero, suc, ◌+◌, ◌-◌, ◌<◌, ◌≤◌, Bool, true, false, not, cond, List, [], ◌∷◌, length, Option, Some, None, option_map, sym, refl, ap, ◌∙◌, subst, inl, inr, arith}
 use Rattle.std.specs.FinMap.Entries.{find}
 use Rattle.std.specs.Ordering.{nat_cmp}
 use Rattle.std.specs.Str.{bytes_eq}
@@ -12,16 +12,16 @@ use Rattle.sled_pages.specs.declared.error.Error.{Error}
 use Rattle.sled_pages.specs.declared.error.Error.TheVariants as error
 use Rattle.sled_model.specs.Maps.{Map, Merge}
 use Rattle.sled_model.specs.Answer.{Answer, answer_of}
-use Rattle.sled_model.specs.State.{State, NamedTree, Flying, maps_of, delivered, decided}
-use Rattle.sled_model.specs.Refusal.{MustRefuse, IsClosed, IsForeign, IsDropped, must_refuse_of, MayRefuse, ToStep, TellsTurns, cause_of, may_refuse_as}
+use Rattle.sled_model.specs.State.{State, NamedTree, Queue, Flying, maps_of, delivered, decided}
+use Rattle.sled_model.specs.Refusal.{MustRefuse, IsClosed, IsForeign, IsDropped, HasNoOperator, must_refuse, must_refuse_of, MayRefuse, ToStep, TellsTurns, cause_of, may_refuse_as, turns_limit}
 use Rattle.sled_model.specs.declared.event.Event.{Event}
 use Rattle.sled_model.specs.declared.reply.Reply.{Reply}
 use Rattle.sled_model.specs.declared.TheConstants.{MAX_LOOPS}
-use Rattle.tree_laws.specs.Forest.{Forest, contents}
+use Rattle.tree_laws.specs.Forest.{Tree, Forest, contents}
 use Rattle.tree_laws.specs.Contents.{trees_of}
 use Rattle.tree_laws.specs.Crashes.{IsWhole, IsCrashWhole, Extends, Adds}
 use Rattle.tree_laws.specs.Moment.{Moment, nodes_at, IsMoment}
-use Rattle.tree_laws.proofs.Crashing.{adds_extends, adds_unseen, extends_nothing, extends_same, extends_again, same_left, whole_law}
+use Rattle.tree_laws.proofs.Crashing.{adds_extends, adds_unseen, extends_same, extends_again, whole_law}
 use Rattle.tree_laws.proofs.Reading.{one_law}
 use Rattle.sled_tree.specs.declared.flight.Job.{Job}
 use Rattle.sled_tree.specs.declared.flight.Flight.{Flight}
@@ -30,61 +30,45 @@ use Rattle.sled_tree.specs.declared.flight.Went.{Went}
 use Rattle.sled_tree.specs.declared.flight.Went.TheVariants.{Moved, Decided, Refused}
 use Rattle.sled_tree.specs.Stages.{IsStage, owned}
 use Rattle.sled_tree.specs.Known.{IsKnown}
-use Rattle.sled_tree.specs.Passing.{GoesFurther}
+use Rattle.sled_tree.specs.Passing.{IsOnPath, GoesFurther}
 use Rattle.sled_tree.specs.Follows.{FollowsOn}
 use Rattle.sled_tree.specs.Moves.{Moves, ActsOnce, ActsAtMostOnce, Acts, Same, Decides, LeavesNone, refuses_as, Advances}
-use Rattle.sled.specs.Values.{KeepsRest, DbValue, numbers_of, given_to, named, state_of, db_state, moment}
+use Rattle.sled.specs.Values.{DbValue, numbers_of, given_to, named, state_of, db_state, moment_of_db}
 use Rattle.sled.specs.Sound.{IsDb}
 use Rattle.sled.specs.Calls.{MustBeRefused, must_be_refused_as}
-use Rattle.sled.specs.Flights.{flying_of, StillStands, LosesNone, RefusesQuietly, Flies, FliesToEnd, Ends, GoesOn}
+use Rattle.sled.specs.Flights.{flying_of, StillStands, LosesNone, RefusesQuietly, Flies, FliesTimes, Ends, GoesOn, has_turns, IsPrompt, FliesToEnd}
 use Rattle.sled_tree.proofs.Known.{not_own, known_kept}
+use Rattle.sled.proofs.Resting.{Rests, rests_refused, now_rests, rests_extends, rests_left}
+use Rattle.sled.proofs.Testing.{must_step, limit_is, no_group}
 use Rattle.sled.proofs.Trees.{trees_at, trees_same, trees_put, maps_are, current, numbered}
 
 none_some : {P X : Type 0} {x : X} → None ≡ Some x → P
 none_some e = cc
 
 -- what an action leaves of the trees, at the forests that fit
-pub loses_nothing : (m : Moment) → LosesNone m m
-loses_nothing m w v was is = subst (λ (z : Forest). StillStands w (nodes_at m) z) (one_law (nodes_at m) m.state.roots w v was.formed is.formed) (record { told = λ x p i. inl i })
+pub loses_nothing : (lost : Option Tree) (m : Moment) → LosesNone lost m m
+loses_nothing lost m w v was is = subst (λ (z : Forest). StillStands lost w (nodes_at m) z) (one_law (nodes_at m) m.state.roots w v was.formed is.formed) (record { told = λ x p on i. inl i })
 
-loses_acting : {mine own : List ℕ} (m n : Moment) (w v : Forest) → IsMoment m w → Acts mine own m w n v → LosesNone m n
+loses_acting : {mine own : List ℕ} (m n : Moment) (w v : Forest) → IsMoment m w → Acts mine own m w n v → LosesNone None m n
 loses_acting m n w v is a u z was is_now =
-    subst (λ (f : Forest). StillStands f (nodes_at n) z) (one_law (nodes_at m) m.state.roots w u is.formed was.formed)
-    (subst (λ (f : Forest). StillStands w (nodes_at n) f) (one_law (nodes_at n) n.state.roots v z a.is.formed is_now.formed)
+    subst (λ (f : Forest). StillStands None f (nodes_at n) z) (one_law (nodes_at m) m.state.roots w u is.formed was.formed)
+    (subst (λ (f : Forest). StillStands None w (nodes_at n) f) (one_law (nodes_at n) n.state.roots v z a.is.formed is_now.formed)
     (record {
-      told = λ x p i.
-          let here = is.formed.page x p (is.formed.homed x p i) in let s = a.goes.keeps.stood x p here.0 none_some i here.1.live in elim s.3 [
+      told = λ x p on i.
+          let here = is.formed.page x p (is.formed.homed x p i) in let s = a.goes.keeps.stood x p here.0 on i here.1.live in elim s.3 [
             | inl c ↦ inl c
             | inr b ↦ inr (s.0, s.1, b)
           ];
     }))
 
--- what a step leaves of the store, whatever its action
+-- what an action leaves of the store
 pub record Touches (a b : Store) : Type 0 where
-  pub rest : KeepsRest a b
+  pub mark : b.mark ≡ a.mark
   pub calm : (now b).in_group ≡ (now a).in_group
 
 touches_acting : (a b : Store) → ActsAtMostOnce a b → Touches a b
-touches_acting a b (inl e) = record { rest = record { mark = ap (λ (s : Store). s.mark) e; recovered = ap (λ (s : Store). s.recovered) e; readable = ap (λ (s : Store). s.is_readable) e }; calm = ap (λ (s : Store). (now s).in_group) e }
-touches_acting a b (inr o) = record { rest = record { mark = ap (λ (s : Store). s.mark) o.is; recovered = ap (λ (s : Store). s.recovered) o.is; readable = ap (λ (s : Store). s.is_readable) o.is }; calm = o.calm }
-
--- a refusal leaves all but the count of faults
-pub record Rests (a b : Store) : Type 0 where
-  pub base : b.base ≡ a.base
-  pub recent : b.recent ≡ a.recent
-  pub actions : b.actions ≡ a.actions
-  pub rest : KeepsRest a b
-
-rests_refused : (e : Error) (a b : Store) → refuses_as e a b → Rests a b
-rests_refused error.NoMemory a b t = record { base = ap (λ (s : Store). s.base) t; recent = ap (λ (s : Store). s.recent) t; actions = ap (λ (s : Store). s.actions) t; rest = record { mark = ap (λ (s : Store). s.mark) t; recovered = ap (λ (s : Store). s.recovered) t; readable = ap (λ (s : Store). s.is_readable) t } }
-rests_refused (error.Io fault) a b (inl t) = record { base = ap (λ (s : Store). s.base) t; recent = ap (λ (s : Store). s.recent) t; actions = ap (λ (s : Store). s.actions) t; rest = record { mark = ap (λ (s : Store). s.mark) t; recovered = ap (λ (s : Store). s.recovered) t; readable = ap (λ (s : Store). s.is_readable) t } }
-rests_refused (error.Io fault) a b (inr (t, p)) = record { base = ap (λ (s : Store). s.base) t; recent = ap (λ (s : Store). s.recent) t; actions = ap (λ (s : Store). s.actions) t; rest = record { mark = ap (λ (s : Store). s.mark) t; recovered = ap (λ (s : Store). s.recovered) t; readable = ap (λ (s : Store). s.is_readable) t } }
-rests_refused (error.CollectionNotFound name) a b t = absurd t
-rests_refused (error.Unsupported text) a b t = absurd t
-rests_refused (error.ReportableBug text) a b t = absurd t
-rests_refused (error.Corruption fault) a b t = absurd t
-rests_refused error.FullQueue a b t = absurd t
-rests_refused error.Closed a b t = absurd t
+touches_acting a b (inl e) = record { mark = ap (λ (s : Store). s.mark) e; calm = ap (λ (s : Store). (now s).in_group) e }
+touches_acting a b (inr o) = record { mark = ap (λ (s : Store). s.mark) o.is; calm = o.calm }
 
 -- for a fault alone one is counted
 refuses_quietly : (e : Error) (a b : Store) → refuses_as e a b → RefusesQuietly e a b
@@ -107,9 +91,6 @@ quiet_untold (error.ReportableBug text) a off = refl
 quiet_untold (error.Corruption fault) a off = refl
 quiet_untold error.FullQueue a off = refl
 quiet_untold error.Closed a off = refl
-
-now_rests : {a b : Store} → Rests a b → now b ≡ now a
-now_rests {a} {b} r = λ i. Rattle.sled_pages.specs.State.after_all (r.recent i) (r.base i)
 
 -- what an action adds to what a crash may leave
 once_adds : {a b : Store} (o : ActsOnce a b) → Adds o.action a b
@@ -139,27 +120,28 @@ cause_is s f error.FullQueue a b t = absurd t
 cause_is s f error.Closed a b t = absurd t
 
 -- no queue is there, so none is filled
-no_queue : (n : ℕ) (event : Option Event) (k : ℕ) → None ≡ delivered n event (λ i. None) k
-no_queue n None k = refl
-no_queue n (Some e) k = refl
+no_queue : (queues : List (ℕ × Queue)) (n : ℕ) (event : Option Event) (k : ℕ) → queues ≡ [] → find nat_cmp k queues ≡ delivered n event (λ i. find nat_cmp i queues) k
+no_queue queues n event k e = subst (λ (z : List (ℕ × Queue)). find nat_cmp k z ≡ delivered n event (λ i. find nat_cmp i z) k) (sym e) (go event)
+  where
+    go : (event : Option Event) → None ≡ delivered n event (λ i. None) k
+    go None = refl
+    go (Some e) = refl
 
 -- a call that is refused before it touches a page
 module _ {P M : Type 0} (store : P → Store) (meant : M → Merge) (old : DbValue P M) where
-  untouched : (f g : Flight) (e : Error) → ((fault : Fault) → e ≡ error.Io fault → ⊥) → (must_refuse_of (db_state store meant old) (f.job.tree ∷ []) ≡ None → f.turns < MAX_LOOPS → ⊥) → (must_refuse_of (db_state store meant old) (f.job.tree ∷ []) ≡ None → f.turns ≡ MAX_LOOPS → TellsTurns e) → ((slots : ℕ → Option Flying) (given : ℕ) → MayRefuse (state_of store meant old slots given) (store old.pages) (store old.pages) (ToStep (flying_of f)) e) → Flies store meant old f (Refused e) old g
+  untouched : (f g : Flight) (e : Error) → ((fault : Fault) → e ≡ error.Io fault → ⊥) → (must_refuse_of (db_state store meant old) (f.job.tree ∷ []) ≡ None → f.turns < turns_limit → ⊥) → (must_refuse_of (db_state store meant old) (f.job.tree ∷ []) ≡ None → f.turns ≡ turns_limit → TellsTurns e) → ((slots : ℕ → Option Flying) (given : ℕ) → MayRefuse (state_of store meant old slots given) (store old.pages) (store old.pages) (ToStep (flying_of f)) e) → Flies store meant old f (Refused e) old g
   untouched f g e off stopped limit may = record {
-    steps = λ slots given slot here. record { told = (record { flying = flying_of f; here = here; may = may slots given; limit = limit; is = refl }, refl) };
-    extends = extends_same (store old.pages);
-    does = quiet_untold e (store old.pages) off;
-    quiet = λ q. refl;
-    loud = λ event b. absurd (silent b.reply b.decided);
+    step = record {
+      steps = λ slots given slot before after here. record { told = (record { flying = flying_of f; here = here; may = may slots given; limit = λ none all. limit (sym (must_step (state_of store meant old slots given) (flying_of f)) ∙ none) all; is = refl }, refl) };
+      extends = extends_same (store old.pages);
+      same = refl;
+    };
+    does = record { does = quiet_untold e (store old.pages) off; quiet = λ q. refl; loud = λ event b. absurd (silent b.reply b.decided) };
     follows = λ must few. absurd (stopped must few);
-    rest = record { mark = refl; recovered = refl; readable = refl };
     passes = record { told = tt };
-    loses = loses_nothing (moment (store old.pages) old.trees old.trees_given);
+    loses = loses_nothing None (moment_of_db store old);
     leaves = λ v is. tt;
-    goes_on = λ e. absurd (apart e);
-    others = λ h off k. (k, λ e. absurd (apart e));
-    same = refl;
+    knows = record { goes_on = λ e. absurd (apart e); others = λ h off k. (k, λ e. absurd (apart e)) };
   }
     where
       apart : Refused e ≡ Moved → ⊥
@@ -170,7 +152,7 @@ module _ {P M : Type 0} (store : P → Store) (meant : M → Merge) (old : DbVal
 
   -- the tests refuse the call
   pub flies_untested : (f g : Flight) (e : Error) → MustBeRefused (must_refuse_of (db_state store meant old) (f.job.tree ∷ [])) e → Flies store meant old f (Refused e) old g
-  flies_untested f g e tested = untouched f g e (λ fault io. untold fault (must_refuse_of (db_state store meant old) (f.job.tree ∷ [])) (subst (λ z. must_be_refused_as (must_refuse_of (db_state store meant old) (f.job.tree ∷ [])) z) io tested.told)) (λ none few. absurd (subst (λ o. must_be_refused_as o e) none tested.told)) (λ none all. absurd (subst (λ o. must_be_refused_as o e) none tested.told)) (λ slots given. record { told = go slots given (must_refuse_of (db_state store meant old) (f.job.tree ∷ [])) tested.told })
+  flies_untested f g e tested = untouched f g e (λ fault io. untold fault (must_refuse_of (db_state store meant old) (f.job.tree ∷ [])) (subst (λ z. must_be_refused_as (must_refuse_of (db_state store meant old) (f.job.tree ∷ [])) z) io tested.told)) (λ none few. absurd (subst (λ o. must_be_refused_as o e) none tested.told)) (λ none all. absurd (subst (λ o. must_be_refused_as o e) none tested.told)) (λ slots given. record { told = subst (λ o. may_refuse_as o (state_of store meant old slots given) (store old.pages) (store old.pages) (ToStep (flying_of f)) e) (sym (must_step (state_of store meant old slots given) (flying_of f))) (go slots given (must_refuse_of (db_state store meant old) (f.job.tree ∷ [])) tested.told) })
     where
       go : (slots : ℕ → Option Flying) (given : ℕ) (o : Option MustRefuse) → must_be_refused_as o e → may_refuse_as o (state_of store meant old slots given) (store old.pages) (store old.pages) (ToStep (flying_of f)) e
       go slots given None t = absurd t
@@ -182,22 +164,23 @@ module _ {P M : Type 0} (store : P → Store) (meant : M → Merge) (old : DbVal
       untold fault (Some IsForeign) t = t
       untold fault (Some (IsDropped name)) (inl t) = cc
       untold fault (Some (IsDropped name)) (inr t) = cc
+      untold fault (Some HasNoOperator) t = t
 
   -- the tests let the call pass
   module _ (f : Flight) (must : must_refuse_of (db_state store meant old) (f.job.tree ∷ []) ≡ None) where
     may_refuse : (slots : ℕ → Option Flying) (given : ℕ) (a b : Store) (e : Error) → cause_of (state_of store meant old slots given) a b (ToStep (flying_of f)) e → MayRefuse (state_of store meant old slots given) a b (ToStep (flying_of f)) e
-    may_refuse slots given a b e cause = record { told = subst (λ o. may_refuse_as o (state_of store meant old slots given) a b (ToStep (flying_of f)) e) (sym must) cause }
+    may_refuse slots given a b e cause = record { told = subst (λ o. may_refuse_as o (state_of store meant old slots given) a b (ToStep (flying_of f)) e) (sym (must_step (state_of store meant old slots given) (flying_of f) ∙ must)) cause }
 
     -- its turns are the limit
-    pub flies_limit : (g : Flight) (e : Error) → f.turns ≡ MAX_LOOPS → TellsTurns e → ((slots : ℕ → Option Flying) (given : ℕ) → cause_of (state_of store meant old slots given) (store old.pages) (store old.pages) (ToStep (flying_of f)) e) → Flies store meant old f (Refused e) old g
+    pub flies_limit : (g : Flight) (e : Error) → f.turns ≡ turns_limit → TellsTurns e → ((slots : ℕ → Option Flying) (given : ℕ) → cause_of (state_of store meant old slots given) (store old.pages) (store old.pages) (ToStep (flying_of f)) e) → Flies store meant old f (Refused e) old g
     flies_limit g e all tells cause = untouched f g e (λ fault io. subst TellsTurns io tells) (λ none few. below f.turns all few) (λ none all. tells) (λ slots given. may_refuse slots given (store old.pages) (store old.pages) e (cause slots given))
       where
-        below : (n : ℕ) → n ≡ MAX_LOOPS → n < MAX_LOOPS → ⊥
+        below : (n : ℕ) → n ≡ turns_limit → n < turns_limit → ⊥
         below n all few = omega arith
 
-module _ {P M : Type 0} (store : P → Store) (meant : M → Merge) (old : DbValue P M) (db : IsDb (store old.pages) old.trees old.trees_given) where
+module _ {P M : Type 0} (store : P → Store) (meant : M → Merge) (old : DbValue P M) (db : IsDb store old) where
   abbrev at : Moment
-  at = moment (store old.pages) old.trees old.trees_given
+  at = moment_of_db store old
 
   -- the state over other pages
   state_over : (p : P) (slots after : ℕ → Option Flying) (given : ℕ) → ((name : Key) → trees_of (now (store p)) name ≡ trees_of (now (store old.pages)) name) → (now (store p)).in_group ≡ (now (store old.pages)).in_group → (store p).mark ≡ (store old.pages).mark
@@ -205,14 +188,14 @@ module _ {P M : Type 0} (store : P → Store) (meant : M → Merge) (old : DbVal
   state_over p slots after given trees calm mark = λ i. record {
     name = old.name;
     trees = λ t. named (numbers_of old.trees t) (trees t i) (λ n. option_map meant (find nat_cmp n old.operators));
-    queues = λ n. None;
+    queues = λ n. find nat_cmp n old.queues;
     slots = after;
     is_open = not (calm i);
     greatest_id = old.greatest_id;
     mark = mark i;
     trees_given = old.trees_given;
     slots_given = given;
-    subscribers_given = 0;
+    subscribers_given = old.subscribers_given;
   }
 
   same_store : (slots after : ℕ → Option Flying) (given : ℕ) → state_of store meant old after given ≡ record (state_of store meant old slots given) { slots = after }
@@ -235,14 +218,18 @@ module _ {P M : Type 0} (store : P → Store) (meant : M → Merge) (old : DbVal
 
     module _ (q : P) (known : IsKnown at f) where
       abbrev after : Moment
-      after = moment (store q) old.trees old.trees_given
+      after = moment_of_db store (record old { pages = q })
 
       abbrev new : DbValue P M
       new = record old { pages = q }
 
       -- the database is as it should be
-      is_db : (v : Forest) {mine own : List ℕ} → Acts mine own at db.forest after v → (now (store q)).in_group ≡ (now (store old.pages)).in_group → IsCrashWhole (store q) → IsDb (store q) old.trees old.trees_given
-      is_db v a calm safe = record { forest = v; is = a.is; sized = a.sized db.sized; safe = safe; calm = calm ∙ db.calm; ascends = db.ascends; default = db.default }
+      is_db : (v : Forest) {mine own : List ℕ} → Acts mine own at db.forest after v → IsCrashWhole (store q) → IsDb store new
+      is_db v a safe = record { forest = v; is = a.is; sized = a.sized db.sized; safe = safe; ascends = db.ascends; default = db.default; unwatched = db.unwatched }
+
+      -- no group is open
+      calm : (now (store old.pages)).in_group ≡ false
+      calm = no_group store meant old f.job.tree must
 
       -- after an action the state now, and every state that a crash may leave, is as it should be
       well : (v : Forest) {mine own : List ℕ} → Acts mine own at db.forest after v → IsWhole (now (store q))
@@ -253,7 +240,7 @@ module _ {P M : Type 0} (store : P → Store) (meant : M → Merge) (old : DbVal
       whole v a (inr o) = whole_law o.action (store old.pages) (store q) (once_adds o) db.safe (λ calm. well v a)
 
       -- the call goes on
-      module _ (few : f.turns < MAX_LOOPS) (g : Flight) (job : g.job ≡ f.job) (turns : g.turns ≡ f.turns + 1) (moves : Moves f.job (store old.pages) f.stage (next.Go g.stage) (store q)) (further : GoesFurther (now (store old.pages)) f Moved (now (store q)) g) (follows : FollowsOn (store old.pages) f Moved (store q) g) where
+      module _ (few : f.turns < turns_limit) (g : Flight) (job : g.job ≡ f.job) (turns : g.turns ≡ f.turns + 1) (moves : Moves f.job (store old.pages) f.stage (next.Go g.stage) (store q)) (further : GoesFurther (now (store old.pages)) f Moved (now (store q)) g) (follows : FollowsOn (store old.pages) f Moved (store q) g) where
         moved : (v : Forest) × Acts (owned f.stage) (owned g.stage) at db.forest after v × (IsStage after v f.job g.stage × Same at db.forest after v) × LeavesNone (owned f.stage) (owned g.stage) (now (store old.pages)) (now (store q)) v
         moved = moves.told (numbers_of old.trees) (given_to old.trees_given) db.forest db.is named_now (known.told db.forest db.is)
 
@@ -264,10 +251,10 @@ module _ {P M : Type 0} (store : P → Store) (meant : M → Merge) (old : DbVal
         moved_trees = trees_same (store old.pages) (store q) (numbers_of old.trees) (given_to old.trees_given) db.forest moved.0 db.is moved.1.is moved.2.1.same
 
         moved_extends : Extends [] (store old.pages) (store q)
-        moved_extends = extends_unseen (store old.pages) (store q) moves.touches db.calm (moved_touches.calm ∙ db.calm) (well moved.0 moved.1) moved_trees
+        moved_extends = extends_unseen (store old.pages) (store q) moves.touches calm (moved_touches.calm ∙ calm) (well moved.0 moved.1) moved_trees
 
-        pub moved_db : IsDb (store q) old.trees old.trees_given
-        moved_db = is_db moved.0 moved.1 moved_touches.calm (whole moved.0 moved.1 moves.touches)
+        pub moved_db : IsDb store (record old { pages = q })
+        moved_db = is_db moved.0 moved.1 (whole moved.0 moved.1 moves.touches)
 
         flying_more : flying_of g ≡ record (flying_of f) { turns = f.turns + 1 }
         flying_more = λ i. record { tree = (job i).tree; call = (job i).call; turns = turns i; waiting = []; rest = None }
@@ -282,43 +269,44 @@ module _ {P M : Type 0} (store : P → Store) (meant : M → Merge) (old : DbVal
             some : (a b : ℕ) → b ≡ a + 1 → b ≡ 0 → ⊥
             some a b e none = omega arith
 
-            more : (a b : ℕ) → a < MAX_LOOPS → b ≡ a + 1 → b ≤ MAX_LOOPS
-            more a b h e = omega arith
+            more : (a b : ℕ) → a < turns_limit → b ≡ a + 1 → b ≤ MAX_LOOPS
+            more a b h e = let l = limit_is in omega arith
 
         pub flies_moved : Flies store meant old f Moved new g
         flies_moved = record {
-          steps = λ slots given slot here. record {
-            told = (
-              record {
-                flying = flying_of f;
-                here = here;
-                free = must;
-                few = few;
-                is = state_over q slots (put_at slots slot (Some (flying_of g))) given (λ t i. moved_trees i t) moved_touches.calm moved_touches.rest.mark
-                    ∙ ap (λ (z : Flying). record (state_of store meant old slots given) { slots = put_at slots slot (Some z) }) flying_more;
-              },
-              refl,
-            );
+          step = record {
+            steps = λ slots given slot before after here. record {
+              told = (
+                record {
+                  flying = flying_of f;
+                  here = here;
+                  free = must_step (state_of store meant old slots given) (flying_of f) ∙ must;
+                  few = few;
+                  is = state_over q slots (put_at slots slot (Some (flying_of g))) given (λ t i. moved_trees i t) moved_touches.calm moved_touches.mark
+                      ∙ ap (λ (z : Flying). record (state_of store meant old slots given) { slots = put_at slots slot (Some z) }) flying_more;
+                },
+                refl,
+              );
+            };
+            extends = moved_extends;
+            same = refl;
           };
-          extends = moved_extends;
-          does = moves.touches;
-          quiet = λ k. absurd (apart k.reply k.decided);
-          loud = λ event k. absurd (apart k.reply k.decided);
+          does = record { does = moves.touches; quiet = λ k. absurd (apart k.reply k.decided); loud = λ event k. absurd (apart k.reply k.decided) };
           follows = λ must few. follows;
-          rest = moved_touches.rest;
           passes = further;
           loses = loses_acting at after db.forest moved.0 db.is moved.1;
           leaves = λ u is. subst (λ (z : Forest). LeavesNone (owned f.stage) (owned g.stage) (now (store old.pages)) (now (store q)) z) (one_law (nodes_at after) after.state.roots moved.0 u moved.1.is.formed is.formed) moved.3;
-          goes_on = λ e. (job, moved_known);
-          others = λ h apart k. (known_kept db.is moved.1 h k apart.off, λ e. record { off = λ p i j. not_own db.is moved.1 h k apart.off p j i });
-          same = refl;
+          knows = record {
+            goes_on = λ e. (job, moved_known);
+            others = λ h apart k. (known_kept db.is moved.1 h k apart.off, λ e. record { off = λ p i j. not_own db.is moved.1 h k apart.off p j i });
+          };
         }
           where
             apart : (r : Reply) → Moved ≡ Decided r → ⊥
             apart r e = cc
 
       -- the call is refused by the store
-      module _ (few : f.turns < MAX_LOOPS) (g : Flight) (e : Error) (moves : Moves f.job (store old.pages) f.stage (next.Refused e) (store q)) (follows : FollowsOn (store old.pages) f (Refused e) (store q) g) where
+      module _ (few : f.turns < turns_limit) (g : Flight) (e : Error) (moves : Moves f.job (store old.pages) f.stage (next.Refused e) (store q)) (follows : FollowsOn (store old.pages) f (Refused e) (store q) g) where
         refused : (v : Forest) × Acts (owned f.stage) [] at db.forest after v × Same at db.forest after v × Unit {0}
         refused = moves.told (numbers_of old.trees) (given_to old.trees_given) db.forest db.is named_now (known.told db.forest db.is)
 
@@ -326,40 +314,38 @@ module _ {P M : Type 0} (store : P → Store) (meant : M → Merge) (old : DbVal
         rests = rests_refused e (store old.pages) (store q) moves.touches
 
         refused_extends : Extends [] (store old.pages) (store q)
-        refused_extends = extends_nothing (store old.pages) (store q) rests.base rests.recent rests.actions
+        refused_extends = rests_extends rests
 
         refused_calm : (now (store q)).in_group ≡ (now (store old.pages)).in_group
         refused_calm = ap (λ (s : Rattle.sled_pages.specs.State.State). s.in_group) (now_rests rests)
 
-        pub refused_db : IsDb (store q) old.trees old.trees_given
-        refused_db = is_db refused.0 refused.1 refused_calm (record { whole = λ x i. db.safe.whole x (subst (In x) (same_left (store old.pages) (store q) rests.base rests.recent) i) })
+        pub refused_db : IsDb store (record old { pages = q })
+        refused_db = is_db refused.0 refused.1 (record { whole = λ x i. db.safe.whole x (subst (In x) (rests_left rests) i) })
 
         pub flies_refused : Flies store meant old f (Refused e) new g
         flies_refused = record {
-          steps = λ slots given slot here. record {
-            told = (
-              record {
-                flying = flying_of f;
-                here = here;
-                may = may_refuse store meant old f must slots given (store old.pages) (store q) e (cause_is (state_of store meant old slots given) (flying_of f) e (store old.pages) (store q) moves.touches);
-                limit = λ none all. absurd (below f.turns few all);
-                is = state_over q slots (put_at slots slot None) given (λ t. ap (λ (s : Rattle.sled_pages.specs.State.State). trees_of s t) (now_rests rests)) refused_calm rests.rest.mark;
-              },
-              refl,
-            );
+          step = record {
+            steps = λ slots given slot before after here. record {
+              told = (
+                record {
+                  flying = flying_of f;
+                  here = here;
+                  may = may_refuse store meant old f must slots given (store old.pages) (store q) e (cause_is (state_of store meant old slots given) (flying_of f) e (store old.pages) (store q) moves.touches);
+                  limit = λ none all. absurd (below f.turns few all);
+                  is = state_over q slots (put_at slots slot None) given (λ t. ap (λ (s : Rattle.sled_pages.specs.State.State). trees_of s t) (now_rests rests)) refused_calm rests.mark;
+                },
+                refl,
+              );
+            };
+            extends = refused_extends;
+            same = refl;
           };
-          extends = refused_extends;
-          does = refuses_quietly e (store old.pages) (store q) moves.touches;
-          quiet = λ k. absurd (apart k.reply k.decided);
-          loud = λ event k. absurd (apart k.reply k.decided);
+          does = record { does = refuses_quietly e (store old.pages) (store q) moves.touches; quiet = λ k. absurd (apart k.reply k.decided); loud = λ event k. absurd (apart k.reply k.decided) };
           follows = λ must few. follows;
-          rest = rests.rest;
           passes = record { told = tt };
           loses = loses_acting at after db.forest refused.0 db.is refused.1;
           leaves = λ v is. tt;
-          goes_on = λ e. absurd (off e);
-          others = λ h a k. (known_kept db.is refused.1 h k a.off, λ e. absurd (off e));
-          same = refl;
+          knows = record { goes_on = λ e. absurd (off e); others = λ h a k. (known_kept db.is refused.1 h k a.off, λ e. absurd (off e)) };
         }
           where
             apart : (r : Reply) → Refused e ≡ Decided r → ⊥
@@ -368,11 +354,11 @@ module _ {P M : Type 0} (store : P → Store) (meant : M → Merge) (old : DbVal
             off : Refused e ≡ Moved → ⊥
             off e = cc
 
-            below : (n : ℕ) → n < MAX_LOOPS → n ≡ MAX_LOOPS → ⊥
+            below : (n : ℕ) → n < turns_limit → n ≡ turns_limit → ⊥
             below n h e = omega arith
 
       -- the call is decided
-      module _ (few : f.turns < MAX_LOOPS) (g : Flight) (reply : Reply) (moves : Moves f.job (store old.pages) f.stage (next.Decided reply) (store q)) (follows : FollowsOn (store old.pages) f (Decided reply) (store q) g) where
+      module _ (few : f.turns < turns_limit) (g : Flight) (reply : Reply) (moves : Moves f.job (store old.pages) f.stage (next.Decided reply) (store q)) (follows : FollowsOn (store old.pages) f (Decided reply) (store q) g) where
         done : (v : Forest) × Acts (owned f.stage) [] at db.forest after v × Decides f.job reply (store old.pages) (store q) at db.forest after v × LeavesNone (owned f.stage) [] (now (store old.pages)) (now (store q)) v
         done = moves.told (numbers_of old.trees) (given_to old.trees_given) db.forest db.is named_now (known.told db.forest db.is)
 
@@ -388,10 +374,10 @@ module _ {P M : Type 0} (store : P → Store) (meant : M → Merge) (old : DbVal
             ∙ ap (λ m. put_name (trees_of (now (store old.pages))) f.job.tree.name (Some m)) done.2.here
 
         done_extends : Extends (trees_of (now (store q)) ∷ []) (store old.pages) (store q)
-        done_extends = extends_seen (store old.pages) (store q) moves.touches (done_touches.calm ∙ db.calm) (well done.0 done.1)
+        done_extends = extends_seen (store old.pages) (store q) moves.touches (done_touches.calm ∙ calm) (well done.0 done.1)
 
-        pub decided_db : IsDb (store q) old.trees old.trees_given
-        decided_db = is_db done.0 done.1 done_touches.calm (whole done.0 done.1 moves.touches)
+        pub decided_db : IsDb store (record old { pages = q })
+        decided_db = is_db done.0 done.1 (whole done.0 done.1 moves.touches)
 
         -- the trees of the state, where that of the call is another
         named_trees : (t : Key) → named (numbers_of old.trees t) (trees_of (now (store q)) t) (λ n. option_map meant (find nat_cmp n old.operators))
@@ -415,14 +401,14 @@ module _ {P M : Type 0} (store : P → Store) (meant : M → Merge) (old : DbVal
         done_state slots given slot = λ i. record {
           name = old.name;
           trees = λ t. named_trees t i;
-          queues = λ n. no_queue f.job.tree.number answer.event n i;
+          queues = λ n. no_queue old.queues f.job.tree.number answer.event n db.unwatched i;
           slots = put_at slots slot None;
           is_open = not (done_touches.calm i);
           greatest_id = old.greatest_id;
-          mark = done_touches.rest.mark i;
+          mark = done_touches.mark i;
           trees_given = old.trees_given;
           slots_given = given;
-          subscribers_given = 0;
+          subscribers_given = old.subscribers_given;
         }
 
         same_maps : maps_of (db_state store meant new) ≡ trees_of (now (store q))
@@ -430,33 +416,35 @@ module _ {P M : Type 0} (store : P → Store) (meant : M → Merge) (old : DbVal
 
         pub flies_decided : Flies store meant old f (Decided reply) new g
         flies_decided = record {
-          steps = λ slots given slot here. record {
-            told = (
-              record {
-                flying = flying_of f;
-                here = here;
-                free = must;
-                few = few;
-                tree = tree_now;
-                there = there;
-                replies = done.2.replies;
-                is = done_state slots given slot;
-              },
-              refl,
-            );
+          step = record {
+            steps = λ slots given slot before after here. record {
+              told = (
+                record {
+                  flying = flying_of f;
+                  here = here;
+                  free = must_step (state_of store meant old slots given) (flying_of f) ∙ must;
+                  few = few;
+                  tree = tree_now;
+                  there = there;
+                  replies = done.2.replies;
+                  is = done_state slots given slot;
+                },
+                refl,
+              );
+            };
+            extends = subst (λ m. Extends (m ∷ []) (store old.pages) (store q)) (sym same_maps) done_extends;
+            same = refl;
           };
-          extends = subst (λ m. Extends (m ∷ []) (store old.pages) (store q)) (sym same_maps) done_extends;
-          does = moves.touches;
-          quiet = λ k. done.2.quiet (brought k.tree k.there ∙ k.is);
-          loud = λ event k. done.2.loud (λ none. none_some (sym none ∙ brought k.tree k.there ∙ k.is));
+          does = record {
+            does = moves.touches;
+            quiet = λ k. done.2.quiet (brought k.tree k.there ∙ k.is);
+            loud = λ event k. done.2.loud (λ none. none_some (sym none ∙ brought k.tree k.there ∙ k.is));
+          };
           follows = λ must few. follows;
-          rest = done_touches.rest;
           passes = record { told = tt };
           loses = loses_acting at after db.forest done.0 db.is done.1;
           leaves = λ u is. subst (λ (z : Forest). LeavesNone (owned f.stage) [] (now (store old.pages)) (now (store q)) z) (one_law (nodes_at after) after.state.roots done.0 u done.1.is.formed is.formed) done.3;
-          goes_on = λ e. absurd (off e);
-          others = λ h a k. (known_kept db.is done.1 h k a.off, λ e. absurd (off e));
-          same = refl;
+          knows = record { goes_on = λ e. absurd (off e); others = λ h a k. (known_kept db.is done.1 h k a.off, λ e. absurd (off e)) };
         }
           where
             some_is : {X : Type 0} {x y : X} → Some x ≡ Some y → x ≡ y
@@ -470,83 +458,152 @@ module _ {P M : Type 0} (store : P → Store) (meant : M → Merge) (old : DbVal
             off e = cc
 
       -- one step of the call, whatever comes of it
-      pub flies_on : (few : f.turns < MAX_LOOPS) (went : Went) (g : Flight) → Advances (store old.pages) f went (store q) g → GoesFurther (now (store old.pages)) f went (now (store q)) g → FollowsOn (store old.pages) f went (store q) g → Flies store meant old f went new g
+      pub flies_on : (few : f.turns < turns_limit) (went : Went) (g : Flight) → Advances (store old.pages) f went (store q) g → GoesFurther (now (store old.pages)) f went (now (store q)) g → FollowsOn (store old.pages) f went (store q) g → Flies store meant old f went new g
       flies_on few Moved g a further follows = flies_moved few g a.told.0 a.told.1 a.told.2 further follows
       flies_on few (Decided reply) g a further follows = flies_decided few g reply a.told follows
       flies_on few (Refused e) g a further follows = flies_refused few g e a.told follows
 
-      pub db_on : (few : f.turns < MAX_LOOPS) (went : Went) (g : Flight) → Advances (store old.pages) f went (store q) g → GoesFurther (now (store old.pages)) f went (now (store q)) g → FollowsOn (store old.pages) f went (store q) g → IsDb (store q) old.trees old.trees_given
+      pub db_on : (few : f.turns < turns_limit) (went : Went) (g : Flight) → Advances (store old.pages) f went (store q) g → GoesFurther (now (store old.pages)) f went (now (store q)) g → FollowsOn (store old.pages) f went (store q) g → IsDb store (record old { pages = q })
       db_on few Moved g a further follows = moved_db few g a.told.0 a.told.1 a.told.2 further follows
       db_on few (Decided reply) g a further follows = decided_db few g reply a.told follows
       db_on few (Refused e) g a further follows = refused_db few g e a.told follows
 
 -- the same, where a method knows the database by its fields
-module _ {P M : Type 0} (store : P → Store) (meant : M → Merge) (inside old : DbValue P M) (e : inside ≡ old) (db : IsDb (store inside.pages) inside.trees inside.trees_given) (f : Flight) where
-  pub flies_as : (q : P) (few : f.turns < MAX_LOOPS) (went : Went) (g : Flight) → must_refuse_of (db_state store meant old) (f.job.tree ∷ []) ≡ None → IsKnown (moment (store old.pages) old.trees old.trees_given) f
+module _ {P M : Type 0} (store : P → Store) (meant : M → Merge) (inside old : DbValue P M) (e : inside ≡ old) (db : IsDb store inside) (f : Flight) where
+  pub flies_as : (q : P) (few : f.turns < turns_limit) (went : Went) (g : Flight) → must_refuse_of (db_state store meant old) (f.job.tree ∷ []) ≡ None → IsKnown (moment_of_db store old) f
       → Advances (store inside.pages) f went (store q) g → GoesFurther (now (store inside.pages)) f went (now (store q)) g → FollowsOn (store inside.pages) f went (store q) g → Flies store meant old f went (record inside { pages = q }) g
   flies_as q few went g must known a further follows =
-      subst (λ (z : DbValue P M). must_refuse_of (db_state store meant z) (f.job.tree ∷ []) ≡ None → IsKnown (moment (store z.pages) z.trees z.trees_given) f → Flies store meant z f went (record inside { pages = q }) g)
+      subst (λ (z : DbValue P M). must_refuse_of (db_state store meant z) (f.job.tree ∷ []) ≡ None → IsKnown (moment_of_db store z) f → Flies store meant z f went (record inside { pages = q }) g)
       e (λ must known. flies_on store meant inside db f must q known few went g a further follows) must known
 
-  pub db_as : (q : P) (few : f.turns < MAX_LOOPS) (went : Went) (g : Flight) → must_refuse_of (db_state store meant old) (f.job.tree ∷ []) ≡ None → IsKnown (moment (store old.pages) old.trees old.trees_given) f
-      → Advances (store inside.pages) f went (store q) g → GoesFurther (now (store inside.pages)) f went (now (store q)) g → FollowsOn (store inside.pages) f went (store q) g → IsDb (store q) inside.trees inside.trees_given
+  pub db_as : (q : P) (few : f.turns < turns_limit) (went : Went) (g : Flight) → must_refuse_of (db_state store meant old) (f.job.tree ∷ []) ≡ None → IsKnown (moment_of_db store old) f
+      → Advances (store inside.pages) f went (store q) g → GoesFurther (now (store inside.pages)) f went (now (store q)) g → FollowsOn (store inside.pages) f went (store q) g → IsDb store (record inside { pages = q })
   db_as q few went g must known a further follows =
-      subst (λ (z : DbValue P M). must_refuse_of (db_state store meant z) (f.job.tree ∷ []) ≡ None → IsKnown (moment (store z.pages) z.trees z.trees_given) f → IsDb (store q) inside.trees inside.trees_given)
+      subst (λ (z : DbValue P M). must_refuse_of (db_state store meant z) (f.job.tree ∷ []) ≡ None → IsKnown (moment_of_db store z) f → IsDb store (record inside { pages = q }))
       e (λ must known. db_on store meant inside db f must q known few went g a further follows) must known
 
 -- below the limit
-pub below_limit : (f : Flight) → f.turns ≤ MAX_LOOPS → f.turns ≢ MAX_LOOPS → f.turns < MAX_LOOPS
-below_limit f h off = omega arith
+pub below_limit : (f : Flight) → f.turns ≤ MAX_LOOPS → f.turns ≢ MAX_LOOPS → f.turns < turns_limit
+below_limit f h off = let l = limit_is in omega arith
 
 -- ---- a call that goes on
 
 some_is : {X : Type 0} {x y : X} → Some x ≡ Some y → x ≡ y
 some_is e = cc
 
-module _ {P M : Type 0} (store : P → Store) (meant : M → Merge) (old new : DbValue P M) (f g : Flight) (flies : Flies store meant old f Moved new g) where
-  abbrev everywhere : ℕ → Option Flying
-  everywhere n = Some (flying_of f)
+abbrev everywhere : Flight → ℕ → Option Flying
+everywhere f n = Some (flying_of f)
 
-  went_on : Rattle.sled_model.specs.Steps.Moves (state_of store meant old everywhere 0) 0 (state_of store meant new (put_at everywhere 0 (Some (flying_of g))) 0)
-  went_on = (flies.steps everywhere 0 0 refl).told.0
+module _ {P M : Type 0} (store : P → Store) (meant : M → Merge) (old new : DbValue P M) (f g : Flight) (flies : Flies store meant old f Moved new g) where
+  went_on : Rattle.sled_model.specs.Steps.Moves (state_of store meant old (everywhere f) 0) 0 (state_of store meant new (put_at (everywhere f) 0 (Some (flying_of g))) 0)
+  went_on = (flies.step.steps (everywhere f) 0 0 0 0 refl).told.0
 
   -- the tests pass still
   pub still_tested : must_refuse_of (db_state store meant old) (f.job.tree ∷ []) ≡ None → must_refuse_of (db_state store meant new) (g.job.tree ∷ []) ≡ None
   still_tested must =
-      ap (λ (j : Job). must_refuse_of (db_state store meant new) (j.tree ∷ [])) (flies.goes_on refl).0
+      ap (λ (j : Job). must_refuse_of (db_state store meant new) (j.tree ∷ [])) (flies.knows.goes_on refl).0
       ∙ (ap (λ (s : State). must_refuse_of s (f.job.tree ∷ [])) went_on.is ∙ must)
 
   -- it had turns left, and has one less
-  pub turn_taken : (f.turns < MAX_LOOPS) × (g.turns ≡ f.turns + 1)
+  pub turn_taken : (f.turns < turns_limit) × (g.turns ≡ f.turns + 1)
   turn_taken =
       let same : flying_of f ≡ went_on.flying = some_is went_on.here in
       let after : Some (flying_of g) ≡ Some (record (went_on.flying) { turns = went_on.flying.turns + 1 }) = ap (λ (s : State). s.slots 0) went_on.is in (
-        subst (λ (z : Flying). z.turns < MAX_LOOPS) (sym same) went_on.few,
+        subst (λ (z : Flying). z.turns < turns_limit) (sym same) went_on.few,
         ap (λ (z : Flying). z.turns) (some_is after) ∙ ap (λ (z : Flying). z.turns + 1) (sym same),
       )
 
   pub fewer_turns : MAX_LOOPS - g.turns < MAX_LOOPS - f.turns
-  fewer_turns = let t = turn_taken in let few = t.0 in let one = t.1 in omega arith
+  fewer_turns = let t = turn_taken in let few = t.0 in let one = t.1 in let l = limit_is in omega arith
+
+-- who has turns left is not refused for them
+module _ {P M : Type 0} (store : P → Store) (meant : M → Merge) (old new : DbValue P M) (f g : Flight) where
+  all_turns : (e : Error) → TellsTurns e → Flies store meant old f (Refused e) new g → f.turns ≡ turns_limit
+  all_turns (error.ReportableBug text) tells flies =
+      let k = (flies.step.steps (everywhere f) 0 0 0 0 refl).told.0 in
+      ap (λ (z : Flying). z.turns) (some_is k.here) ∙ go (state_of store meant old (everywhere f) 0) (store old.pages) (store new.pages) k.flying (must_refuse (state_of store meant old (everywhere f) 0) (ToStep k.flying)) k.may.told
+    where
+      go : (s : State) (x y : Store) (f : Flying) (o : Option MustRefuse) → may_refuse_as o s x y (ToStep f) (error.ReportableBug text) → f.turns ≡ turns_limit
+      go s x y f None t = t.1
+      go s x y f (Some IsClosed) t = unlike t
+        where
+          unlike : {X : Type 0} → error.ReportableBug text ≡ error.Closed → X
+          unlike e = cc
+      go s x y f (Some IsForeign) t = absurd t
+      go s x y f (Some (IsDropped name)) (inl t) = unlike t
+        where
+          unlike : {X : Type 0} → error.ReportableBug text ≡ error.CollectionNotFound name → X
+          unlike e = cc
+      go s x y f (Some (IsDropped name)) (inr t) = unlike t
+        where
+          unlike : {X : Type 0} → error.ReportableBug text ≡ error.NoMemory → X
+          unlike e = cc
+      go s x y f (Some HasNoOperator) t = absurd t
+  all_turns error.NoMemory tells flies = absurd tells
+  all_turns (error.Io fault) tells flies = absurd tells
+  all_turns (error.CollectionNotFound name) tells flies = absurd tells
+  all_turns (error.Unsupported text) tells flies = absurd tells
+  all_turns (error.Corruption fault) tells flies = absurd tells
+  all_turns error.FullQueue tells flies = absurd tells
+  all_turns error.Closed tells flies = absurd tells
+
+  ends_with_turns : (went : Went) → Flies store meant old f went new g → f.turns < turns_limit → has_turns went
+  ends_with_turns Moved flies few = tt
+  ends_with_turns (Decided reply) flies few = tt
+  ends_with_turns (Refused e) flies few = λ tells. below f.turns few (all_turns e tells flies)
+    where
+      below : (n : ℕ) → n < turns_limit → n ≡ turns_limit → ⊥
+      below n h e = omega arith
+
+-- over a clean path a call goes on at most once a page
+module _ {P M : Type 0} (store : P → Store) (meant : M → Merge) where
+  prompt : (n : ℕ) (old new : DbValue P M) (f g : Flight) (went : Went) → FliesTimes store meant n old f went new g → (path : List ℕ) → IsOnPath (now (store old.pages)) f.job f.stage path → f.turns + length path < turns_limit → IsPrompt n went path
+  prompt zero old new f g went (Ends flies off) path on few = record { few = omega arith; unlimited = ends_with_turns store meant old new f g went flies (omega arith) }
+  prompt (suc n) old new f g went (GoesOn {mid = mid} {h = h} flies rest) path on few =
+      let p = flies.passes.told path on in
+      let turns = (turn_taken store meant old mid f h flies).1 in
+      let k = prompt n mid new h g went rest p.0 p.2 (fewer f.turns h.turns (length path) (length p.0) turns p.1 few) in record {
+        few = more n (length p.0) (length path) p.1 k.few;
+        unlimited = k.unlimited;
+      }
+    where
+      fewer : (t u a b : ℕ) → u ≡ t + 1 → a ≡ suc b → t + a < turns_limit → u + b < turns_limit
+      fewer t u a b e h few = omega arith
+
+      more : (n b a : ℕ) → a ≡ suc b → n ≤ b → suc n ≤ a
+      more n b a e h = omega arith
+
+  pub to_end : (n : ℕ) (old new : DbValue P M) (f g : Flight) (went : Went) → FliesTimes store meant n old f went new g → FliesToEnd store meant old f went new g
+  to_end n old new f g went flies = record { moves = n; flies = flies; passes = prompt n old new f g went flies }
 
 -- a call that went on so far, whose tests passed: with what is left of its way it goes its whole way
 pub record IsFlying {P M : Type 0} (store : P → Store) (meant : M → Merge) (old : DbValue P M) (f : Flight) (mid : DbValue P M) (h : Flight) : Type 0 where
-  pub whole : (went : Went) (new : DbValue P M) (g : Flight) → FliesToEnd store meant mid h went new g → FliesToEnd store meant old f went new g
-  pub known : IsKnown (moment (store mid.pages) mid.trees mid.trees_given) h
+  pub whole : (n : ℕ) (went : Went) (new : DbValue P M) (g : Flight) → FliesTimes store meant n mid h went new g → (m : ℕ) × FliesTimes store meant m old f went new g
+  pub known : IsKnown (moment_of_db store mid) h
   pub tested : must_refuse_of (db_state store meant mid) (h.job.tree ∷ []) ≡ None
 
 module _ {P M : Type 0} (store : P → Store) (meant : M → Merge) (old : DbValue P M) (f : Flight) where
-  pub going_first : IsKnown (moment (store old.pages) old.trees old.trees_given) f → must_refuse_of (db_state store meant old) (f.job.tree ∷ []) ≡ None → IsFlying store meant old f old f
-  going_first known tested = record { whole = λ went new g end. end; known = known; tested = tested }
+  pub going_first : IsKnown (moment_of_db store old) f → must_refuse_of (db_state store meant old) (f.job.tree ∷ []) ≡ None → IsFlying store meant old f old f
+  going_first known tested = record { whole = λ n went new g end. (n, end); known = known; tested = tested }
 
   pub going_more : (mid next : DbValue P M) (h k : Flight) → IsFlying store meant old f mid h → Flies store meant mid h Moved next k → IsFlying store meant old f next k
   going_more mid next h k is flies = record {
-    whole = λ went new g end. is.whole went new g (GoesOn flies end);
-    known = (flies.goes_on refl).1;
+    whole = λ n went new g end. is.whole (suc n) went new g (GoesOn flies end);
+    known = (flies.knows.goes_on refl).1;
     tested = still_tested store meant mid next h k flies is.tested;
   }
 
   pub going_ends : (mid new : DbValue P M) (h g : Flight) (went : Went) → IsFlying store meant old f mid h → Flies store meant mid h went new g → went ≢ Moved → FliesToEnd store meant old f went new g
-  going_ends mid new h g went is flies off = is.whole went new g (Ends flies off)
+  going_ends mid new h g went is flies off = let all = is.whole zero went new g (Ends flies off) in to_end store meant all.0 old new f g went all.1
 
 pub refused_is_end : {e : Error} → Refused e ≢ Moved
 refused_is_end e = cc
+
+-- a call that came to its end did not go on
+module _ {P M : Type 0} (store : P → Store) (meant : M → Merge) where
+  times_end : (n : ℕ) (old new : DbValue P M) (f g : Flight) (went : Went) → FliesTimes store meant n old f went new g → went ≢ Moved
+  times_end zero old end f g went (Ends flies off) = off
+  times_end (suc n) old end f g went (GoesOn {mid = mid} {h = h} flies rest) = times_end n mid end h g went rest
+
+  pub end_reached : (old new : DbValue P M) (f g : Flight) (went : Went) → FliesToEnd store meant old f went new g → went ≢ Moved
+  end_reached old new f g went flies = times_end flies.moves old new f g went flies.flies

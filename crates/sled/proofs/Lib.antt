@@ -1,4 +1,6 @@
 pub mod Walks
+pub mod Resting
+pub mod Testing
 pub mod Trees
 pub mod Flying
 pub mod Flushing

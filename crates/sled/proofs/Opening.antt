@@ -19,8 +19,8 @@ use Rattle.sled_pages.specs.declared.page.Page.{Page}
 use Rattle.sled_model.specs.Maps.{Map, Maps}
 use Rattle.tree_laws.specs.Forest.{Tree, Forest, Place, WellFormed, IsSized, contents}
 use Rattle.tree_laws.specs.Contents.{trees_of}
-use Rattle.tree_laws.specs.Crashes.{IsWhole, Extends, Flushes}
-use Rattle.tree_laws.specs.Moment.{IsMoment, IsStray}
+use Rattle.tree_laws.specs.Crashes.{IsWhole, IsCrashWhole, Extends, Flushes}
+use Rattle.tree_laws.specs.Moment.{Moment, moment_of, nodes_at, IsMoment, IsStray}
 use Rattle.tree_laws.specs.Laws.{IsAlone}
 use Rattle.tree_laws.proofs.Crashing.{adds_page, adds_is, adds_extends, adds_unseen, extends_same, extends_then, flushes_same, flushes_left, flushes_whole_law}
 use Rattle.tree_laws.proofs.Known.{store_moment}
@@ -29,7 +29,7 @@ use Rattle.tree_laws.proofs.Order.{key_same}
 use Rattle.tree_laws.proofs.Roots.{plant_law}
 use Rattle.tree_laws.proofs.Fuel.{contents_law}
 use Rattle.sled.specs.declared.TheConstants.{DEFAULT_TREE}
-use Rattle.sled.specs.Values.{DbValue, numbers_of, given_to, moment}
+use Rattle.sled.specs.Values.{DbValue, default_name, numbers_of, given_to, moment_of_db}
 use Rattle.sled.specs.Sound.{IsDb}
 use Rattle.sled.specs.Opens.{or_empty, with_tree, planted, numbered, CanBeOpened, RefusesTree, HasTree, AreNumbered, Opens}
 
@@ -344,9 +344,17 @@ none_no : {X : Type 0} (o : Option X) → is_some o ≡ true → (x : X) × (o �
 none_no None e = false_true e
 none_no (Some x) e = (x, refl)
 
+-- the name of the default tree is the one that the constant has
+pub default_is : DEFAULT_TREE.now ≡ default_name
+unfolding default_name
+default_is = refl
+
 -- the same of the default tree, whose name is known by its bytes
-pub has_default : {a b : Store} (k : Key) → k ≡ DEFAULT_TREE.now → HasTree k a b → HasTree DEFAULT_TREE.now a b
-has_default {a} {b} k e h = subst (λ z. HasTree z a b) e h
+pub has_default : {a b : Store} (k : Key) → k ≡ DEFAULT_TREE.now → HasTree k a b → HasTree default_name a b
+has_default {a} {b} k e h = subst (λ z. HasTree z a b) (e ∙ default_is) h
+
+pub refused_default : {a b : Store} {e : Error} (k : Key) → k ≡ DEFAULT_TREE.now → RefusesTree k a e b → RefusesTree default_name a e b
+refused_default {a} {b} {e} k is r = subst (λ z. RefusesTree z a e b) (is ∙ default_is) r
 
 -- the trees of a store are numbered
 module _ (s : Store) {trees : List (Key × ℕ)} (all : AreNumbered (now s) trees) where
@@ -359,7 +367,7 @@ module _ (s : Store) {trees : List (Key × ℕ)} (all : AreNumbered (now s) tree
   in_all : (t : Key) (n : ℕ) → numbers_of trees t ≡ Some n → find key_cmp t (numbered 0 (names_in all.roots)) ≡ Some n
   in_all t n e = ap (find key_cmp t) (sym all.is) ∙ e
 
-  pub moment_here : (given : ℕ) → given ≡ length trees → AreGiven s → (w : Forest) → WellFormed (nodes_of (now s)) (now s).roots w → IsMoment (moment s trees given) w
+  pub moment_here : (given : ℕ) → given ≡ length trees → AreGiven s → (w : Forest) → WellFormed (nodes_of (now s)) (now s).roots w → IsMoment (moment_of s (numbers_of trees) (given_to given)) w
   moment_here given count are w f = store_moment s (numbers_of trees) (given_to given) w are
       (λ t r e. none_no (numbers_of trees t) (is_number t ∙ ap is_some e))
       (λ t n e. none_no ((now s).roots t) (sym (is_number t) ∙ ap is_some e))
@@ -370,21 +378,23 @@ module _ (s : Store) {trees : List (Key × ℕ)} (all : AreNumbered (now s) tree
       within : (n m given : ℕ) → 0 < n → n ≤ 0 + m → given ≡ m → given_to given n ≡ true
       within n m given p q e = grind (arith, nat_tests)
 
-  pub opened_db : (given : ℕ) → given ≡ length trees → AreGiven s → (a c : Store) → HasTree DEFAULT_TREE.now a s → c ≡ flushed s → IsDb c trees given
-  opened_db given count are a c h e =
-      let well = h.again.well in
-      subst (λ (z : Store). IsDb z trees given) (sym e) (record {
+  pub opened_db : {P M : Type 0} (store : P → Store) (d : DbValue P M) → d.trees ≡ trees → d.trees_given ≡ length trees → d.queues ≡ [] → AreGiven s → (a : Store) → HasTree default_name a s → store d.pages ≡ flushed s → IsDb store d
+  opened_db store d same count queues are a h e =
+      let well = h.again.well in record {
         forest = well.forest;
-        is = moment_here given count are well.forest well.formed;
-        sized = well.sized;
-        safe = flushes_whole_law s (flushed s) (flushes_same s) h.again.calm well;
-        calm = h.again.calm;
-        ascends = ascends;
-        default = none_no (numbers_of trees DEFAULT_TREE.now) (is_number DEFAULT_TREE.now ∙ there);
-      })
+        is = subst (λ (m : Moment). IsMoment m well.forest) (sym at) (moment_here d.trees_given count are well.forest well.formed);
+        sized = subst (λ (m : Moment). IsSized (nodes_at m) well.forest) (sym at) well.sized;
+        safe = subst IsCrashWhole (sym e) (flushes_whole_law s (flushed s) (flushes_same s) h.again.calm well);
+        ascends = ap (is_sorted key_cmp) same ∙ ascends;
+        default = subst (λ ts. (n : ℕ) × (numbers_of ts default_name ≡ Some n)) (sym same) (none_no (numbers_of trees default_name) (is_number default_name ∙ there));
+        unwatched = queues;
+      }
     where
-      maps : trees_of (now s) DEFAULT_TREE.now ≡ or_empty (trees_of (now a) DEFAULT_TREE.now)
-      maps = ap (λ (m : Maps). m DEFAULT_TREE.now) h.maps
+      at : moment_of_db store d ≡ moment_of s (numbers_of trees) (given_to d.trees_given)
+      at = λ i. moment_of (e i) (numbers_of (same i)) (given_to d.trees_given)
+
+      maps : trees_of (now s) default_name ≡ or_empty (trees_of (now a) default_name)
+      maps = ap (λ (m : Maps). m default_name) h.maps ∙ ap (λ b. cond b (or_empty (trees_of (now a) default_name)) (trees_of (now a) default_name)) (Rattle.sled_pages.specs.Facts.name_itself default_name)
 
       full : (o : Option Map) → is_some (or_empty o) ≡ true
       full None = refl
@@ -394,13 +404,13 @@ module _ (s : Store) {trees : List (Key × ℕ)} (all : AreNumbered (now s) tree
       mapped None = refl
       mapped (Some r) = refl
 
-      there : is_some ((now s).roots DEFAULT_TREE.now) ≡ true
-      there = sym (mapped ((now s).roots DEFAULT_TREE.now)) ∙ ap is_some maps ∙ full (trees_of (now a) DEFAULT_TREE.now)
+      there : is_some ((now s).roots default_name) ≡ true
+      there = sym (mapped ((now s).roots default_name)) ∙ ap is_some maps ∙ full (trees_of (now a) default_name)
 
 -- the database that is opened
-pub opens : {P M : Type 0} (store : P → Store) (a s : Store) (called : Key) (d : DbValue P M) → HasTree DEFAULT_TREE.now a s → AreNumbered (now s) d.trees → store d.pages ≡ flushed s
-    → d.trees_given ≡ length d.trees → d.greatest_id ≡ (store d.pages).mark → d.operators ≡ [] → d.name ≡ called → Opens store a called d
-opens store a s called d h all e given ids operators name = record {
+pub opens : {P M : Type 0} (store : P → Store) (a s : Store) (called : Key) (d : DbValue P M) → HasTree default_name a s → AreNumbered (now s) d.trees → store d.pages ≡ flushed s
+    → d.trees_given ≡ length d.trees → d.greatest_id ≡ (store d.pages).mark → d.operators ≡ [] → d.queues ≡ [] → d.subscribers_given ≡ 0 → d.name ≡ called → Opens store a called d
+opens store a s called d h all e given ids operators queues subscribers name = record {
   middle = s;
   grows = h.grows;
   flushes = subst (λ (z : Store). Flushes s z) (sym e) (flushes_same s);
@@ -413,6 +423,9 @@ opens store a s called d h all e given ids operators name = record {
   given = given;
   ids = ids ∙ mark;
   operators = operators;
+  queues = queues;
+  subscribers = subscribers;
+  no_group = ap (λ (z : Store). (now z).in_group) e ∙ h.again.calm;
   name = name;
   mark = mark;
   recovered = ap (λ (z : Store). z.recovered) e ∙ h.again.recovered;

@@ -16,7 +16,7 @@ use Rattle.tree_laws.specs.Forest.{Forest, contents}
 use Rattle.tree_laws.specs.Contents.{trees_of}
 use Rattle.tree_laws.specs.Moment.{moment_of, IsMoment}
 use Rattle.tree_laws.proofs.Fuel.{contents_law}
-use Rattle.sled.specs.Values.{DbValue, numbers_of, given_to, named, db_state, moment}
+use Rattle.sled.specs.Values.{DbValue, numbers_of, given_to, named, db_state, moment_of_db}
 
 none_some : {P X : Type 0} {x : X} → None ≡ Some x → P
 none_some e = cc
@@ -62,7 +62,7 @@ trees_put a b numbers given w v is on u n e others = fun_ext (λ t. go t (bytes_
 
 -- the maps of the state are the contents
 module _ {P M : Type 0} (store : P → Store) (meant : M → Merge) where
-  pub maps_are : (d : DbValue P M) (w : Forest) → IsMoment (moment (store d.pages) d.trees d.trees_given) w → maps_of (db_state store meant d) ≡ trees_of (now (store d.pages))
+  pub maps_are : (d : DbValue P M) (w : Forest) → IsMoment (moment_of_db store d) w → maps_of (db_state store meant d) ≡ trees_of (now (store d.pages))
   maps_are d w is = fun_ext (λ t. go _ _ (numbers_of d.trees t) (trees_of (now (store d.pages)) t) (trees_at (store d.pages) (numbers_of d.trees) (given_to d.trees_given) w is t))
     where
       go : (merge : ℕ → Option Merge) (c : Map) (n : Option ℕ) (m : Option Map) → m ≡ option_map (λ _. c) n → option_map (λ (z : NamedTree). z.map) (named n m merge) ≡ m

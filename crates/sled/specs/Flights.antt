@@ -1,5 +1,5 @@
 -- One step of a call in flight on a database.
-use Rattle.std.specs.Prelude.{◌≡◌, ◌≢◌, ℕ, ◌+◌, ◌<◌, ◌⊎◌, true, false, List, [], ◌∷◌, Option, Some, None}
+use Rattle.std.specs.Prelude.{◌≡◌, ◌≢◌, ℕ, zero, suc, ◌+◌, ◌<◌, ◌≤◌, ◌⊎◌, true, false, List, [], ◌∷◌, length, Option, Some, None}
 use Rattle.sled_pages.specs.In.{In}
 use Rattle.sled_pages.specs.declared.error.Error.{Error}
 use Rattle.sled_pages.specs.declared.error.Error.TheVariants.{Io}
@@ -10,28 +10,27 @@ use Rattle.sled_pages.specs.Update.{put_at}
 use Rattle.sled_model.specs.Maps.{Maps, Merge}
 use Rattle.sled_model.specs.Answer.{answer_of}
 use Rattle.sled_model.specs.State.{NamedTree, Flying, maps_of}
-use Rattle.sled_model.specs.Refusal.{must_refuse_of}
+use Rattle.sled_model.specs.Refusal.{must_refuse_of, TellsTurns, turns_limit}
 use Rattle.sled_model.specs.Steps.{Steps}
 use Rattle.sled_model.specs.declared.event.Event.{Event}
 use Rattle.sled_model.specs.declared.reply.Reply.{Reply}
 use Rattle.sled_model.specs.declared.outcome.Outcome.{Outcome}
 use Rattle.sled_model.specs.declared.outcome.Outcome.TheVariants as outcome
 use Rattle.sled_model.specs.declared.outcome.Step.TheVariants as step
-use Rattle.sled_model.specs.declared.TheConstants.{MAX_LOOPS}
-use Rattle.tree_laws.specs.Forest.{Place, Forest}
+use Rattle.tree_laws.specs.Forest.{Tree, Place, Forest}
 use Rattle.tree_laws.specs.Crashes.{Extends}
 use Rattle.tree_laws.specs.Moment.{Moment, nodes_at, IsMoment}
 use Rattle.sled_tree.specs.Stages.{owned}
 use Rattle.sled_tree.specs.Known.{IsKnown, AreApart}
 use Rattle.sled_tree.specs.Moves.{ActsOnce, ActsAtMostOnce, leaves_as}
 use Rattle.sled_tree.specs.Follows.{FollowsOn}
-use Rattle.sled_tree.specs.Passing.{GoesFurther}
+use Rattle.sled_tree.specs.Passing.{IsOnPath, GoesFurther}
 use Rattle.sled_tree.specs.declared.flight.Flight.{Flight}
 use Rattle.sled_tree.specs.declared.flight.Next.{Next}
 use Rattle.sled_tree.specs.declared.flight.Next.TheVariants as next
 use Rattle.sled_tree.specs.declared.flight.Went.{Went}
 use Rattle.sled_tree.specs.declared.flight.Went.TheVariants.{Moved, Decided, Refused}
-use Rattle.sled.specs.Values.{KeepsRest, DbValue, db_state, instant_of, moment}
+use Rattle.sled.specs.Values.{DbValue, db_state, instant_of, moment_of_db}
 
 -- a call in flight, as the model has it
 abbrev pub flying_of : Flight → Flying
@@ -68,54 +67,84 @@ pub record Brings {P M : Type 0} (store : P → Store) (meant : M → Merge) (ol
   pub there : (db_state store meant old).trees f.job.tree.name ≡ Some tree
   pub is : (answer_of f.job.call tree.map).event ≡ event
 
--- each page that stood in a tree stands there still, or is merging
-pub record StillStands (w : Forest) (nodes : Nodes) (v : Forest) : Type 0 where
-  pub told : (x : Place) (p : ℕ) → In p (w.chain x) → In p (v.chain x) ⊎ ((n : Node) × (nodes p ≡ Some n) × (n.merging ≡ true))
+-- each page that stood in a tree stands there still, or is merging; but for those of the tree that is lost, if one is
+pub record StillStands (lost : Option Tree) (w : Forest) (nodes : Nodes) (v : Forest) : Type 0 where
+  pub told : (x : Place) (p : ℕ) → lost ≢ Some x.tree → In p (w.chain x) → In p (v.chain x) ⊎ ((n : Node) × (nodes p ≡ Some n) × (n.merging ≡ true))
 
 -- .. at the forests that fit the pages at the two moments
-abbrev pub LosesNone : Moment → Moment → Type 0
-LosesNone old new = (w v : Forest) → IsMoment old w → IsMoment new v → StillStands w (nodes_at new) v
+abbrev pub LosesNone : Option Tree → Moment → Moment → Type 0
+LosesNone lost old new = (w v : Forest) → IsMoment old w → IsMoment new v → StillStands lost w (nodes_at new) v
 
 -- a refusal changes nothing; but `Io` counts a fault, or tells that some page is not readable
 abbrev pub RefusesQuietly : Error → Store → Store → Type 0
 RefusesQuietly (Io fault) old new = (new ≡ record old { faults = old.faults + 1 }) ⊎ ((new ≡ old) × ((pid : ℕ) × (old.is_readable pid ≡ false)))
 RefusesQuietly e old new = new ≡ old
 
--- what a step does to the store
+-- what a step does to the store: at most one changing action, and none where the call is refused
 abbrev pub does_as : Went → Store → Store → Type 0
 does_as Moved old new = ActsAtMostOnce old new
 does_as (Decided reply) old new = ActsAtMostOnce old new
 does_as (Refused e) old new = RefusesQuietly e old new
 
--- One step of a call in flight
-pub record Flies {P M : Type 0} (store : P → Store) (meant : M → Merge) (old : DbValue P M) (f : Flight) (went : Went) (new : DbValue P M) (g : Flight) : Type 0 where
-  -- in whatever slot the call is, the machine makes this step
-  pub steps : (slots : ℕ → Option Flying) (slots_given slot : ℕ) → slots slot ≡ Some (flying_of f)
-      → Steps (instant_of store meant old slots slots_given) (step.Step slot) (outcome_of went) (instant_of store meant new (put_at slots slot (slot_after went g)) slots_given) (maps_added went (maps_of (db_state store meant new)))
-  -- what a crash may leave grows by the map after the call, if it was decided
+-- One step of a call in flight: in whatever slot the call is, the machine makes this step; what a crash may leave grows by the map
+-- after the call, if it was decided; and nothing of the database changes but its pages
+pub record DbStep {P M : Type 0} (store : P → Store) (meant : M → Merge) (old : DbValue P M) (f : Flight) (went : Went) (new : DbValue P M) (g : Flight) : Type 0 where
+  pub steps : (slots : ℕ → Option Flying) (slots_given slot before after : ℕ) → slots slot ≡ Some (flying_of f)
+      → Steps (instant_of store meant old slots slots_given before) (step.Step slot) (outcome_of went) (instant_of store meant new (put_at slots slot (slot_after went g)) slots_given after) (maps_added went (maps_of (db_state store meant new)))
   pub extends : Extends (maps_added went (maps_of (db_state store meant new))) (store old.pages) (store new.pages)
-  -- at most one changing action is done: none where the call is refused or was decided without an event, and one where it
-  -- was decided with one
+  pub same : new ≡ record old { pages = new.pages }
+
+-- At most one changing action is done: none where the call is refused or was decided without an event, and one where it was decided
+-- with one
+pub record DbActs {P M : Type 0} (store : P → Store) (meant : M → Merge) (old : DbValue P M) (f : Flight) (went : Went) (new : DbValue P M) : Type 0 where
   pub does : does_as went (store old.pages) (store new.pages)
   pub quiet : Brings store meant old f went None → store new.pages ≡ store old.pages
   pub loud : (event : Event) → Brings store meant old f went (Some event) → ActsOnce (store old.pages) (store new.pages)
-  -- where the tests pass and a turn is left, the step does what the call's stage is to do, and leads where that leads
-  pub follows : must_refuse_of (db_state store meant old) (f.job.tree ∷ []) ≡ None → f.turns < MAX_LOOPS → FollowsOn (store old.pages) f went (store new.pages) g
-  pub rest : KeepsRest (store old.pages) (store new.pages)
+
+-- where the tests pass and a turn is left, the step does what the call's stage is to do, and leads where that leads
+abbrev pub DbFollows : {P M : Type 0} → (P → Store) → (M → Merge) → DbValue P M → Flight → Went → DbValue P M → Flight → Type 0
+DbFollows store meant old f went new g = must_refuse_of (db_state store meant old) (f.job.tree ∷ []) ≡ None → f.turns < turns_limit → FollowsOn (store old.pages) f went (store new.pages) g
+
+-- no page of the call's own is left behind, but by a call that is refused
+abbrev pub DbLeaves : {P M : Type 0} → (P → Store) → DbValue P M → Flight → Went → DbValue P M → Flight → Type 0
+DbLeaves store old f went new g = (v : Forest) → IsMoment (moment_of_db store new) v → leaves_as (next_of went g) (owned f.stage) (now (store old.pages)) (now (store new.pages)) v
+
+-- What the calls know: the call goes on and knows what it needs; and what another call knows stays true, and no page becomes the two
+-- calls' own
+pub record DbKnows {P M : Type 0} (store : P → Store) (old : DbValue P M) (f : Flight) (went : Went) (new : DbValue P M) (g : Flight) : Type 0 where
+  pub goes_on : went ≡ Moved → (g.job ≡ f.job) × IsKnown (moment_of_db store new) g
+  pub others : (h : Flight) → AreApart f h → IsKnown (moment_of_db store old) h → IsKnown (moment_of_db store new) h × (went ≡ Moved → AreApart g h)
+
+-- All that is said of one step
+pub record Flies {P M : Type 0} (store : P → Store) (meant : M → Merge) (old : DbValue P M) (f : Flight) (went : Went) (new : DbValue P M) (g : Flight) : Type 0 where
+  pub step : DbStep store meant old f went new g
+  pub does : DbActs store meant old f went new
+  pub follows : DbFollows store meant old f went new g
   -- on a clean path the call goes one page further, or ends
   pub passes : GoesFurther (now (store old.pages)) f went (now (store new.pages)) g
-  -- no page of a tree is lost, and none of the call's own is left behind, but by a call that is refused
-  pub loses : LosesNone (moment (store old.pages) old.trees old.trees_given) (moment (store new.pages) new.trees new.trees_given)
-  pub leaves : (v : Forest) → IsMoment (moment (store new.pages) new.trees new.trees_given) v → leaves_as (next_of went g) (owned f.stage) (now (store old.pages)) (now (store new.pages)) v
-  -- the call goes on, and knows what it needs
-  pub goes_on : went ≡ Moved → (g.job ≡ f.job) × IsKnown (moment (store new.pages) new.trees new.trees_given) g
-  -- what another call knows stays true, and no page becomes the two calls' own
-  pub others : (h : Flight) → AreApart f h → IsKnown (moment (store old.pages) old.trees old.trees_given) h
-      → IsKnown (moment (store new.pages) new.trees new.trees_given) h × (went ≡ Moved → AreApart g h)
-  -- nothing else of the database changes
-  pub same : new ≡ record old { pages = new.pages }
+  -- no page of a tree is lost
+  pub loses : LosesNone None (moment_of_db store old) (moment_of_db store new)
+  pub leaves : DbLeaves store old f went new g
+  pub knows : DbKnows store old f went new g
 
--- Steps of a call in flight, one after the other, until it ends
-pub data FliesToEnd {P M : Type 0} (store : P → Store) (meant : M → Merge) : DbValue P M → Flight → Went → DbValue P M → Flight → Type 0 where
-  Ends : {old new : DbValue P M} {f g : Flight} {went : Went} → Flies store meant old f went new g → went ≢ Moved → FliesToEnd store meant old f went new g
-  GoesOn : {old mid new : DbValue P M} {f h g : Flight} {went : Went} → Flies store meant old f Moved mid h → FliesToEnd store meant mid h went new g → FliesToEnd store meant old f went new g
+-- Steps of a call in flight, one after the other, of which so many go on and the next ends it
+pub data FliesTimes {P M : Type 0} (store : P → Store) (meant : M → Merge) : ℕ → DbValue P M → Flight → Went → DbValue P M → Flight → Type 0 where
+  Ends : {old new : DbValue P M} {f g : Flight} {went : Went} → Flies store meant old f went new g → went ≢ Moved → FliesTimes store meant zero old f went new g
+  GoesOn : {n : ℕ} {old mid new : DbValue P M} {f h g : Flight} {went : Went} → Flies store meant old f Moved mid h → FliesTimes store meant n mid h went new g → FliesTimes store meant (suc n) old f went new g
+
+-- the call was not refused for its turns
+abbrev pub has_turns : Went → Type 0
+has_turns Moved = Unit {0}
+has_turns (Decided reply) = Unit {0}
+has_turns (Refused e) = TellsTurns e → ⊥
+
+-- the call went on at most once for each page of the path, and was not refused for its turns
+pub record IsPrompt (moves : ℕ) (went : Went) (path : List ℕ) : Type 0 where
+  pub few : moves ≤ length path
+  pub unlimited : has_turns went
+
+-- All steps of a call in flight to its end. Over a clean path of fewer pages than it has turns left it goes on at most once a page
+pub record FliesToEnd {P M : Type 0} (store : P → Store) (meant : M → Merge) (old : DbValue P M) (f : Flight) (went : Went) (new : DbValue P M) (g : Flight) : Type 0 where
+  pub moves : ℕ
+  pub flies : FliesTimes store meant moves old f went new g
+  pub passes : (path : List ℕ) → IsOnPath (now (store old.pages)) f.job f.stage path → f.turns + length path < turns_limit → IsPrompt moves went path

@@ -11,8 +11,7 @@ use Rattle.sled_pages.specs.declared.error.Error.{Error}
 use Rattle.sled_model.specs.Maps.{Map, Maps}
 use Rattle.tree_laws.specs.Contents.{trees_of}
 use Rattle.tree_laws.specs.Crashes.{IsWhole, Extends, Flushes}
-use Rattle.sled.specs.Values.{DbValue, numbers_of}
-use Rattle.sled.specs.declared.TheConstants.{DEFAULT_TREE}
+use Rattle.sled.specs.Values.{DbValue, default_name, numbers_of}
 
 abbrev pub or_empty : Option Map → Option Map
 or_empty None = Some []
@@ -23,7 +22,7 @@ abbrev pub with_tree : Key → Maps → Maps
 with_tree name maps t = if bytes_eq t name then or_empty (maps t) else maps t
 
 abbrev pub with_default : Maps → Maps
-with_default = with_tree DEFAULT_TREE.now
+with_default = with_tree default_name
 
 -- the maps that are added: none where there is a tree of this name, and else those with the empty one
 abbrev pub planted : Key → Maps → List Maps
@@ -62,7 +61,7 @@ pub record RefusesTree (name : Key) (old : Store) (e : Error) (new : Store) : Ty
 
 -- opening is refused, and at most the empty default tree is new
 abbrev pub RefusesOpen : Store → Error → Store → Type 0
-RefusesOpen = RefusesTree DEFAULT_TREE.now
+RefusesOpen = RefusesTree default_name
 
 -- there is a tree of this name now, and no fault was met
 pub record HasTree (name : Key) (old new : Store) : Type 0 where
@@ -81,7 +80,7 @@ pub record AreNumbered (s : State) (trees : List (Key × ℕ)) : Type 0 where
 pub record Opens {P M : Type 0} (store : P → Store) (before : Store) (called : Key) (d : DbValue P M) : Type 0 where
   -- the default tree is made where there is none, and then all is flushed
   pub middle : Store
-  pub grows : GrowsByTree DEFAULT_TREE.now before middle
+  pub grows : GrowsByTree default_name before middle
   pub flushes : Flushes middle (store d.pages)
   -- a crash can leave the state now alone
   pub left : states_left (store d.pages) ≡ now (store d.pages) ∷ []
@@ -93,9 +92,12 @@ pub record Opens {P M : Type 0} (store : P → Store) (before : Store) (called :
   pub ascends : is_sorted key_cmp d.trees ≡ true
   pub each : (t : Key) → is_some (numbers_of d.trees t) ≡ is_some (trees_of (now (store d.pages)) t)
   pub given : d.trees_given ≡ length d.trees
-  -- the ids up to the mark count as given, no tree has an operator, and no fault was met
+  -- the ids up to the mark count as given, no tree has an operator, nobody has subscribed, no group is open, and no fault was met
   pub ids : d.greatest_id ≡ before.mark
   pub operators : d.operators ≡ []
+  pub queues : d.queues ≡ []
+  pub subscribers : d.subscribers_given ≡ 0
+  pub no_group : (now (store d.pages)).in_group ≡ false
   pub name : d.name ≡ called
   pub mark : (store d.pages).mark ≡ before.mark
   pub recovered : (store d.pages).recovered ≡ before.recovered

@@ -1,23 +1,29 @@
 -- What contracts see of a database, and the state of the model that it stands for.
-use Rattle.std.specs.Prelude.{◌≡◌, ℕ, nat_le, nat_lt, ◌&&◌, Bool, not, List, Option, Some, None, option_map}
+use Rattle.std.specs.Prelude.{◌≡◌, ℕ, nat_le, nat_lt, ◌&&◌, Bool, not, List, Option, Some, None, option_map, codes}
 use Rattle.std.specs.FinMap.Entries.{find}
 use Rattle.std.specs.Ordering.{nat_cmp}
 use Rattle.sled_pages.specs.Order.{Key, key_cmp}
 use Rattle.sled_pages.specs.Store.{Store, now}
 use Rattle.sled_model.specs.Maps.{Map, Merge}
-use Rattle.sled_model.specs.State.{State, NamedTree, Flying}
+use Rattle.sled_model.specs.State.{State, NamedTree, Queue, Flying}
 use Rattle.sled_model.specs.Steps.{Instant}
 use Rattle.tree_laws.specs.Contents.{trees_of}
 use Rattle.tree_laws.specs.Moment.{Moment, moment_of}
 
--- the pages, the database's name, the trees' numbers by name, the operators by tree number, and the counters
+-- the pages, the database's name, the trees' numbers by name, the operators by tree number, the queues by subscriber, and the counters
 pub record DbValue (P M : Type 0) : Type 0 where
   pub pages : P
   pub name : Key
   pub trees : List (Key × ℕ)
   pub operators : List (ℕ × M)
+  pub queues : List (ℕ × Queue)
   pub trees_given : ℕ
+  pub subscribers_given : ℕ
   pub greatest_id : ℕ
+
+-- the name of the default tree, which every database has
+unfoldable pub default_name : Key
+default_name = codes "__sled__default"
 
 -- the number of each name's tree
 abbrev pub numbers_of : List (Key × ℕ) → Key → Option ℕ
@@ -38,30 +44,24 @@ abbrev pub state_of : {P M : Type 0} → (P → Store) → (M → Merge) → DbV
 state_of store meant d slots slots_given = record {
   name = d.name;
   trees = λ t. named (numbers_of d.trees t) (trees_of (now (store d.pages)) t) (λ n. option_map meant (find nat_cmp n d.operators));
-  queues = λ n. None;
+  queues = λ n. find nat_cmp n d.queues;
   slots = slots;
   is_open = not (now (store d.pages)).in_group;
   greatest_id = d.greatest_id;
   mark = (store d.pages).mark;
   trees_given = d.trees_given;
   slots_given = slots_given;
-  subscribers_given = 0;
+  subscribers_given = d.subscribers_given;
 }
 
 -- the state with no call in flight
 abbrev pub db_state : {P M : Type 0} → (P → Store) → (M → Merge) → DbValue P M → State
 db_state store meant d = state_of store meant d (λ n. None) 0
 
--- the state and the store that it stands on
-abbrev pub instant_of : {P M : Type 0} → (P → Store) → (M → Merge) → DbValue P M → (ℕ → Option Flying) → ℕ → Instant
-instant_of store meant d slots slots_given = record { state = state_of store meant d slots slots_given; store = store d.pages }
+-- the state and the store that it stands on, which would answer this number to a flush
+abbrev pub instant_of : {P M : Type 0} → (P → Store) → (M → Merge) → DbValue P M → (ℕ → Option Flying) → ℕ → ℕ → Instant
+instant_of store meant d slots slots_given number = record { state = state_of store meant d slots slots_given; store = store d.pages; flush_number = number }
 
--- the moment of the store, with the trees' numbers
-abbrev pub moment : Store → List (Key × ℕ) → ℕ → Moment
-moment s trees trees_given = moment_of s (numbers_of trees) (given_to trees_given)
-
--- the mark, whether the store was recovered, and which pages can be read are as they were
-pub record KeepsRest (a b : Store) : Type 0 where
-  pub mark : b.mark ≡ a.mark
-  pub recovered : b.recovered ≡ a.recovered
-  pub readable : b.is_readable ≡ a.is_readable
+-- the moment of the database's store, with the trees' numbers
+abbrev pub moment_of_db : {P M : Type 0} → (P → Store) → DbValue P M → Moment
+moment_of_db store d = moment_of (store d.pages) (numbers_of d.trees) (given_to d.trees_given)

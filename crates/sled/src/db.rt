@@ -5,7 +5,7 @@ ghost use Rattle.std.specs.FinMap.Entries.{find};
 ghost use Rattle.sled_pages.specs.Order.{key_cmp};
 ghost use Rattle.sled_pages.specs.declared.error.Error.TheVariants.{NoMemory};
 ghost use Rattle.sled_pages.specs.Store.{now};
-ghost use Rattle.tree_laws.specs.Crashes.{IsWhole};
+ghost use Rattle.tree_laws.specs.Crashes.{IsWhole, IsCrashWhole};
 ghost use Rattle.sled_model.specs.Refusal.{must_refuse_of};
 ghost use Rattle.sled.specs.Calls.{IsHandle, RefusesHandle, MustBeRefused};
 
@@ -45,28 +45,30 @@ pub struct Db<P: Pages, M = Box<dyn MergeOperator + Send>> {
 }
 
 impl<P: Pages, M> Model for Db<P, M> {
+    ghost use Rattle.std.specs.Prelude.{[]};
     ghost use Rattle.sled.specs.Values.{DbValue};
 
     ghost Value = { DbValue P M };
 
     ghost use Rattle.sled.specs.Sound.{IsDb};
 
-    ghost view = { λ d. record { pages = d.pages; name = d.name; trees = d.trees.items; operators = d.operators.items; trees_given = d.trees_given; greatest_id = d.greatest_id } };
+    ghost view = { λ d. record { pages = d.pages; name = d.name; trees = d.trees.items; operators = d.operators.items; queues = []; trees_given = d.trees_given; subscribers_given = 0; greatest_id = d.greatest_id } };
 
-    ghost invariant = { λ d. IsDb (P.store d.pages) d.trees.items d.trees_given };
+    ghost invariant = { λ d. IsDb P.store (record { pages = d.pages; name = d.name; trees = d.trees.items; operators = d.operators.items; queues = []; trees_given = d.trees_given; subscribers_given = 0; greatest_id = d.greatest_id }) };
 }
 
 impl<P: Pages, M: MergeOperator> Db<P, M> {
     ghost use Rattle.sled.specs.Sound.{IsDb};
-    ghost use Rattle.sled.specs.Values.{db_state, moment};
+    ghost use Rattle.sled.specs.Values.{db_state, moment_of_db, default_name};
     ghost use Rattle.sled_tree.specs.Known.{IsKnown};
-    ghost use Rattle.sled.specs.Flights.{Flies, FliesToEnd};
+    ghost use Rattle.sled_tree.specs.Passing.{GoesFurther};
+    ghost use Rattle.sled.specs.Flights.{DbStep, DbActs, DbFollows, DbLeaves, DbKnows, LosesNone, Flies, FliesToEnd};
     ghost use Rattle.sled.specs.Flush.{FlushesDb, RefusesFlush};
 
     /// What holds of every database: its pages are well formed now and in every state that a crash may leave, and its trees
     /// are those that the pages have roots for. It does nothing.
     pub fn audit(&self)
-        ensures { IsDb (P.store self.now.pages) self.now.trees self.now.trees_given }
+        ensures { IsDb P.store self.now }
     {
         let _ = &self.pages;
     }
@@ -76,12 +78,12 @@ impl<P: Pages, M: MergeOperator> Db<P, M> {
         self.alloc
     }
 
-    /// The pages, as they are. They can be opened again.
+    /// The pages, as they are. They can be opened again where no group is open.
     pub fn into_pages(self) -> P
         ensures pages { result ≡ self.pages }
-        ensures sound { IsDb (P.store result) self.trees self.trees_given }
+        ensures sound { IsDb P.store self }
         ensures well { IsWhole (now (P.store result)) }
-        ensures calm { (now (P.store result)).in_group ≡ false }
+        ensures safe { IsCrashWhole (P.store result) }
     {
         let Db { pages, .. } = self;
         pages
@@ -95,9 +97,10 @@ impl<P: Pages, M: MergeOperator> Db<P, M> {
     }
 
     /// The default tree. Refused with `Closed` and `NoMemory` alone.
+    #[tactic(auto, unfolding(crate::specs::Values::default_name))]
     pub fn default_tree(&self) -> Result<Tree>
-        ensures ok { IfOk result (IsHandle self.now DEFAULT_TREE.now) }
-        ensures calm { OnOk result ((now (P.store self.now.pages)).in_group ≡ false) }
+        ensures ok { IfOk result (IsHandle self.now default_name) }
+        ensures no_group { OnOk result ((now (P.store self.now.pages)).in_group ≡ false) }
         ensures err { IfErr result (RefusesHandle (P.store self.now.pages)) }
     {
         if self.pages.in_group() {
@@ -133,8 +136,14 @@ impl<P: Pages, M: MergeOperator> Db<P, M> {
 
     /// One step of a call in flight, which may do one page action. The tests come first, and the count of turns last.
     pub fn fly(&mut self, flight: &mut Flight) -> Went
-        requires { IsKnown (moment (P.store self.old.pages) self.old.trees self.old.trees_given) flight.old }
-        ensures { Flies P.store M.meant self.old flight.old result self.new flight.new }
+        requires { IsKnown (moment_of_db P.store self.old) flight.old }
+        ensures step { DbStep P.store M.meant self.old flight.old result self.new flight.new }
+        ensures does { DbActs P.store M.meant self.old flight.old result self.new }
+        ensures follows { DbFollows P.store M.meant self.old flight.old result self.new flight.new }
+        ensures passes { GoesFurther (now (P.store self.old.pages)) flight.old result (now (P.store self.new.pages)) flight.new }
+        ensures loses { LosesNone None (moment_of_db P.store self.old) (moment_of_db P.store self.new) }
+        ensures leaves { DbLeaves P.store self.old flight.old result self.new flight.new }
+        ensures knows { DbKnows P.store self.old flight.old result self.new flight.new }
     {
         if let Err(e) = self.check(&flight.job.tree) {
             return Went::Refused(e);
@@ -144,7 +153,7 @@ impl<P: Pages, M: MergeOperator> Db<P, M> {
 
     // The same of a call whose tree passed the tests.
     fn fly_tested(&mut self, flight: &mut Flight) -> Went
-        requires known { IsKnown (moment (P.store self.old.pages) self.old.trees self.old.trees_given) flight.old }
+        requires known { IsKnown (moment_of_db P.store self.old) flight.old }
         requires tested { must_refuse_of (db_state P.store M.meant self.old) (flight.old.job.tree ∷ []) ≡ None }
         ensures { Flies P.store M.meant self.old flight.old result self.new flight.new }
     {
@@ -156,7 +165,7 @@ impl<P: Pages, M: MergeOperator> Db<P, M> {
 
     /// Steps of a call in flight until it ends. The tests are made once, since no step of a call changes what they look at.
     pub fn fly_to_end(&mut self, flight: &mut Flight) -> Went
-        requires { IsKnown (moment (P.store self.old.pages) self.old.trees self.old.trees_given) flight.old }
+        requires { IsKnown (moment_of_db P.store self.old) flight.old }
         ensures { FliesToEnd P.store M.meant self.old flight.old result self.new flight.new }
     {
         if let Err(e) = self.check(&flight.job.tree) {
@@ -167,7 +176,7 @@ impl<P: Pages, M: MergeOperator> Db<P, M> {
 
     /// The same of a call whose tree passed the tests.
     pub fn fly_on(&mut self, flight: &mut Flight) -> Went
-        requires known { IsKnown (moment (P.store self.old.pages) self.old.trees self.old.trees_given) flight.old }
+        requires known { IsKnown (moment_of_db P.store self.old) flight.old }
         requires tested { must_refuse_of (db_state P.store M.meant self.old) (flight.old.job.tree ∷ []) ≡ None }
         ensures { FliesToEnd P.store M.meant self.old flight.old result self.new flight.new }
     {
@@ -181,7 +190,7 @@ impl<P: Pages, M: MergeOperator> Db<P, M> {
 
     /// Makes all that was decided durable. The number that it answers is the store's.
     pub fn flush(&mut self) -> Result<usize>
-        ensures ok { OnOk result (FlushesDb P.store M.meant self.old self.new) }
+        ensures ok { IfOk result (λ number. FlushesDb P.store P.flush_number M.meant self.old number self.new) }
         ensures err { IfErr result (RefusesFlush P.store M.meant self.old self.new) }
     {
         if self.pages.in_group() {

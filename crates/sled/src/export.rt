@@ -174,7 +174,7 @@ impl<P: Pages, M: MergeOperator> Db<P, M> {
     /// and repairs nothing. Refused with `Closed`, with `Io` where a page cannot be read, and with `NoMemory`.
     pub fn export(&self) -> Result<Vec<Collection>>
         ensures ok { IfOk result (λ all. map (λ c. (c.0.items, c.1.items, c.2.items)) all.items ≡ collections (trees_of (now (P.store self.now.pages))) self.now.trees) }
-        ensures calm { OnOk result ((now (P.store self.now.pages)).in_group ≡ false) }
+        ensures no_group { OnOk result ((now (P.store self.now.pages)).in_group ≡ false) }
         ensures err { IfErr result (RefusesExport (P.store self.now.pages)) }
     {
         if self.pages.in_group() {

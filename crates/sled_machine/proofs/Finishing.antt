@@ -1,29 +1,44 @@
 -- Steps of one call until it ends.
-use Rattle.std.proofs.Common.{◌≡◌, ◌≢◌, ℕ, ◌+◌, true, false, cond, nat_eq, List, [], ◌∷◌, ◌++◌, Some, None, inr, sym, refl, ap, ◌∙◌, subst, arith}
+use Rattle.std.proofs.Common.{◌≡◌, ◌≢◌, ℕ, zero, suc, ◌+◌, ◌<◌, true, false, cond, nat_eq, List, [], ◌∷◌, ◌++◌, length, Option, Some, None, option_map, inr, sym, refl, ap, ◌∙◌, subst, arith}
 use Rattle.std.proofs.lemmas.Bool.{eq-eqb, ne_eqb, eqb-true}
 use Rattle.sled_pages.specs.Update.{put_at}
-use Rattle.sled_pages.specs.Store.{Store}
+use Rattle.sled_pages.specs.Store.{Store, now}
+use Rattle.sled_pages.specs.declared.error.Error.{Error}
+use Rattle.sled_model.specs.Answer.{key_of}
 use Rattle.sled_model.specs.Maps.{Merge}
-use Rattle.sled_model.specs.Refusal.{must_refuse_of}
+use Rattle.sled_model.specs.Refusal.{TellsTurns, must_refuse_of, turns_limit}
+use Rattle.sled_model.specs.State.{Flying}
 use Rattle.sled_model.specs.declared.call.Call.{Call}
 use Rattle.sled_model.specs.declared.tree.Tree.{Tree}
 use Rattle.sled_model.specs.declared.outcome.Outcome.{Outcome}
 use Rattle.sled_model.specs.declared.outcome.Outcome.TheVariants as outcome
+use Rattle.sled_model.specs.declared.outcome.Step.TheVariants as step
+use Rattle.tree_laws.specs.Paths.{IsClean}
+use Rattle.sled_tree.specs.Known.{IsKnown}
+use Rattle.sled_tree.specs.Passing.{IsOnPath}
 use Rattle.sled_tree.specs.declared.flight.Flight.{Flight}
 use Rattle.sled_tree.specs.declared.flight.Stage.TheVariants.{Root}
 use Rattle.sled_tree.specs.declared.flight.Went.{Went}
 use Rattle.sled_tree.specs.declared.flight.Went.TheVariants.{Moved, Decided, Refused}
-use Rattle.sled.specs.Values.{DbValue, db_state, moment}
-use Rattle.sled_tree.specs.Known.{IsKnown}
-use Rattle.sled.specs.Flights.{FliesToEnd, Ends, GoesOn, outcome_of}
+use Rattle.sled.specs.Values.{DbValue, db_state, moment_of_db}
+use Rattle.sled.specs.Flights.{FliesTimes, FliesToEnd, Ends, GoesOn, flying_of, has_turns, outcome_of}
+use Rattle.sled.proofs.Flying.{end_reached}
 use Rattle.sled_machine.specs.Slots.{kept_at}
-use Rattle.sled_machine.specs.Values.{MachineValue}
+use Rattle.sled_machine.specs.Values.{MachineValue, slots_of}
 use Rattle.sled_machine.specs.Sound.{IsMachine}
-use Rattle.sled_machine.specs.Crash.{Finishes, Completes}
+use Rattle.sled_machine.specs.Step.{Reaches}
+use Rattle.sled_machine.specs.Run.{Performs, ReachesAll, NoCalls, OneCall}
+use Rattle.sled_machine.specs.Finish.{steps_of, outcomes_of, Finishes, Completes}
 use Rattle.sled_machine.proofs.Cells.{put_same, put_again}
 use Rattle.sled_machine.proofs.Steps.{ended_after}
-use Rattle.sled_machine.proofs.Runs.{IsMoving, begins_as, moving_first, moving_more, moving_ends}
+use Rattle.sled_machine.proofs.Runs.{performs_none, performs_first}
 use Rattle.sled_machine.proofs.Machines.{put_here, missing_step, stepped_as, begun_call, begun_machine, added_kept, free_slot}
+
+none_some : {P A : Type 0} {a : A} → None ≡ Some a → P
+none_some e = cc
+
+some_is : {A : Type 0} {a b : A} → Some a ≡ Some b → a ≡ b
+some_is e = cc
 
 -- a call stands in its slot as it is now, wherever it stood
 onto : (fs : List (ℕ × Flight)) (slot : ℕ) (h : Flight) (q : ℕ) → kept_at ((slot, h) ∷ fs) q ≡ put_at (kept_at fs) slot (Some h) q
@@ -56,56 +71,114 @@ no_move (Refused r) off e = apart e
 missing_off : outcome.NoSuchSlot ≢ outcome.Moved
 missing_off e = cc
 
-module _ {P M : Type 0} (store : P → Store) (meant : M → Merge) (slot given : ℕ) where
+-- a call that is refused is told why
+same_error : {x e : Error} → outcome.Refused x ≡ outcome.Refused e → x ≡ e
+same_error e = cc
+
+tells_turns : (went : Went) → has_turns went → (e : Error) → outcome_of went ≡ outcome.Refused e → TellsTurns e → ⊥
+tells_turns Moved has e is tells = apart is
+  where
+    apart : outcome.Moved ≡ outcome.Refused e → ⊥
+    apart e = cc
+tells_turns (Decided reply) has e is tells = apart is
+  where
+    apart : outcome.Decided reply ≡ outcome.Refused e → ⊥
+    apart e = cc
+tells_turns (Refused x) has e is tells = has (subst TellsTurns (sym (same_error is)) tells)
+
+module _ {P M : Type 0} (store : P → Store) (number : P → ℕ) (meant : M → Merge) (slot given : ℕ) where
   abbrev value : DbValue P M → List (ℕ × Flight) → MachineValue P M
   value d fs = record { db = d; flights = fs; slots_given = given }
 
+  -- so many steps of the slot that go on, and one more that comes out so
+  pub record EndsIn (n : ℕ) (o : Outcome) (a b : MachineValue P M) : Type 0 where
+    pub run : Performs store number meant a (steps_of slot n) (outcomes_of n o) b
+    pub each : ReachesAll store number meant a (steps_of slot n) (outcomes_of n o) b
+
+  -- the last step
+  pub ends_now : (o : Outcome) (a b : MachineValue P M) → Reaches store number meant a (step.Step slot) o b → EndsIn zero o a b
+  ends_now o a b r = record { run = performs_first store number meant a b b (step.Step slot) o [] [] r (performs_none store number meant b); each = OneCall r NoCalls }
+
+  -- one step more before it
+  ends_later : (n : ℕ) (o : Outcome) (a m b : MachineValue P M) → Reaches store number meant a (step.Step slot) outcome.Moved m → EndsIn n o m b → EndsIn (suc n) o a b
+  ends_later n o a m b r e = record { run = performs_first store number meant a m b (step.Step slot) outcome.Moved (steps_of slot n) (outcomes_of n o) r e.run; each = OneCall r e.each }
+
   -- the call in the slot goes on to its end, and then nothing is kept there
-  finishes_from : (a : MachineValue P M) (d e : DbValue P M) (fs gs : List (ℕ × Flight)) (f g : Flight) (went : Went) → FliesToEnd store meant d f went e g → IsMachine (moment (store d.pages) d.trees d.trees_given) fs given → kept_at fs slot ≡ Some f
-      → IsMoving store meant slot a (value d fs) → ((q : ℕ) → kept_at gs q ≡ put_at (kept_at fs) slot None q) → Finishes store meant a slot (outcome_of went) (value e gs) × IsMachine (moment (store e.pages) e.trees e.trees_given) gs given
-  finishes_from a d e fs gs f g went (Ends flies off) im there moving gone =
-      let last = stepped_as store meant (value d fs) im slot e gs f g went there flies (λ q. gone q ∙ ap (λ x. put_at (kept_at fs) slot x q) (sym (ended_after went g off))) in
-      (moving_ends store meant slot a (value d fs) (value e gs) (outcome_of went) (no_move went off) moving last.0, last.1)
-  finishes_from a d e fs gs f g went (GoesOn {mid = m} {h = h} flies rest) im there moving gone =
-      let next = stepped_as store meant (value d fs) im slot m ((slot, h) ∷ fs) f h Moved there flies (onto fs slot h) in
-      finishes_from a m e ((slot, h) ∷ fs) gs h g went rest next.1 (onto fs slot h slot ∙ put_here (kept_at fs) slot (Some h))
-      (moving_more store meant slot a (value d fs) (value m ((slot, h) ∷ fs)) moving next.0)
-      (λ q. gone q ∙ sym (put_same (kept_at ((slot, h) ∷ fs)) (put_at (kept_at fs) slot (Some h)) slot None q (onto fs slot h q) ∙ put_again (kept_at fs) slot (Some h) None q))
+  finishes_from : (n : ℕ) (d e : DbValue P M) (fs gs : List (ℕ × Flight)) (f g : Flight) (went : Went) → FliesTimes store meant n d f went e g → IsMachine (moment_of_db store d) fs given → kept_at fs slot ≡ Some f
+      → ((q : ℕ) → kept_at gs q ≡ put_at (kept_at fs) slot None q) → EndsIn n (outcome_of went) (value d fs) (value e gs) × IsMachine (moment_of_db store e) gs given
+  finishes_from zero d e fs gs f g went (Ends flies off) im there gone =
+      let last = stepped_as store number meant (value d fs) im slot e gs f g went there flies (λ q. gone q ∙ ap (λ x. put_at (kept_at fs) slot x q) (sym (ended_after went g off))) in
+      (ends_now (outcome_of went) (value d fs) (value e gs) last.0, last.1)
+  finishes_from (suc n) d e fs gs f g went (GoesOn {mid = m} {h = h} flies rest) im there gone =
+      let next = stepped_as store number meant (value d fs) im slot m ((slot, h) ∷ fs) f h Moved there flies (onto fs slot h) in
+      let later = finishes_from n m e ((slot, h) ∷ fs) gs h g went rest next.1 (onto fs slot h slot ∙ put_here (kept_at fs) slot (Some h))
+      (λ q. gone q ∙ sym (put_same (kept_at ((slot, h) ∷ fs)) (put_at (kept_at fs) slot (Some h)) slot None q (onto fs slot h q) ∙ put_again (kept_at fs) slot (Some h) None q)) in
+      (ends_later n (outcome_of went) (value d fs) (value m ((slot, h) ∷ fs)) (value e gs) next.0 later.0, later.1)
 
-module _ {P M : Type 0} (store : P → Store) (meant : M → Merge) (v : MachineValue P M) (im : IsMachine (moment (store v.db.pages) v.db.trees v.db.trees_given) v.flights v.slots_given) where
+module _ {P M : Type 0} (store : P → Store) (number : P → ℕ) (meant : M → Merge) (v : MachineValue P M) (im : IsMachine (moment_of_db store v.db) v.flights v.slots_given) where
   pub finished_all : (slot : ℕ) (e : DbValue P M) (gs : List (ℕ × Flight)) (f g : Flight) (went : Went) → kept_at v.flights slot ≡ Some f → FliesToEnd store meant v.db f went e g → ((q : ℕ) → kept_at gs q ≡ put_at (kept_at v.flights) slot None q)
-      → Finishes store meant v slot (outcome_of went) (record v { db = e; flights = gs }) × IsMachine (moment (store e.pages) e.trees e.trees_given) gs v.slots_given
-  finished_all slot e gs f g went there flies gone = finishes_from store meant slot v.slots_given v v.db e v.flights gs f g went flies im there (moving_first store meant slot v (begins_as store v v refl im slot)) gone
+      → Finishes store number meant v slot (outcome_of went) (record v { db = e; flights = gs }) × IsMachine (moment_of_db store e) gs v.slots_given
+  finished_all slot e gs f g went there flies gone =
+      let all = finishes_from store number meant slot v.slots_given flies.moves v.db e v.flights gs f g went flies.flies im there gone in (
+        record {
+          moves = flies.moves;
+          ends = no_move went (end_reached store meant v.db e f g went flies);
+          run = all.0.run;
+          each = all.0.each;
+          passes = λ flying path here none clean few.
+              let same : flying_of f ≡ flying = some_is (sym (ap (option_map flying_of) there) ∙ here) in
+              let unused : f.turns ≡ 0 = ap (λ (z : Flying). z.turns) same ∙ none in
+              let start : IsOnPath (now (store v.db.pages)) f.job f.stage path =
+              subst (λ z. IsOnPath (now (store v.db.pages)) f.job z path) (sym ((im.known slot f there).begins unused))
+              (subst (λ (z : Flying). IsClean (now (store v.db.pages)) z.tree.name (key_of z.call) path) (sym same) clean) in
+              let p = flies.passes path start (below f.turns (length path) unused few) in record {
+                few = p.few;
+                unlimited = tells_turns went p.unlimited;
+              };
+        },
+        all.1,
+      )
+    where
+      below : (t n : ℕ) → t ≡ 0 → n < turns_limit → t + n < turns_limit
+      below t n e few = omega arith
 
-  missing_finish : (slot : ℕ) → kept_at v.flights slot ≡ None → Finishes store meant v slot outcome.NoSuchSlot v
-  missing_finish slot free = moving_ends store meant slot v v v outcome.NoSuchSlot missing_off (moving_first store meant slot v (begins_as store v v refl im slot)) (missing_step store meant v im slot free)
+  -- no call has the slot
+  pub missing_finish : (slot : ℕ) → kept_at v.flights slot ≡ None → Finishes store number meant v slot outcome.NoSuchSlot v
+  missing_finish slot free =
+      let e = ends_now store number meant slot v.slots_given outcome.NoSuchSlot v v (missing_step store number meant v im slot free) in record {
+        moves = zero;
+        ends = missing_off;
+        run = e.run;
+        each = e.each;
+        passes = λ flying path here none clean few. none_some (sym (ap (option_map flying_of) free) ∙ here);
+      }
 
 -- a call that begins and ends at once
-module _ {P M : Type 0} (store : P → Store) (meant : M → Merge) (v : MachineValue P M) (im : IsMachine (moment (store v.db.pages) v.db.trees v.db.trees_given) v.flights v.slots_given) where
+module _ {P M : Type 0} (store : P → Store) (number : P → ℕ) (meant : M → Merge) (v : MachineValue P M) (im : IsMachine (moment_of_db store v.db) v.flights v.slots_given) where
   module _ (tree : Tree) (call : Call) (must : must_refuse_of (db_state store meant v.db) (tree ∷ []) ≡ None) (f : Flight) (is : f ≡ record { job = record { tree = tree; call = call }; stage = Root; turns = 0 }) where
     completed : (slot : ℕ) → slot ≡ v.slots_given + 1 → (e : DbValue P M) (g : Flight) (went : Went) → FliesToEnd store meant v.db f went e g
-        → Completes store meant v tree call (outcome_of went) (record v { db = e; slots_given = slot }) × IsMachine (moment (store e.pages) e.trees e.trees_given) v.flights slot
+        → Completes store number meant v tree call (outcome_of went) (record v { db = e; slots_given = slot }) × IsMachine (moment_of_db store e) v.flights slot
     completed slot next e g went flies =
         let gs : List (ℕ × Flight) = v.flights ++ (slot, f) ∷ [] in
         let begun : MachineValue P M = record v { flights = gs; slots_given = slot } in
-        let free = free_slot store meant v im tree call must f is slot next gs refl in
-        let are = added_kept store meant v im tree call must f is slot next gs refl in
-        let end = finished_all store meant begun (begun_machine store meant v im tree call must f is slot next gs refl) slot e v.flights f g went (are slot ∙ put_here (kept_at v.flights) slot (Some f)) flies
+        let free = free_slot store number meant v im tree call must f is slot next gs refl in
+        let are = added_kept store number meant v im tree call must f is slot next gs refl in
+        let end = finished_all store number meant begun (begun_machine store number meant v im tree call must f is slot next gs refl) slot e v.flights f g went (are slot ∙ put_here (kept_at v.flights) slot (Some f)) flies
         (λ q. sym (put_same (kept_at gs) (put_at (kept_at v.flights) slot (Some f)) slot None q (are q) ∙ (put_again (kept_at v.flights) slot (Some f) None q ∙ put_free v.flights slot q free))) in
-        (inr (record { slot = slot; begun = begun; begins = begun_call store meant v im tree call must f is slot next gs refl; finishes = end.0 }), end.1)
+        (inr (record { slot = slot; begun = begun; begins = begun_call store number meant v im tree call must f is slot next gs refl; finishes = end.0 }), end.1)
 
 -- the same, where a method knows the machine by its fields
-module _ {P M : Type 0} (store : P → Store) (meant : M → Merge) (inside old : MachineValue P M) (e : inside ≡ old) (im : IsMachine (moment (store inside.db.pages) inside.db.trees inside.db.trees_given) inside.flights inside.slots_given) where
+module _ {P M : Type 0} (store : P → Store) (number : P → ℕ) (meant : M → Merge) (inside old : MachineValue P M) (e : inside ≡ old) (im : IsMachine (moment_of_db store inside.db) inside.flights inside.slots_given) where
   module _ (n slot : ℕ) (same : n ≡ slot) where
-    pub missing_finish_as : kept_at inside.flights n ≡ None → Finishes store meant old slot outcome.NoSuchSlot old
-    missing_finish_as free = subst (λ s. Finishes store meant old s outcome.NoSuchSlot old) same (subst (λ z. Finishes store meant z n outcome.NoSuchSlot z) e (missing_finish store meant inside im n free))
+    pub missing_finish_as : kept_at inside.flights n ≡ None → Finishes store number meant old slot outcome.NoSuchSlot old
+    missing_finish_as free = subst (λ s. Finishes store number meant old s outcome.NoSuchSlot old) same (subst (λ z. Finishes store number meant z n outcome.NoSuchSlot z) e (missing_finish store number meant inside im n free))
 
     pub finished_as : (db : DbValue P M) (gs : List (ℕ × Flight)) (o : Outcome) (f g : Flight) (went : Went) → o ≡ outcome_of went → kept_at inside.flights n ≡ Some f → FliesToEnd store meant inside.db f went db g → ((q : ℕ) → kept_at gs q ≡ put_at (kept_at inside.flights) n None q)
-        → Finishes store meant old slot o (record inside { db = db; flights = gs })
+        → Finishes store number meant old slot o (record inside { db = db; flights = gs })
     finished_as db gs o f g went is there flies gone =
-        subst (λ z. Finishes store meant old slot z (record inside { db = db; flights = gs })) (sym is)
-        (subst (λ s. Finishes store meant old s (outcome_of went) (record inside { db = db; flights = gs })) same
-        (subst (λ z. Finishes store meant z n (outcome_of went) (record inside { db = db; flights = gs })) e (finished_all store meant inside im n db gs f g went there flies gone).0))
+        subst (λ z. Finishes store number meant old slot z (record inside { db = db; flights = gs })) (sym is)
+        (subst (λ s. Finishes store number meant old s (outcome_of went) (record inside { db = db; flights = gs })) same
+        (subst (λ z. Finishes store number meant z n (outcome_of went) (record inside { db = db; flights = gs })) e (finished_all store number meant inside im n db gs f g went there flies gone).0))
 
   module _ (tree copy : Tree) (call : Call) (c : copy ≡ tree) (must : must_refuse_of (db_state store meant old.db) (tree ∷ []) ≡ None) (f : Flight) (is : f ≡ record { job = record { tree = copy; call = call }; stage = Root; turns = 0 }) where
     begun_is : f ≡ record { job = record { tree = tree; call = call }; stage = Root; turns = 0 }
@@ -114,16 +187,16 @@ module _ {P M : Type 0} (store : P → Store) (meant : M → Merge) (inside old 
     tested : must_refuse_of (db_state store meant inside.db) (tree ∷ []) ≡ None
     tested = subst (λ (z : MachineValue P M). must_refuse_of (db_state store meant z.db) (tree ∷ []) ≡ None) (sym e) must
 
-    pub known_new : IsKnown (moment (store inside.db.pages) inside.db.trees inside.db.trees_given) f
-    known_new = subst (λ z. IsKnown (moment (store inside.db.pages) inside.db.trees inside.db.trees_given) z) (sym begun_is) (record { told = λ w m. tt; few = omega arith; begins = λ none. refl })
+    pub known_new : IsKnown (moment_of_db store inside.db) f
+    known_new = subst (λ z. IsKnown (moment_of_db store inside.db) z) (sym begun_is) (record { told = λ w m. tt; few = omega arith; begins = λ none. refl })
 
     pub tested_new : must_refuse_of (db_state store meant inside.db) (f.job.tree ∷ []) ≡ None
     tested_new = ap (λ (z : Flight). must_refuse_of (db_state store meant inside.db) (z.job.tree ∷ [])) begun_is ∙ tested
 
-    pub completed_as : (slot : ℕ) → slot ≡ inside.slots_given + 1 → (db : DbValue P M) (g : Flight) (went : Went) (o : Outcome) → o ≡ outcome_of went → FliesToEnd store meant inside.db f went db g → Completes store meant old tree call o (record inside { db = db; slots_given = slot })
+    pub completed_as : (slot : ℕ) → slot ≡ inside.slots_given + 1 → (db : DbValue P M) (g : Flight) (went : Went) (o : Outcome) → o ≡ outcome_of went → FliesToEnd store meant inside.db f went db g → Completes store number meant old tree call o (record inside { db = db; slots_given = slot })
     completed_as slot next db g went o same flies =
-        subst (λ z. Completes store meant old tree call z (record inside { db = db; slots_given = slot })) (sym same)
-        (subst (λ z. Completes store meant z tree call (outcome_of went) (record inside { db = db; slots_given = slot })) e (completed store meant inside im tree call tested f begun_is slot next db g went flies).0)
+        subst (λ z. Completes store number meant old tree call z (record inside { db = db; slots_given = slot })) (sym same)
+        (subst (λ z. Completes store number meant z tree call (outcome_of went) (record inside { db = db; slots_given = slot })) e (completed store number meant inside im tree call tested f begun_is slot next db g went flies).0)
 
-    pub completed_machine : (slot : ℕ) → slot ≡ inside.slots_given + 1 → (db : DbValue P M) (g : Flight) (went : Went) → FliesToEnd store meant inside.db f went db g → IsMachine (moment (store db.pages) db.trees db.trees_given) inside.flights slot
-    completed_machine slot next db g went flies = (completed store meant inside im tree call tested f begun_is slot next db g went flies).1
+    pub completed_machine : (slot : ℕ) → slot ≡ inside.slots_given + 1 → (db : DbValue P M) (g : Flight) (went : Went) → FliesToEnd store meant inside.db f went db g → IsMachine (moment_of_db store db) inside.flights slot
+    completed_machine slot next db g went flies = (completed store number meant inside im tree call tested f begun_is slot next db g went flies).1

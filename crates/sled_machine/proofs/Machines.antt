@@ -5,12 +5,11 @@ use Rattle.std.proofs.lemmas.Bool.{eq-eqb, ne_eqb, eqb-true}
 use Rattle.sled_pages.specs.Update.{put_at}
 use Rattle.sled_pages.specs.Store.{Store, now}
 use Rattle.sled_pages.specs.declared.error.Error.{Error}
-use Rattle.sled_model.specs.Maps.{Merge}
+use Rattle.sled_model.specs.Maps.{Maps, Merge}
 use Rattle.sled_model.specs.Answer.{answer_of}
 use Rattle.sled_model.specs.State.{Flying, maps_of}
-use Rattle.sled_model.specs.Refusal.{MustRefuse, MayRefuse, must_refuse_of, may_refuse_as, cause_of, ToBegin}
+use Rattle.sled_model.specs.Refusal.{MustRefuse, MayRefuse, must_refuse_of, may_refuse_as, cause_of, ToBegin, turns_limit}
 use Rattle.sled_model.specs.Steps.{Steps}
-use Rattle.sled_model.specs.declared.TheConstants.{MAX_LOOPS}
 use Rattle.sled_model.specs.declared.event.Event.{Event}
 use Rattle.sled_model.specs.declared.call.Call.{Call}
 use Rattle.sled_model.specs.declared.call.Whole.{Whole}
@@ -19,21 +18,25 @@ use Rattle.sled_model.specs.declared.tree.Tree.{Tree}
 use Rattle.sled_model.specs.declared.reply.Reply.TheVariants.{Number}
 use Rattle.sled_model.specs.declared.outcome.Outcome.{Outcome}
 use Rattle.sled_model.specs.declared.outcome.Outcome.TheVariants as outcome
+use Rattle.sled_model.specs.declared.outcome.Step.{Step}
 use Rattle.sled_model.specs.declared.outcome.Step.TheVariants as step
 use Rattle.tree_laws.specs.Crashes.{Matches}
 use Rattle.tree_laws.specs.Moment.{Moment}
 use Rattle.tree_laws.specs.Contents.{trees_of}
-use Rattle.tree_laws.proofs.Crashing.{extends_same, matches_same}
+use Rattle.tree_laws.proofs.Crashing.{matches_same}
 use Rattle.sled_tree.specs.declared.flight.Flight.{Flight}
 use Rattle.sled_tree.specs.declared.flight.Stage.TheVariants.{Root}
 use Rattle.sled_tree.specs.declared.flight.Went.{Went}
 use Rattle.sled_tree.specs.declared.flight.Went.TheVariants.{Moved, Decided, Refused}
-use Rattle.sled.specs.Values.{DbValue, state_of, db_state, instant_of as instant_of_db, moment}
+use Rattle.sled.specs.Values.{DbValue, state_of, db_state, instant_of as instant_of_db, moment_of_db}
 use Rattle.sled.specs.Calls.{MustBeRefused, must_be_refused_as}
 use Rattle.sled_tree.specs.Known.{IsKnown, AreApart}
 use Rattle.sled.specs.Flights.{flying_of, LosesNone, Brings, Flies, outcome_of, slot_after, maps_added}
-use Rattle.sled.specs.Flush.{Stays, FlushesDb, RefusesFlush}
+use Rattle.sled.specs.Flush.{FlushesDb, RefusesFlush}
 use Rattle.sled.proofs.Flying.{loses_nothing}
+use Rattle.sled.proofs.Flushing.{stays_state, stays_moment}
+use Rattle.sled.proofs.Resting.{SameNow, flushed_now, rests_only_faults, rests_now, rests_extends}
+use Rattle.sled.proofs.Testing.{must_begin}
 use Rattle.sled_machine.specs.Slots.{kept_at}
 use Rattle.sled_machine.specs.Values.{MachineValue, slots_of, instant_of}
 use Rattle.tree_laws.specs.Forest.{Forest}
@@ -41,11 +44,13 @@ use Rattle.sled_tree.specs.Passing.{IsOnPath}
 use Rattle.sled_tree.specs.Stages.{owned}
 use Rattle.sled_tree.specs.Follows.{FollowsOn}
 use Rattle.sled_tree.specs.Moves.{LeavesNone}
-use Rattle.sled_tree.proofs.Facts.{leaves_same}
-use Rattle.sled_machine.specs.Crash.{BringsAt, Reaches, passes_as, leaves_at, owned_by, keeps_as, acts_as}
+use Rattle.sled_tree.proofs.Facts.{leaves_same as leaves_same_pages}
+use Rattle.sled_machine.specs.CrashMaps.{Leaves, kept_after}
+use Rattle.sled_machine.specs.Step.{MachineStep, MachineLoses, BringsAt, Reaches, passes_as, leaves_at, owned_by, acts_as}
 use Rattle.sled_machine.specs.Sound.{IsMachine}
 use Rattle.sled_machine.specs.Fly.{flight_after}
 use Rattle.sled_machine.proofs.Places.{push_kept}
+use Rattle.sled_machine.proofs.Runs.{extended, leaves_same}
 
 none_some : {P A : Type 0} {a : A} → None ≡ Some a → P
 none_some e = cc
@@ -90,43 +95,54 @@ other_or_new fs gs slot x e j f there = elim (same_or_not j slot) [
   | inr o ↦ inr (o, sym (put_there (kept_at fs) slot j (Some x) o) ∙ sym (e j) ∙ there)
 ]
 
-module _ {P M : Type 0} (store : P → Store) (meant : M → Merge) (v : MachineValue P M) (im : IsMachine (moment (store v.db.pages) v.db.trees v.db.trees_given) v.flights v.slots_given) where
-  -- no call has the slot
-  pub missing_step : (slot : ℕ) → kept_at v.flights slot ≡ None → Reaches store meant v (step.Step slot) outcome.NoSuchSlot v
-  missing_step slot e = record { maps = []; is = record { step = record { told = (record { free = ap (option_map flying_of) e; is = refl }, refl) }; keeps = extends_same (store v.db.pages); acts = refl; rest = record { mark = refl; recovered = refl; readable = refl } }; starts = tt; others = λ q off. refl; follows = λ f there. none_some (sym e ∙ there); passes = tt; loses = loses_nothing (moment (store v.db.pages) v.db.trees v.db.trees_given); leaves = λ w is. subst (λ o. LeavesNone (owned_by o) (owned_by o) (now (store v.db.pages)) (now (store v.db.pages)) w) (sym e) (leaves_same [] [] (now (store v.db.pages)) w (λ q i. i)) }
+module _ {P M : Type 0} (store : P → Store) (number : P → ℕ) (meant : M → Merge) (v : MachineValue P M) (im : IsMachine (moment_of_db store v.db) v.flights v.slots_given) where
+  -- a step that leaves the store, the maps and the other slots as they are
+  idle : (s : Step) (o : Outcome) (w : MachineValue P M) → w.db ≡ v.db → Steps (instant_of store number meant v) s o (instant_of store number meant w) [] → ((kept : List Maps) → kept_after s o [] (maps_of (instant_of store number meant w).state) kept ≡ kept ++ []) → MachineStep store number meant v s o w
+  idle s o w same told keeps = record {
+    maps = [];
+    step = told;
+    keeps = λ kept l. subst (Leaves (store w.db.pages)) (sym (keeps kept)) (leaves_same (store w.db.pages) kept (subst (λ (d : DbValue P M). Leaves (store d.pages) kept) (sym same) l));
+  }
 
-  pub missing_abandon : (slot : ℕ) → kept_at v.flights slot ≡ None → Reaches store meant v (step.Abandon slot) outcome.NoSuchSlot v
-  missing_abandon slot e = record { maps = []; is = record { step = record { told = (record { free = ap (option_map flying_of) e; is = refl }, refl) }; keeps = extends_same (store v.db.pages); acts = refl; rest = record { mark = refl; recovered = refl; readable = refl } }; starts = tt; others = λ q off. refl; follows = tt; passes = tt; loses = loses_nothing (moment (store v.db.pages) v.db.trees v.db.trees_given); leaves = tt }
+  -- no call has the slot
+  pub missing_step : (slot : ℕ) → kept_at v.flights slot ≡ None → Reaches store number meant v (step.Step slot) outcome.NoSuchSlot v
+  missing_step slot e = record {
+    step = idle (step.Step slot) outcome.NoSuchSlot v refl (record { told = (record { free = ap (option_map flying_of) e; is = refl }, refl) }) (λ kept. refl);
+    does = record { told = refl };
+    follows = record { told = λ f there. none_some (sym e ∙ there) };
+    passes = record { told = tt };
+    slots = record { starts = tt; others = λ q off. refl };
+    loses = record { none = loses_nothing None (moment_of_db store v.db) };
+    leaves = record { told = λ w is. subst (λ o. LeavesNone (owned_by o) (owned_by o) (now (store v.db.pages)) (now (store v.db.pages)) w) (sym e) (leaves_same_pages [] [] (now (store v.db.pages)) w (λ q i. i)) };
+  }
+
+  pub missing_abandon : (slot : ℕ) → kept_at v.flights slot ≡ None → Reaches store number meant v (step.Abandon slot) outcome.NoSuchSlot v
+  missing_abandon slot e = record {
+    step = idle (step.Abandon slot) outcome.NoSuchSlot v refl (record { told = (record { free = ap (option_map flying_of) e; is = refl }, refl) }) (λ kept. refl);
+    does = record { told = refl };
+    follows = record { told = tt };
+    passes = record { told = tt };
+    slots = record { starts = tt; others = λ q off. refl };
+    loses = record { none = loses_nothing None (moment_of_db store v.db) };
+    leaves = record { told = tt };
+  }
 
   -- a call is given up
   module _ (slot : ℕ) (f : Flight) (there : kept_at v.flights slot ≡ Some f) (gs : List (ℕ × Flight)) (gone : (q : ℕ) → kept_at gs q ≡ put_at (kept_at v.flights) slot None q) where
-    pub abandoned : Reaches store meant v (step.Abandon slot) outcome.Abandoned (record v { flights = gs })
+    pub abandoned : Reaches store number meant v (step.Abandon slot) outcome.Abandoned (record v { flights = gs })
     abandoned = record {
-      maps = [];
-      is = record {
-        step = record {
-          told = (
-            record {
-              flying = flying_of f;
-              here = ap (option_map flying_of) there;
-              is = ap (λ z. state_of store meant v.db z v.slots_given) (slots_put v.flights gs slot None gone);
-            },
-            refl,
-          );
-        };
-        keeps = extends_same (store v.db.pages);
-        acts = refl;
-        rest = record { mark = refl; recovered = refl; readable = refl };
-      };
-      starts = tt;
-      others = elsewhere v.flights gs slot None gone;
-      follows = tt;
-      passes = tt;
-      loses = loses_nothing (moment (store v.db.pages) v.db.trees v.db.trees_given);
-      leaves = tt;
+      step = idle (step.Abandon slot) outcome.Abandoned (record v { flights = gs }) refl
+          (record { told = (record { flying = flying_of f; here = ap (option_map flying_of) there; is = ap (λ z. state_of store meant v.db z v.slots_given) (slots_put v.flights gs slot None gone) }, refl) })
+          (λ kept. refl);
+      does = record { told = refl };
+      follows = record { told = tt };
+      passes = record { told = tt };
+      slots = record { starts = tt; others = elsewhere v.flights gs slot None gone };
+      loses = record { none = loses_nothing None (moment_of_db store v.db) };
+      leaves = record { told = tt };
     }
 
-    pub abandoned_machine : IsMachine (moment (store v.db.pages) v.db.trees v.db.trees_given) gs v.slots_given
+    pub abandoned_machine : IsMachine (moment_of_db store v.db) gs v.slots_given
     abandoned_machine = record {
       given = λ j h k. im.given j h (fewer v.flights gs slot gone j h k).0;
       known = λ j h k. im.known j h (fewer v.flights gs slot gone j h k).0;
@@ -136,51 +152,46 @@ module _ {P M : Type 0} (store : P → Store) (meant : M → Merge) (v : Machine
   -- a call took its step
   module _ (slot : ℕ) (db : DbValue P M) (gs : List (ℕ × Flight)) where
     abbrev at : Moment
-    at = moment (store v.db.pages) v.db.trees v.db.trees_given
+    at = moment_of_db store v.db
 
     abbrev after : Moment
-    after = moment (store db.pages) db.trees db.trees_given
+    after = moment_of_db store db
 
     reach : (f next : Flight) (went : Went) → kept_at v.flights slot ≡ Some f → Flies store meant v.db f went db next → (kept : Option Flight) → option_map flying_of kept ≡ slot_after went next → kept ≡ flight_after went next → ((q : ℕ) → kept_at gs q ≡ put_at (kept_at v.flights) slot kept q)
         → passes_as store v (step.Step slot) (outcome_of went) (record v { db = db; flights = gs }) → leaves_at store v (step.Step slot) (outcome_of went) (record v { db = db; flights = gs })
-        → Reaches store meant v (step.Step slot) (outcome_of went) (record v { db = db; flights = gs })
+        → Reaches store number meant v (step.Step slot) (outcome_of went) (record v { db = db; flights = gs })
     reach f next went there flies kept is stands are passes leaves = record {
-      maps = maps_added went (maps_of (db_state store meant db));
-      is = record {
-        step = subst (λ z. Steps (instant_of store meant v) (step.Step slot) (outcome_of went) (instant_of_db store meant db z v.slots_given) (maps_added went (maps_of (db_state store meant db)))) (sym (slots_put v.flights gs slot kept are ∙ ap (put_at (slots_of v.flights) slot) is))
-            (flies.steps (slots_of v.flights) v.slots_given slot (ap (option_map flying_of) there));
-        keeps = keeps_flying went flies;
-        acts = acts_flying went flies;
-        rest = flies.rest;
+      step = record {
+        maps = maps_added went (maps_of (db_state store meant db));
+        step = subst (λ z. Steps (instant_of store number meant v) (step.Step slot) (outcome_of went) (instant_of_db store meant db z v.slots_given (number db.pages)) (maps_added went (maps_of (db_state store meant db)))) (sym (slots_put v.flights gs slot kept are ∙ ap (put_at (slots_of v.flights) slot) is))
+            (flies.step.steps (slots_of v.flights) v.slots_given slot (number v.db.pages) (number db.pages) (ap (option_map flying_of) there));
+        keeps = λ before l. extended (maps_added went (maps_of (db_state store meant db))) (store v.db.pages) (store db.pages) flies.step.extends before l;
       };
-      starts = tt;
-      others = elsewhere v.flights gs slot kept are;
-      follows = λ g here must few. let same : g ≡ f = some_is (sym here ∙ there) in record {
-        went = went;
-        next = next;
-        outcome = refl;
-        there = are slot ∙ put_here (kept_at v.flights) slot kept ∙ stands;
-        follows = subst (λ (z : Flight). FollowsOn (store v.db.pages) z went (store db.pages) next) (sym same)
-            (flies.follows (subst (λ (z : Flight). must_refuse_of (db_state store meant v.db) (z.job.tree ∷ []) ≡ None) same must) (subst (λ (z : Flight). z.turns < MAX_LOOPS) same few));
+      does = record { told = acts_flying went flies };
+      follows = record {
+        told = λ g here must few. let same : g ≡ f = some_is (sym here ∙ there) in record {
+          went = went;
+          next = next;
+          outcome = refl;
+          there = are slot ∙ put_here (kept_at v.flights) slot kept ∙ stands;
+          follows = subst (λ (z : Flight). FollowsOn (store v.db.pages) z went (store db.pages) next) (sym same)
+              (flies.follows (subst (λ (z : Flight). must_refuse_of (db_state store meant v.db) (z.job.tree ∷ []) ≡ None) same must) (subst (λ (z : Flight). z.turns < turns_limit) same few));
+        };
       };
-      passes = passes;
-      loses = flies.loses;
-      leaves = leaves;
+      passes = record { told = passes };
+      slots = record { starts = tt; others = elsewhere v.flights gs slot kept are };
+      loses = record { none = flies.loses };
+      leaves = record { told = leaves };
     }
       where
-        keeps_flying : (went : Went) → Flies store meant v.db f went db next → keeps_as (step.Step slot) (outcome_of went) (maps_added went (maps_of (db_state store meant db))) (maps_of (db_state store meant db)) (store v.db.pages) (store db.pages)
-        keeps_flying Moved k = k.extends
-        keeps_flying (Decided reply) k = k.extends
-        keeps_flying (Refused r) k = k.extends
-
         here : slots_of v.flights slot ≡ Some (flying_of f)
         here = ap (option_map flying_of) there
 
-        acts_flying : (went : Went) → Flies store meant v.db f went db next → acts_as (instant_of store meant v) (step.Step slot) (outcome_of went) (instant_of store meant (record v { db = db; flights = gs }))
-        acts_flying Moved k = k.does
-        acts_flying (Decided reply) k = record { does = k.does; quiet = λ b. k.quiet (brings b); loud = λ event b. k.loud event (brings b) }
+        acts_flying : (went : Went) → Flies store meant v.db f went db next → acts_as (instant_of store number meant v).state (step.Step slot) (outcome_of went) (store v.db.pages) (store db.pages)
+        acts_flying Moved k = k.does.does
+        acts_flying (Decided reply) k = record { does = k.does.does; quiet = λ b. k.does.quiet (brings b); loud = λ event b. k.does.loud event (brings b) }
           where
-            brings : {event : Option Event} → BringsAt (instant_of store meant v).state slot event → Brings store meant v.db f (Decided reply) event
+            brings : {event : Option Event} → BringsAt (instant_of store number meant v).state slot event → Brings store meant v.db f (Decided reply) event
             brings {event} b = record {
               reply = reply;
               decided = refl;
@@ -188,7 +199,7 @@ module _ {P M : Type 0} (store : P → Store) (meant : M → Merge) (v : Machine
               there = subst (λ (z : Flying). (db_state store meant v.db).trees z.tree.name ≡ Some b.tree) (some_is (sym b.here ∙ here)) b.there;
               is = subst (λ (z : Flying). (answer_of z.call b.tree.map).event ≡ event) (some_is (sym b.here ∙ here)) b.is;
             }
-        acts_flying (Refused r) k = k.does
+        acts_flying (Refused r) k = k.does.does
 
     -- on a clean path the call has a page less ahead of it
     further : (f next : Flight) → kept_at v.flights slot ≡ Some f → Flies store meant v.db f Moved db next → ((q : ℕ) → kept_at gs q ≡ put_at (kept_at v.flights) slot (Some next) q) → passes_as store v (step.Step slot) outcome.Moved (record v { db = db; flights = gs })
@@ -206,7 +217,7 @@ module _ {P M : Type 0} (store : P → Store) (meant : M → Merge) (v : Machine
 
     -- what the others know is kept
     kept : (f next : Flight) (went : Went) → kept_at v.flights slot ≡ Some f → Flies store meant v.db f went db next → (j : ℕ) (h : Flight) → j ≢ slot → kept_at v.flights j ≡ Some h → IsKnown after h × (went ≡ Moved → AreApart next h)
-    kept f next went there flies j h off e = flies.others h (im.apart slot j f h there e (λ s. off (sym s))) (im.known j h e)
+    kept f next went there flies j h off e = flies.knows.others h (im.apart slot j f h there e (λ s. off (sym s))) (im.known j h e)
 
     ended_machine : (f next : Flight) (went : Went) → kept_at v.flights slot ≡ Some f → Flies store meant v.db f went db next → ((q : ℕ) → kept_at gs q ≡ put_at (kept_at v.flights) slot None q) → IsMachine after gs v.slots_given
     ended_machine f next went there flies e =
@@ -224,7 +235,7 @@ module _ {P M : Type 0} (store : P → Store) (meant : M → Merge) (v : Machine
             | inr o ↦ im.given j h o.1
           ];
           known = λ j h k. elim (cases j h k) [
-            | inl s ↦ subst (λ z. IsKnown after z) (sym s.1) (flies.goes_on refl).1
+            | inl s ↦ subst (λ z. IsKnown after z) (sym s.1) (flies.knows.goes_on refl).1
             | inr o ↦ (kept f next Moved there flies j h o.0 o.1).0
           ];
           apart = λ j k h g a b off. elim (cases j h a) [
@@ -239,25 +250,33 @@ module _ {P M : Type 0} (store : P → Store) (meant : M → Merge) (v : Machine
           ];
         }
 
-    pub stepped_as : (f next : Flight) (went : Went) → kept_at v.flights slot ≡ Some f → Flies store meant v.db f went db next → ((q : ℕ) → kept_at gs q ≡ put_at (kept_at v.flights) slot (flight_after went next) q) → Reaches store meant v (step.Step slot) (outcome_of went) (record v { db = db; flights = gs }) × IsMachine after gs v.slots_given
+    pub stepped_as : (f next : Flight) (went : Went) → kept_at v.flights slot ≡ Some f → Flies store meant v.db f went db next → ((q : ℕ) → kept_at gs q ≡ put_at (kept_at v.flights) slot (flight_after went next) q) → Reaches store number meant v (step.Step slot) (outcome_of went) (record v { db = db; flights = gs }) × IsMachine after gs v.slots_given
     stepped_as f next Moved there flies e = (reach f next Moved there flies (Some next) refl refl e (further f next there flies e) (λ w is. owns f (Some next) there e w (flies.leaves w is)), moved_machine f next there flies e)
     stepped_as f next (Decided reply) there flies e = (reach f next (Decided reply) there flies None refl refl e tt (λ w is. owns f None there e w (flies.leaves w is)), ended_machine f next (Decided reply) there flies e)
     stepped_as f next (Refused r) there flies e = (reach f next (Refused r) there flies None refl refl e tt tt, ended_machine f next (Refused r) there flies e)
 
   -- a call begins, or is refused
-  pub begin_refused : (tree : Tree) (call : Call) (e : Error) → MayRefuse (state_of store meant v.db (slots_of v.flights) v.slots_given) (store v.db.pages) (store v.db.pages) (ToBegin tree call) e → Reaches store meant v (step.Begin tree call) (outcome.Refused e) v
-  begin_refused tree call e may = record { maps = []; is = record { step = record { told = (may, refl, refl) }; keeps = extends_same (store v.db.pages); acts = refl; rest = record { mark = refl; recovered = refl; readable = refl } }; starts = tt; others = λ q off. refl; follows = tt; passes = tt; loses = loses_nothing (moment (store v.db.pages) v.db.trees v.db.trees_given); leaves = tt }
+  pub begin_refused : (tree : Tree) (call : Call) (e : Error) → MayRefuse (state_of store meant v.db (slots_of v.flights) v.slots_given) (store v.db.pages) (store v.db.pages) (ToBegin tree call) e → Reaches store number meant v (step.Begin tree call) (outcome.Refused e) v
+  begin_refused tree call e may = record {
+    step = idle (step.Begin tree call) (outcome.Refused e) v refl (record { told = (may, refl, refl) }) (λ kept. refl);
+    does = record { told = refl };
+    follows = record { told = tt };
+    passes = record { told = tt };
+    slots = record { starts = tt; others = λ q off. refl };
+    loses = record { none = loses_nothing None (moment_of_db store v.db) };
+    leaves = record { told = tt };
+  }
 
-  pub begin_untested : (tree : Tree) (call : Call) (e : Error) → MustBeRefused (must_refuse_of (db_state store meant v.db) (tree ∷ [])) e → Reaches store meant v (step.Begin tree call) (outcome.Refused e) v
-  begin_untested tree call e tested = begin_refused tree call e (record { told = go (must_refuse_of (db_state store meant v.db) (tree ∷ [])) tested.told })
+  pub begin_untested : (tree : Tree) (call : Call) (e : Error) → MustBeRefused (must_refuse_of (db_state store meant v.db) (tree ∷ [])) e → Reaches store number meant v (step.Begin tree call) (outcome.Refused e) v
+  begin_untested tree call e tested = begin_refused tree call e (record { told = subst (λ o. may_refuse_as o (state_of store meant v.db (slots_of v.flights) v.slots_given) (store v.db.pages) (store v.db.pages) (ToBegin tree call) e) (sym (must_begin (state_of store meant v.db (slots_of v.flights) v.slots_given) tree call)) (go (must_refuse_of (db_state store meant v.db) (tree ∷ [])) tested.told) })
     where
       go : (o : Option MustRefuse) → must_be_refused_as o e → may_refuse_as o (state_of store meant v.db (slots_of v.flights) v.slots_given) (store v.db.pages) (store v.db.pages) (ToBegin tree call) e
       go None t = absurd t
       go (Some m) t = t
 
   module _ (tree : Tree) (call : Call) (must : must_refuse_of (db_state store meant v.db) (tree ∷ []) ≡ None) where
-    pub begin_caused : (e : Error) → cause_of (state_of store meant v.db (slots_of v.flights) v.slots_given) (store v.db.pages) (store v.db.pages) (ToBegin tree call) e → Reaches store meant v (step.Begin tree call) (outcome.Refused e) v
-    begin_caused e cause = begin_refused tree call e (record { told = subst (λ o. may_refuse_as o (state_of store meant v.db (slots_of v.flights) v.slots_given) (store v.db.pages) (store v.db.pages) (ToBegin tree call) e) (sym must) cause })
+    pub begin_caused : (e : Error) → cause_of (state_of store meant v.db (slots_of v.flights) v.slots_given) (store v.db.pages) (store v.db.pages) (ToBegin tree call) e → Reaches store number meant v (step.Begin tree call) (outcome.Refused e) v
+    begin_caused e cause = begin_refused tree call e (record { told = subst (λ o. may_refuse_as o (state_of store meant v.db (slots_of v.flights) v.slots_given) (store v.db.pages) (store v.db.pages) (ToBegin tree call) e) (sym (must_begin (state_of store meant v.db (slots_of v.flights) v.slots_given) tree call ∙ must)) cause })
 
     module _ (f : Flight) (is : f ≡ record { job = record { tree = tree; call = call }; stage = Root; turns = 0 }) (slot : ℕ) (next : slot ≡ v.slots_given + 1) (gs : List (ℕ × Flight)) (e : gs ≡ v.flights ++ (slot, f) ∷ []) where
       pub free_slot : kept_at v.flights slot ≡ None
@@ -270,33 +289,29 @@ module _ {P M : Type 0} (store : P → Store) (meant : M → Merge) (v : Machine
       pub added_kept : (q : ℕ) → kept_at gs q ≡ put_at (kept_at v.flights) slot (Some f) q
       added_kept q = ap (λ z. kept_at z q) e ∙ push_kept v.flights slot f q free_slot
 
-      pub begun_call : Reaches store meant v (step.Begin tree call) (outcome.Begun slot) (record v { flights = gs; slots_given = slot })
+      pub begun_call : Reaches store number meant v (step.Begin tree call) (outcome.Begun slot) (record v { flights = gs; slots_given = slot })
       begun_call = record {
-        maps = [];
-        is = record {
-          step = record {
-            told = (
-              record {
-                free = must;
-                next = next;
-                is = ap (λ z. state_of store meant v.db z slot) (slots_put v.flights gs slot (Some f) added_kept ∙ ap (λ z. put_at (slots_of v.flights) slot (Some (flying_of z))) is);
-              },
-              refl,
-            );
-          };
-          keeps = extends_same (store v.db.pages);
-          acts = refl;
-          rest = record { mark = refl; recovered = refl; readable = refl };
-        };
-        starts = added_kept slot ∙ put_here (kept_at v.flights) slot (Some f) ∙ ap Some is;
-        others = elsewhere v.flights gs slot (Some f) added_kept;
-        follows = tt;
-        passes = tt;
-        loses = loses_nothing (moment (store v.db.pages) v.db.trees v.db.trees_given);
-        leaves = tt;
+        step = idle (step.Begin tree call) (outcome.Begun slot) (record v { flights = gs; slots_given = slot }) refl
+            (record {
+              told = (
+                record {
+                  free = must_begin (state_of store meant v.db (slots_of v.flights) v.slots_given) tree call ∙ must;
+                  next = next;
+                  is = ap (λ z. state_of store meant v.db z slot) (slots_put v.flights gs slot (Some f) added_kept ∙ ap (λ z. put_at (slots_of v.flights) slot (Some (flying_of z))) is);
+                },
+                refl,
+              );
+            })
+            (λ kept. refl);
+        does = record { told = refl };
+        follows = record { told = tt };
+        passes = record { told = tt };
+        slots = record { starts = added_kept slot ∙ put_here (kept_at v.flights) slot (Some f) ∙ ap Some is; others = elsewhere v.flights gs slot (Some f) added_kept };
+        loses = record { none = loses_nothing None (moment_of_db store v.db) };
+        leaves = record { told = tt };
       }
 
-      pub begun_machine : IsMachine (moment (store v.db.pages) v.db.trees v.db.trees_given) gs slot
+      pub begun_machine : IsMachine (moment_of_db store v.db) gs slot
       begun_machine =
           let cases = other_or_new v.flights gs slot f added_kept in record {
             given = λ j h k. elim (cases j h k) [
@@ -304,7 +319,7 @@ module _ {P M : Type 0} (store : P → Store) (meant : M → Merge) (v : Machine
               | inr o ↦ let z = im.given j h o.1 in omega arith
             ];
             known = λ j h k. elim (cases j h k) [
-              | inl s ↦ subst (λ z. IsKnown (moment (store v.db.pages) v.db.trees v.db.trees_given) z) (sym (s.1 ∙ is)) (record { told = λ w m. tt; few = omega arith; begins = λ none. refl })
+              | inl s ↦ subst (λ z. IsKnown (moment_of_db store v.db) z) (sym (s.1 ∙ is)) (record { told = λ w m. tt; few = omega arith; begins = λ none. refl })
               | inr o ↦ im.known j h o.1
             ];
             apart = λ j k h g a b off. elim (cases j h a) [
@@ -317,53 +332,66 @@ module _ {P M : Type 0} (store : P → Store) (meant : M → Merge) (v : Machine
           }
 
   -- a flush
-  loses_flush : (db : DbValue P M) → Stays store meant v.db db → LosesNone (moment (store v.db.pages) v.db.trees v.db.trees_given) (moment (store db.pages) db.trees db.trees_given)
-  loses_flush db s = subst (λ (m : Moment). LosesNone (moment (store v.db.pages) v.db.trees v.db.trees_given) m) (sym s.moment) (loses_nothing (moment (store v.db.pages) v.db.trees v.db.trees_given))
+  module _ (db : DbValue P M) (same : db ≡ record (v.db) { pages = db.pages }) (stays : SameNow (store v.db.pages) (store db.pages)) where
+    flush_loses : MachineLoses store v (record v { db = db })
+    flush_loses = record { none = subst (λ (m : Moment). LosesNone None (moment_of_db store v.db) m) (sym (stays_moment store meant v.db db same stays)) (loses_nothing None (moment_of_db store v.db)) }
 
-  pub flushed_all : (db : DbValue P M) (n : ℕ) → FlushesDb store meant v.db db → Reaches store meant v (step.Whole Flush) (outcome.Decided (Number n)) (record v { db = db })
+    pub stays_machine : IsMachine (moment_of_db store db) v.flights v.slots_given
+    stays_machine = subst (λ (m : Moment). IsMachine m v.flights v.slots_given) (sym (stays_moment store meant v.db db same stays)) im
+
+  pub flushed_all : (db : DbValue P M) (n : ℕ) → FlushesDb store number meant v.db n db → Reaches store number meant v (step.Whole Flush) (outcome.Decided (Number n)) (record v { db = db })
   flushed_all db n f = record {
-    maps = [];
-    is = record { step = record { told = (f.free, f.stays.state (slots_of v.flights) v.slots_given, refl) }; keeps = record { flushes = f.flushes; leaves = record { is = subst (λ z. Matches z (maps_of (db_state store meant db) ∷ [])) (sym (ap (map trees_of) f.left ∙ ap (λ z. z ∷ []) f.maps)) (matches_same _) } }; acts = f.flushes.actions; rest = f.stays.rest };
-    starts = tt;
-    others = λ q off. refl;
-    follows = tt;
-    passes = tt;
-    loses = loses_flush db f.stays;
-    leaves = tt;
+    step = record {
+      maps = [];
+      step = record { told = (f.free, ap Number f.told, stays_state store meant v.db db f.same (flushed_now f.is) (slots_of v.flights) v.slots_given, refl) };
+      keeps = λ kept l. record { is = subst (λ z. Matches z (maps_of (db_state store meant db) ∷ [])) (sym (ap (map trees_of) f.left ∙ ap (λ z. z ∷ []) f.maps)) (matches_same _) };
+    };
+    does = record { told = f.is };
+    follows = record { told = tt };
+    passes = record { told = tt };
+    slots = record { starts = tt; others = λ q off. refl };
+    loses = flush_loses db f.same (flushed_now f.is);
+    leaves = record { told = tt };
   }
 
-  pub flush_refused : (db : DbValue P M) (e : Error) → RefusesFlush store meant v.db db e → Reaches store meant v (step.Whole Flush) (outcome.Refused e) (record v { db = db })
-  flush_refused db e f = record {
-    maps = [];
-    is = record { step = record { told = (f.may (slots_of v.flights) v.slots_given, f.stays.state (slots_of v.flights) v.slots_given, refl) }; keeps = f.extends; acts = f.actions; rest = f.stays.rest };
-    starts = tt;
-    others = λ q off. refl;
-    follows = tt;
-    passes = tt;
-    loses = loses_flush db f.stays;
-    leaves = tt;
+  pub flushed_machine : (db : DbValue P M) (n : ℕ) → FlushesDb store number meant v.db n db → IsMachine (moment_of_db store db) v.flights v.slots_given
+  flushed_machine db n f = stays_machine db f.same (flushed_now f.is)
+
+  pub flush_refused : (db : DbValue P M) (e : Error) → RefusesFlush store meant v.db db e → Reaches store number meant v (step.Whole Flush) (outcome.Refused e) (record v { db = db })
+  flush_refused db e f = let rests = rests_only_faults e (store v.db.pages) (store db.pages) f.is in record {
+    step = record {
+      maps = [];
+      step = record { told = (f.may (slots_of v.flights) v.slots_given, stays_state store meant v.db db f.same (rests_now rests) (slots_of v.flights) v.slots_given, refl) };
+      keeps = λ kept l. extended [] (store v.db.pages) (store db.pages) (rests_extends rests) kept l;
+    };
+    does = record { told = f.is };
+    follows = record { told = tt };
+    passes = record { told = tt };
+    slots = record { starts = tt; others = λ q off. refl };
+    loses = flush_loses db f.same (rests_now rests);
+    leaves = record { told = tt };
   }
 
-  pub stays_machine : (db : DbValue P M) → Stays store meant v.db db → IsMachine (moment (store db.pages) db.trees db.trees_given) v.flights v.slots_given
-  stays_machine db s = subst (λ (m : Moment). IsMachine m v.flights v.slots_given) (sym s.moment) im
+  pub refused_machine : (db : DbValue P M) (e : Error) → RefusesFlush store meant v.db db e → IsMachine (moment_of_db store db) v.flights v.slots_given
+  refused_machine db e f = stays_machine db f.same (rests_now (rests_only_faults e (store v.db.pages) (store db.pages) f.is))
 
 -- The same, where a method knows the machine and the slot by their fields
-module _ {P M : Type 0} (store : P → Store) (meant : M → Merge) (inside old : MachineValue P M) (e : inside ≡ old) (im : IsMachine (moment (store inside.db.pages) inside.db.trees inside.db.trees_given) inside.flights inside.slots_given) (n slot : ℕ) (same : n ≡ slot) where
-  pub missing_step_as : kept_at inside.flights n ≡ None → Reaches store meant old (step.Step slot) outcome.NoSuchSlot old
-  missing_step_as k = subst (λ s. Reaches store meant old (step.Step s) outcome.NoSuchSlot old) same (subst (λ z. Reaches store meant z (step.Step n) outcome.NoSuchSlot z) e (missing_step store meant inside im n k))
+module _ {P M : Type 0} (store : P → Store) (number : P → ℕ) (meant : M → Merge) (inside old : MachineValue P M) (e : inside ≡ old) (im : IsMachine (moment_of_db store inside.db) inside.flights inside.slots_given) (n slot : ℕ) (same : n ≡ slot) where
+  pub missing_step_as : kept_at inside.flights n ≡ None → Reaches store number meant old (step.Step slot) outcome.NoSuchSlot old
+  missing_step_as k = subst (λ s. Reaches store number meant old (step.Step s) outcome.NoSuchSlot old) same (subst (λ z. Reaches store number meant z (step.Step n) outcome.NoSuchSlot z) e (missing_step store number meant inside im n k))
 
-  pub missing_abandon_as : kept_at inside.flights n ≡ None → Reaches store meant old (step.Abandon slot) outcome.NoSuchSlot old
-  missing_abandon_as k = subst (λ s. Reaches store meant old (step.Abandon s) outcome.NoSuchSlot old) same (subst (λ z. Reaches store meant z (step.Abandon n) outcome.NoSuchSlot z) e (missing_abandon store meant inside im n k))
+  pub missing_abandon_as : kept_at inside.flights n ≡ None → Reaches store number meant old (step.Abandon slot) outcome.NoSuchSlot old
+  missing_abandon_as k = subst (λ s. Reaches store number meant old (step.Abandon s) outcome.NoSuchSlot old) same (subst (λ z. Reaches store number meant z (step.Abandon n) outcome.NoSuchSlot z) e (missing_abandon store number meant inside im n k))
 
-  pub abandoned_as : (f : Flight) → kept_at inside.flights n ≡ Some f → (gs : List (ℕ × Flight)) → ((q : ℕ) → kept_at gs q ≡ put_at (kept_at inside.flights) n None q) → Reaches store meant old (step.Abandon slot) outcome.Abandoned (record inside { flights = gs })
-  abandoned_as f there gs gone = subst (λ k. Reaches store meant old (step.Abandon k) outcome.Abandoned (record inside { flights = gs })) same (subst (λ z. Reaches store meant z (step.Abandon n) outcome.Abandoned (record inside { flights = gs })) e (abandoned store meant inside im n f there gs gone))
+  pub abandoned_as : (f : Flight) → kept_at inside.flights n ≡ Some f → (gs : List (ℕ × Flight)) → ((q : ℕ) → kept_at gs q ≡ put_at (kept_at inside.flights) n None q) → Reaches store number meant old (step.Abandon slot) outcome.Abandoned (record inside { flights = gs })
+  abandoned_as f there gs gone = subst (λ k. Reaches store number meant old (step.Abandon k) outcome.Abandoned (record inside { flights = gs })) same (subst (λ z. Reaches store number meant z (step.Abandon n) outcome.Abandoned (record inside { flights = gs })) e (abandoned store number meant inside im n f there gs gone))
 
   pub stepped_slot : (db : DbValue P M) (gs : List (ℕ × Flight)) (o : Outcome) (f next : Flight) (went : Went) → o ≡ outcome_of went → kept_at inside.flights n ≡ Some f → Flies store meant inside.db f went db next → ((q : ℕ) → kept_at gs q ≡ put_at (kept_at inside.flights) n (flight_after went next) q)
-      → Reaches store meant old (step.Step slot) o (record inside { db = db; flights = gs })
+      → Reaches store number meant old (step.Step slot) o (record inside { db = db; flights = gs })
   stepped_slot db gs o f next went is there flies are =
-      subst (λ z. Reaches store meant old (step.Step slot) z (record inside { db = db; flights = gs })) (sym is)
-      (subst (λ k. Reaches store meant old (step.Step k) (outcome_of went) (record inside { db = db; flights = gs })) same
-      (subst (λ z. Reaches store meant z (step.Step n) (outcome_of went) (record inside { db = db; flights = gs })) e (stepped_as store meant inside im n db gs f next went there flies are).0))
+      subst (λ z. Reaches store number meant old (step.Step slot) z (record inside { db = db; flights = gs })) (sym is)
+      (subst (λ k. Reaches store number meant old (step.Step k) (outcome_of went) (record inside { db = db; flights = gs })) same
+      (subst (λ z. Reaches store number meant z (step.Step n) (outcome_of went) (record inside { db = db; flights = gs })) e (stepped_as store number meant inside im n db gs f next went there flies are).0))
 
   pub turns_as : (o : Option Flight) → kept_at inside.flights n ≡ o → option_map (λ (f : Flight). f.turns) o ≡ option_map (λ (z : Flying). z.turns) (slots_of old.flights slot)
   turns_as o there =
@@ -375,45 +403,45 @@ module _ {P M : Type 0} (store : P → Store) (meant : M → Merge) (inside old 
       as_flying None = refl
       as_flying (Some f) = refl
 
-module _ {P M : Type 0} (store : P → Store) (meant : M → Merge) (inside old : MachineValue P M) (e : inside ≡ old) (im : IsMachine (moment (store inside.db.pages) inside.db.trees inside.db.trees_given) inside.flights inside.slots_given) where
-  pub untested_as : (tree : Tree) (call : Call) (r : Error) → MustBeRefused (must_refuse_of (db_state store meant inside.db) (tree ∷ [])) r → Reaches store meant old (step.Begin tree call) (outcome.Refused r) old
-  untested_as tree call r t = subst (λ z. Reaches store meant z (step.Begin tree call) (outcome.Refused r) z) e (begin_untested store meant inside im tree call r t)
+module _ {P M : Type 0} (store : P → Store) (number : P → ℕ) (meant : M → Merge) (inside old : MachineValue P M) (e : inside ≡ old) (im : IsMachine (moment_of_db store inside.db) inside.flights inside.slots_given) where
+  pub untested_as : (tree : Tree) (call : Call) (r : Error) → MustBeRefused (must_refuse_of (db_state store meant inside.db) (tree ∷ [])) r → Reaches store number meant old (step.Begin tree call) (outcome.Refused r) old
+  untested_as tree call r t = subst (λ z. Reaches store number meant z (step.Begin tree call) (outcome.Refused r) z) e (begin_untested store number meant inside im tree call r t)
 
-  pub caused_as : (tree : Tree) (call : Call) (r : Error) → must_refuse_of (db_state store meant inside.db) (tree ∷ []) ≡ None → cause_of (state_of store meant inside.db (slots_of inside.flights) inside.slots_given) (store inside.db.pages) (store inside.db.pages) (ToBegin tree call) r → Reaches store meant old (step.Begin tree call) (outcome.Refused r) old
-  caused_as tree call r must cause = subst (λ z. Reaches store meant z (step.Begin tree call) (outcome.Refused r) z) e (begin_caused store meant inside im tree call must r cause)
+  pub caused_as : (tree : Tree) (call : Call) (r : Error) → must_refuse_of (db_state store meant inside.db) (tree ∷ []) ≡ None → cause_of (state_of store meant inside.db (slots_of inside.flights) inside.slots_given) (store inside.db.pages) (store inside.db.pages) (ToBegin tree call) r → Reaches store number meant old (step.Begin tree call) (outcome.Refused r) old
+  caused_as tree call r must cause = subst (λ z. Reaches store number meant z (step.Begin tree call) (outcome.Refused r) z) e (begin_caused store number meant inside im tree call must r cause)
 
   tested_inside : (tree : Tree) → must_refuse_of (db_state store meant old.db) (tree ∷ []) ≡ None → must_refuse_of (db_state store meant inside.db) (tree ∷ []) ≡ None
   tested_inside tree must = subst (λ (z : MachineValue P M). must_refuse_of (db_state store meant z.db) (tree ∷ []) ≡ None) (sym e) must
 
   -- .. where the list has room, and so may be another one
   pub begun_as : (tree copy : Tree) (call : Call) → copy ≡ tree → must_refuse_of (db_state store meant old.db) (tree ∷ []) ≡ None → (f : Flight) → f ≡ record { job = record { tree = copy; call = call }; stage = Root; turns = 0 }
-      → (slot : ℕ) → slot ≡ inside.slots_given + 1 → (gs : List (ℕ × Flight)) → gs ≡ inside.flights ++ (slot, f) ∷ [] → Reaches store meant old (step.Begin tree call) (outcome.Begun slot) (record inside { flights = gs; slots_given = slot })
-  begun_as tree copy call c must f is slot next gs g = subst (λ z. Reaches store meant z (step.Begin tree call) (outcome.Begun slot) (record inside { flights = gs; slots_given = slot })) e
-      (begun_call store meant inside im tree call (tested_inside tree must) f (is ∙ ap (λ t. record { job = record { tree = t; call = call }; stage = Root; turns = 0 }) c) slot next gs g)
+      → (slot : ℕ) → slot ≡ inside.slots_given + 1 → (gs : List (ℕ × Flight)) → gs ≡ inside.flights ++ (slot, f) ∷ [] → Reaches store number meant old (step.Begin tree call) (outcome.Begun slot) (record inside { flights = gs; slots_given = slot })
+  begun_as tree copy call c must f is slot next gs g = subst (λ z. Reaches store number meant z (step.Begin tree call) (outcome.Begun slot) (record inside { flights = gs; slots_given = slot })) e
+      (begun_call store number meant inside im tree call (tested_inside tree must) f (is ∙ ap (λ t. record { job = record { tree = t; call = call }; stage = Root; turns = 0 }) c) slot next gs g)
 
   pub begun_machine_as : (tree copy : Tree) (call : Call) → copy ≡ tree → must_refuse_of (db_state store meant old.db) (tree ∷ []) ≡ None → (f : Flight) → f ≡ record { job = record { tree = copy; call = call }; stage = Root; turns = 0 }
-      → (slot : ℕ) → slot ≡ inside.slots_given + 1 → (gs : List (ℕ × Flight)) → gs ≡ inside.flights ++ (slot, f) ∷ [] → IsMachine (moment (store inside.db.pages) inside.db.trees inside.db.trees_given) gs slot
-  begun_machine_as tree copy call c must f is slot next gs g = begun_machine store meant inside im tree call (tested_inside tree must) f (is ∙ ap (λ t. record { job = record { tree = t; call = call }; stage = Root; turns = 0 }) c) slot next gs g
+      → (slot : ℕ) → slot ≡ inside.slots_given + 1 → (gs : List (ℕ × Flight)) → gs ≡ inside.flights ++ (slot, f) ∷ [] → IsMachine (moment_of_db store inside.db) gs slot
+  begun_machine_as tree copy call c must f is slot next gs g = begun_machine store number meant inside im tree call (tested_inside tree must) f (is ∙ ap (λ t. record { job = record { tree = t; call = call }; stage = Root; turns = 0 }) c) slot next gs g
 
-  pub flushed_as : (db : DbValue P M) (n : ℕ) → FlushesDb store meant inside.db db → Reaches store meant old (step.Whole Flush) (outcome.Decided (Number n)) (record inside { db = db })
-  flushed_as db n f = subst (λ z. Reaches store meant z (step.Whole Flush) (outcome.Decided (Number n)) (record inside { db = db })) e (flushed_all store meant inside im db n f)
+  pub flushed_as : (db : DbValue P M) (n : ℕ) → FlushesDb store number meant inside.db n db → Reaches store number meant old (step.Whole Flush) (outcome.Decided (Number n)) (record inside { db = db })
+  flushed_as db n f = subst (λ z. Reaches store number meant z (step.Whole Flush) (outcome.Decided (Number n)) (record inside { db = db })) e (flushed_all store number meant inside im db n f)
 
-  pub flush_refused_as : (db : DbValue P M) (r : Error) → RefusesFlush store meant inside.db db r → Reaches store meant old (step.Whole Flush) (outcome.Refused r) (record inside { db = db })
-  flush_refused_as db r f = subst (λ z. Reaches store meant z (step.Whole Flush) (outcome.Refused r) (record inside { db = db })) e (flush_refused store meant inside im db r f)
+  pub flush_refused_as : (db : DbValue P M) (r : Error) → RefusesFlush store meant inside.db db r → Reaches store number meant old (step.Whole Flush) (outcome.Refused r) (record inside { db = db })
+  flush_refused_as db r f = subst (λ z. Reaches store number meant z (step.Whole Flush) (outcome.Refused r) (record inside { db = db })) e (flush_refused store number meant inside im db r f)
 
   -- no memory, where the list of calls may have got room
-  pub memory_as : (tree : Tree) (call : Call) (r : Error) → must_refuse_of (db_state store meant inside.db) (tree ∷ []) ≡ None → r ≡ Rattle.sled_pages.specs.declared.error.Error.TheVariants.NoMemory → Reaches store meant old (step.Begin tree call) (outcome.Refused r) old
-  memory_as tree call r must m = subst (λ x. Reaches store meant old (step.Begin tree call) (outcome.Refused x) old) (sym m) (caused_as tree call Rattle.sled_pages.specs.declared.error.Error.TheVariants.NoMemory must tt)
+  pub memory_as : (tree : Tree) (call : Call) (r : Error) → must_refuse_of (db_state store meant inside.db) (tree ∷ []) ≡ None → r ≡ Rattle.sled_pages.specs.declared.error.Error.TheVariants.NoMemory → Reaches store number meant old (step.Begin tree call) (outcome.Refused r) old
+  memory_as tree call r must m = subst (λ x. Reaches store number meant old (step.Begin tree call) (outcome.Refused x) old) (sym m) (caused_as tree call Rattle.sled_pages.specs.declared.error.Error.TheVariants.NoMemory must tt)
 
   pub room_as : (tree : Tree) (call : Call) (r : Error) → must_refuse_of (db_state store meant old.db) (tree ∷ []) ≡ None → r ≡ Rattle.sled_pages.specs.declared.error.Error.TheVariants.NoMemory → (gs : List (ℕ × Flight)) → gs ≡ inside.flights
-      → Reaches store meant old (step.Begin tree call) (outcome.Refused r) (record inside { flights = gs })
-  room_as tree call r must m gs g = subst (λ z. Reaches store meant old (step.Begin tree call) (outcome.Refused r) z) (sym e ∙ ap (λ z. record inside { flights = z }) (sym g)) (memory_as tree call r (tested_inside tree must) m)
+      → Reaches store number meant old (step.Begin tree call) (outcome.Refused r) (record inside { flights = gs })
+  room_as tree call r must m gs g = subst (λ z. Reaches store number meant old (step.Begin tree call) (outcome.Refused r) z) (sym e ∙ ap (λ z. record inside { flights = z }) (sym g)) (memory_as tree call r (tested_inside tree must) m)
 
   -- a flush is the only whole call yet
-  pub flushed_any : (w : Whole) (db : DbValue P M) (n : ℕ) → FlushesDb store meant inside.db db → Reaches store meant old (step.Whole w) (outcome.Decided (Number n)) (record inside { db = db })
+  pub flushed_any : (w : Whole) (db : DbValue P M) (n : ℕ) → FlushesDb store number meant inside.db n db → Reaches store number meant old (step.Whole w) (outcome.Decided (Number n)) (record inside { db = db })
   flushed_any Flush db n f = flushed_as db n f
 
-  pub refused_any : (w : Whole) (db : DbValue P M) (r : Error) → RefusesFlush store meant inside.db db r → Reaches store meant old (step.Whole w) (outcome.Refused r) (record inside { db = db })
+  pub refused_any : (w : Whole) (db : DbValue P M) (r : Error) → RefusesFlush store meant inside.db db r → Reaches store number meant old (step.Whole w) (outcome.Refused r) (record inside { db = db })
   refused_any Flush db r f = flush_refused_as db r f
 
 -- what holds of any error of a kind

@@ -1,8 +1,7 @@
 -- Steps of the call in a cell of the table.
 use Rattle.std.proofs.Common.{◌≡◌, ◌≢◌, ℕ, zero, suc, ◌<◌, List, [], ◌∷◌, Option, Some, None, length, get_or, slice_get, slice_set, sym, refl, ap, ◌∙◌, subst}
 use Rattle.std.proofs.lemmas.Option.{slice_get_within}
-use Rattle.sled_pages.specs.Store.{Store}
-use Rattle.sled_model.specs.Maps.{Merge}
+use Rattle.sled_pages.specs.Update.{put_at}
 use Rattle.sled_model.specs.declared.outcome.Outcome.{Outcome}
 use Rattle.sled_tree.specs.declared.flight.Flight.{Flight}
 use Rattle.sled_tree.specs.declared.flight.Went.{Went}
@@ -11,7 +10,7 @@ use Rattle.sled.specs.Values.{DbValue}
 use Rattle.sled.specs.Flights.{outcome_of}
 use Rattle.sled_machine.specs.Slots.{Rise, kept_at}
 use Rattle.sled_machine.specs.Table.{kept, HoldsAt, Empties, Puts}
-use Rattle.sled_machine.specs.Fly.{FliesAt, StepsAt, FliesToEndAt, FinishesAt, flight_after}
+use Rattle.sled_machine.specs.Fly.{FliesAt, StepsAt, flight_after}
 use Rattle.sled_machine.proofs.Places.{set_rise, read_at}
 use Rattle.sled_machine.proofs.Cells.{set_puts, puts_then, empties_puts, holds_kept}
 
@@ -46,45 +45,30 @@ ended_after Moved g off = absurd (off refl)
 ended_after (Decided reply) g off = refl
 ended_after (Refused e) g off = refl
 
-module _ {P M : Type 0} (store : P → Store) (meant : M → Merge) (old new : DbValue P M) (cells mid : List (ℕ × Option Flight)) (slot i : ℕ) (went : Went) (f : FliesAt store meant old cells slot i went new mid) where
+module _ {P M : Type 0} (Flew : DbValue P M → Flight → Went → DbValue P M → Flight → Type 0) (old new : DbValue P M) (cells mid : List (ℕ × Option Flight)) (slot i : ℕ) (went : Went) (f : FliesAt Flew old cells slot i went new mid) where
   pub flown_within : i < length mid
   flown_within = slice_get_within mid i (slot, Some f.next) (set_within cells mid slot i (Some f.flight) (Some f.next) f.there f.is)
 
-  pub moved_at : (r : Rise cells) (o : Outcome) → went ≡ Moved → o ≡ outcome_of Moved → StepsAt store meant old cells slot o new mid
+  pub moved_at : (r : Rise cells) (o : Outcome) → went ≡ Moved → o ≡ outcome_of Moved → StepsAt Flew old cells slot o new mid
   moved_at r o moved is = record {
     flight = f.flight;
     next = f.next;
     went = went;
     outcome = is ∙ ap outcome_of (sym moved);
     there = holds_kept cells i slot f.flight r f.there;
-    flies = f.flies;
+    flew = f.flew;
     puts = subst (λ w. Puts cells slot (flight_after w f.next) mid) (sym moved) (subst (Puts cells slot (Some f.next)) (sym f.is) (set_puts cells i slot (Some f.flight) (Some f.next) r f.there));
   }
 
-  pub ended_at : (r : Rise cells) (o : Outcome) (after : List (ℕ × Option Flight)) → went ≢ Moved → o ≡ outcome_of went → Empties mid i after → StepsAt store meant old cells slot o new after
+  pub ended_at : (r : Rise cells) (o : Outcome) (after : List (ℕ × Option Flight)) → went ≢ Moved → o ≡ outcome_of went → Empties mid i after → StepsAt Flew old cells slot o new after
   ended_at r o after off is d = record {
     flight = f.flight;
     next = f.next;
     went = went;
     outcome = is;
     there = holds_kept cells i slot f.flight r f.there;
-    flies = f.flies;
+    flew = f.flew;
     puts = subst (λ x. Puts cells slot x after) (sym (ended_after went f.next off)) (set_emptied cells mid after slot i (Some f.flight) (Some f.next) r f.there f.is d);
-  }
-
-module _ {P M : Type 0} (store : P → Store) (meant : M → Merge) (old new : DbValue P M) (cells mid : List (ℕ × Option Flight)) (slot i : ℕ) (went : Went) (f : FliesToEndAt store meant old cells slot i went new mid) where
-  pub ended_within : i < length mid
-  ended_within = slice_get_within mid i (slot, Some f.next) (set_within cells mid slot i (Some f.flight) (Some f.next) f.there f.is)
-
-  pub finished_at : (r : Rise cells) (o : Outcome) (after : List (ℕ × Option Flight)) → o ≡ outcome_of went → Empties mid i after → FinishesAt store meant old cells slot o new after
-  finished_at r o after is d = record {
-    flight = f.flight;
-    next = f.next;
-    went = went;
-    outcome = is;
-    there = holds_kept cells i slot f.flight r f.there;
-    flies = f.flies;
-    puts = set_emptied cells mid after slot i (Some f.flight) (Some f.next) r f.there f.is d;
   }
 
 -- the item of the cell that was found is read
@@ -92,3 +76,8 @@ pub item_read : {X : Type 0} (cs : List (ℕ × Option X)) (n i : ℕ) (x : ℕ 
 item_read cs n i x r h e =
     let here : Some x ≡ Some (n, Some h.item) = sym (read_at cs i x (slice_get_within cs i (n, Some h.item) h.is) e) ∙ h.is in
     holds_kept cs i n h.item r h.is ∙ sym (ap (λ p. p.1) (some_is here))
+
+-- a call that came to its end is let go
+pub gone_after : {P M : Type 0} {Flew : DbValue P M → Flight → Went → DbValue P M → Flight → Type 0} {old new : DbValue P M} {cells after : List (ℕ × Option Flight)} {slot : ℕ} {o : Outcome} (s : StepsAt Flew old cells slot o new after) → s.went ≢ Moved
+    → (q : ℕ) → kept_at (kept after) q ≡ put_at (kept_at (kept cells)) slot None q
+gone_after {cells = cells} {slot = slot} s off q = s.puts.kept q ∙ ap (λ x. put_at (kept_at (kept cells)) slot x q) (ended_after s.went s.next off)

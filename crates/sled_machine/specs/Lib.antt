@@ -1,6 +1,9 @@
 pub mod Slots
 pub mod Table
 pub mod Values
-pub mod Crash
-pub mod Sound
+pub mod CrashMaps
 pub mod Fly
+pub mod Step
+pub mod Run
+pub mod Finish
+pub mod Sound

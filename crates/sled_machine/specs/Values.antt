@@ -18,6 +18,6 @@ pub record MachineValue (P M : Type 0) : Type 0 where
 abbrev pub slots_of : List (ℕ × Flight) → ℕ → Option Flying
 slots_of flights slot = option_map flying_of (kept_at flights slot)
 
--- the state of the machine and the store that it stands on
-abbrev pub instant_of : {P M : Type 0} → (P → Store) → (M → Merge) → MachineValue P M → Instant
-instant_of store meant m = instant_of_db store meant m.db (slots_of m.flights) m.slots_given
+-- the state of the machine, the store that it stands on, and the number that a flush would answer
+abbrev pub instant_of : {P M : Type 0} → (P → Store) → (P → ℕ) → (M → Merge) → MachineValue P M → Instant
+instant_of store flush_number meant m = instant_of_db store meant m.db (slots_of m.flights) m.slots_given (flush_number m.db.pages)

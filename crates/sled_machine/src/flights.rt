@@ -1,13 +1,13 @@
 //! Steps of a call in the table.
 ghost use Rattle.std.specs.Prelude.{◌≡◌, slice_get, Some};
 ghost use Rattle.std.specs.Option.{option_map};
-ghost use Rattle.sled.specs.Values.{moment};
+ghost use Rattle.sled.specs.Values.{moment_of_db};
 ghost use Rattle.sled_tree.specs.Known.{IsKnown};
-ghost use Rattle.sled.specs.Flights.{outcome_of};
+ghost use Rattle.sled.specs.Flights.{Flies, FliesToEnd, outcome_of};
 ghost use Rattle.sled_tree.specs.declared.flight.Flight.{Flight};
 ghost use Rattle.sled_machine.specs.Slots.{Rise};
 ghost use Rattle.sled_machine.specs.Table.{HoldsAt};
-ghost use Rattle.sled_machine.specs.Fly.{FliesAt, StepsAt, FliesToEndAt, FinishesAt};
+ghost use Rattle.sled_machine.specs.Fly.{FliesAt, StepsAt};
 
 use crate::table::Table;
 use sled::Db;
@@ -44,8 +44,8 @@ fn fly_at<P: Pages, M: MergeOperator>(
     i: usize,
 ) -> Went
     requires holds { HoldsAt table.old.cells.items slot i }
-    requires known { (f : Flight) → slice_get table.old.cells.items i ≡ Some (slot, Some f) → IsKnown (moment (P.store db.old.pages) db.old.trees db.old.trees_given) f }
-    ensures { FliesAt P.store M.meant db.old table.old.cells.items slot i result db.new table.new.cells.items }
+    requires known { (f : Flight) → slice_get table.old.cells.items i ≡ Some (slot, Some f) → IsKnown (moment_of_db P.store db.old) f }
+    ensures { FliesAt (Flies P.store M.meant) db.old table.old.cells.items slot i result db.new table.new.cells.items }
 {
     match &mut table.cells[i].1 {
         Some(flight) => db.fly(flight),
@@ -62,8 +62,8 @@ pub(crate) fn step_at<P: Pages, M: MergeOperator>(
 ) -> Outcome
     requires rise { Rise table.old.cells.items }
     requires holds { HoldsAt table.old.cells.items slot i }
-    requires known { (f : Flight) → slice_get table.old.cells.items i ≡ Some (slot, Some f) → IsKnown (moment (P.store db.old.pages) db.old.trees db.old.trees_given) f }
-    ensures { StepsAt P.store M.meant db.old table.old.cells.items slot result db.new table.new.cells.items }
+    requires known { (f : Flight) → slice_get table.old.cells.items i ≡ Some (slot, Some f) → IsKnown (moment_of_db P.store db.old) f }
+    ensures { StepsAt (Flies P.store M.meant) db.old table.old.cells.items slot result db.new table.new.cells.items }
 {
     match fly_at(db, table, slot, i) {
         Went::Moved => Outcome::Moved,
@@ -82,8 +82,8 @@ fn fly_to_end_at<P: Pages, M: MergeOperator>(
     i: usize,
 ) -> Went
     requires holds { HoldsAt table.old.cells.items slot i }
-    requires known { (f : Flight) → slice_get table.old.cells.items i ≡ Some (slot, Some f) → IsKnown (moment (P.store db.old.pages) db.old.trees db.old.trees_given) f }
-    ensures { FliesToEndAt P.store M.meant db.old table.old.cells.items slot i result db.new table.new.cells.items }
+    requires known { (f : Flight) → slice_get table.old.cells.items i ≡ Some (slot, Some f) → IsKnown (moment_of_db P.store db.old) f }
+    ensures { FliesAt (FliesToEnd P.store M.meant) db.old table.old.cells.items slot i result db.new table.new.cells.items }
 {
     match &mut table.cells[i].1 {
         Some(flight) => db.fly_to_end(flight),
@@ -100,8 +100,8 @@ pub(crate) fn finish_at<P: Pages, M: MergeOperator>(
 ) -> Outcome
     requires rise { Rise table.old.cells.items }
     requires holds { HoldsAt table.old.cells.items slot i }
-    requires known { (f : Flight) → slice_get table.old.cells.items i ≡ Some (slot, Some f) → IsKnown (moment (P.store db.old.pages) db.old.trees db.old.trees_given) f }
-    ensures { FinishesAt P.store M.meant db.old table.old.cells.items slot result db.new table.new.cells.items }
+    requires known { (f : Flight) → slice_get table.old.cells.items i ≡ Some (slot, Some f) → IsKnown (moment_of_db P.store db.old) f }
+    ensures { StepsAt (FliesToEnd P.store M.meant) db.old table.old.cells.items slot result db.new table.new.cells.items }
 {
     let went = fly_to_end_at(db, table, slot, i);
     table.remove(i);

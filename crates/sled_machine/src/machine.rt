@@ -11,11 +11,10 @@ use crate::flights::{finish_at, outcome_of, step_at, turns_of};
 use crate::table::Table;
 use sled::Db;
 use sled_model::{Call, MergeOperator, Outcome, Reply, Slot, Step, Tree, Whole};
+use sled_pages::texts::NUMBERS_USED_UP;
 use sled_pages::{Error, Pages, Result};
 use sled_tree::Flight;
 use std::marker::Model;
-
-const NUMBERS_USED_UP: &str = "numbers used up";
 
 /// A database and the calls in flight on it.
 #[derive(Drop)]
@@ -31,20 +30,22 @@ impl<P: Pages, M> Model for Machine<P, M> {
 
     ghost Value = { MachineValue P M };
 
-    ghost use Rattle.sled.specs.Values.{moment};
+    ghost use Rattle.sled.specs.Values.{moment_of_db};
     ghost use Rattle.sled_machine.specs.Table.{kept, IsTable};
     ghost use Rattle.sled_machine.specs.Sound.{IsMachine};
 
     ghost view = { λ m. record { db = m.db; flights = kept m.table.cells.items; slots_given = m.slots_given } };
 
-    ghost invariant = { λ m. IsMachine (moment (P.store m.db.pages) m.db.trees m.db.trees_given) (kept m.table.cells.items) m.slots_given × IsTable m.table.cells.items m.slots_given };
+    ghost invariant = { λ m. IsMachine (moment_of_db P.store m.db) (kept m.table.cells.items) m.slots_given × IsTable m.table.cells.items m.slots_given };
 }
 
 impl<P: Pages, M: MergeOperator> Machine<P, M> {
     ghost use Rattle.sled.specs.Sound.{IsDb};
     ghost use Rattle.sled_machine.specs.Values.{slots_of};
     ghost use Rattle.sled.specs.Values.{db_state};
-    ghost use Rattle.sled_machine.specs.Crash.{Reaches, Finishes, Completes, Performs};
+    ghost use Rattle.sled_machine.specs.Step.{MachineStep, MachineActs, MachineFollows, MachinePasses, MachineSlots, MachineLoses, MachineLeaves, Reaches};
+    ghost use Rattle.sled_machine.specs.Run.{Performs, ReachesAll};
+    ghost use Rattle.sled_machine.specs.Finish.{Finishes, Completes};
 
     /// A machine over a database, with no call in flight.
     pub fn new(db: Db<P, M>) -> Machine<P, M>
@@ -77,7 +78,7 @@ impl<P: Pages, M: MergeOperator> Machine<P, M> {
 
     /// What holds of every machine: that its database is as it should be. It does nothing.
     pub fn audit(&self)
-        ensures { IsDb (P.store self.now.db.pages) self.now.db.trees self.now.db.trees_given }
+        ensures { IsDb P.store self.now.db }
     {
         self.db.audit();
     }
@@ -87,7 +88,7 @@ impl<P: Pages, M: MergeOperator> Machine<P, M> {
         ensures ok { IfOk result (λ copy. copy ≡ tree.now) }
         ensures tested { OnOk result (must_refuse_of (db_state P.store M.meant self.now.db) (tree.now ∷ []) ≡ None) }
         ensures room { OnOk result (self.now.slots_given < u64.MAX) }
-        ensures err { IfErr result (λ e. (call : Call) → Reaches P.store M.meant self.now (step.Begin tree.now call) (outcome.Refused e) self.now) }
+        ensures err { IfErr result (λ e. (call : Call) → Reaches P.store P.flush_number M.meant self.now (step.Begin tree.now call) (outcome.Refused e) self.now) }
     {
         if let Err(e) = self.db.check(tree) {
             return Err(e);
@@ -100,8 +101,8 @@ impl<P: Pages, M: MergeOperator> Machine<P, M> {
 
     /// Begins a call on a tree. It does no page action.
     pub fn begin(&mut self, tree: &Tree, call: Call) -> Result<Slot>
-        ensures ok { IfOk result (λ slot. Reaches P.store M.meant self.old (step.Begin tree.now call) (outcome.Begun slot) self.new) }
-        ensures err { IfErr result (λ e. Reaches P.store M.meant self.old (step.Begin tree.now call) (outcome.Refused e) self.new) }
+        ensures ok { IfOk result (λ slot. Reaches P.store P.flush_number M.meant self.old (step.Begin tree.now call) (outcome.Begun slot) self.new) }
+        ensures err { IfErr result (λ e. Reaches P.store P.flush_number M.meant self.old (step.Begin tree.now call) (outcome.Refused e) self.new) }
     {
         let tree = match self.admit(tree) {
             Ok(tree) => tree,
@@ -120,7 +121,13 @@ impl<P: Pages, M: MergeOperator> Machine<P, M> {
 
     /// Does the next page action of the call in the slot, if there is one.
     pub fn step(&mut self, slot: Slot) -> Outcome
-        ensures { Reaches P.store M.meant self.old (step.Step slot) result self.new }
+        ensures step { MachineStep P.store P.flush_number M.meant self.old (step.Step slot) result self.new }
+        ensures does { MachineActs P.store M.meant self.old (step.Step slot) result self.new }
+        ensures follows { MachineFollows P.store M.meant self.old (step.Step slot) result self.new }
+        ensures passes { MachinePasses P.store self.old (step.Step slot) result self.new }
+        ensures slots { MachineSlots self.old (step.Step slot) result self.new }
+        ensures loses { MachineLoses P.store self.old self.new }
+        ensures leaves { MachineLeaves P.store self.old (step.Step slot) result self.new }
     {
         let Some(i) = self.table.find(slot.0) else {
             return Outcome::NoSuchSlot;
@@ -130,7 +137,7 @@ impl<P: Pages, M: MergeOperator> Machine<P, M> {
 
     /// Gives the call in the slot up. What it did to the pages stays, and no map changes.
     pub fn abandon(&mut self, slot: Slot) -> Outcome
-        ensures { Reaches P.store M.meant self.old (step.Abandon slot) result self.new }
+        ensures { Reaches P.store P.flush_number M.meant self.old (step.Abandon slot) result self.new }
     {
         let Some(i) = self.table.find(slot.0) else {
             return Outcome::NoSuchSlot;
@@ -151,13 +158,13 @@ impl<P: Pages, M: MergeOperator> Machine<P, M> {
 
     /// Does a whole call, in one step.
     pub fn whole(&mut self, whole: Whole) -> Outcome
-        ensures { Reaches P.store M.meant self.old (step.Whole whole) result self.new }
+        ensures { Reaches P.store P.flush_number M.meant self.old (step.Whole whole) result self.new }
     {
         self.whole_of(&whole)
     }
 
     fn whole_of(&mut self, whole: &Whole) -> Outcome
-        ensures { Reaches P.store M.meant self.old (step.Whole whole.now) result self.new }
+        ensures { Reaches P.store P.flush_number M.meant self.old (step.Whole whole.now) result self.new }
     {
         match whole {
             Whole::Flush => {
@@ -173,7 +180,7 @@ impl<P: Pages, M: MergeOperator> Machine<P, M> {
     /// Does steps of the call in the slot until it ends. There are no more than its turns allow. Where no other call left
     /// anything to repair on the way to its key, a call that begins goes on at most once for each level of its tree.
     pub fn finish(&mut self, slot: Slot) -> Outcome
-        ensures { Finishes P.store M.meant self.old slot result self.new }
+        ensures { Finishes P.store P.flush_number M.meant self.old slot result self.new }
     {
         let Some(i) = self.table.find(slot.0) else {
             return Outcome::NoSuchSlot;
@@ -184,7 +191,7 @@ impl<P: Pages, M: MergeOperator> Machine<P, M> {
     /// Does a call from its begin to its end: what `begin` does, and then `finish` of the slot. The slot is given, but nothing
     /// is kept in it, and the tests are made once.
     pub fn complete(&mut self, tree: &Tree, call: Call) -> Outcome
-        ensures { Completes P.store M.meant self.old tree.now call result self.new }
+        ensures { Completes P.store P.flush_number M.meant self.old tree.now call result self.new }
     {
         let tree = match self.admit(tree) {
             Ok(tree) => tree,
@@ -202,7 +209,7 @@ impl<P: Pages, M: MergeOperator> Machine<P, M> {
 
     // Begins a copy of a call. The tests come before the copy is made.
     fn begin_copy(&mut self, tree: &Tree, call: &Call) -> Outcome
-        ensures { Reaches P.store M.meant self.old (step.Begin tree.now call.now) result self.new }
+        ensures { Reaches P.store P.flush_number M.meant self.old (step.Begin tree.now call.now) result self.new }
     {
         if let Err(e) = self.db.check(tree) {
             return Outcome::Refused(e);
@@ -219,7 +226,7 @@ impl<P: Pages, M: MergeOperator> Machine<P, M> {
 
     // Does one step of any kind.
     fn perform(&mut self, step: &Step) -> Outcome
-        ensures { Reaches P.store M.meant self.old step.now result self.new }
+        ensures { Reaches P.store P.flush_number M.meant self.old step.now result self.new }
     {
         match step {
             Step::Begin(tree, call) => self.begin_copy(tree, call),
@@ -231,7 +238,8 @@ impl<P: Pages, M: MergeOperator> Machine<P, M> {
 
     /// Does a list of steps, one after the other. Refused with `NoMemory` alone, and then nothing was done.
     pub fn run(&mut self, steps: &[Step]) -> Result<Vec<Outcome>>
-        ensures ok { IfOk result (λ outcomes. Performs P.store M.meant self.old steps.now outcomes.items self.new) }
+        ensures ok { IfOk result (λ outcomes. Performs P.store P.flush_number M.meant self.old steps.now outcomes.items self.new) }
+        ensures each { IfOk result (λ outcomes. ReachesAll P.store P.flush_number M.meant self.old steps.now outcomes.items self.new) }
         ensures err { OnErr result (self.new ≡ self.old) }
         ensures cause { IfErr result (λ e. e ≡ NoMemory) }
     {

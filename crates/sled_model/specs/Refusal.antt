@@ -1,18 +1,19 @@
 -- Which refusals there may be, and which there must be.
-use Rattle.std.specs.Prelude.{◌≡◌, ℕ, ◌<◌, ◌≤◌, ◌⊎◌, true, false, Bool, nat_eq, length, List, [], ◌∷◌, Option, Some, None, if◌then◌else◌}
+use Rattle.std.specs.Prelude.{◌≡◌, ℕ, ◌<◌, ◌≤◌, ◌⊎◌, true, false, Bool, not, ◌&&◌, nat_eq, length, List, [], ◌∷◌, Option, Some, None, is_some, if◌then◌else◌}
 use Rattle.std.specs.Str.{bytes_eq}
 use Rattle.sled_pages.specs.Order.{Key}
 use Rattle.sled_pages.specs.Store.{Store}
 use Rattle.sled_pages.specs.declared.error.Error.{Error}
 use Rattle.sled_pages.specs.declared.error.Error.TheVariants.{CollectionNotFound, Unsupported, ReportableBug, Io, NoMemory, FullQueue, Closed}
+use Rattle.sled_pages.specs.declared.texts.TheConstants.{HANDLE_OF_ANOTHER_DATABASE, NO_MERGE_OPERATOR, NUMBERS_USED_UP, WALK_PASSED_TURNS}
 use Rattle.sled_model.specs.Answer.{answer_of}
 use Rattle.sled_model.specs.State.{State, NamedTree, Flying, Queue, matches}
 use Rattle.sled_model.specs.declared.call.Call.{Call}
+use Rattle.sled_model.specs.declared.call.Call.TheVariants.{Get, Insert, Remove, CompareAndSwap}
 use Rattle.sled_model.specs.declared.call.Whole.{Whole}
 use Rattle.sled_model.specs.declared.call.Whole.TheVariants.{Flush}
 use Rattle.sled_model.specs.declared.event.Event.{Event}
 use Rattle.sled_model.specs.declared.tree.Tree.{Tree}
-use Rattle.sled_model.specs.declared.TheConstants.{MAX_LOOPS, QUEUE_LIMIT}
 
 -- what was asked of the database: to begin a call, to go on with the call in a slot, or a whole call
 pub data Asked : Type 0 where
@@ -26,11 +27,12 @@ trees_asked (ToBegin tree call) = tree ∷ []
 trees_asked (ToStep flying) = flying.tree ∷ []
 trees_asked (ToCall Flush) = []
 
--- why a call must be refused: the database is closed, the tree is another database's, or it was dropped
+-- why a call must be refused: the database is closed, the tree is another database's, it was dropped, or it has no operator
 pub data MustRefuse : Type 0 where
   IsClosed : MustRefuse
   IsForeign : MustRefuse
   IsDropped : (name : Key) → MustRefuse
+  HasNoOperator : MustRefuse
 
 abbrev pub first_of : Option MustRefuse → Option MustRefuse → Option MustRefuse
 first_of None second = second
@@ -55,15 +57,42 @@ dropped_test s (t ∷ ts) = if is_number t.number (s.trees t.name) then dropped_
 abbrev pub must_refuse_of : State → List Tree → Option MustRefuse
 must_refuse_of s trees = first_of (if s.is_open then None else Some IsClosed) (first_of (foreign_test s.name trees) (dropped_test s trees))
 
+-- which calls need the merge operator of their tree: none of those that there are yet
+abbrev pub needs_operator : Call → Bool
+needs_operator (Get k) = false
+needs_operator (Insert k v) = false
+needs_operator (Remove k) = false
+needs_operator (CompareAndSwap k old new) = false
+
+abbrev pub has_operator : Option NamedTree → Bool
+has_operator None = false
+has_operator (Some t) = is_some t.merge
+
+-- the last test: the tree of a call that needs an operator has one
+abbrev pub operator_test : State → Asked → Option MustRefuse
+operator_test s (ToBegin tree call) = if needs_operator call && not (has_operator (s.trees tree.name)) then (Some HasNoOperator) else None
+operator_test s (ToStep f) = if needs_operator f.call && not (has_operator (s.trees f.tree.name)) then (Some HasNoOperator) else None
+operator_test s (ToCall whole) = None
+
 abbrev pub must_refuse : State → Asked → Option MustRefuse
-must_refuse s asked = must_refuse_of s (trees_asked asked)
+must_refuse s asked = first_of (must_refuse_of s (trees_asked asked)) (operator_test s asked)
 
 -- the error that tells the cause. A tree's name may want memory
 abbrev pub tells : MustRefuse → Error → Type 0
 tells IsClosed e = e ≡ Closed
-tells IsForeign (Unsupported text) = Unit {0}
+tells IsForeign (Unsupported text) = text.now ≡ HANDLE_OF_ANOTHER_DATABASE.now
 tells IsForeign e = ⊥
 tells (IsDropped name) e = (e ≡ CollectionNotFound name) ⊎ (e ≡ NoMemory)
+tells HasNoOperator (Unsupported text) = text.now ≡ NO_MERGE_OPERATOR.now
+tells HasNoOperator e = ⊥
+
+-- a call whose turns are this many is refused at its next step
+abbrev pub turns_limit : ℕ
+turns_limit = 1000000
+
+-- so many events wait in a queue at the most
+abbrev pub queue_limit : ℕ
+queue_limit = 1024
 
 -- the call in flight would bring this event by the map now, and the queue of some subscriber is full
 pub record MeetsFullQueue (s : State) (f : Flying) : Type 0 where
@@ -75,27 +104,20 @@ pub record MeetsFullQueue (s : State) (f : Flying) : Type 0 where
   pub queue : Queue
   pub waits : s.queues subscriber ≡ Some queue
   pub matching : matches tree.number event queue ≡ true
-  pub full : QUEUE_LIMIT ≤ length queue.events
-
--- the store counted a fault, or some page is not readable
-abbrev pub MeetsFault : Store → Store → Type 0
-MeetsFault a b = (a.faults < b.faults) ⊎ ((pid : ℕ) × (a.is_readable pid ≡ false))
-
--- numbers run up to the greatest u64
-abbrev pub greatest_number : ℕ
-greatest_number = 18446744073709551615
+  pub full : queue_limit ≤ length queue.events
 
 -- the error of a call that has no turns left
 abbrev pub TellsTurns : Error → Type 0
-TellsTurns (ReportableBug text) = Unit {0}
+TellsTurns (ReportableBug text) = text.now ≡ WALK_PASSED_TURNS.now
 TellsTurns e = ⊥
 
--- The causes of a refusal that is none of those tests. a is the store before, b the store after
+-- The causes of a refusal that is none of those tests: slots are numbered up to the greatest u64; the call has no turns left; the
+-- store counted a fault, or some page is not readable; a queue is full. a is the store before, b the store after
 abbrev pub cause_of : State → Store → Store → Asked → Error → Type 0
 cause_of s a b asked NoMemory = Unit {0}
-cause_of s a b (ToBegin tree call) (Unsupported text) = s.slots_given ≡ greatest_number
-cause_of s a b (ToStep f) (Io fault) = MeetsFault a b
-cause_of s a b (ToStep f) (ReportableBug text) = f.turns ≡ MAX_LOOPS
+cause_of s a b (ToBegin tree call) (Unsupported text) = (text.now ≡ NUMBERS_USED_UP.now) × (s.slots_given ≡ 18446744073709551615)
+cause_of s a b (ToStep f) (Io fault) = (a.faults < b.faults) ⊎ ((pid : ℕ) × (a.is_readable pid ≡ false))
+cause_of s a b (ToStep f) (ReportableBug text) = (text.now ≡ WALK_PASSED_TURNS.now) × (f.turns ≡ turns_limit)
 cause_of s a b (ToStep f) FullQueue = MeetsFullQueue s f
 cause_of s a b (ToCall Flush) (Io fault) = a.faults < b.faults
 cause_of s a b asked e = ⊥

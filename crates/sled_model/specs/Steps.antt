@@ -6,7 +6,7 @@ use Rattle.sled_pages.specs.declared.error.Error.{Error}
 use Rattle.sled_model.specs.Maps.{Maps}
 use Rattle.sled_model.specs.Answer.{answer_of}
 use Rattle.sled_model.specs.State.{State, NamedTree, Flying, maps_of, begun, decided}
-use Rattle.sled_model.specs.Refusal.{ToBegin, ToStep, ToCall, must_refuse, MayRefuse, TellsTurns}
+use Rattle.sled_model.specs.Refusal.{ToBegin, ToStep, ToCall, must_refuse, MayRefuse, TellsTurns, turns_limit}
 use Rattle.sled_model.specs.declared.call.Call.{Call}
 use Rattle.sled_model.specs.declared.call.Whole.{Whole}
 use Rattle.sled_model.specs.declared.call.Whole.TheVariants.{Flush}
@@ -17,12 +17,12 @@ use Rattle.sled_model.specs.declared.outcome.Step.{Step}
 use Rattle.sled_model.specs.declared.outcome.Step.TheVariants as step
 use Rattle.sled_model.specs.declared.outcome.Outcome.{Outcome}
 use Rattle.sled_model.specs.declared.outcome.Outcome.TheVariants.{Begun, Moved, Decided, Refused, Abandoned, NoSuchSlot}
-use Rattle.sled_model.specs.declared.TheConstants.{MAX_LOOPS}
 
--- the state of a database and the store that it stands on, at one moment
+-- the state of a database and the store that it stands on, at one moment, and the number that a flush would answer then
 pub record Instant : Type 0 where
   pub state : State
   pub store : Store
+  pub flush_number : ℕ
 
 -- the call takes the next slot, with no turns
 pub record Begins (old : State) (tree : Tree) (call : Call) (slot : ℕ) (new : State) : Type 0 where
@@ -35,7 +35,7 @@ pub record Moves (old : State) (slot : ℕ) (new : State) : Type 0 where
   pub flying : Flying
   pub here : old.slots slot ≡ Some flying
   pub free : must_refuse old (ToStep flying) ≡ None
-  pub few : flying.turns < MAX_LOOPS
+  pub few : flying.turns < turns_limit
   pub is : new ≡ record old { slots = put_at old.slots slot (Some (record flying { turns = flying.turns + 1 })) }
 
 -- the call in the slot replies, changes its tree's map and fills the queues by the answer on the map now, and ends
@@ -43,7 +43,7 @@ pub record Decides (old : State) (slot : ℕ) (reply : Reply) (new : State) : Ty
   pub flying : Flying
   pub here : old.slots slot ≡ Some flying
   pub free : must_refuse old (ToStep flying) ≡ None
-  pub few : flying.turns < MAX_LOOPS
+  pub few : flying.turns < turns_limit
   pub tree : NamedTree
   pub there : old.trees flying.tree.name ≡ Some tree
   pub replies : reply ≡ (answer_of flying.call tree.map).reply
@@ -55,7 +55,7 @@ pub record RefusesStep (old : State) (a b : Store) (slot : ℕ) (e : Error) (new
   pub here : old.slots slot ≡ Some flying
   pub may : MayRefuse old a b (ToStep flying) e
   -- without turns left it is told so, and nothing else
-  pub limit : must_refuse old (ToStep flying) ≡ None → flying.turns ≡ MAX_LOOPS → TellsTurns e
+  pub limit : must_refuse old (ToStep flying) ≡ None → flying.turns ≡ turns_limit → TellsTurns e
   pub is : new ≡ record old { slots = put_at old.slots slot None }
 
 -- no call has the slot, and nothing changes
@@ -69,10 +69,24 @@ pub record Abandons (old : State) (slot : ℕ) (new : State) : Type 0 where
   pub here : old.slots slot ≡ Some flying
   pub is : new ≡ record old { slots = put_at old.slots slot None }
 
--- a whole call is decided
-abbrev pub WholeDecides : State → Whole → Reply → State → List Maps → Type 0
-WholeDecides old Flush (Number n) new maps = (must_refuse old (ToCall Flush) ≡ None) × (new ≡ old) × (maps ≡ [])
-WholeDecides old Flush reply new maps = ⊥
+-- what a whole call is about: to make durable what was decided, to tell something and change no map, to change maps in one
+-- step, or to change them part by part
+pub data Kind : Type 0 where
+  Flushing : Kind
+  Telling : Kind
+  Changing : Kind
+  InParts : Kind
+
+abbrev pub kind_of : Whole → Kind
+kind_of Flush = Flushing
+
+-- a whole call is decided. A flush answers the store's number
+abbrev pub WholeDecides : Instant → Whole → Reply → State → List Maps → Type 0
+WholeDecides old Flush reply new maps = (must_refuse old.state (ToCall Flush) ≡ None) × (reply ≡ Number old.flush_number) × (new ≡ old.state) × (maps ≡ [])
+
+-- a whole call is refused, and nothing changes
+abbrev pub WholeRefuses : State → Store → Store → Whole → Error → State → List Maps → Type 0
+WholeRefuses old a b Flush e new maps = MayRefuse old a b (ToCall Flush) e × (new ≡ old) × (maps ≡ [])
 
 -- One step: what was done, how it came out, the state after it, and the maps that it added: those after each call that
 -- it decided, in order. What no case names stays as it was, and no other case exists
@@ -85,8 +99,8 @@ steps_as old (step.Step slot) (Decided reply) new maps = Decides old.state slot 
 steps_as old (step.Step slot) (Refused e) new maps = RefusesStep old.state old.store new.store slot e new.state × (maps ≡ [])
 steps_as old (step.Abandon slot) NoSuchSlot new maps = Misses old.state slot new.state × (maps ≡ [])
 steps_as old (step.Abandon slot) Abandoned new maps = Abandons old.state slot new.state × (maps ≡ [])
-steps_as old (step.Whole whole) (Decided reply) new maps = WholeDecides old.state whole reply new.state maps
-steps_as old (step.Whole whole) (Refused e) new maps = MayRefuse old.state old.store new.store (ToCall whole) e × (new.state ≡ old.state) × (maps ≡ [])
+steps_as old (step.Whole whole) (Decided reply) new maps = WholeDecides old whole reply new.state maps
+steps_as old (step.Whole whole) (Refused e) new maps = WholeRefuses old.state old.store new.store whole e new.state maps
 steps_as old s o new maps = ⊥
 
 pub record Steps (old : Instant) (s : Step) (o : Outcome) (new : Instant) (maps : List Maps) : Type 0 where

@@ -25,3 +25,7 @@ pub const MAX_LOOPS: u64 = 1_000_000;
 
 /// So many events wait in a subscriber's queue at the most.
 pub const QUEUE_LIMIT: usize = 1024;
+
+const _: () = prove!(MAX_LOOPS == 1_000_000);
+
+const _: () = prove!(QUEUE_LIMIT == 1024);

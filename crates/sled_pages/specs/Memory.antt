@@ -1,5 +1,5 @@
 -- What a store in memory means.
-use Rattle.std.specs.Prelude.{◌≡◌, ℕ, ◌+◌, ◌^◌, ◌<◌, vec_len, vec_capacity, Bool, List, Option, Some, None, true, false, not, [], nat_eq, nat_lt}
+use Rattle.std.specs.Prelude.{◌≡◌, ℕ, ◌+◌, ◌^◌, ◌<◌, vec_len, vec_capacity, Bool, List, Option, Some, None, true, false, not, [], length, nat_eq, nat_lt}
 use Rattle.std.specs.List.{list_any}
 use mathlib.Core.List.{reverse}
 use Rattle.sled_pages.specs.declared.memory.MemPages.{MemPages}
@@ -27,6 +27,10 @@ meaning t log actions faults unreadable mark recovered given next_version = reco
 
 abbrev pub store_of : MemPages → Store
 store_of m = meaning (table_of m) m.log.items m.actions m.faults m.unreadable.items m.mark m.recovered (given_of m.slots) m.next_version
+
+-- a flush answers how many actions it makes durable
+abbrev pub flush_number_of : MemPages → ℕ
+flush_number_of m = length (store_of m).recent
 
 -- the calls that will be refused, by their numbers
 abbrev pub calls_refused : MemPages → List ℕ

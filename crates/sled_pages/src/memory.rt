@@ -330,9 +330,11 @@ impl MemPages {
 }
 
 impl Pages for MemPages {
-    ghost use Rattle.sled_pages.specs.Memory.{store_of};
+    ghost use Rattle.sled_pages.specs.Memory.{store_of, flush_number_of};
 
     ghost store = { store_of };
+
+    ghost flush_number = { flush_number_of };
 
     fn read(&self, _alloc: Global, pid: Pid) -> Result<Option<View>> {
         if self.unreadable.contains(&pid.0) {
@@ -488,7 +490,7 @@ impl Pages for MemPages {
     fn flush(&mut self) -> Result<usize>
         requires { (now (store_of self.old)).in_group ≡ false }
         ensures ok { OnOk result (store_of self.new ≡ flushed (store_of self.old)) }
-        ensures count { IfOk result (λ n. n ≡ length (store_of self.old).recent) }
+        ensures number { IfOk result (λ n. n ≡ length (store_of self.old).recent) }
         ensures err { IfErr result (λ e. Refused e (store_of self.old) (store_of self.new)) }
     {
         if let Err(e) = self.count() {

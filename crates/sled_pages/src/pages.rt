@@ -1,5 +1,5 @@
 //! The contract of a store of pages.
-ghost use Rattle.std.specs.Prelude.{◌≡◌, ◌≤◌, IfOk, IfErr, OnOk, true, false};
+ghost use Rattle.std.specs.Prelude.{◌≡◌, ◌≤◌, ℕ, IfOk, IfErr, OnOk, true, false};
 ghost use Rattle.sled_pages.specs.declared.error.Error.TheVariants.{NoMemory};
 ghost use Rattle.sled_pages.specs.Node.{applied};
 ghost use Rattle.sled_pages.specs.State.{GroupBegins, GroupEnds};
@@ -17,6 +17,9 @@ use std::alloc::Global;
 pub trait Pages: Send + Drop {
     /// What the store means.
     ghost store: { Self → Store };
+
+    /// The number that a flush would answer now.
+    ghost flush_number: { Self → ℕ };
 
     /// The page now, or `None` where there is none. `Io` comes only where the page is not readable, and such a page is
     /// never answered.
@@ -98,6 +101,7 @@ pub trait Pages: Send + Drop {
     fn flush(&mut self) -> Result<usize>
         requires { (now (store self.old)).in_group ≡ false }
         ensures ok { OnOk result (store self.new ≡ flushed (store self.old)) }
+        ensures number { IfOk result (λ n. n ≡ flush_number self.old) }
         ensures err { IfErr result (λ e. Refused e (store self.old) (store self.new)) };
 
     /// Raises the mark, which is durable at once.

@@ -15,10 +15,12 @@ pub struct Counting<'a> {
 }
 
 impl<'a> Pages for Counting<'a> {
-    ghost use Rattle.sled_pages.specs.Memory.{store_of};
+    ghost use Rattle.sled_pages.specs.Memory.{store_of, flush_number_of};
     ghost use Rattle.sled_pages.specs.Laws.{law_given};
 
     ghost store = { λ c. store_of c.inner };
+
+    ghost flush_number = { λ c. flush_number_of c.inner };
 
     fn read(&self, alloc: Global, pid: Pid) -> Told<Option<View>> {
         self.reads.fetch_add(1, Ordering::Relaxed);

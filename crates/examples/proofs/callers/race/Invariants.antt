@@ -9,4 +9,4 @@ abbrev pub invariant-loop-is_second : goal.invariant-loop-is_second
 invariant-loop-is_second g l =
     Means (slots_of l.machine.flights) l.one l.tree (Insert l.key l.first)
     × Means (slots_of l.machine.flights) l.two l.tree (Insert l.key l.second)
-    × LastPut g.P.Pages.store g.M.MergeOperator.meant (maps_now g.P.Pages.store g.M.MergeOperator.meant l.fn.machine.db) l.tree l.key l.first l.second l.last (maps_now g.P.Pages.store g.M.MergeOperator.meant l.machine.db)
+    × LastPut g.P.Pages.store g.P.Pages.flush_number g.M.MergeOperator.meant (maps_now g.P.Pages.store g.M.MergeOperator.meant l.fn.machine.db) l.tree l.key l.first l.second l.last (maps_now g.P.Pages.store g.M.MergeOperator.meant l.machine.db)

@@ -1,4 +1,4 @@
-use Rattle.std.proofs.Common.{◌≡◌, ap, ◌∙◌}
+use Rattle.std.proofs.Common.{ap, ◌∙◌}
 use Rattle.sled_pages.specs.Store.{now}
 use Rattle.tree_laws.specs.Contents.{trees_of}
 use Rattle.sled.specs.Values.{DbValue}
@@ -8,11 +8,12 @@ use Rattle.examples.proofs.callers.reopen.Goals as goal
 pub returns-in-Ok-clause-same : goal.returns-in-Ok-clause-same
 returns-in-Ok-clause-same g c =
     let store = g.P.Pages.store in
-    let pages : store c.into_pages.result ≡ store c.args.machine.db.pages = ap store (c.into_pages.ensures.pages ∙ ap (λ (v : DbValue g.row.P.Denot g.row.M.Denot). v.pages) c.into_db.ensures) in
-    ap (λ p. trees_of (now (store p))) c.into_pages-in-Ok.ensures.pages ∙ (opened_maps store _ _ _ _ _ c.into_pages.ensures.sound c.in-Ok.ensures.ok ∙ ap (λ s. trees_of (now s)) pages)
+    ap (λ p. trees_of (now (store p))) c.into_pages-in-Ok.ensures.pages
+    ∙ (opened_maps store _ _ _ _ (ap store c.into_pages-pages.ensures.pages) c.into_pages-pages.ensures.sound c.in-Ok.ensures.ok
+    ∙ ap (λ (v : DbValue g.row.P.Denot g.row.M.Denot). trees_of (now (store v.pages))) c.into_db.ensures)
 
 pub returns-in-Err-clause-kept : goal.returns-in-Err-clause-kept
 returns-in-Err-clause-kept g c =
     let store = g.P.Pages.store in
-    let pages : store c.into_pages.result ≡ store c.args.machine.db.pages = ap store (c.into_pages.ensures.pages ∙ ap (λ (v : DbValue g.row.P.Denot g.row.M.Denot). v.pages) c.into_db.ensures) in
-    refused_again _ _ _ _ _ c.into_pages.ensures.sound c.in-Err.ensures.err ∙ ap (λ s. trees_of (now s)) pages
+    refused_again store _ _ _ _ (ap store c.into_pages-pages.ensures.pages) c.into_pages-pages.ensures.sound c.in-Err.ensures.err
+    ∙ ap (λ (v : DbValue g.row.P.Denot g.row.M.Denot). trees_of (now (store v.pages))) c.into_db.ensures

@@ -10,8 +10,8 @@ pub returns-clause-ok : goal.returns-clause-ok
 returns-clause-ok c = let m = c.count.new.self in
     flushes (table_of m) m.log.items _ m.actions m.faults m.unreadable.items m.mark m.recovered (given_of m.slots) m.next_version c.forget.ensures ∙ ap flushed c.in_default.ensures.same
 
-pub returns-clause-count : goal.returns-clause-count
-returns-clause-count c = let m = c.count.new.self in
+pub returns-clause-number : goal.returns-clause-number
+returns-clause-number c = let m = c.count.new.self in
     let n : c.len-count.result ≡ length m.log.items = search rules in
     n ∙ (sym (length_recent_log m.log.items (table_of m)) ∙ ap (λ (s : Store). length s.recent) c.in_default.ensures.same)
 

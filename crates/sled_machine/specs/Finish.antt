@@ -1,0 +1,59 @@
+-- Calls to their end.
+use Rattle.std.specs.Prelude.{◌≡◌, ◌≢◌, ℕ, zero, suc, ◌<◌, ◌≤◌, ◌⊎◌, List, [], ◌∷◌, length, Some}
+use Rattle.sled_pages.specs.Store.{Store, now}
+use Rattle.sled_pages.specs.declared.error.Error.{Error}
+use Rattle.sled_model.specs.Maps.{Merge}
+use Rattle.sled_model.specs.Answer.{key_of}
+use Rattle.sled_model.specs.Refusal.{TellsTurns, turns_limit}
+use Rattle.sled_model.specs.State.{Flying}
+use Rattle.sled_model.specs.declared.call.Call.{Call}
+use Rattle.sled_model.specs.declared.outcome.Step.{Step}
+use Rattle.sled_model.specs.declared.outcome.Step.TheVariants as step
+use Rattle.sled_model.specs.declared.outcome.Outcome.{Outcome}
+use Rattle.sled_model.specs.declared.outcome.Outcome.TheVariants.{Begun, Moved, Refused}
+use Rattle.sled_model.specs.declared.tree.Tree.{Tree}
+use Rattle.tree_laws.specs.Paths.{IsClean}
+use Rattle.sled_machine.specs.Step.{Reaches}
+use Rattle.sled_machine.specs.Run.{Performs, ReachesAll}
+use Rattle.sled_machine.specs.Values.{MachineValue, slots_of}
+
+-- the call went on at most once for each page of the path, and was not refused for its turns
+pub record IsPrompt (moves : ℕ) (o : Outcome) (path : List ℕ) : Type 0 where
+  pub few : moves ≤ length path
+  pub unlimited : (e : Error) → o ≡ Refused e → TellsTurns e → ⊥
+
+-- as many steps of the slot as there are moves, and one more
+abbrev pub steps_of : ℕ → ℕ → List Step
+steps_of slot zero = step.Step slot ∷ []
+steps_of slot (suc n) = step.Step slot ∷ steps_of slot n
+
+abbrev pub outcomes_of : ℕ → Outcome → List Outcome
+outcomes_of zero o = o ∷ []
+outcomes_of (suc n) o = Moved ∷ outcomes_of n o
+
+-- The call in the slot goes on, step by step, until the last
+pub record Finishes {P M : Type 0} (store : P → Store) (flush_number : P → ℕ) (meant : M → Merge) (old : MachineValue P M) (slot : ℕ) (o : Outcome) (new : MachineValue P M) : Type 0 where
+  pub moves : ℕ
+  pub ends : o ≢ Moved
+  pub run : Performs store flush_number meant old (steps_of slot moves) (outcomes_of moves o) new
+  pub each : ReachesAll store flush_number meant old (steps_of slot moves) (outcomes_of moves o) new
+  -- over a clean path of fewer levels than it may have turns, a call that had none goes on at most once a level
+  pub passes : (flying : Flying) (path : List ℕ) → slots_of old.flights slot ≡ Some flying → flying.turns ≡ 0
+      → IsClean (now (store old.db.pages)) flying.tree.name (key_of flying.call) path → length path < turns_limit → IsPrompt moves o path
+
+-- a call that does not begin
+pub record RefusesToBegin {P M : Type 0} (store : P → Store) (flush_number : P → ℕ) (meant : M → Merge) (old : MachineValue P M) (tree : Tree) (call : Call) (o : Outcome) (new : MachineValue P M) : Type 0 where
+  pub error : Error
+  pub is : o ≡ Refused error
+  pub reaches : Reaches store flush_number meant old (step.Begin tree call) o new
+
+-- a call that begins in some slot, and then goes on, step by step, until the last
+pub record BeginsAndFinishes {P M : Type 0} (store : P → Store) (flush_number : P → ℕ) (meant : M → Merge) (old : MachineValue P M) (tree : Tree) (call : Call) (o : Outcome) (new : MachineValue P M) : Type 0 where
+  pub slot : ℕ
+  pub begun : MachineValue P M
+  pub begins : Reaches store flush_number meant old (step.Begin tree call) (Begun slot) begun
+  pub finishes : Finishes store flush_number meant begun slot o new
+
+-- A whole call
+abbrev pub Completes : {P M : Type 0} → (P → Store) → (P → ℕ) → (M → Merge) → MachineValue P M → Tree → Call → Outcome → MachineValue P M → Type 0
+Completes store flush_number meant old tree call o new = RefusesToBegin store flush_number meant old tree call o new ⊎ BeginsAndFinishes store flush_number meant old tree call o new
