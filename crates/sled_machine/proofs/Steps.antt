@@ -81,3 +81,10 @@ item_read cs n i x r h e =
 pub gone_after : {P M : Type 0} {Flew : DbValue P M → Flight → Went → DbValue P M → Flight → Type 0} {old new : DbValue P M} {cells after : List (ℕ × Option Flight)} {slot : ℕ} {o : Outcome} (s : StepsAt Flew old cells slot o new after) → s.went ≢ Moved
     → (q : ℕ) → kept_at (kept after) q ≡ put_at (kept_at (kept cells)) slot None q
 gone_after {cells = cells} {slot = slot} s off q = s.puts.kept q ∙ ap (λ x. put_at (kept_at (kept cells)) slot x q) (ended_after s.went s.next off)
+
+-- the cell that was found and holds an item has its number
+pub cell_holds : {X : Type 0} (cs : List (ℕ × Option X)) (n i : ℕ) (x : ℕ × Option X) (y : X) → HoldsAt cs n i → x ≡ get_or cs i x → x.1 ≡ Some y → (slice_get cs i ≡ Some (n, Some y)) × (x.0 ≡ n)
+cell_holds cs n i x y h e f =
+    let here : Some x ≡ Some (n, Some h.item) = sym (read_at cs i x (slice_get_within cs i (n, Some h.item) h.is) e) ∙ h.is in
+    let item : Some h.item ≡ Some y = sym (ap (λ p. p.1) (some_is here)) ∙ f in
+    (h.is ∙ ap (λ o. Some (n, o)) item, ap (λ p. p.0) (some_is here))

@@ -1,0 +1,15 @@
+use Rattle.std.proofs.Common.{Some, ap, slice_set}
+use Rattle.sled_machine.proofs.Steps.{cell_holds}
+use Rattle.sled_machine.proofs.flights.fly_at.Goals as goal
+
+pub returns : goal.returns
+returns g c =
+    let f = c.fly.ensures in
+    let cells = c.args.table.now.cells.items in
+    let here = cell_holds cells c.args.slot c.args.i c.index_mut.result.now c.in-Some.flight c.requires.holds c.index_mut.ensures.value c.in-Some.is in record {
+      flight = c.in-Some.flight;
+      next = c.fly.new.flight;
+      there = here.0;
+      flew = record { step = f.step; does = f.does; follows = f.follows; passes = f.passes; loses = f.loses; leaves = f.leaves; knows = f.knows };
+      is = ap (λ k. slice_set cells c.args.i (k, Some c.fly.new.flight)) here.1;
+    }
