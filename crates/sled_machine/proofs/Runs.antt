@@ -20,7 +20,7 @@ use Rattle.sled_model.specs.declared.TheConstants.{MAX_LOOPS}
 use Rattle.tree_laws.specs.Paths.{IsClean}
 use Rattle.sled_tree.specs.Passing.{IsOnPath}
 use Rattle.sled_tree.specs.declared.flight.Flight.{Flight}
-use Rattle.sled_tree.specs.declared.flight.Stage.TheVariants.{Root}
+use Rattle.tree_laws.specs.declared.flight.Stage.TheVariants.{Root}
 use Rattle.sled.specs.Flights.{flying_of}
 use Rattle.sled.specs.Values.{moment}
 use Rattle.sled_machine.specs.Slots.{kept_at}
