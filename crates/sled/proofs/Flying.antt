@@ -20,7 +20,7 @@ use Rattle.sled_model.specs.declared.TheConstants.{MAX_LOOPS}
 use Rattle.tree_laws.specs.Forest.{Tree, Forest, contents}
 use Rattle.tree_laws.specs.Contents.{trees_of}
 use Rattle.tree_laws.specs.Crashes.{IsWhole, IsCrashWhole, Extends, Adds}
-use Rattle.tree_laws.specs.Moment.{Moment, nodes_at, IsMoment}
+use Rattle.tree_laws.specs.Moment.{Moment, nodes_at, IsMoment, Acts}
 use Rattle.tree_laws.proofs.Crashing.{adds_extends, adds_unseen, extends_same, extends_again, whole_law}
 use Rattle.tree_laws.proofs.Reading.{one_law}
 use Rattle.sled_tree.specs.declared.flight.Job.{Job}
@@ -28,11 +28,12 @@ use Rattle.sled_tree.specs.declared.flight.Flight.{Flight}
 use Rattle.sled_tree.specs.declared.flight.Next.TheVariants as next
 use Rattle.sled_tree.specs.declared.flight.Went.{Went}
 use Rattle.sled_tree.specs.declared.flight.Went.TheVariants.{Moved, Decided, Refused}
-use Rattle.sled_tree.specs.Stages.{IsStage, owned}
+use Rattle.tree_laws.specs.Stages.{owned}
+use Rattle.sled_tree.specs.Stages.{Knows}
 use Rattle.sled_tree.specs.Known.{IsKnown}
 use Rattle.sled_tree.specs.Passing.{IsOnPath, GoesFurther}
 use Rattle.sled_tree.specs.Follows.{FollowsOn}
-use Rattle.sled_tree.specs.Moves.{Moves, ActsOnce, ActsAtMostOnce, Acts, Same, Decides, LeavesNone, refuses_as, Advances}
+use Rattle.sled_tree.specs.Moves.{Moves, ActsOnce, ActsAtMostOnce, Same, Decides, LeavesNone, refuses_as, Advances}
 use Rattle.sled.specs.Values.{DbValue, numbers_of, given_to, named, state_of, db_state, moment_of_db}
 use Rattle.sled.specs.Sound.{IsDb}
 use Rattle.sled.specs.Calls.{MustBeRefused, must_be_refused_as}
@@ -241,7 +242,7 @@ module _ {P M : Type 0} (store : P → Store) (meant : M → Merge) (old : DbVal
 
       -- the call goes on
       module _ (few : f.turns < turns_limit) (g : Flight) (job : g.job ≡ f.job) (turns : g.turns ≡ f.turns + 1) (moves : Moves f.job (store old.pages) f.stage (next.Go g.stage) (store q)) (further : GoesFurther (now (store old.pages)) f Moved (now (store q)) g) (follows : FollowsOn (store old.pages) f Moved (store q) g) where
-        moved : (v : Forest) × Acts (owned f.stage) (owned g.stage) at db.forest after v × (IsStage after v f.job g.stage × Same at db.forest after v) × LeavesNone (owned f.stage) (owned g.stage) (now (store old.pages)) (now (store q)) v
+        moved : (v : Forest) × Acts (owned f.stage) (owned g.stage) at db.forest after v × (Knows after v f.job g.stage × Same at db.forest after v) × LeavesNone (owned f.stage) (owned g.stage) (now (store old.pages)) (now (store q)) v
         moved = moves.told (numbers_of old.trees) (given_to old.trees_given) db.forest db.is named_now (known.told db.forest db.is)
 
         moved_touches : Touches (store old.pages) (store q)
@@ -261,7 +262,7 @@ module _ {P M : Type 0} (store : P → Store) (meant : M → Merge) (old : DbVal
 
         moved_known : IsKnown after g
         moved_known = record {
-          told = λ u is. subst (λ (j : Job). IsStage after u j g.stage) (sym job) (subst (λ (z : Forest). IsStage after z f.job g.stage) (one_law (nodes_at after) after.state.roots moved.0 u moved.1.is.formed is.formed) moved.2.0);
+          told = λ u is. subst (λ (j : Job). Knows after u j g.stage) (sym job) (subst (λ (z : Forest). Knows after z f.job g.stage) (one_law (nodes_at after) after.state.roots moved.0 u moved.1.is.formed is.formed) moved.2.0);
           few = more f.turns g.turns few turns;
           begins = λ none. absurd (some f.turns g.turns turns none);
         }

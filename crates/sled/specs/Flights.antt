@@ -20,7 +20,7 @@ use Rattle.sled_model.specs.declared.outcome.Step.TheVariants as step
 use Rattle.tree_laws.specs.Forest.{Tree, Place, Forest}
 use Rattle.tree_laws.specs.Crashes.{Extends}
 use Rattle.tree_laws.specs.Moment.{Moment, nodes_at, IsMoment}
-use Rattle.sled_tree.specs.Stages.{owned}
+use Rattle.tree_laws.specs.Stages.{owned}
 use Rattle.sled_tree.specs.Known.{IsKnown, AreApart}
 use Rattle.sled_tree.specs.Moves.{ActsOnce, ActsAtMostOnce, leaves_as}
 use Rattle.sled_tree.specs.Follows.{FollowsOn}

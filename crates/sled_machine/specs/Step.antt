@@ -15,12 +15,12 @@ use Rattle.sled_model.specs.declared.event.Event.{Event}
 use Rattle.sled_model.specs.declared.call.Whole.TheVariants.{Flush}
 use Rattle.tree_laws.specs.Forest.{Forest}
 use Rattle.tree_laws.specs.Moment.{IsMoment}
-use Rattle.sled_tree.specs.Stages.{owned}
+use Rattle.tree_laws.specs.Stages.{owned}
 use Rattle.sled_tree.specs.Follows.{FollowsOn}
 use Rattle.sled_tree.specs.Moves.{ActsOnce, ActsAtMostOnce, LeavesNone}
 use Rattle.sled_tree.specs.Passing.{IsOnPath}
 use Rattle.sled_tree.specs.declared.flight.Flight.{Flight}
-use Rattle.sled_tree.specs.declared.flight.Stage.TheVariants.{Root}
+use Rattle.tree_laws.specs.declared.flight.Stage.TheVariants.{Root}
 use Rattle.sled_tree.specs.declared.flight.Went.{Went}
 use Rattle.sled.specs.Values.{db_state, moment_of_db}
 use Rattle.sled.specs.Flights.{RefusesQuietly, LosesNone, outcome_of}

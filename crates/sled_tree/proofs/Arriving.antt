@@ -1,5 +1,5 @@
 -- What comes after a page was read on the way to the leaf.
-use Rattle.std.proofs.Common.{◌≡◌, ◌≢◌, ℕ, ◌≤◌, true, false, Bool, List, [], Option, Some, None, sym, refl, ap, ◌∙◌, subst, inl, arith}
+use Rattle.std.proofs.Common.{◌≡◌, ◌≢◌, ℕ, ◌≤◌, not, true, false, Bool, List, [], Option, Some, None, sym, refl, ap, ◌∙◌, subst, inl, arith}
 use Rattle.std.specs.FinMap.Entries.{find}
 use Rattle.std.specs.declared.ops.Bound.TheVariants.{Included}
 use Rattle.sled_pages.specs.Order.{Key, key_cmp, UpTo}
@@ -16,25 +16,28 @@ use Rattle.sled_model.specs.declared.decision.Decision.{Decision}
 use Rattle.sled_model.specs.declared.decision.Effect.TheVariants as effect
 use Rattle.sled_model.specs.declared.reply.Reply.{Reply}
 use Rattle.tree_laws.specs.Forest.{Tree, Forest, contents}
-use Rattle.tree_laws.specs.Moment.{Moment, moment_of, nodes_at, IsMoment, IsFew}
+use Rattle.tree_laws.specs.Moment.{Moment, moment_of, nodes_at, IsMoment}
 use Rattle.tree_laws.specs.StageLaws.{Follows}
 use Rattle.tree_laws.proofs.Staged.{here_law, root_here_law, cursor_here_law}
-use Rattle.tree_laws.specs.Stages.{IsWalking}
+use Rattle.tree_laws.proofs.Merges.{stood_merges_law}
+use Rattle.tree_laws.proofs.Order.{covers_under}
+use Rattle.tree_laws.specs.Stages.{parent_of, by_pointer, IsStage, owned}
 use Rattle.tree_laws.proofs.Looking.{last_in}
 use Rattle.sled_tree.specs.declared.flight.Job.{Job}
-use Rattle.sled_tree.specs.declared.flight.Stage.{Stage}
-use Rattle.sled_tree.specs.declared.flight.Stage.TheVariants as stage
-use Rattle.sled_tree.specs.declared.flight.Posting.TheVariants as posting
+use Rattle.tree_laws.specs.declared.flight.Stage.{Stage}
+use Rattle.tree_laws.specs.declared.flight.Stage.TheVariants as stage
+use Rattle.tree_laws.specs.declared.flight.Posting.TheVariants as posting
 use Rattle.sled_tree.specs.declared.flight.Next.{Next}
 use Rattle.sled_tree.specs.declared.flight.Next.TheVariants.{Go, Decided}
-use Rattle.sled_tree.specs.declared.flight.Walk.{Walk}
-use Rattle.sled_tree.specs.declared.walk.Way.{Way}
+use Rattle.tree_laws.specs.declared.flight.Walk.{Walk}
+use Rattle.tree_laws.specs.declared.flight.Reached.{Reached}
+use Rattle.tree_laws.specs.declared.flight.Reached.TheVariants as reached
 use Rattle.sled_tree.specs.Change.{IsLeaf, IsIndex, decision_at}
-use Rattle.sled_tree.specs.Stages.{IsStage, owned}
+use Rattle.sled_tree.specs.Stages.{Knows, changes_at}
 use Rattle.sled_tree.specs.Moves.{Moves, Arrives, IsRead, owned_next}
-use Rattle.sled_tree.specs.Follows.{ResumesMerge, BeginsMerge, resumed, begun}
+use Rattle.sled_tree.specs.Follows.{ResumesMerge, BeginsMerge, resumed, begun, posting_of, OrNoMemory, onward}
 use Rattle.sled_tree.proofs.Facts.{same_here, rests, viewed, live_view, leaves_read}
-use Rattle.sled_tree.proofs.Helping.{helped}
+use Rattle.sled_tree.proofs.Basics.{none_some}
 
 pub leaf_is : (d : Data) → IsLeaf d → (es : List (Key × Key)) × (d ≡ Leaf es)
 leaf_is (Leaf es) l = (es, refl)
@@ -52,80 +55,50 @@ came call content k value d v e q = sym (q ∙ ap (decision_of call) (v ∙ ap (
 pub at_bound : (k key : Key) (es : List (Key × ℕ)) (c : ℕ) (first : Bool) → k ≡ key → IsPointer (Included k) es c first → IsPointer (Included key) es c first
 at_bound k key es c first e p = subst (λ z. IsPointer (Included z) es c first) e p
 
-module _ (j : Job) (view : View) (way : Way) where
+module _ (j : Job) (view : View) (by : Reached) where
   -- the call goes on from a stage whose facts the read shows
-  pub goes : (a : Stage) → owned a ≡ [] → ((m : Moment) (w : Forest) → IsMoment m w → m.numbers j.tree.name ≡ Some j.tree.number → IsRead m w j view way → IsStage m w j a) → Arrives j view way (Go a)
-  goes a none known = record {
+  pub goes : (a : Stage) → owned a ≡ [] → changes_at j a → ((m : Moment) (w : Forest) → IsMoment m w → m.numbers j.tree.name ≡ Some j.tree.number → IsRead m w j view by → IsStage m w j.tree.name j.tree.number (Included (key_of j.call)) a) → Arrives j view by (Go a)
+  goes a none changes known = record {
     touches = λ s. inl refl;
-    told = λ s numbers given w is named here. (none, (known (moment_of s numbers given) w is named here, same_here (moment_of s numbers given) w));
+    told = λ s numbers given w is named here. (none, ((known (moment_of s numbers given) w is named here, changes), same_here (moment_of s numbers given) w));
   }
 
   module _ (awake : view.node.merging ≡ false) (free : view.node.merging_child ≡ None) where
-    follows : (m : Moment) (w : Forest) → IsMoment m w → IsRead m w j view way → Follows m w j.tree.name j.tree.number (key_of j.call) view way.parent way.first way.unsplit
-    follows m w is r = here_law m w is j.tree.name j.tree.number (key_of j.call) view way.parent way.first way.unsplit r.here (record { awake = awake; free = free })
+    follows : (m : Moment) (w : Forest) → IsMoment m w → IsRead m w j view by → Follows m w j.tree.name j.tree.number (Included (key_of j.call)) view by
+    follows m w is r = here_law m w is j.tree.name j.tree.number (Included (key_of j.call)) view by r (record { awake = awake; free = free })
 
-    pub splits_below : (p : View) → way.parent ≡ Some p → Arrives j view way (Go (stage.Split (record { page = view; posting = posting.Parent p })))
-    splits_below p e = goes _ refl (λ m w is named r. record { splitting = (follows m w is r).splits_below p e; room = r.room p e })
+    pub splits_below : (p : View) → parent_of by ≡ Some p → Arrives j view by (Go (stage.Split (record { page = view; posting = posting.Parent p })))
+    splits_below p e = goes _ refl tt (λ m w is named r. (follows m w is r).splits_below p e)
 
-    pub splits_root : way.parent ≡ None → Arrives j view way (Go (stage.Split (record { page = view; posting = posting.Root })))
-    splits_root e = goes _ refl (λ m w is named r. record { splitting = (follows m w is r).splits_root e; room = tt })
+    pub splits_root : parent_of by ≡ None → Arrives j view by (Go (stage.Split (record { page = view; posting = posting.Root })))
+    splits_root e = goes _ refl tt (λ m w is named r. (follows m w is r).splits_root e)
 
-    pub hoists : (q : ℕ) → way.parent ≡ None → view.node.hi ≢ [] → view.node.next ≡ Some q → Arrives j view way (Go (stage.Hoist (record { left = view.pid; at = view.node.hi; right = q })))
-    hoists q e bounded next = goes _ refl (λ m w is named r. (follows m w is r).hoists q e bounded next)
+    pub hoists : (q : ℕ) → parent_of by ≡ None → view.node.hi ≢ [] → view.node.next ≡ Some q → Arrives j view by (Go (stage.Hoist (record { left = view.pid; at = view.node.hi; right = q })))
+    hoists q e bounded next = goes _ refl tt (λ m w is named r. (follows m w is r).hoists q e bounded next)
 
-    pub goes_on : (p : View) (q : ℕ) → way.parent ≡ Some p → view.node.hi ≢ [] → UpTo view.node.hi (key_of j.call) → view.node.next ≡ Some q
-        → Arrives j view way (Go (stage.Walk (record { cursor = q; parent = p; first = true; unsplit = true })))
-    goes_on p q e bounded behind next = goes _ refl (λ m w is named r. record { walking = (follows m w is r).goes_on p q true e bounded behind next; few = r.room p e })
-
-    pub posts : (p : View) → way.parent ≡ Some p → way.unsplit ≡ true → Arrives j view way (Go (stage.Post (record { parent = p; at = view.node.lo; pid = view.pid })))
-    posts p e unsplit = goes _ refl (λ m w is named r. record { posting = (follows m w is r).posts p e unsplit; few = r.room p e })
-
-    merges_at : (p : View) (before : ℕ) → way.parent ≡ Some p → way.first ≡ false → way.unsplit ≡ false → count view.node.content ≤ 3 → IsBefore view.pid (pointers p.node.content) before
-        → Arrives j view way (Go (stage.Intend (record { parent = p; child = view.pid; before = before })))
-    merges_at p before e first unsplit few b = goes _ refl (λ m w is named r. record {
-      intending = (follows m w is r).intends p e first unsplit;
-      small = (follows m w is r).small p (more (count view.node.content) few);
-      before = b;
-    })
-      where
-        more : (n : ℕ) → n ≤ 3 → n ≤ 17
-        more n h = omega arith
-
-    pub merges : (p : View) (next : Next) → way.parent ≡ Some p → way.first ≡ false → way.unsplit ≡ false → count view.node.content ≤ 3 → BeginsMerge p view.pid next → Arrives j view way next
-    merges p next e first unsplit few b = subst (Arrives j view way) (sym b.is) (go b.before b.is_before)
-      where
-        go : (before : Option ℕ) → IsPointerBefore view.pid (pointers p.node.content) before → Arrives j view way (begun p view.pid before)
-        go None none = goes stage.Root refl (λ m w is named r. tt)
-        go (Some before) b = merges_at p before e first unsplit few b
+    pub goes_on : (p : View) (q : ℕ) → parent_of by ≡ Some p → view.node.hi ≢ [] → UpTo view.node.hi (key_of j.call) → view.node.next ≡ Some q → Arrives j view by (Go (stage.Walk (record { cursor = q; reached = reached.Next p })))
+    goes_on p q e bounded behind next = goes _ refl tt (λ m w is named r. (follows m w is r).goes_on p q e bounded (ap not behind) next)
 
     -- it covers the key and has room
     module _ (covers : Covers view.node (key_of j.call)) (few : count view.node.content ≤ 16) where
-      pub descends : (c : ℕ) (first : Bool) → IsIndex view.node.content → IsPointer (Included (key_of j.call)) (pointers view.node.content) c first
-          → Arrives j view way (Go (stage.Walk (record { cursor = c; parent = view; first = first; unsplit = false })))
-      descends c first index k = goes _ refl (λ m w is named r. record {
-        walking =
-            let b = index_is view.node.content index in
-            let p : IsPointer (Included (key_of j.call)) b.0 c first = subst (λ d. IsPointer (Included (key_of j.call)) (pointers d) c first) b.1 k in
-            (follows m w is r).descends b.0 p.key c first b.1 covers (last_in p).0 (last_in p).1;
-        few = record { few = few };
-      })
+      pub descends : (c : ℕ) (first : Bool) → IsIndex view.node.content → IsPointer (Included (key_of j.call)) (pointers view.node.content) c first → Arrives j view by (Go (stage.Walk (record { cursor = c; reached = by_pointer view first })))
+      descends c first index k = goes _ refl tt (λ m w is named r.
+          let b = index_is view.node.content index in
+          let p : IsPointer (Included (key_of j.call)) b.0 c first = subst (λ d. IsPointer (Included (key_of j.call)) (pointers d) c first) b.1 k in
+          (follows m w is r).descends b.0 p.key c first b.1 (covers_under (key_of j.call) view.node covers) (record { few = few }) (last_in p).0 (last_in p).1)
 
       module _ (leaf : IsLeaf view.node.content) where
-        pub acts : (decision_at j.call view.node.content).effect ≢ effect.Nothing → Arrives j view way (Go (stage.Act view))
-        acts changes = goes _ refl (λ m w is named r. record {
-          acting = let b = leaf_is view.node.content leaf in (follows m w is r).acts b.0 b.1 covers;
-          few = record { few = few };
-          changes = changes;
-        })
+        pub acts : (decision_at j.call view.node.content).effect ≢ effect.Nothing → Arrives j view by (Go (stage.Act view))
+        acts changes = goes _ refl changes (λ m w is named r. let b = leaf_is view.node.content leaf in ((follows m w is r).acts b.0 b.1 (covers_under (key_of j.call) view.node covers), record { few = few }))
 
-        pub answers : (reply : Reply) → decision_at j.call view.node.content ≡ record { effect = effect.Nothing; reply = reply } → Arrives j view way (Decided reply)
+        pub answers : (reply : Reply) → decision_at j.call view.node.content ≡ record { effect = effect.Nothing; reply = reply } → Arrives j view by (Decided reply)
         answers reply e = record {
           touches = λ s. inl refl;
           told = λ s numbers given w is named r.
               let m : Moment = moment_of s numbers given in
               let b = leaf_is view.node.content leaf in
               let all : List (Key × Key) = contents (nodes_at m) w j.tree.name in
-              let d : decision_of j.call (find key_cmp (key_of j.call) all) ≡ record { effect = effect.Nothing; reply = reply } = ap (decision_of j.call) ((follows m w is r).answers b.0 b.1 covers) ∙ e in (
+              let d : decision_of j.call (find key_cmp (key_of j.call) all) ≡ record { effect = effect.Nothing; reply = reply } = ap (decision_of j.call) ((follows m w is r).answers b.0 (key_of j.call) b.1 covers) ∙ e in (
                 refl,
                 record {
                   replies = sym (ap (λ (z : Decision). z.reply) d);
@@ -137,42 +110,57 @@ module _ (j : Job) (view : View) (way : Way) where
               );
         }
 
--- where the page has a merging child, that merge goes on
-pub helps : (j : Job) (view : View) (way : Way) (child : ℕ) (next : Next) → view.node.merging ≡ false → view.node.merging_child ≡ Some child → ResumesMerge view child next → Arrives j view way next
-helps j view way child next awake is_child h = subst (Arrives j view way) (sym h.is) (go h.before h.is_before)
+-- it was reached by `next`: it is to be posted
+pub posts : (j : Job) (view parent : View) → view.node.merging ≡ false → view.node.merging_child ≡ None → Arrives j view (reached.Next parent) (Go (stage.Post (record { parent = parent; at = view.node.lo; pid = view.pid })))
+posts j view parent awake free = goes j view (reached.Next parent) _ refl tt (λ m w is named r. (follows j view (reached.Next parent) awake free m w is r).posts parent refl)
+
+-- it was reached by a later pointer, and has few entries: a merge begins
+pub merges : (j : Job) (view parent : View) (next : Next) → view.node.merging ≡ false → view.node.merging_child ≡ None → count view.node.content ≤ 3 → BeginsMerge parent view.pid next → Arrives j view (reached.LaterPointer parent) next
+merges j view parent next awake free few b = subst (Arrives j view (reached.LaterPointer parent)) (sym b.is) (go b.before b.is_before)
   where
-    go : (before : Option ℕ) → IsPointerBefore child (pointers view.node.content) before → Arrives j view way (resumed view child before)
-    go None none = goes j view way stage.Root refl (λ m w is named r. tt)
-    go (Some before) b = goes j view way _ refl (λ m w is named r. helped is named r.here.height child before view awake is_child b r.here.stood r.here.live)
+    more : (n : ℕ) → n ≤ 3 → n ≤ 17
+    more n h = omega arith
+
+    go : (before : Option ℕ) → IsPointerBefore view.pid (pointers parent.node.content) before → Arrives j view (reached.LaterPointer parent) (begun parent view.pid before)
+    go None none = goes j view (reached.LaterPointer parent) stage.Root refl tt (λ m w is named r. tt)
+    go (Some before) b = goes j view (reached.LaterPointer parent) _ refl tt (λ m w is named r. (follows j view (reached.LaterPointer parent) awake free m w is r).intends parent before refl (more (count view.node.content) few) b)
+
+-- where the page has a merging child, that merge goes on
+pub helps : (j : Job) (view : View) (by : Reached) (child : ℕ) (next : Next) → view.node.merging ≡ false → view.node.merging_child ≡ Some child → ResumesMerge view child next → Arrives j view by next
+helps j view by child next awake is_child h = subst (Arrives j view by) (sym h.is) (go h.before h.is_before)
+  where
+    go : (before : Option ℕ) → IsPointerBefore child (pointers view.node.content) before → Arrives j view by (resumed view child before)
+    go None none = goes j view by stage.Root refl tt (λ m w is named r. tt)
+    go (Some before) b = goes j view by _ refl tt (λ m w is named r. stood_merges_law m w j.tree.name j.tree.number r.height view view.node.lo is named r.stood r.live awake child before is_child b)
 
 -- what a read comes to, as a step
-pub arrives_moves : (j : Job) (s : Store) (view : View) (way : Way) (next : Next) (a : Stage) → owned a ≡ [] → Arrives j view way next
-    → ((numbers : Tree → Option ℕ) (given : ℕ → Bool) (w : Forest) → IsMoment (moment_of s numbers given) w → numbers j.tree.name ≡ Some j.tree.number → IsStage (moment_of s numbers given) w j a → IsRead (moment_of s numbers given) w j view way)
+pub arrives_moves : (j : Job) (s : Store) (view : View) (by : Reached) (next : Next) (a : Stage) → owned a ≡ [] → Arrives j view by next
+    → ((numbers : Tree → Option ℕ) (given : ℕ → Bool) (w : Forest) → IsMoment (moment_of s numbers given) w → numbers j.tree.name ≡ Some j.tree.number → Knows (moment_of s numbers given) w j a → IsRead (moment_of s numbers given) w j view by)
     → Moves j s a next s
-arrives_moves j s view way next a none t known = record {
+arrives_moves j s view by next a none t known = record {
   touches = t.touches s;
   told = λ numbers given w is named k. let r = t.told s numbers given w is named (known numbers given w is named k) in (w, rests (owned a) (owned_next next) (moment_of s numbers given) w is (λ q i. absurd (subst (In q) r.0 i)), r.1, leaves_read (owned a) next (now s) w none);
 }
 
 -- the root was read,
-pub root_read : (j : Job) (s : Store) (name : Key) (found : Option ℕ) (root : ℕ) (view : View) (next : Next) → name ≡ j.tree.name → found ≡ (now s).roots name → found ≡ Some root → Some view ≡ view_of root ((now s).pages root) → Arrives j view (record { parent = None; first = true; unsplit = false }) next → Moves j s stage.Root next s
-root_read j s name found root view next called is_found is_some read t = arrives_moves j s view (record { parent = None; first = true; unsplit = false }) next stage.Root refl t
-    (λ numbers given w is named k. record {
-      here = root_here_law (moment_of s numbers given) w is j.tree.name j.tree.number (key_of j.call) view true named (ap (now s).roots (sym called) ∙ sym is_found ∙ is_some ∙ ap Some (sym (viewed root ((now s).pages root) view read).0)) (live_view s root view read);
-      room = λ p e. absurd (none_some e);
-    })
-  where
-    none_some : {p : View} → None ≡ Some p → ⊥
-    none_some e = cc
+pub root_read : (j : Job) (s : Store) (name : Key) (found : Option ℕ) (root : ℕ) (view : View) (next : Next) → name ≡ j.tree.name → found ≡ (now s).roots name → found ≡ Some root → Some view ≡ view_of root ((now s).pages root) → Arrives j view reached.Root next → Moves j s stage.Root next s
+root_read j s name found root view next called is_found is_some read t = arrives_moves j s view reached.Root next stage.Root refl t
+    (λ numbers given w is named k. root_here_law (moment_of s numbers given) w is j.tree.name j.tree.number (Included (key_of j.call)) view named (ap (now s).roots (sym called) ∙ sym is_found ∙ is_some ∙ ap Some (sym (viewed root ((now s).pages root) view read).0)) (live_view s root view read))
 
 -- or the cursor of a walk
-pub cursor_read : (j : Job) (s : Store) (a : Walk) (view : View) (next : Next) → Some view ≡ view_of a.cursor ((now s).pages a.cursor) → Arrives j view (record { parent = Some a.parent; first = a.first; unsplit = a.unsplit }) next → Moves j s (stage.Walk a) next s
-cursor_read j s a view next read t = arrives_moves j s view (record { parent = Some a.parent; first = a.first; unsplit = a.unsplit }) next (stage.Walk a) refl t
-    (λ numbers given w is named k. record {
-      here = cursor_here_law (moment_of s numbers given) w is j.tree.name j.tree.number (key_of j.call) a.parent view a.first a.unsplit named
-          (subst (λ c. IsWalking (moment_of s numbers given) w j.tree.name j.tree.number (key_of j.call) c a.parent a.first a.unsplit) (sym (viewed a.cursor ((now s).pages a.cursor) view read).0) k.walking) (live_view s a.cursor view read);
-      room = λ p e. subst IsFew (some_is e) k.few;
-    })
-  where
-    some_is : {p q : View} → Some p ≡ Some q → p ≡ q
-    some_is e = cc
+pub cursor_read : (j : Job) (s : Store) (a : Walk) (view : View) (next : Next) → Some view ≡ view_of a.cursor ((now s).pages a.cursor) → Arrives j view a.reached next → Moves j s (stage.Walk a) next s
+cursor_read j s a view next read t = arrives_moves j s view a.reached next (stage.Walk a) refl t
+    (λ numbers given w is named k. cursor_here_law (moment_of s numbers given) w is j.tree.name j.tree.number (Included (key_of j.call)) a view named k.0 (viewed a.cursor ((now s).pages a.cursor) view read).0 (live_view s a.cursor view read))
+
+-- what comes of a page by its parent
+pub posted_as : (view parent : View) (o : Option View) → o ≡ Some parent → Go (stage.Split (record { page = view; posting = posting.Parent parent })) ≡ Go (stage.Split (record { page = view; posting = posting_of o }))
+posted_as view parent o e = ap (λ z. Go (stage.Split (record { page = view; posting = posting_of z }))) (sym e)
+
+pub posted_root : (view : View) (o : Option View) → o ≡ None → Go (stage.Split (record { page = view; posting = posting.Root })) ≡ Go (stage.Split (record { page = view; posting = posting_of o }))
+posted_root view o e = ap (λ z. Go (stage.Split (record { page = view; posting = posting_of z }))) (sym e)
+
+pub onward_below : (view parent : View) (q : ℕ) (next : Option ℕ) (o : Option View) → next ≡ Some q → o ≡ Some parent → OrNoMemory (Go (stage.Walk (record { cursor = q; reached = reached.Next parent }))) (onward view next o)
+onward_below view parent q next o e g = inl (sym (ap (λ z. onward view z o) e ∙ ap (onward view (Some q)) g))
+
+pub onward_root : (view : View) (q : ℕ) (next : Option ℕ) (o : Option View) → next ≡ Some q → o ≡ None → OrNoMemory (Go (stage.Hoist (record { left = view.pid; at = view.node.hi; right = q }))) (onward view next o)
+onward_root view q next o e g = inl (sym (ap (λ z. onward view z o) e ∙ ap (onward view (Some q)) g))

@@ -14,27 +14,24 @@ use Rattle.sled_model.specs.declared.decision.Effect.{Effect}
 use Rattle.sled_model.specs.declared.decision.Effect.TheVariants as effect
 use Rattle.sled_model.specs.declared.reply.Reply.{Reply}
 use Rattle.sled_tree.specs.Change.{decision_at, link_of}
-use Rattle.sled_tree.specs.declared.flight.Crown.{Crown}
+use Rattle.tree_laws.specs.declared.flight.Crown.{Crown}
 use Rattle.sled_tree.specs.declared.flight.Job.{Job}
-use Rattle.sled_tree.specs.declared.flight.Merge.{Merge}
+use Rattle.tree_laws.specs.declared.flight.Merge.{Merge}
 use Rattle.sled_tree.specs.declared.flight.Next.{Next}
 use Rattle.sled_tree.specs.declared.flight.Next.TheVariants as next
-use Rattle.sled_tree.specs.declared.flight.Posting.{Posting}
-use Rattle.sled_tree.specs.declared.flight.Posting.TheVariants as posting
-use Rattle.sled_tree.specs.declared.flight.Receive.{Receive}
-use Rattle.sled_tree.specs.declared.flight.Seek.{Seek}
-use Rattle.sled_tree.specs.declared.flight.Shorten.{Shorten}
-use Rattle.sled_tree.specs.declared.flight.Stage.{Stage}
-use Rattle.sled_tree.specs.declared.flight.Stage.TheVariants as stage
-use Rattle.sled_tree.specs.declared.walk.Way.{Way}
+use Rattle.tree_laws.specs.declared.flight.Posting.{Posting}
+use Rattle.tree_laws.specs.declared.flight.Posting.TheVariants as posting
+use Rattle.tree_laws.specs.declared.flight.Receive.{Receive}
+use Rattle.tree_laws.specs.declared.flight.Seek.{Seek}
+use Rattle.tree_laws.specs.declared.flight.Shorten.{Shorten}
+use Rattle.tree_laws.specs.declared.flight.Stage.{Stage}
+use Rattle.tree_laws.specs.declared.flight.Stage.TheVariants as stage
+use Rattle.tree_laws.specs.Stages.{parent_of}
+use Rattle.tree_laws.specs.declared.flight.Reached.{Reached}
+use Rattle.tree_laws.specs.declared.flight.Reached.TheVariants as reached
+use Rattle.sled_tree.proofs.Basics.{none_some, some_is}
 use Rattle.sled_tree.specs.Passing.{IsUnchanged}
-use Rattle.sled_tree.specs.Follows.{resumed, begun, follows_few, onward, pointed, down, by_effect, OrNoMemory, follows_content, follows_here, follows_open, follows_awake, follows_read, follows_child, follows_child_awake, follows_cursor, follows_cursor_awake, follows_search, follows_met, searched, FollowsPage, follows_root, follows_act, OrRefused, Takes, shortened, crowned, read_again, sought_again, follows_as, Follows}
-
-none_some : {P X : Type 0} {x : X} → None ≡ Some x → P
-none_some e = cc
-
-some_is : {X : Type 0} {x y : X} → Some x ≡ Some y → x ≡ y
-some_is e = cc
+use Rattle.sled_tree.specs.Follows.{resumed, begun, onward, pointed, down, by_effect, OrNoMemory, follows_content, follows_here, follows_open, follows_awake, follows_read, follows_child, follows_child_awake, follows_cursor, follows_cursor_awake, follows_search, follows_met, searched, FollowsPage, follows_root, follows_act, OrRefused, Takes, shortened, crowned, read_again, sought_again, follows_as, Follows}
 
 -- the leaf of the change that comes next
 abbrev acting : Next → Option View
@@ -127,18 +124,13 @@ module _ (v : View) (n : Next) (is : n ≡ next.Go (stage.Act v)) where
   onward_off u (Some q) (Some parent) (inl e) = off _ e refl
   onward_off u q parent (inr e) = off _ e refl
 
-  pointed_off : {P : Type 0} (u : View) (parent : Option View) → OrNoMemory n (pointed u parent) → P
-  pointed_off u None (inl e) = off _ e refl
-  pointed_off u (Some parent) (inl e) = off _ e refl
+  pointed_off : {P : Type 0} (u parent : View) → OrNoMemory n (pointed u parent) → P
+  pointed_off u parent (inl e) = off _ e refl
   pointed_off u parent (inr e) = off _ e refl
 
   begun_off : {P : Type 0} (parent : View) (child : ℕ) (before : Option ℕ) → n ≡ begun parent child before → P
   begun_off parent child None e = off _ e refl
   begun_off parent child (Some before) e = off _ e refl
-
-  few_off : {P : Type 0} (parent : Option View) (child : ℕ) → follows_few parent child n → P
-  few_off None child e = off _ e refl
-  few_off (Some parent) child b = begun_off parent child b.before b.is
 
   down_off : {P : Type 0} (u : View) (found : Option (ℕ × Bool)) → n ≡ down u found → P
   down_off u None e = off _ e refl
@@ -155,24 +147,26 @@ module _ (v : View) (n : Next) (is : n ≡ next.Go (stage.Act v)) where
   content_at j u (Leaf es) (inl e) = leaf_at u _ _ e
   content_at j u (Leaf es) (inr e) = off _ e refl
 
-  here_at : (j : Job) (u : View) (way : Way) → follows_here j u way n → u ≡ v
-  here_at j u way (inl (c, f)) = pointed_off u way.parent f
-  here_at j u way (inr (c, inl (d, f))) = few_off way.parent u.pid f
-  here_at j u way (inr (c, inr (d, f))) = content_at j u u.node.content f
+  here_at : (j : Job) (u : View) (by : Reached) → follows_here j u by n → u ≡ v
+  here_at j u reached.Root f = content_at j u u.node.content f
+  here_at j u (reached.FirstPointer parent) f = content_at j u u.node.content f
+  here_at j u (reached.LaterPointer parent) (inl (c, f)) = begun_off parent u.pid f.before f.is
+  here_at j u (reached.LaterPointer parent) (inr (c, f)) = content_at j u u.node.content f
+  here_at j u (reached.Next parent) f = pointed_off u parent f
 
-  open_at : (j : Job) (u : View) (way : Way) → follows_open j u way n → u ≡ v
-  open_at j u way (inl (c, e)) = off _ e refl
-  open_at j u way (inr (c, inl (d, f))) = onward_off u u.node.next way.parent f
-  open_at j u way (inr (c, inr (d, inl (k, f)))) = here_at j u way f
-  open_at j u way (inr (c, inr (d, inr (k, e)))) = off _ e refl
+  open_at : (j : Job) (u : View) (by : Reached) → follows_open j u by n → u ≡ v
+  open_at j u by (inl (c, e)) = off _ e refl
+  open_at j u by (inr (c, inl (d, f))) = onward_off u u.node.next (parent_of by) f
+  open_at j u by (inr (c, inr (d, inl (k, f)))) = here_at j u by f
+  open_at j u by (inr (c, inr (d, inr (k, e)))) = off _ e refl
 
-  awake_at : (j : Job) (u : View) (way : Way) (child : Option ℕ) → follows_awake child j u way n → u ≡ v
-  awake_at j u way None f = open_at j u way f
-  awake_at j u way (Some child) r = resumed_off u child r.before r.is
+  awake_at : (j : Job) (u : View) (by : Reached) (child : Option ℕ) → follows_awake child j u by n → u ≡ v
+  awake_at j u by None f = open_at j u by f
+  awake_at j u by (Some child) r = resumed_off u child r.before r.is
 
-  read_at : (j : Job) (u : View) (way : Way) → follows_read j u way n → u ≡ v
-  read_at j u way (inl (c, e)) = off _ e refl
-  read_at j u way (inr (c, f)) = awake_at j u way u.node.merging_child f
+  read_at : (j : Job) (u : View) (by : Reached) → follows_read j u by n → u ≡ v
+  read_at j u by (inl (c, e)) = off _ e refl
+  read_at j u by (inr (c, f)) = awake_at j u by u.node.merging_child f
 
   child_off : {P : Type 0} (a : Merge) (u : View) → follows_child a u n → P
   child_off {P} a u (inl (c, e)) = off _ e refl

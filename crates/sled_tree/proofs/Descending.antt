@@ -1,6 +1,6 @@
 -- Steps at pages where nothing is to be repaired.
 use native.Mathlib.Omega.{arith}
-use Rattle.std.proofs.Common.{◌≡◌, ◌≢◌, ℕ, ◌+◌, ◌<◌, ◌≤◌, true, false, Bool, Option, Some, None, Result, Ok, Err, IfOk, IfErr, OnOk, MatchOption, refl, sym, ap, ◌∙◌, subst, inl, inr}
+use Rattle.std.proofs.Common.{◌≡◌, ◌≢◌, ◌↔◌, IsTrue, ℕ, ◌+◌, ◌<◌, ◌≤◌, true, false, Bool, Option, Some, None, Result, Ok, Err, IfOk, IfErr, OnOk, MatchOption, refl, sym, ap, ◌∙◌, subst, inl, inr}
 use Rattle.std.specs.declared.ops.Bound.TheVariants.{Included}
 use Rattle.sled_pages.specs.Order.{Key}
 use Rattle.sled_pages.specs.Among.{IsPointer}
@@ -16,8 +16,8 @@ use Rattle.sled_model.specs.declared.decision.Effect.{Effect}
 use Rattle.sled_model.specs.declared.decision.Effect.TheVariants.{Nothing, Set, Remove}
 use Rattle.sled_model.specs.declared.reply.Reply.{Reply}
 use Rattle.sled_tree.specs.Change.{IsLeaf, IsIndex, decision_at}
-use Rattle.sled_tree.specs.Descent.{way_of, met_as, IsClean, Meets, Leads, Descends, Settles}
-use Rattle.sled_tree.specs.Follows.{Follows, FollowsPage, EndsBefore, by_effect, done_at, follows_read, follows_root, follows_leaf, follows_content}
+use Rattle.sled_tree.specs.Descent.{way_of, met_as, IsPlain, IsClean, Meets, Leads, Descends, Settles}
+use Rattle.sled_tree.specs.Follows.{follows_here, Follows, FollowsPage, EndsBefore, by_effect, done_at, follows_read, follows_root, follows_leaf, follows_content}
 use Rattle.sled_tree.specs.Moves.{Arrives}
 use Rattle.sled_tree.specs.Passing.{PassesOn}
 use Rattle.sled_tree.specs.declared.descent.Descent.TheVariants as descent
@@ -25,14 +25,18 @@ use Rattle.sled_tree.specs.declared.flight.Flight.{Flight}
 use Rattle.sled_tree.specs.declared.flight.Job.{Job}
 use Rattle.sled_tree.specs.declared.flight.Next.{Next}
 use Rattle.sled_tree.specs.declared.flight.Next.TheVariants.{Go, Decided, Refused}
-use Rattle.sled_tree.specs.declared.flight.Stage.{Stage}
-use Rattle.sled_tree.specs.declared.flight.Stage.TheVariants as stage
-use Rattle.sled_tree.specs.declared.flight.Walk.{Walk}
+use Rattle.tree_laws.specs.declared.flight.Stage.{Stage}
+use Rattle.tree_laws.specs.declared.flight.Stage.TheVariants as stage
+use Rattle.tree_laws.specs.declared.flight.Walk.{Walk}
 use Rattle.sled_tree.specs.declared.flight.Went.TheVariants as went
-use Rattle.sled_tree.specs.declared.walk.Way.{Way}
-use Rattle.sled_tree.proofs.Facts.{unable, unread, restarts}
+use Rattle.tree_laws.specs.Stages.{by_pointer}
+use Rattle.tree_laws.specs.declared.flight.Reached.{Reached}
+use Rattle.tree_laws.specs.declared.flight.Reached.TheVariants as reached
+use Rattle.sled_tree.proofs.Basics.{true_false}
+use Rattle.sled_tree.proofs.Facts.{unable, unread, restarts, untrue}
+use Rattle.std.proofs.lemmas.Bool.Decides.{leb_tells}
 use Rattle.sled_tree.proofs.Arriving.{root_read, cursor_read, descends, acts, answers}
-use Rattle.sled_tree.proofs.Following.{opened, true_false}
+use Rattle.sled_tree.proofs.Following.{opened}
 use Rattle.tree_laws.proofs.Order.{below_not_upto}
 use Rattle.sled_tree.proofs.Passing.{root_gone, cursor_gone, root_passes, cursor_passes, down_passes, leaf_passes}
 
@@ -49,24 +53,30 @@ not_behind : (j : Job) (view : View) → Covers view.node (key_of j.call) → En
 not_behind j view covers beyond = elim covers.1 [ inl endless ↦ beyond.0 endless | inr below ↦ below_not_upto (key_of j.call) view.node.hi below beyond.1 ]
 
 -- what comes of a page where nothing is to be repaired is what comes of its content
-clean_follows : (j : Job) (view : View) (way : Way) (next : Next) → IsClean j way view → follows_content view.node.content j view next → follows_read j view way next
-clean_follows j view way next clean f = opened j view way next clean.awake clean.free (inr (
+plain_follows : (j : Job) (view : View) (by : Reached) (next : Next) → IsPlain by (count view.node.content) → follows_content view.node.content j view next → follows_here j view by next
+plain_follows j view reached.Root next plain f = f
+plain_follows j view (reached.FirstPointer parent) next plain f = f
+plain_follows j view (reached.LaterPointer parent) next plain f = inr ((λ merges. not_few plain merges.1), f)
+  where
+    not_few : 3 < count view.node.content → count view.node.content ≤ 3 → ⊥
+    not_few many few = omega (arith, many, few)
+plain_follows j view (reached.Next parent) next plain f = absurd plain
+
+clean_follows : (j : Job) (view : View) (by : Reached) (next : Next) → IsClean j by view → follows_content view.node.content j view next → follows_read j view by next
+clean_follows j view by next clean f = opened j view by next clean.awake clean.free (inr (
   (λ long. absurd (not_long clean.few long)),
-  inr (not_behind j view clean.covers, inl (clean.covers, inr ((λ unsplit. true_false (sym clean.pointed ∙ unsplit)), inr ((λ merges. not_few (clean.many merges.0.0) merges.1), f)))),
+  inr (not_behind j view clean.covers, inl (clean.covers, plain_follows j view by next clean.plain f)),
 ))
   where
     not_long : count view.node.content ≤ 16 → 16 < count view.node.content → ⊥
     not_long few long = omega (arith, few, long)
-
-    not_few : 3 < count view.node.content → count view.node.content ≤ 3 → ⊥
-    not_few many few = omega (arith, many, few)
 
 -- at a leaf
 leaf_follows : (j : Job) (view : View) (next : Next) (d : Data) → IsLeaf d → follows_leaf j view next → follows_content d j view next
 leaf_follows j view next (Leaf es) is f = f
 leaf_follows j view next (Index es) is f = absurd is
 
-index_follows : (j : Job) (view : View) (c : ℕ) (first : Bool) (d : Data) → IsIndex d → IsPointer (Included (key_of j.call)) (pointers view.node.content) c first → follows_content d j view (Go (stage.Walk (record { cursor = c; parent = view; first = first; unsplit = false })))
+index_follows : (j : Job) (view : View) (c : ℕ) (first : Bool) (d : Data) → IsIndex d → IsPointer (Included (key_of j.call)) (pointers view.node.content) c first → follows_content d j view (Go (stage.Walk (record { cursor = c; reached = by_pointer view first })))
 index_follows j view c first (Leaf es) is k = absurd is
 index_follows j view c first (Index es) is k = record { found = Some (c, first); is_last = k; is = refl }
 
@@ -76,22 +86,20 @@ acts_on (Set value) view reply changes = refl
 acts_on Remove view reply changes = refl
 
 -- a stage that is no walk comes to its page as one that begins
-pub other_way : (a : Stage) → ((w : Walk) → a ≡ stage.Walk w → ⊥) → way_of a ≡ record { parent = None; first = true; unsplit = false }
-other_way stage.Root walk = refl
+pub other_way : (a : Stage) → ((w : Walk) → a ≡ stage.Walk w → ⊥) → way_of a ≡ reached.Root
 other_way (stage.Walk w) walk = absurd (walk w refl)
-other_way (stage.Act a) walk = refl
-other_way (stage.Split a) walk = refl
-other_way (stage.Shorten a) walk = refl
-other_way (stage.Post a) walk = refl
-other_way (stage.Hoist a) walk = refl
-other_way (stage.Crown a) walk = refl
-other_way (stage.Free a) walk = refl
-other_way (stage.Intend a) walk = refl
-other_way (stage.Child a) walk = refl
-other_way (stage.Cap a) walk = refl
-other_way (stage.Seek a) walk = refl
-other_way (stage.Receive a) walk = refl
-other_way (stage.Confirm a) walk = refl
+other_way other walk = refl
+
+-- an open page has its pointer there
+pub other_plain : (a : Stage) → ((w : Walk) → a ≡ stage.Walk w → ⊥) → (n : ℕ) → IsPlain (way_of a) n
+other_plain a walk n = subst (λ by. IsPlain by n) (sym (other_way a walk)) tt
+
+-- an open page has more than 3 entries where it should not merge
+pub plain_by : (a : Stage) (w : Walk) (by : Reached) (n : ℕ) → a ≡ stage.Walk w → w.reached ≡ by → IsPlain by n → IsPlain (way_of a) n
+plain_by a w by n e r k = subst (λ z. IsPlain (way_of z) n) (sym e) (subst (λ z. IsPlain z n) (sym r) k)
+
+pub not_small : {P : Type 0} (b : Bool) (n : ℕ) → IsTrue b ↔ ((n ≤ 3) × P) → b ≡ false → P → 3 < n
+not_small b n told off p = elim (leb_tells n 3) [ inl a ↦ absurd (untrue b told off (a.1, p)) | inr a ↦ a.1 ]
 
 -- what a store answers to a read
 record IsAnswer (s : Store) (pid : ℕ) (found : Result (Option View) Error) : Type 0 where
@@ -102,7 +110,7 @@ record IsAnswer (s : Store) (pid : ℕ) (found : Result (Option View) Error) : T
 module _ (j : Job) (s : Store) where
   -- the root of a tree,
   module _ (name : Key) (root : Option ℕ) (pid : ℕ) (called : name ≡ j.tree.name) (is_root : root ≡ (now s).roots name) (is_some : root ≡ Some pid) where
-    at_root : (next : Next) → FollowsPage s pid (λ v. follows_read j v (record { parent = None; first = true; unsplit = false })) next → Follows j s stage.Root next s
+    at_root : (next : Next) → FollowsPage s pid (λ v. follows_read j v reached.Root) next → Follows j s stage.Root next s
     at_root next f = record { is = (refl, subst (λ o. follows_root j s o next) (sym is_some ∙ (is_root ∙ ap (now s).roots called)) f) }
 
     root_met_as : (found : Result (Option View) Error) → IsAnswer s pid found → met_as s j stage.Root found
@@ -150,7 +158,7 @@ module _ (j : Job) (s : Store) where
   module _ (a : Stage) (view : View) (m : Meets s j a view) where
     -- an index leads down,
     pub leads : (c : ℕ) (first : Bool) → IsClean j (way_of a) view → IsIndex view.node.content → IsPointer (Included (key_of j.call)) (pointers view.node.content) c first
-        → Descends s j a descent.Further (stage.Walk (record { cursor = c; parent = view; first = first; unsplit = false }))
+        → Descends s j a descent.Further (stage.Walk (record { cursor = c; reached = by_pointer view first }))
     leads c first clean index k = record {
       told = record {
         moves = m.moves _ (descends j view (way_of a) clean.awake clean.free clean.covers clean.few c first index k);

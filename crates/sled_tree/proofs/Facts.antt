@@ -4,6 +4,7 @@ use Rattle.std.specs.Ordering.{is_gt, ordering_reverse}
 use Rattle.std.specs.declared.cmp.Ordering.{Ordering}
 use Rattle.std.proofs.lemmas.Bool.Decides.{leb_tells}
 use Rattle.sled_pages.specs.Order.{Key, key_cmp, Below, UpTo}
+use Rattle.std.specs.declared.ops.Bound.TheVariants.{Included}
 use Rattle.sled_pages.specs.In.{In}
 use Rattle.sled_pages.specs.Node.{count}
 use Rattle.sled_pages.specs.Update.{put_at}
@@ -15,29 +16,26 @@ use Rattle.sled_pages.specs.declared.error.Error.TheVariants as error
 use Rattle.sled_pages.specs.declared.node.Node.{Node}
 use Rattle.sled_pages.specs.declared.page.Page.{Page}
 use Rattle.sled_pages.specs.declared.page.View.{View}
+use Rattle.sled_model.specs.Answer.{key_of}
 use Rattle.tree_laws.specs.Forest.{Tree, Forest, Place, place}
 use Rattle.tree_laws.specs.Laws.{replaced, allocated, freed, hoisted}
-use Rattle.tree_laws.specs.Moment.{Moment, moment_of, nodes_at, IsMoment, Grows}
-use Rattle.tree_laws.specs.Stages.{Quiet}
+use Rattle.tree_laws.specs.Moment.{Moment, moment_of, nodes_at, IsMoment, Acts, Grows}
+use Rattle.tree_laws.specs.StageLaws.{StageAction}
 use Rattle.tree_laws.proofs.Known.{goes_same, root_in}
 use Rattle.tree_laws.proofs.Replace.{same_number}
 use Rattle.tree_laws.proofs.Update.{put_here, put_there, name_here}
 use Rattle.tree_laws.proofs.Order.{key_total}
 use Rattle.sled_tree.specs.declared.flight.Job.{Job}
-use Rattle.sled_tree.specs.declared.flight.Stage.{Stage}
-use Rattle.sled_tree.specs.declared.flight.Stage.TheVariants as stage
+use Rattle.tree_laws.specs.declared.flight.Stage.{Stage}
+use Rattle.tree_laws.specs.declared.flight.Stage.TheVariants as stage
 use Rattle.sled_tree.specs.declared.flight.Next.{Next}
 use Rattle.sled_tree.specs.declared.flight.Next.TheVariants as next
 use Rattle.sled_tree.specs.declared.flight.Flight.{Flight}
 use Rattle.sled_tree.specs.declared.flight.Went.TheVariants.{Moved}
-use Rattle.sled_tree.specs.Stages.{IsStage, owned}
-use Rattle.sled_tree.specs.Moves.{Moves, ActsOnce, Acts, Same, Advances, LeavesNone, leaves_as, refuses_as}
-
-pub some_is : {X : Type 0} {x y : X} → Some x ≡ Some y → x ≡ y
-some_is e = cc
-
-none_some : {P X : Type 0} {x : X} → None ≡ Some x → P
-none_some e = cc
+use Rattle.tree_laws.specs.Stages.{IsStage, owned}
+use Rattle.sled_tree.specs.Stages.{Knows, changes_at}
+use Rattle.sled_tree.specs.Moves.{Moves, ActsOnce, Same, Advances, LeavesNone, leaves_as, refuses_as}
+use Rattle.sled_tree.proofs.Basics.{none_some, some_is}
 
 -- a page that stays as it is does not grow
 pub grows_not : (m : Moment) (w : Forest) → Grows (nodes_at m) (nodes_at m) w
@@ -132,17 +130,19 @@ leaves_freed m p v = record {
 }
 
 -- what comes of an action that does nothing
-pub stays : (j : Job) (s : Store) (a b : Stage) → ((q : ℕ) → In q (owned b) → In q (owned a)) → ((q : ℕ) → In q (owned a) → In q (owned b))
-    → ((numbers : Tree → Option ℕ) (given : ℕ → Bool) (w : Forest) → IsMoment (moment_of s numbers given) w → numbers j.tree.name ≡ Some j.tree.number → IsStage (moment_of s numbers given) w j a → IsStage (moment_of s numbers given) w j b)
+pub stays : (j : Job) (s : Store) (a b : Stage) → ((q : ℕ) → In q (owned b) → In q (owned a)) → ((q : ℕ) → In q (owned a) → In q (owned b)) → changes_at j b
+    → ((m : Moment) (w : Forest) → IsMoment m w → m.numbers j.tree.name ≡ Some j.tree.number → IsStage m w j.tree.name j.tree.number (Included (key_of j.call)) a → IsStage m w j.tree.name j.tree.number (Included (key_of j.call)) b)
     → Moves j s a (next.Go b) s
-stays j s a b from to known = record {
+stays j s a b from to plain known = record {
   touches = inl refl;
-  told = λ numbers given w is named k. (w, rests (owned a) (owned b) (moment_of s numbers given) w is from, (known numbers given w is named k, same_here (moment_of s numbers given) w), leaves_same (owned a) (owned b) (now s) w to);
+  told = λ numbers given w is named k.
+      let m : Moment = moment_of s numbers given in
+      (w, rests (owned a) (owned b) m w is from, ((known m w is named k.0, plain), same_here m w), leaves_same (owned a) (owned b) (now s) w to);
 }
 
 -- the call begins again, where it owns no page
 pub restarts : (j : Job) (s : Store) (a : Stage) → ((q : ℕ) → In q (owned a) → ⊥) → Moves j s a (next.Go stage.Root) s
-restarts j s a none = stays j s a stage.Root (λ q i. absurd i) none (λ numbers given w is named k. tt)
+restarts j s a none = stays j s a stage.Root (λ q i. absurd i) none tt (λ m w is named k. tt)
 
 -- a store that counted a fault shows the same moment
 same_moment : (old new : Store) (numbers : Tree → Option ℕ) (given : ℕ → Bool) (e : Error) → refuses_as e old new → moment_of new numbers given ≡ moment_of old numbers given
@@ -200,34 +200,17 @@ unread j s a pid e r = refuses j s s a e (go e r.told)
 pub unable : (j : Job) (s : Store) (a : Stage) (e : Error) → e ≡ error.NoMemory → Moves j s a (next.Refused e) s
 unable j s a e none = subst (λ z. Moves j s a (next.Refused z) s) (sym none) (refuses j s s a error.NoMemory refl)
 
--- what a changing action comes to, at one moment
-pub record Quietly (j : Job) (a b : Stage) (m : Moment) (w : Forest) (new : Moment) : Type 0 where
-  pub after : Forest
-  pub acts : Acts (owned a) (owned b) m w new after
-  pub same : Same m w new after
-  pub knows : IsStage new after j b
-  pub leaves : LeavesNone (owned a) (owned b) m.state new.state after
-
-pub quietly : (j : Job) (a b : Stage) {m new : Moment} {w v : Forest} {few : Type 0} → Quiet (owned a) (owned b) m w new v few → few → IsStage new v j b → LeavesNone (owned a) (owned b) m.state new.state v → Quietly j a b m w new
-quietly j a b {m} {new} {w} {v} q f k l = record {
-  after = v;
-  acts = record { is = q.is; goes = q.goes; fresh = q.fresh; sized = q.sized f; grows = q.grows f };
-  same = record { same = q.same };
-  knows = k;
-  leaves = l;
-}
-
 -- a changing action after which the call goes on
-pub moves_on : (j : Job) (old new : Store) (a b : Stage) → ActsOnce old new
-    → ((numbers : Tree → Option ℕ) (given : ℕ → Bool) (w : Forest) → IsMoment (moment_of old numbers given) w → numbers j.tree.name ≡ Some j.tree.number → IsStage (moment_of old numbers given) w j a
-    → (m : Moment) × (moment_of new numbers given ≡ m) × Quietly j a b (moment_of old numbers given) w m)
+pub moves_on : (j : Job) (old new : Store) (a b : Stage) → ActsOnce old new → changes_at j b
+    → ((numbers : Tree → Option ℕ) (given : ℕ → Bool) (w : Forest) → IsMoment (moment_of old numbers given) w → numbers j.tree.name ≡ Some j.tree.number → IsStage (moment_of old numbers given) w j.tree.name j.tree.number (Included (key_of j.call)) a
+    → (m : Moment) × (moment_of new numbers given ≡ m) × (v : Forest) × StageAction (moment_of old numbers given) w m v j.tree.name j.tree.number (Included (key_of j.call)) a b × LeavesNone (owned a) (owned b) (now old) m.state v)
     → Moves j old a (next.Go b) new
-moves_on j old new a b once known = record {
+moves_on j old new a b once plain known = record {
   touches = inr once;
   told = λ numbers given w is named k.
-      let n = known numbers given w is named k in
+      let n = known numbers given w is named k.0 in
       let mo : Moment = moment_of old numbers given in
-      subst (λ (z : Moment). (v : Forest) × Acts (owned a) (owned b) mo w z v × (IsStage z v j b × Same mo w z v) × LeavesNone (owned a) (owned b) mo.state z.state v) (sym n.1) (n.2.after, n.2.acts, (n.2.knows, n.2.same), n.2.leaves);
+      subst (λ (z : Moment). (v : Forest) × Acts (owned a) (owned b) mo w z v × (Knows z v j b × Same mo w z v) × LeavesNone (owned a) (owned b) mo.state z.state v) (sym n.1) (n.2, n.3.acts, ((n.3.knows, plain), record { same = n.3.same }), n.4);
 }
 
 -- what was given stays given when one more is
@@ -294,10 +277,7 @@ not_up_to a b off = key_total.antisymm b a ∙ go (key_cmp a b) off
 
 -- a page as it is read
 pub viewed : (pid : ℕ) (o : Option Page) (v : View) → Some v ≡ view_of pid o → (v.pid ≡ pid) × (o ≡ Some (record { version = v.version; node = v.node }))
-viewed pid None v e = absurd (none_some (sym e))
-  where
-    none_some : {X : Type 0} {x : X} → None ≡ Some x → ⊥
-    none_some e = cc
+viewed pid None v e = none_some (sym e)
 viewed pid (Some g) v e = let is = some_is e in (ap (λ (z : View). z.pid) is, ap (λ (z : View). Some (record { version = z.version; node = z.node })) (sym is))
 
 pub live_view : (s : Store) (pid : ℕ) (v : View) → Some v ≡ view_of pid ((now s).pages pid) → (now s).pages v.pid ≡ Some (record { version = v.version; node = v.node })

@@ -1,20 +1,20 @@
 -- Which stages are those of a merge.
 use Rattle.std.proofs.Common.{◌≡◌, refl}
 use Rattle.sled_pages.specs.declared.page.View.{View}
-use Rattle.sled_tree.specs.declared.flight.Cap.{Cap}
-use Rattle.sled_tree.specs.declared.flight.Confirm.{Confirm}
-use Rattle.sled_tree.specs.declared.flight.Crown.{Crown}
-use Rattle.sled_tree.specs.declared.flight.Hoist.{Hoist}
-use Rattle.sled_tree.specs.declared.flight.Merge.{Merge}
-use Rattle.sled_tree.specs.declared.flight.Own.{Own}
-use Rattle.sled_tree.specs.declared.flight.Post.{Post}
-use Rattle.sled_tree.specs.declared.flight.Receive.{Receive}
-use Rattle.sled_tree.specs.declared.flight.Seek.{Seek}
-use Rattle.sled_tree.specs.declared.flight.Shorten.{Shorten}
-use Rattle.sled_tree.specs.declared.flight.Split.{Split}
-use Rattle.sled_tree.specs.declared.flight.Walk.{Walk}
-use Rattle.sled_tree.specs.declared.flight.Stage.{Stage}
-use Rattle.sled_tree.specs.declared.flight.Stage.TheVariants as stage
+use Rattle.tree_laws.specs.declared.flight.Cap.{Cap}
+use Rattle.tree_laws.specs.declared.flight.Confirm.{Confirm}
+use Rattle.tree_laws.specs.declared.flight.Crown.{Crown}
+use Rattle.tree_laws.specs.declared.flight.Hoist.{Hoist}
+use Rattle.tree_laws.specs.declared.flight.Merge.{Merge}
+use Rattle.tree_laws.specs.declared.flight.Own.{Own}
+use Rattle.tree_laws.specs.declared.flight.Post.{Post}
+use Rattle.tree_laws.specs.declared.flight.Receive.{Receive}
+use Rattle.tree_laws.specs.declared.flight.Seek.{Seek}
+use Rattle.tree_laws.specs.declared.flight.Shorten.{Shorten}
+use Rattle.tree_laws.specs.declared.flight.Split.{Split}
+use Rattle.tree_laws.specs.declared.flight.Walk.{Walk}
+use Rattle.tree_laws.specs.declared.flight.Stage.{Stage}
+use Rattle.tree_laws.specs.declared.flight.Stage.TheVariants as stage
 use Rattle.sled_tree.specs.Stages.{IsOfMerge}
 
 -- a stage that is none of these is of a merge
@@ -37,18 +37,10 @@ of_merge (stage.Confirm a) root walk act split shorten post hoist crown free = t
 
 -- and one of a merge is one of these
 pub no_other : (s : Stage) → IsOfMerge s → ((a : Merge) → s ≡ stage.Intend a → ⊥) → ((a : Merge) → s ≡ stage.Child a → ⊥) → ((a : Cap) → s ≡ stage.Cap a → ⊥) → ((a : Seek) → s ≡ stage.Seek a → ⊥) → ((a : Receive) → s ≡ stage.Receive a → ⊥) → ((a : Confirm) → s ≡ stage.Confirm a → ⊥) → ⊥
-no_other stage.Root of intend child cap seek receive confirm = of
-no_other (stage.Walk a) of intend child cap seek receive confirm = of
-no_other (stage.Act a) of intend child cap seek receive confirm = of
-no_other (stage.Split a) of intend child cap seek receive confirm = of
-no_other (stage.Shorten a) of intend child cap seek receive confirm = of
-no_other (stage.Post a) of intend child cap seek receive confirm = of
-no_other (stage.Hoist a) of intend child cap seek receive confirm = of
-no_other (stage.Crown a) of intend child cap seek receive confirm = of
-no_other (stage.Free a) of intend child cap seek receive confirm = of
 no_other (stage.Intend a) of intend child cap seek receive confirm = intend a refl
 no_other (stage.Child a) of intend child cap seek receive confirm = child a refl
 no_other (stage.Cap a) of intend child cap seek receive confirm = cap a refl
 no_other (stage.Seek a) of intend child cap seek receive confirm = seek a refl
 no_other (stage.Receive a) of intend child cap seek receive confirm = receive a refl
 no_other (stage.Confirm a) of intend child cap seek receive confirm = confirm a refl
+no_other other of intend child cap seek receive confirm = of

@@ -7,23 +7,21 @@ use Rattle.sled_model.specs.Answer.{key_of}
 use Rattle.sled_tree.specs.declared.flight.Job.{Job}
 use Rattle.sled_tree.specs.declared.flight.Next.{Next}
 use Rattle.sled_tree.specs.declared.flight.Next.TheVariants.{Go}
-use Rattle.sled_tree.specs.declared.flight.Stage.TheVariants as stage
-use Rattle.sled_tree.specs.declared.walk.Way.{Way}
+use Rattle.tree_laws.specs.declared.flight.Stage.TheVariants as stage
+use Rattle.tree_laws.specs.declared.flight.Reached.{Reached}
 use Rattle.sled_tree.specs.Follows.{follows_read, follows_awake, follows_open, follows_here}
+use Rattle.sled_tree.proofs.Basics.{true_false}
 use Rattle.sled_tree.proofs.Facts.{untrue}
 
-pub true_false : {P : Type 0} → false ≡ true → P
-true_false e = cc
-
-module _ (j : Job) (v : View) (way : Way) (n : Next) (awake : v.node.merging ≡ false) (free : v.node.merging_child ≡ None) where
-  pub opened : follows_open j v way n → follows_read j v way n
-  opened f = inr ((λ m. true_false (sym awake ∙ m)), subst (λ o. follows_awake o j v way n) (sym free) f)
+module _ (j : Job) (v : View) (by : Reached) (n : Next) (awake : v.node.merging ≡ false) (free : v.node.merging_child ≡ None) where
+  pub opened : follows_open j v by n → follows_read j v by n
+  opened f = inr ((λ m. true_false (sym m ∙ awake)), subst (λ o. follows_awake o j v by n) (sym free) f)
 
   -- a page that is short enough, and does not end before the key
   module _ {P : Type 0} (long : Bool) (is_long : IsTrue long ↔ ((16 < count v.node.content) × P)) (short : long ≡ false) (kept : P)
       (key key2 : Key) (called : key ≡ key_of j.call) (called2 : key2 ≡ key_of j.call) (ends : Bool) (is_ending : IsTrue ends ↔ ((v.node.hi ≢ []) × UpTo v.node.hi key)) (on : ends ≡ false)
       (cover : Bool) (is_cover : IsTrue cover ↔ Covers v.node key2) where
-    here : (cover ≡ true × follows_here j v way n) ⊎ ((cover ≡ false) × (n ≡ Go stage.Root)) → follows_read j v way n
+    here : (cover ≡ true × follows_here j v by n) ⊎ ((cover ≡ false) × (n ≡ Go stage.Root)) → follows_read j v by n
     here f = opened (inr (
       (λ l. untrue long is_long short (l, kept)),
       inr (
@@ -35,8 +33,8 @@ module _ (j : Job) (v : View) (way : Way) (n : Next) (awake : v.node.merging ≡
       ),
     ))
 
-    pub outside : cover ≡ false → n ≡ Go stage.Root → follows_read j v way n
+    pub outside : cover ≡ false → n ≡ Go stage.Root → follows_read j v by n
     outside e r = here (inr (e, r))
 
-    pub inside : cover ≡ true → follows_here j v way n → follows_read j v way n
+    pub inside : cover ≡ true → follows_here j v by n → follows_read j v by n
     inside e r = here (inl (e, r))

@@ -1,5 +1,5 @@
+pub mod Basics
 pub mod Facts
-pub mod Helping
 pub mod Arriving
 pub mod Passing
 pub mod Acting

@@ -19,27 +19,21 @@ use Rattle.tree_laws.specs.PathLaws.{CleanStep}
 use Rattle.tree_laws.proofs.Looking.{clean_step_law}
 use Rattle.tree_laws.proofs.Order.{below_not_upto}
 use Rattle.sled_tree.specs.Change.{IsLeaf, IsIndex, decision_at}
-use Rattle.sled_tree.specs.Passing.{IsUnchanged, IsOnPath, Passes, PassesOn, GoesFurther}
+use Rattle.sled_tree.specs.Passing.{IsUnchanged, IsAheadOf, IsOnPath, Passes, PassesOn, GoesFurther}
 use Rattle.sled_tree.specs.declared.flight.Flight.{Flight}
 use Rattle.sled_tree.specs.declared.flight.Job.{Job}
 use Rattle.sled_tree.specs.declared.flight.Next.{Next}
 use Rattle.sled_tree.specs.declared.flight.Next.TheVariants as next
-use Rattle.sled_tree.specs.declared.flight.Stage.{Stage}
-use Rattle.sled_tree.specs.declared.flight.Stage.TheVariants as stage
-use Rattle.sled_tree.specs.declared.flight.Walk.{Walk}
+use Rattle.tree_laws.specs.declared.flight.Stage.{Stage}
+use Rattle.tree_laws.specs.declared.flight.Stage.TheVariants as stage
+use Rattle.tree_laws.specs.declared.flight.Walk.{Walk}
 use Rattle.sled_tree.specs.declared.flight.Went.TheVariants as went
-use Rattle.sled_tree.specs.declared.walk.Way.{Way}
+use Rattle.tree_laws.specs.Stages.{by_pointer}
+use Rattle.tree_laws.specs.declared.flight.Reached.{Reached}
+use Rattle.tree_laws.specs.declared.flight.Reached.TheVariants as reached
+use Rattle.sled_tree.proofs.Basics.{none_some, some_is, true_false}
 use Rattle.sled_tree.proofs.Facts.{viewed, untrue}
 use Rattle.sled_tree.proofs.Arriving.{leaf_is, index_is}
-
-none_some : {P X : Type 0} {x : X} → None ≡ Some x → P
-none_some e = cc
-
-true_false : {P : Type 0} → true ≡ false → P
-true_false e = cc
-
-some_is : {X : Type 0} {x y : X} → Some x ≡ Some y → x ≡ y
-some_is e = cc
 
 -- a stage that no clean path leads to
 pub passes_never : (j : Job) (old new : State) (a : Stage) (n : Next) → ((path : List ℕ) → IsOnPath old j a path → ⊥) → Passes j old a n new
@@ -57,6 +51,13 @@ gone_at : (pid : ℕ) (o : Option Page) → None ≡ view_of pid o → o ≡ Non
 gone_at pid None e = refl
 gone_at pid (Some g) e = none_some e
 
+-- what is ahead of a walk is clean from its page on
+clean_ahead : (nodes : Nodes) (key : Key) (p : ℕ) (by : Reached) (path : List ℕ) → IsAheadOf nodes key p by path → (first : Bool) × CleanFrom nodes key p first path
+clean_ahead nodes key p reached.Root path k = (true, k)
+clean_ahead nodes key p (reached.FirstPointer parent) path k = (true, k)
+clean_ahead nodes key p (reached.LaterPointer parent) path k = (false, k)
+clean_ahead nodes key p (reached.Next parent) path k = absurd k
+
 module _ (j : Job) (s : State) where
   -- the tree has no root,
   pub no_root : (name : Key) (found : Option ℕ) (n : Next) → name ≡ j.tree.name → found ≡ s.roots name → found ≡ None → Passes j s stage.Root n s
@@ -69,59 +70,60 @@ module _ (j : Job) (s : State) where
 
   -- or it was read
   pub root_passes : (name : Key) (found : Option ℕ) (root : ℕ) (view : View) (n : Next) → name ≡ j.tree.name → found ≡ s.roots name → found ≡ Some root → Some view ≡ view_of root (s.pages root)
-      → PassesOn j view (record { parent = None; first = true; unsplit = false }) n → Passes j s stage.Root n s
+      → PassesOn j view reached.Root n → Passes j s stage.Root n s
   root_passes name found root view n called is_found is_some read t = record {
     told = λ path k.
         let v = viewed root (s.pages root) view read in
-        t.told s path refl (ap s.pages v.0 ∙ v.1) (subst (λ r. CleanFrom (nodes_of s) (key_of j.call) r true path) (some_is (sym k.is_root ∙ sym (ap s.roots called) ∙ sym is_found ∙ is_some) ∙ sym v.0) k.clean);
+        t.told s path (ap s.pages v.0 ∙ v.1) (subst (λ r. CleanFrom (nodes_of s) (key_of j.call) r true path) (some_is (sym k.is_root ∙ sym (ap s.roots called) ∙ sym is_found ∙ is_some) ∙ sym v.0) k.clean);
   }
 
   -- the cursor is gone,
   pub cursor_gone : (a : Walk) (n : Next) → None ≡ view_of a.cursor (s.pages a.cursor) → Passes j s (stage.Walk a) n s
-  cursor_gone a n read = passes_never j s s (stage.Walk a) n (λ path k. live_at s (key_of j.call) a.cursor a.first path k.1 (gone_at a.cursor (s.pages a.cursor) read))
+  cursor_gone a n read = passes_never j s s (stage.Walk a) n (λ path k. let c = clean_ahead (nodes_of s) (key_of j.call) a.cursor a.reached path k in live_at s (key_of j.call) a.cursor c.0 path c.1 (gone_at a.cursor (s.pages a.cursor) read))
 
   -- or it was read
-  pub cursor_passes : (a : Walk) (view : View) (n : Next) → Some view ≡ view_of a.cursor (s.pages a.cursor) → PassesOn j view (record { parent = Some a.parent; first = a.first; unsplit = a.unsplit }) n → Passes j s (stage.Walk a) n s
+  pub cursor_passes : (a : Walk) (view : View) (n : Next) → Some view ≡ view_of a.cursor (s.pages a.cursor) → PassesOn j view a.reached n → Passes j s (stage.Walk a) n s
   cursor_passes a view n read t = record {
     told = λ path k.
         let v = viewed a.cursor (s.pages a.cursor) view read in
-        t.told s path k.0 (ap s.pages v.0 ∙ v.1) (subst (λ c. CleanFrom (nodes_of s) (key_of j.call) c a.first path) (sym v.0) k.1);
+        t.told s path (ap s.pages v.0 ∙ v.1) (subst (λ c. IsAheadOf (nodes_of s) (key_of j.call) c a.reached path) (sym v.0) k);
   }
 
 -- a walk that comes to a page of a clean path passes it
 steps : (s : State) (key : Key) (path : List ℕ) (view : View) (first : Bool) → IsUnchanged s view → CleanFrom (nodes_of s) key view.pid first path → CleanStep (nodes_of s) key path view.pid first view.node
 steps s key path view first live k = clean_step_law (nodes_of s) key path view.pid first view.node k (ap (option_map (λ (g : Page). g.node)) live)
 
-module _ (j : Job) (view : View) (way : Way) (n : Next) where
+module _ (j : Job) (view : View) (by : Reached) (n : Next) where
   -- no clean path comes here
-  pub shut : ((nodes : Nodes) → way.unsplit ≡ false → IsPassed nodes (key_of j.call) view.pid way.first view.node → ⊥) → PassesOn j view way n
-  shut off = record { told = λ s path pointed live k. absurd (off (nodes_of s) pointed (steps s (key_of j.call) path view way.first live k).passed) }
+  pub shut : ((nodes : Nodes) (first : Bool) → IsPassed nodes (key_of j.call) view.pid first view.node → ⊥) → PassesOn j view by n
+  shut off = record { told = λ s path live k. let c = clean_ahead (nodes_of s) (key_of j.call) view.pid by path k in absurd (off (nodes_of s) c.0 (steps s (key_of j.call) path view c.0 live c.1).passed) }
 
-  pub shut_merging : view.node.merging ≡ true → PassesOn j view way n
-  shut_merging capped = shut (λ nodes pointed passed. true_false (sym capped ∙ passed.is_open.awake))
+  pub shut_merging : view.node.merging ≡ true → PassesOn j view by n
+  shut_merging capped = shut (λ nodes first passed. true_false (sym capped ∙ passed.is_open.awake))
 
-  pub shut_child : (child : ℕ) → view.node.merging_child ≡ Some child → PassesOn j view way n
-  shut_child child e = shut (λ nodes pointed passed. none_some (sym passed.is_open.free ∙ e))
+  pub shut_child : (child : ℕ) → view.node.merging_child ≡ Some child → PassesOn j view by n
+  shut_child child e = shut (λ nodes first passed. none_some (sym passed.is_open.free ∙ e))
 
-  pub shut_long : {P : Type 0} (b : Bool) → IsTrue b ↔ ((16 < count view.node.content) × P) → b ≡ true → PassesOn j view way n
-  shut_long b told is = shut (λ nodes pointed passed. over (count view.node.content) (told.0 is).0 passed.few)
+  pub shut_long : {P : Type 0} (b : Bool) → IsTrue b ↔ ((16 < count view.node.content) × P) → b ≡ true → PassesOn j view by n
+  shut_long b told is = shut (λ nodes first passed. over (count view.node.content) (told.0 is).0 passed.few)
     where
       over : (c : ℕ) → 16 < c → c ≤ 16 → ⊥
       over c a b = omega arith
 
-  pub shut_outside : (b : Bool) (key : Key) → key ≡ key_of j.call → IsTrue b ↔ Covers view.node key → b ≡ false → PassesOn j view way n
-  shut_outside b key e told off = shut (λ nodes pointed passed. untrue b told off (subst (Covers view.node) (sym e) passed.covers))
+  pub shut_outside : (b : Bool) (key : Key) → key ≡ key_of j.call → IsTrue b ↔ Covers view.node key → b ≡ false → PassesOn j view by n
+  shut_outside b key e told off = shut (λ nodes first passed. untrue b told off (subst (Covers view.node) (sym e) passed.covers))
 
-  pub shut_unsplit : way.unsplit ≡ true → PassesOn j view way n
-  shut_unsplit unsplit = shut (λ nodes pointed passed. true_false (sym unsplit ∙ pointed))
-
-  pub shut_few : {P : Type 0} (b : Bool) → IsTrue b ↔ ((count view.node.content ≤ 3) × P) → b ≡ true → way.first ≡ false → PassesOn j view way n
-  shut_few b told is later = shut (λ nodes pointed passed. true_false (sym (passed.many (told.0 is).0) ∙ later))
-
-  pub shut_behind : (b : Bool) (key : Key) → key ≡ key_of j.call → IsTrue b ↔ ((view.node.hi ≢ []) × UpTo view.node.hi key) → b ≡ true → PassesOn j view way n
-  shut_behind b key e told is = shut (λ nodes pointed passed.
+  pub shut_behind : (b : Bool) (key : Key) → key ≡ key_of j.call → IsTrue b ↔ ((view.node.hi ≢ []) × UpTo view.node.hi key) → b ≡ true → PassesOn j view by n
+  shut_behind b key e told is = shut (λ nodes first passed.
       let beyond = told.0 is in
       elim passed.covers.1 [ inl endless ↦ beyond.0 endless | inr below ↦ below_not_upto (key_of j.call) view.node.hi below (subst (UpTo view.node.hi) e beyond.1) ])
+
+-- a walk that came to a page by `next` is on no clean path, nor is one that came by a later pointer to a page of few entries
+pub shut_next : (j : Job) (view parent : View) (n : Next) → PassesOn j view (reached.Next parent) n
+shut_next j view parent n = record { told = λ s path live k. absurd k }
+
+pub shut_few : (j : Job) (view parent : View) (n : Next) → count view.node.content ≤ 3 → PassesOn j view (reached.LaterPointer parent) n
+shut_few j view parent n few = record { told = λ s path live k. true_false (sym ((steps s (key_of j.call) path view false live k).passed.many few)) }
 
 -- one alone is the last, so that some element passes
 last_any : {X : Type 0} (p : X → Bool) (xs : List X) (x : X) → IsLast p xs x → list_any p xs ≡ false → ⊥
@@ -132,17 +134,17 @@ last_any p xs x k none = true_false (sym (some (list_any p k.before) (p x) (list
     some false true c e = refl
     some false false c e = true_false (sym e)
 
-module _ (j : Job) (view : View) (way : Way) where
+module _ (j : Job) (view : View) (by : Reached) where
   -- an index without a pointer is on no clean path,
-  pub shut_pointless : (key : Key) → key ≡ key_of j.call → IsIndex view.node.content → IsPointerFor (Included key) (pointers view.node.content) None → (n : Next) → PassesOn j view way n
-  shut_pointless key e index none n = record { told = λ s path pointed live k. absurd (go s path live k) }
+  pub shut_pointless : (key : Key) → key ≡ key_of j.call → IsIndex view.node.content → IsPointerFor (Included key) (pointers view.node.content) None → (n : Next) → PassesOn j view by n
+  shut_pointless key e index none n = record { told = λ s path live k. let c = clean_ahead (nodes_of s) (key_of j.call) view.pid by path k in absurd (go s path c.0 live c.1) }
     where
       b : (es : List (Key × ℕ)) × (view.node.content ≡ Index es)
       b = index_is view.node.content index
 
-      go : (s : State) (path : List ℕ) → IsUnchanged s view → CleanFrom (nodes_of s) (key_of j.call) view.pid way.first path → ⊥
-      go s [] live k = k
-      go s (q ∷ rest) live (at, m, passed, more) =
+      go : (s : State) (path : List ℕ) (first : Bool) → IsUnchanged s view → CleanFrom (nodes_of s) (key_of j.call) view.pid first path → ⊥
+      go s [] first live k = k
+      go s (q ∷ rest) first live (at, m, passed, more) =
           let same : m ≡ view.node = some_is (sym passed.live ∙ ap (option_map (λ (g : Page). g.node)) live) in
           elim more [
             | inl l ↦ leaf_index (sym (ap (λ (z : Node). z.content) same ∙ b.1) ∙ l.1)
@@ -160,20 +162,26 @@ module _ (j : Job) (view : View) (way : Way) where
 
   -- below one with a pointer the rest of the path is ahead,
   pub down_passes : (c : ℕ) (first : Bool) → IsIndex view.node.content → IsPointer (Included (key_of j.call)) (pointers view.node.content) c first
-      → PassesOn j view way (next.Go (stage.Walk (record { cursor = c; parent = view; first = first; unsplit = false })))
-  down_passes c first index k = record {
-    told = λ s path pointed live clean.
+      → PassesOn j view by (next.Go (stage.Walk (record { cursor = c; reached = by_pointer view first })))
+  down_passes c first index is_last = record {
+    told = λ s path live k.
         let b = index_is view.node.content index in
-        let d = (steps s (key_of j.call) path view way.first live clean).down b.0 c first b.1 (subst (λ d. IsPointer (Included (key_of j.call)) (pointers d) c first) b.1 k) in
-        (d.0, ap length d.1, (refl, d.2));
+        let a = clean_ahead (nodes_of s) (key_of j.call) view.pid by path k in
+        let d = (steps s (key_of j.call) path view a.0 live a.1).down b.0 c first b.1 (subst (λ d. IsPointer (Included (key_of j.call)) (pointers d) c first) b.1 is_last) in
+        (d.0, ap length d.1, go first (nodes_of s) d.0 d.2);
   }
+    where
+      go : (first : Bool) (nodes : Nodes) (rest : List ℕ) → CleanFrom nodes (key_of j.call) c first rest → IsAheadOf nodes (key_of j.call) c (by_pointer view first) rest
+      go true nodes rest k = k
+      go false nodes rest k = k
 
   -- and a leaf is its end
-  pub leaf_passes : IsLeaf view.node.content → (decision_at j.call view.node.content).effect ≢ Nothing → PassesOn j view way (next.Go (stage.Act view))
+  pub leaf_passes : IsLeaf view.node.content → (decision_at j.call view.node.content).effect ≢ Nothing → PassesOn j view by (next.Go (stage.Act view))
   leaf_passes leaf changes = record {
-    told = λ s path pointed live clean.
+    told = λ s path live k.
         let b = leaf_is view.node.content leaf in
-        ([], ap length ((steps s (key_of j.call) path view way.first live clean).leaf b.0 b.1), (refl, live, changes));
+        let a = clean_ahead (nodes_of s) (key_of j.call) view.pid by path k in
+        ([], ap length ((steps s (key_of j.call) path view a.0 live a.1).leaf b.0 b.1), (refl, live, changes));
   }
 
 -- the leaf is unchanged, so that the call does not begin again

@@ -1,5 +1,5 @@
 -- Steps of a call in flight at pages where nothing is to be repaired.
-use Rattle.std.specs.Prelude.{◌≡◌, ◌≢◌, ◌≤◌, ◌<◌, true, false, Option, Some, None, Result, Ok, Err}
+use Rattle.std.specs.Prelude.{◌≡◌, ◌≢◌, ℕ, ◌≤◌, ◌<◌, true, false, Option, Some, None, Result, Ok, Err}
 use Rattle.sled_pages.specs.Node.{Covers, count}
 use Rattle.sled_pages.specs.Store.{Store, now}
 use Rattle.sled_pages.specs.declared.error.Error.{Error}
@@ -19,23 +19,30 @@ use Rattle.sled_tree.specs.declared.flight.Flight.{Flight}
 use Rattle.sled_tree.specs.declared.flight.Job.{Job}
 use Rattle.sled_tree.specs.declared.flight.Next.{Next}
 use Rattle.sled_tree.specs.declared.flight.Next.TheVariants.{Go, Refused}
-use Rattle.sled_tree.specs.declared.flight.Stage.{Stage}
-use Rattle.sled_tree.specs.declared.flight.Stage.TheVariants as stage
+use Rattle.tree_laws.specs.declared.flight.Stage.{Stage}
+use Rattle.tree_laws.specs.declared.flight.Stage.TheVariants as stage
 use Rattle.sled_tree.specs.declared.flight.Went.{Went}
-use Rattle.sled_tree.specs.declared.walk.Way.{Way}
+use Rattle.tree_laws.specs.declared.flight.Reached.{Reached}
+use Rattle.tree_laws.specs.declared.flight.Reached.TheVariants as reached
 
 -- how a stage comes to the page that it reads
-abbrev pub way_of : Stage → Way
-way_of (stage.Walk a) = record { parent = Some a.parent; first = a.first; unsplit = a.unsplit }
-way_of a = record { parent = None; first = true; unsplit = false }
+abbrev pub way_of : Stage → Reached
+way_of (stage.Walk a) = a.reached
+way_of other = reached.Root
+
+-- a page has its pointer where a walk comes to it so, and more than 3 entries where it might merge
+abbrev pub IsPlain : Reached → ℕ → Type 0
+IsPlain reached.Root n = Unit {0}
+IsPlain (reached.FirstPointer parent) n = Unit {0}
+IsPlain (reached.LaterPointer parent) n = 3 < n
+IsPlain (reached.Next parent) n = ⊥
 
 -- The page has the call's key, and neither a split nor a merge goes on there or is to begin, nor is its pointer to be posted
-pub record IsClean (j : Job) (way : Way) (view : View) : Type 0 where
+pub record IsClean (j : Job) (by : Reached) (view : View) : Type 0 where
   pub awake : view.node.merging ≡ false
   pub free : view.node.merging_child ≡ None
   pub few : count view.node.content ≤ 16
-  pub many : way.first ≡ false → 3 < count view.node.content
-  pub pointed : way.unsplit ≡ false
+  pub plain : IsPlain by (count view.node.content)
   pub covers : Covers view.node (key_of j.call)
 
 -- the stage reads this page, and what comes of the page is what comes of the stage

@@ -21,31 +21,32 @@ use Rattle.sled_model.specs.declared.decision.Decision.{Decision}
 use Rattle.sled_model.specs.declared.decision.Effect.{Effect}
 use Rattle.sled_model.specs.declared.decision.Effect.TheVariants as effect
 use Rattle.sled_model.specs.declared.reply.Reply.{Reply}
-use Rattle.tree_laws.specs.Stages.{IsOver}
+use Rattle.tree_laws.specs.Stages.{IsOver, parent_of, by_pointer}
 use Rattle.sled_tree.specs.Change.{decision_at, link_of}
 use Rattle.sled_tree.specs.declared.flight.Flight.{Flight}
 use Rattle.sled_tree.specs.declared.flight.Went.{Went}
-use Rattle.sled_tree.specs.declared.flight.Split.{Split}
-use Rattle.sled_tree.specs.declared.flight.Shorten.{Shorten}
-use Rattle.sled_tree.specs.declared.flight.Post.{Post}
-use Rattle.sled_tree.specs.declared.flight.Hoist.{Hoist}
-use Rattle.sled_tree.specs.declared.flight.Crown.{Crown}
-use Rattle.sled_tree.specs.declared.flight.Own.{Own}
-use Rattle.sled_tree.specs.declared.flight.Cap.{Cap}
-use Rattle.sled_tree.specs.declared.flight.Receive.{Receive}
-use Rattle.sled_tree.specs.declared.flight.Confirm.{Confirm}
+use Rattle.tree_laws.specs.declared.flight.Split.{Split}
+use Rattle.tree_laws.specs.declared.flight.Shorten.{Shorten}
+use Rattle.tree_laws.specs.declared.flight.Post.{Post}
+use Rattle.tree_laws.specs.declared.flight.Hoist.{Hoist}
+use Rattle.tree_laws.specs.declared.flight.Crown.{Crown}
+use Rattle.tree_laws.specs.declared.flight.Own.{Own}
+use Rattle.tree_laws.specs.declared.flight.Cap.{Cap}
+use Rattle.tree_laws.specs.declared.flight.Receive.{Receive}
+use Rattle.tree_laws.specs.declared.flight.Confirm.{Confirm}
 use Rattle.sled_tree.specs.declared.flight.Went.TheVariants as went
 use Rattle.sled_tree.specs.declared.flight.Job.{Job}
-use Rattle.sled_tree.specs.declared.flight.Merge.{Merge}
-use Rattle.sled_tree.specs.declared.flight.Seek.{Seek}
-use Rattle.sled_tree.specs.declared.flight.Walk.{Walk}
-use Rattle.sled_tree.specs.declared.flight.Posting.{Posting}
-use Rattle.sled_tree.specs.declared.flight.Posting.TheVariants as posting
+use Rattle.tree_laws.specs.declared.flight.Merge.{Merge}
+use Rattle.tree_laws.specs.declared.flight.Seek.{Seek}
+use Rattle.tree_laws.specs.declared.flight.Walk.{Walk}
+use Rattle.tree_laws.specs.declared.flight.Posting.{Posting}
+use Rattle.tree_laws.specs.declared.flight.Posting.TheVariants as posting
 use Rattle.sled_tree.specs.declared.flight.Next.{Next}
 use Rattle.sled_tree.specs.declared.flight.Next.TheVariants.{Go, Decided, Refused}
-use Rattle.sled_tree.specs.declared.flight.Stage.{Stage}
-use Rattle.sled_tree.specs.declared.flight.Stage.TheVariants as stage
-use Rattle.sled_tree.specs.declared.walk.Way.{Way}
+use Rattle.tree_laws.specs.declared.flight.Stage.{Stage}
+use Rattle.tree_laws.specs.declared.flight.Stage.TheVariants as stage
+use Rattle.tree_laws.specs.declared.flight.Reached.{Reached}
+use Rattle.tree_laws.specs.declared.flight.Reached.TheVariants as reached
 
 -- one line of a table and the lines below it: the one where the condition holds, and else the other
 abbrev pub Where : Type 0 → Type 0 → Type 0 → Type 0
@@ -76,17 +77,8 @@ pub record BeginsMerge (parent : View) (child : ℕ) (next : Next) : Type 0 wher
   pub is : next ≡ begun parent child before
 
 -- the index can have a merging child
-abbrev pub takes_child : Option View → Type 0
-takes_child None = ⊥
-takes_child (Some parent) = IsIndex parent.node.content × IsOpen parent.node
-
--- the page was reached by a later pointer of an index that can have it for its merging child
-abbrev pub MayMerge : Way → Type 0
-MayMerge way = (way.first ≡ false) × takes_child way.parent
-
-abbrev pub follows_few : Option View → ℕ → Next → Type 0
-follows_few None child next = next ≡ Go stage.Root
-follows_few (Some parent) child next = BeginsMerge parent child next
+abbrev pub MayMerge : View → Type 0
+MayMerge parent = IsIndex parent.node.content × IsOpen parent.node
 
 -- the right half of a page that is split gets its pointer in the index that the walk came through, or in a new root
 abbrev pub posting_of : Option View → Posting
@@ -97,17 +89,16 @@ posting_of (Some parent) = posting.Parent parent
 abbrev pub onward : View → Option ℕ → Option View → Next
 onward v None parent = Go stage.Root
 onward v (Some q) None = Go (stage.Hoist (record { left = v.pid; at = v.node.hi; right = q }))
-onward v (Some q) (Some parent) = Go (stage.Walk (record { cursor = q; parent = parent; first = true; unsplit = true }))
+onward v (Some q) (Some parent) = Go (stage.Walk (record { cursor = q; reached = reached.Next parent }))
 
 -- a page that was reached by `next` gets a pointer
-abbrev pub pointed : View → Option View → Next
-pointed v None = Go stage.Root
-pointed v (Some parent) = Go (stage.Post (record { parent = parent; at = v.node.lo; pid = v.pid }))
+abbrev pub pointed : View → View → Next
+pointed v parent = Go (stage.Post (record { parent = parent; at = v.node.lo; pid = v.pid }))
 
 -- the last pointer of an index at or below the key is followed
 abbrev pub down : View → Option (ℕ × Bool) → Next
 down v None = Go stage.Root
-down v (Some c) = Go (stage.Walk (record { cursor = c.0; parent = v; first = c.1; unsplit = false }))
+down v (Some c) = Go (stage.Walk (record { cursor = c.0; reached = by_pointer v c.1 }))
 
 pub record GoesDown (j : Job) (v : View) (next : Next) : Type 0 where
   pub found : Option (ℕ × Bool)
@@ -130,32 +121,35 @@ abbrev pub follows_content : Data → Job → View → Next → Type 0
 follows_content (Index es) j v next = GoesDown j v next
 follows_content (Leaf es) j v next = follows_leaf j v next
 
--- an open page of at most 16 entries that covers the key
-abbrev pub follows_here : Job → View → Way → Next → Type 0
-follows_here j v way next =
-    Where (way.unsplit ≡ true) (OrNoMemory next (pointed v way.parent))
-    (Where (MayMerge way × (count v.node.content ≤ 3)) (follows_few way.parent v.pid next)
-    (follows_content v.node.content j v next))
+-- An open page of at most 16 entries that covers the key. One that was reached by `next` gets its pointer. One of few entries that
+-- was reached by a later pointer of an index that can have it for its merging child merges
+abbrev pub follows_here : Job → View → Reached → Next → Type 0
+follows_here j v reached.Root next = follows_content v.node.content j v next
+follows_here j v (reached.FirstPointer parent) next = follows_content v.node.content j v next
+follows_here j v (reached.LaterPointer parent) next =
+    Where (MayMerge parent × (count v.node.content ≤ 3)) (BeginsMerge parent v.pid next)
+    (follows_content v.node.content j v next)
+follows_here j v (reached.Next parent) next = OrNoMemory next (pointed v parent)
 
 -- the node ends before the key
 abbrev pub EndsBefore : Node → Key → Type 0
 EndsBefore n key = (n.hi ≢ []) × UpTo n.hi key
 
 -- an open page
-abbrev pub follows_open : Job → View → Way → Next → Type 0
-follows_open j v way next =
-    Where (16 < count v.node.content) (next ≡ Go (stage.Split (record { page = v; posting = posting_of way.parent })))
-    (Where (EndsBefore v.node (key_of j.call)) (OrNoMemory next (onward v v.node.next way.parent))
-    (Where (Covers v.node (key_of j.call)) (follows_here j v way next)
+abbrev pub follows_open : Job → View → Reached → Next → Type 0
+follows_open j v by next =
+    Where (16 < count v.node.content) (next ≡ Go (stage.Split (record { page = v; posting = posting_of (parent_of by) })))
+    (Where (EndsBefore v.node (key_of j.call)) (OrNoMemory next (onward v v.node.next (parent_of by)))
+    (Where (Covers v.node (key_of j.call)) (follows_here j v by next)
     (next ≡ Go stage.Root)))
 
-abbrev pub follows_awake : Option ℕ → Job → View → Way → Next → Type 0
-follows_awake (Some child) j v way next = ResumesMerge v child next
-follows_awake None j v way next = follows_open j v way next
+abbrev pub follows_awake : Option ℕ → Job → View → Reached → Next → Type 0
+follows_awake (Some child) j v by next = ResumesMerge v child next
+follows_awake None j v by next = follows_open j v by next
 
 -- a page of a walk
-abbrev pub follows_read : Job → View → Way → Next → Type 0
-follows_read j v way next = Where (v.node.merging ≡ true) (next ≡ Go stage.Root) (follows_awake v.node.merging_child j v way next)
+abbrev pub follows_read : Job → View → Reached → Next → Type 0
+follows_read j v by next = Where (v.node.merging ≡ true) (next ≡ Go stage.Root) (follows_awake v.node.merging_child j v by next)
 
 -- the merging child: one that is capped already is looked for from the page before it on, and an open one is to be capped
 abbrev pub follows_child_awake : Option ℕ → Merge → View → Next → Type 0
@@ -202,10 +196,10 @@ pub record FollowsPage (s : Store) (pid : ℕ) (found : View → Next → Type 0
 
 abbrev pub follows_root : Job → Store → Option ℕ → Next → Type 0
 follows_root j s None next = next ≡ Go stage.Root
-follows_root j s (Some root) next = FollowsPage s root (λ v. follows_read j v (record { parent = None; first = true; unsplit = false })) next
+follows_root j s (Some root) next = FollowsPage s root (λ v. follows_read j v reached.Root) next
 
 abbrev pub follows_walk : Job → Store → Walk → Next → Type 0
-follows_walk j s a next = FollowsPage s a.cursor (λ v. follows_read j v (record { parent = Some a.parent; first = a.first; unsplit = a.unsplit })) next
+follows_walk j s a next = FollowsPage s a.cursor (λ v. follows_read j v a.reached) next
 
 -- A stage that acts
 

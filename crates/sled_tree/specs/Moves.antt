@@ -1,5 +1,6 @@
 -- What one page action of a call in flight does.
 use Rattle.std.specs.Prelude.{◌≡◌, ◌≢◌, ℕ, ◌+◌, ◌⊎◌, Bool, true, false, List, [], ◌++◌, Option, Some, None}
+use Rattle.std.specs.declared.ops.Bound.TheVariants.{Included}
 use Rattle.sled_pages.specs.In.{In}
 use Rattle.sled_pages.specs.State.{State, Action}
 use Rattle.sled_pages.specs.Store.{Store, acted, now}
@@ -9,21 +10,21 @@ use Rattle.sled_pages.specs.declared.error.Error.{Error}
 use Rattle.sled_pages.specs.declared.error.Error.TheVariants.{Io, NoMemory}
 use Rattle.sled_model.specs.Answer.{answer_of, key_of}
 use Rattle.sled_model.specs.declared.reply.Reply.{Reply}
-use Rattle.tree_laws.specs.Forest.{Tree, Forest, Place, IsSized, contents}
-use Rattle.tree_laws.specs.Moment.{Moment, moment_of, nodes_at, IsMoment, Goes, Grows, IsFew}
-use Rattle.tree_laws.specs.Stages.{IsHere}
+use Rattle.tree_laws.specs.Forest.{Tree, Forest, Place, contents}
+use Rattle.tree_laws.specs.Moment.{Moment, moment_of, nodes_at, IsMoment, Acts}
+use Rattle.tree_laws.specs.Stages.{IsHere, owned}
 use Rattle.sled_tree.specs.declared.flight.Job.{Job}
-use Rattle.sled_tree.specs.declared.flight.Stage.{Stage}
-use Rattle.sled_tree.specs.declared.flight.Stage.TheVariants as stage
-use Rattle.sled_tree.specs.declared.flight.Merge.{Merge}
-use Rattle.sled_tree.specs.declared.flight.Seek.{Seek}
-use Rattle.sled_tree.specs.declared.walk.Way.{Way}
+use Rattle.tree_laws.specs.declared.flight.Stage.{Stage}
+use Rattle.tree_laws.specs.declared.flight.Stage.TheVariants as stage
+use Rattle.tree_laws.specs.declared.flight.Merge.{Merge}
+use Rattle.tree_laws.specs.declared.flight.Seek.{Seek}
+use Rattle.tree_laws.specs.declared.flight.Reached.{Reached}
 use Rattle.sled_tree.specs.declared.flight.Next.{Next}
 use Rattle.sled_tree.specs.declared.flight.Next.TheVariants.{Go, Decided, Refused}
 use Rattle.sled_tree.specs.declared.flight.Flight.{Flight}
 use Rattle.sled_tree.specs.declared.flight.Went.{Went}
 use Rattle.sled_tree.specs.declared.flight.Went.TheVariants as went
-use Rattle.sled_tree.specs.Stages.{IsStage, owned}
+use Rattle.sled_tree.specs.Stages.{Knows}
 
 -- one changing action, and what it gave; nothing else of the store changes
 pub record ActsOnce (old new : Store) : Type 0 where
@@ -51,16 +52,6 @@ abbrev pub touches_as : Next → Store → Store → Type 0
 touches_as (Go stage) old new = ActsAtMostOnce old new
 touches_as (Decided reply) old new = ActsAtMostOnce old new
 touches_as (Refused e) old new = refuses_as e old new
-
--- An action of a call that owned the pages `mine` before it and `own` after it
-pub record Acts (mine own : List ℕ) (old : Moment) (w : Forest) (new : Moment) (v : Forest) : Type 0 where
-  pub is : IsMoment new v
-  pub goes : Goes (mine ++ own) None old w new v
-  -- what it came to own is new, or had a home until then
-  pub fresh : (q : ℕ) → In q own → In q mine ⊎ ((old.pids q ≡ false) ⊎ ((x : Place) × (w.home q ≡ Some x)))
-  -- no page gets too many entries
-  pub sized : IsSized (nodes_at old) w → IsSized (nodes_at new) v
-  pub grows : Grows (nodes_at old) (nodes_at new) w
 
 -- no tree's contents change
 pub record Same (old : Moment) (w : Forest) (new : Moment) (v : Forest) : Type 0 where
@@ -95,7 +86,7 @@ owned_next (Refused e) = []
 
 -- what comes of an action from the store a to the store b
 abbrev pub Comes : Job → Store → Store → Moment → Forest → Next → Moment → Forest → Type 0
-Comes j a b old w (Go stage) new v = IsStage new v j stage × Same old w new v
+Comes j a b old w (Go stage) new v = Knows new v j stage × Same old w new v
 Comes j a b old w (Decided reply) new v = Decides j reply a b old w new v
 Comes j a b old w (Refused e) new v = Same old w new v
 
@@ -104,7 +95,7 @@ Comes j a b old w (Refused e) new v = Same old w new v
 pub record Moves (j : Job) (old : Store) (stage : Stage) (next : Next) (new : Store) : Type 0 where
   pub touches : touches_as next old new
   pub told : (numbers : Tree → Option ℕ) (given : ℕ → Bool) (w : Forest)
-      → IsMoment (moment_of old numbers given) w → numbers j.tree.name ≡ Some j.tree.number → IsStage (moment_of old numbers given) w j stage
+      → IsMoment (moment_of old numbers given) w → numbers j.tree.name ≡ Some j.tree.number → Knows (moment_of old numbers given) w j stage
       → (v : Forest) × Acts (owned stage) (owned_next next) (moment_of old numbers given) w (moment_of new numbers given) v × Comes j old new (moment_of old numbers given) w next (moment_of new numbers given) v × leaves_as next (owned stage) (now old) (now new) v
 
 abbrev pub advances_as : Store → Flight → Went → Store → Flight → Type 0
@@ -117,19 +108,18 @@ pub record Advances (old : Store) (f : Flight) (went : Went) (new : Store) (g : 
   pub told : advances_as old f went new g
 
 -- a page that was just read, and how the walk came to it
-pub record IsRead (m : Moment) (w : Forest) (j : Job) (v : View) (way : Way) : Type 0 where
-  pub here : IsHere m w j.tree.name j.tree.number (key_of j.call) v way.parent way.first way.unsplit
-  pub room : (parent : View) → way.parent ≡ Some parent → IsFew parent
+abbrev pub IsRead : Moment → Forest → Job → View → Reached → Type 0
+IsRead m w j v by = IsHere m w j.tree.name j.tree.number (Included (key_of j.call)) v by
 
 -- what comes of a read, which changes nothing
 abbrev pub Reads : Job → Store → Moment → Forest → Next → Type 0
 Reads j s m w next = (owned_next next ≡ []) × Comes j s s m w next m w
 
 -- What comes after a page was read, of every store where it was read
-pub record Arrives (j : Job) (view : View) (way : Way) (next : Next) : Type 0 where
+pub record Arrives (j : Job) (view : View) (by : Reached) (next : Next) : Type 0 where
   pub touches : (s : Store) → touches_as next s s
   pub told : (s : Store) (numbers : Tree → Option ℕ) (given : ℕ → Bool) (w : Forest)
-      → IsMoment (moment_of s numbers given) w → numbers j.tree.name ≡ Some j.tree.number → IsRead (moment_of s numbers given) w j view way
+      → IsMoment (moment_of s numbers given) w → numbers j.tree.name ≡ Some j.tree.number → IsRead (moment_of s numbers given) w j view by
       → Reads j s (moment_of s numbers given) w next
 
 -- the page is live as it was read
@@ -140,12 +130,12 @@ IsLive m v = m.state.pages v.pid ≡ Some (record { version = v.version; node = 
 pub record ReadsChild (j : Job) (merge : Merge) (view : View) (next : Next) : Type 0 where
   pub touches : (s : Store) → touches_as next s s
   pub told : (s : Store) (numbers : Tree → Option ℕ) (given : ℕ → Bool) (w : Forest)
-      → IsMoment (moment_of s numbers given) w → numbers j.tree.name ≡ Some j.tree.number → view.pid ≡ merge.child → IsLive (moment_of s numbers given) view → IsStage (moment_of s numbers given) w j (stage.Child merge)
+      → IsMoment (moment_of s numbers given) w → numbers j.tree.name ≡ Some j.tree.number → view.pid ≡ merge.child → IsLive (moment_of s numbers given) view → Knows (moment_of s numbers given) w j (stage.Child merge)
       → Reads j s (moment_of s numbers given) w next
 
 -- what comes after the cursor of the search for the page before a merging child was read
 pub record Looks (j : Job) (seek : Seek) (view : View) (next : Next) : Type 0 where
   pub touches : (s : Store) → touches_as next s s
   pub told : (s : Store) (numbers : Tree → Option ℕ) (given : ℕ → Bool) (w : Forest)
-      → IsMoment (moment_of s numbers given) w → numbers j.tree.name ≡ Some j.tree.number → view.pid ≡ seek.cursor → IsLive (moment_of s numbers given) view → IsStage (moment_of s numbers given) w j (stage.Seek seek)
+      → IsMoment (moment_of s numbers given) w → numbers j.tree.name ≡ Some j.tree.number → view.pid ≡ seek.cursor → IsLive (moment_of s numbers given) view → Knows (moment_of s numbers given) w j (stage.Seek seek)
       → Reads j s (moment_of s numbers given) w next

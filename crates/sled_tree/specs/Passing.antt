@@ -1,6 +1,7 @@
 -- Calls in flight on clean paths: where no other call is in the way, a call goes on by a page a step.
-use Rattle.std.specs.Prelude.{◌≡◌, ◌≢◌, ℕ, suc, false, List, [], Some, length}
-use Rattle.sled_pages.specs.State.{State, nodes_of}
+use Rattle.std.specs.Prelude.{◌≡◌, ◌≢◌, ℕ, suc, true, false, List, [], Some, length}
+use Rattle.sled_pages.specs.Order.{Key}
+use Rattle.sled_pages.specs.State.{State, Nodes, nodes_of}
 use Rattle.sled_pages.specs.declared.page.View.{View}
 use Rattle.sled_model.specs.Answer.{key_of}
 use Rattle.sled_model.specs.declared.decision.Effect.TheVariants.{Nothing}
@@ -10,34 +11,31 @@ use Rattle.sled_tree.specs.declared.flight.Flight.{Flight}
 use Rattle.sled_tree.specs.declared.flight.Job.{Job}
 use Rattle.sled_tree.specs.declared.flight.Next.{Next}
 use Rattle.sled_tree.specs.declared.flight.Next.TheVariants.{Go, Decided, Refused}
-use Rattle.sled_tree.specs.declared.flight.Stage.{Stage}
-use Rattle.sled_tree.specs.declared.flight.Stage.TheVariants as stage
+use Rattle.tree_laws.specs.declared.flight.Stage.{Stage}
+use Rattle.tree_laws.specs.declared.flight.Stage.TheVariants as stage
 use Rattle.sled_tree.specs.declared.flight.Went.{Went}
 use Rattle.sled_tree.specs.declared.flight.Went.TheVariants as went
-use Rattle.sled_tree.specs.declared.walk.Way.{Way}
+use Rattle.tree_laws.specs.declared.flight.Reached.{Reached}
+use Rattle.tree_laws.specs.declared.flight.Reached.TheVariants as reached
 
 -- the page stands as it was read
 abbrev pub IsUnchanged : State → View → Type 0
 IsUnchanged s v = s.pages v.pid ≡ Some (record { version = v.version; node = v.node })
 
+-- the rest of a clean path is ahead of a walk at a page that it came to so: no clean path goes on by `next`
+abbrev pub IsAheadOf : Nodes → Key → ℕ → Reached → List ℕ → Type 0
+IsAheadOf nodes key p reached.Root path = CleanFrom nodes key p true path
+IsAheadOf nodes key p (reached.FirstPointer parent) path = CleanFrom nodes key p true path
+IsAheadOf nodes key p (reached.LaterPointer parent) path = CleanFrom nodes key p false path
+IsAheadOf nodes key p (reached.Next parent) path = ⊥
+
 -- What is ahead of a call of a clean path to its key: all of it as the call begins, then the rest from the cursor of its walk on,
 -- and no page more at its leaf, which it read, changes, and finds unchanged
 abbrev pub IsOnPath : State → Job → Stage → List ℕ → Type 0
 IsOnPath s j stage.Root path = IsClean s j.tree.name (key_of j.call) path
-IsOnPath s j (stage.Walk a) path = (a.unsplit ≡ false) × CleanFrom (nodes_of s) (key_of j.call) a.cursor a.first path
+IsOnPath s j (stage.Walk a) path = IsAheadOf (nodes_of s) (key_of j.call) a.cursor a.reached path
 IsOnPath s j (stage.Act v) path = (path ≡ []) × IsUnchanged s v × ((decision_at j.call v.node.content).effect ≢ Nothing)
-IsOnPath s j (stage.Split a) path = ⊥
-IsOnPath s j (stage.Shorten a) path = ⊥
-IsOnPath s j (stage.Post a) path = ⊥
-IsOnPath s j (stage.Hoist a) path = ⊥
-IsOnPath s j (stage.Crown a) path = ⊥
-IsOnPath s j (stage.Free a) path = ⊥
-IsOnPath s j (stage.Intend a) path = ⊥
-IsOnPath s j (stage.Child a) path = ⊥
-IsOnPath s j (stage.Cap a) path = ⊥
-IsOnPath s j (stage.Seek a) path = ⊥
-IsOnPath s j (stage.Receive a) path = ⊥
-IsOnPath s j (stage.Confirm a) path = ⊥
+IsOnPath s j other path = ⊥
 
 -- a path with one page less is ahead of the call
 abbrev pub IsFurther : State → Job → Stage → List ℕ → Type 0
@@ -54,8 +52,8 @@ pub record Passes (j : Job) (old : State) (stage : Stage) (next : Next) (new : S
   pub told : (path : List ℕ) → IsOnPath old j stage path → passes_as new j next path
 
 -- what comes after a page of a clean path was read
-pub record PassesOn (j : Job) (view : View) (way : Way) (next : Next) : Type 0 where
-  pub told : (s : State) (path : List ℕ) → way.unsplit ≡ false → IsUnchanged s view → CleanFrom (nodes_of s) (key_of j.call) view.pid way.first path → passes_as s j next path
+pub record PassesOn (j : Job) (view : View) (by : Reached) (next : Next) : Type 0 where
+  pub told : (s : State) (path : List ℕ) → IsUnchanged s view → IsAheadOf (nodes_of s) (key_of j.call) view.pid by path → passes_as s j next path
 
 abbrev pub goes_further_as : State → Flight → Went → State → Flight → Type 0
 goes_further_as old f went.Moved new g = (path : List ℕ) → IsOnPath old f.job f.stage path → IsFurther new g.job g.stage path

@@ -7,9 +7,10 @@ ghost use Rattle.sled_tree.specs.Follows.{OrRefused, follows_act};
 ghost use Rattle.sled_tree.specs.Passing.{Passes};
 ghost use Rattle.sled_tree.specs.Change.{IsChangeOf, link_of};
 
-use crate::flight::{Job, Next, Stage};
+use crate::flight::{Job, Next};
 use sled_model::{Decision, Effect, Reply};
 use sled_pages::{IVec, Link, Node, Pages, Result, View};
+use tree_laws::flight::Stage;
 
 // A link, and the reply of the call that makes it.
 #[derive(Drop)]

@@ -1,19 +1,23 @@
 //! The way down. Most steps are on it, at pages where nothing is to be repaired, so these are made in place: a stage is neither
 //! moved nor made anew.
 ghost use Rattle.std.specs.Prelude.{◌≡◌, ◌<◌, false, IfSome, IsTrue, IfOk, IfErr};
+ghost use Rattle.sled_pages.specs.Node.{count};
+ghost use Rattle.sled_pages.specs.Posting.{IsOpen};
 ghost use Rattle.sled_pages.specs.Store.{Store};
+ghost use Rattle.tree_laws.specs.Stages.{by_pointer as reached_by};
 ghost use Rattle.sled_pages.specs.declared.error.Error.TheVariants.{NoMemory};
 ghost use Rattle.sled_tree.specs.Change.{IsLeaf, IsIndex};
-ghost use Rattle.sled_tree.specs.Descent.{way_of, IsClean, Meets, Leads, met_as, IsReplyAt, Descends, Settles};
-ghost use Rattle.sled_tree.specs.declared.flight.Stage.{Stage};
-ghost use Rattle.sled_tree.specs.declared.flight.Stage.TheVariants as variant;
+ghost use Rattle.sled_tree.specs.Descent.{way_of, IsPlain, IsClean, Meets, Leads, met_as, IsReplyAt, Descends, Settles};
+ghost use Rattle.tree_laws.specs.declared.flight.Stage.{Stage};
+ghost use Rattle.tree_laws.specs.declared.flight.Stage.TheVariants as variant;
 
-use crate::flight::{Flight, Job, Next, Stage, Walk, Went};
-use crate::walk::{Way, arrive, covers};
+use crate::flight::{Flight, Job, Next, Went};
+use crate::walk::{arrive, by_pointer, covers};
 use sled_model::{Decision, Effect, MAX_LOOPS, Reply};
 use sled_pages::{Data, Node, Pages, Pid, Result, View};
 use std::alloc::Global;
 use std::ops::Bound;
+use tree_laws::flight::{Reached, Stage, Walk};
 
 // How far a step down came.
 #[derive(Drop)]
@@ -49,34 +53,31 @@ fn meet<P: Pages>(
     }
 }
 
-// Whether the page of a stage is reached by a first pointer, and whether by the page beside it.
-fn reached(stage: &Stage) -> (bool, bool)
-    ensures { result ≡ ((way_of stage.now).first, (way_of stage.now).unsplit) }
-{
-    match stage {
-        Stage::Walk(walk) => (walk.first, walk.unsplit),
-        _ => (true, false),
-    }
-}
-
 // How a stage comes to its page. The stage is taken.
-fn take_way(stage: &mut Stage) -> Way
+fn take_way(stage: &mut Stage) -> Reached
     ensures { result ≡ way_of stage.old }
 {
     match std::mem::replace(stage, Stage::Root) {
-        Stage::Walk(walk) => Way {
-            parent: Some(walk.parent),
-            first: walk.first,
-            unsplit: walk.unsplit,
-        },
+        Stage::Walk(walk) => walk.reached,
         other => {
             drop(other);
-            Way {
-                parent: None,
-                first: true,
-                unsplit: false,
-            }
+            Reached::Root
         }
+    }
+}
+
+// Whether an open page has its pointer where a stage comes to it, and more than 3 entries where it might merge.
+fn is_plain(stage: &Stage, node: &Node) -> bool
+    ensures { IsTrue result → IsOpen node.now → IsPlain (way_of stage.now) (count node.now.content) }
+{
+    let Stage::Walk(walk) = stage else {
+        return true;
+    };
+    match &walk.reached {
+        Reached::Root => true,
+        Reached::FirstPointer(_) => true,
+        Reached::LaterPointer(_) => !node.should_merge(),
+        Reached::Next(_) => false,
     }
 }
 
@@ -84,13 +85,11 @@ fn take_way(stage: &mut Stage) -> Way
 fn is_clean(job: &Job, stage: &Stage, view: &View) -> bool
     ensures { IsTrue result → IsClean job.now (way_of stage.now) view.now }
 {
-    let (first, unsplit) = reached(stage);
     let node: &Node = &view.node;
     !node.merging
         && node.merging_child.is_none()
-        && !unsplit
         && !node.should_split()
-        && (first || !node.should_merge())
+        && is_plain(stage, node)
         && covers(node, job.call.key().as_ref())
 }
 
@@ -123,25 +122,16 @@ fn set(stage: &mut Stage, new: Stage)
 
 // The walk goes on below an index. One that is under way is changed in place.
 fn walk_on(stage: &mut Stage, cursor: Pid, parent: View, first: bool)
-    ensures { stage.new ≡ variant.Walk (record { cursor = cursor; parent = parent; first = first; unsplit = false }) }
+    ensures { stage.new ≡ variant.Walk (record { cursor = cursor; reached = reached_by parent first }) }
 {
+    let reached = by_pointer(parent, first);
     match stage {
         Stage::Walk(walk) => {
             walk.cursor = cursor;
-            walk.first = first;
-            walk.unsplit = false;
-            let old = std::mem::replace(&mut walk.parent, parent);
+            let old = std::mem::replace(&mut walk.reached, reached);
             drop(old);
         }
-        _ => set(
-            stage,
-            Stage::Walk(Walk {
-                cursor,
-                parent,
-                first,
-                unsplit: false,
-            }),
-        ),
+        _ => set(stage, Stage::Walk(Walk { cursor, reached })),
     }
 }
 

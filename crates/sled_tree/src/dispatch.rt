@@ -8,7 +8,7 @@ ghost use Rattle.sled_tree.specs.Stages.{IsOfMerge};
 
 use crate::act::act;
 use crate::descent::{Descent, at_leaf, descend, settle};
-use crate::flight::{Flight, Job, Next, Stage, Went};
+use crate::flight::{Flight, Job, Next, Went};
 use crate::hoist::{crown, hoist};
 use crate::merge::{cap, confirm, intend, read_child, receive, seek};
 use crate::split::{free, halve, post, shorten};
@@ -16,6 +16,7 @@ use crate::walk::{read_cursor, read_root};
 use sled_model::MAX_LOOPS;
 use sled_pages::Pages;
 use std::alloc::Global;
+use tree_laws::flight::Stage;
 
 // Does the action of a stage: at most one page action.
 fn step<P: Pages>(pages: &mut P, alloc: Global, job: &Job, stage: Stage) -> Next

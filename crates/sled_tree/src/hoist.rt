@@ -5,9 +5,10 @@ ghost use Rattle.tree_laws.specs.Stages.{IsOver};
 ghost use Rattle.sled_tree.specs.Moves.{Moves};
 ghost use Rattle.sled_tree.specs.Follows.{OrRefused, Hoists, Crowns};
 
-use crate::flight::{Crown, Hoist, Job, Next, Own, Stage};
+use crate::flight::{Job, Next};
 use sled_pages::{Data, IVec, Index, Node, Pages, Pid, Result, law_given};
 use std::alloc::Global;
+use tree_laws::flight::{Crown, Hoist, Own, Stage};
 
 // Two pointers: to the root now, and to the page beside it.
 fn pointers_to(alloc: Global, left: Pid, at: &IVec, right: Pid) -> Result<Index>

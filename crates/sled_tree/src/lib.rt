@@ -10,15 +10,15 @@ mod act;
 mod descent;
 mod dispatch;
 mod flight;
-mod half;
 mod hoist;
 mod merge;
 mod split;
 mod walk;
 
 pub use dispatch::advance;
-pub use flight::{
-    Cap, Confirm, Crown, Flight, Hoist, Job, Merge, Next, Own, Post, Posting, Receive, Seek,
-    Shorten, Split, Stage, Walk, Went,
+pub use flight::{Flight, Job, Next, Went};
+pub use tree_laws::flight::{
+    Cap, Confirm, Crown, Hoist, Merge, Own, Post, Posting, Reached, Receive, Seek, Shorten, Split,
+    Stage, Walk,
 };
-pub use half::Half;
+pub use tree_laws::half::Half;

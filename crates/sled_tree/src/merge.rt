@@ -10,11 +10,12 @@ ghost use Rattle.sled_tree.specs.Moves.{Moves};
 ghost use Rattle.sled_tree.specs.Follows.{ResumesMerge, BeginsMerge, follows_child, follows_cursor, follows_search, follows_met, FollowsPage, OrRefused, follows_intend, follows_cap, follows_receive, follows_confirm};
 ghost use Rattle.sled_tree.specs.Moves.{ReadsChild, Looks};
 ghost use Rattle.sled_tree.specs.declared.flight.Next.TheVariants.{Go};
-ghost use Rattle.sled_tree.specs.declared.flight.Stage.TheVariants as stage;
+ghost use Rattle.tree_laws.specs.declared.flight.Stage.TheVariants as stage;
 
-use crate::flight::{Cap, Confirm, Job, Merge, Next, Own, Posting, Receive, Seek, Split, Stage};
+use crate::flight::{Job, Next};
 use sled_pages::{Link, Node, Pages, Pid, Result, Shared, View};
 use std::alloc::Global;
+use tree_laws::flight::{Cap, Confirm, Merge, Own, Posting, Receive, Seek, Split, Stage};
 
 // A page merges into the one before it.
 pub(crate) fn begin(parent: View, child: Pid) -> Next

@@ -4,10 +4,11 @@
 ghost use Rattle.sled_tree.specs.Moves.{Moves};
 ghost use Rattle.sled_tree.specs.Follows.{OrRefused, follows_split, follows_shorten, follows_post, FreesOwn};
 
-use crate::flight::{Hoist, Job, Next, Own, Post, Posting, Shorten, Split, Stage};
-use crate::half::Half;
+use crate::flight::{Job, Next};
 use sled_pages::{Pages, law_given};
 use std::alloc::Global;
+use tree_laws::flight::{Hoist, Own, Post, Posting, Shorten, Split, Stage};
+use tree_laws::half::Half;
 
 // Makes the right half.
 pub(crate) fn halve<P: Pages>(pages: &mut P, alloc: Global, job: &Job, split: Split) -> Next

@@ -8,29 +8,45 @@ ghost use Rattle.sled_pages.specs.Order.{UpTo};
 ghost use Rattle.sled_pages.specs.Store.{now};
 ghost use Rattle.sled_pages.specs.Node.{Covers, count};
 ghost use Rattle.sled_model.specs.Answer.{key_of};
+ghost use Rattle.tree_laws.specs.Stages.{parent_of, by_pointer as reached_by};
+ghost use Rattle.tree_laws.specs.declared.flight.Reached.{Reached};
+ghost use Rattle.tree_laws.specs.declared.flight.Reached.TheVariants as way;
+ghost use Rattle.tree_laws.specs.declared.flight.Stage.TheVariants as stage;
 ghost use Rattle.sled_tree.specs.Change.{IsLeaf, IsIndex};
 ghost use Rattle.sled_tree.specs.Moves.{Moves, Arrives};
-ghost use Rattle.sled_tree.specs.Follows.{follows_root, follows_walk, follows_read, follows_here, follows_few, follows_leaf, posting_of, onward, pointed, OrNoMemory, MayMerge, GoesDown};
-ghost use Rattle.sled_tree.specs.declared.flight.Next.TheVariants.{Go};
-ghost use Rattle.sled_tree.specs.declared.flight.Stage.TheVariants as stage;
+ghost use Rattle.sled_tree.specs.Follows.{follows_root, follows_walk, follows_read, follows_here, follows_content, follows_leaf, posting_of, onward, pointed, OrNoMemory, BeginsMerge, GoesDown};
 ghost use Rattle.sled_tree.specs.Passing.{Passes, PassesOn};
+ghost use Rattle.sled_tree.specs.declared.flight.Next.TheVariants.{Go};
 
-use crate::flight::{Hoist, Job, Next, Post, Posting, Split, Stage, Walk};
+use crate::flight::{Job, Next};
 use crate::merge::{begin, help};
 use sled_model::{Decision, Effect};
 use sled_pages::{Data, Node, Pages, View};
 use std::alloc::Global;
 use std::ops::Bound;
+use tree_laws::flight::{Hoist, Post, Posting, Reached, Split, Stage, Walk};
 
-// How a walk came to a page.
-#[derive(Drop)]
-pub(crate) struct Way {
-    // the index that it came through; none for the root
-    pub(crate) parent: Option<View>,
-    // by the parent's first pointer
-    pub(crate) first: bool,
-    // by the `next` of a page of the same level
-    pub(crate) unsplit: bool,
+// How a walk comes to where a pointer of an index leads, the first or a later one.
+pub(crate) fn by_pointer(parent: View, first: bool) -> Reached
+    ensures { result ≡ reached_by parent first }
+{
+    if first {
+        Reached::FirstPointer(parent)
+    } else {
+        Reached::LaterPointer(parent)
+    }
+}
+
+// The index that a page was reached through, if it is not the root.
+fn into_parent(reached: Reached) -> Option<View>
+    ensures { result ≡ parent_of reached }
+{
+    match reached {
+        Reached::Root => None,
+        Reached::FirstPointer(parent) => Some(parent),
+        Reached::LaterPointer(parent) => Some(parent),
+        Reached::Next(parent) => Some(parent),
+    }
 }
 
 // Whether the key lies within the node's bounds.
@@ -61,15 +77,7 @@ pub(crate) fn read_root<P: Pages>(pages: &P, alloc: Global, job: &Job) -> Next
     match pages.read(alloc, root) {
         Err(e) => Next::Refused(e),
         Ok(None) => Next::Go(Stage::Root),
-        Ok(Some(view)) => arrive(
-            job,
-            view,
-            Way {
-                parent: None,
-                first: true,
-                unsplit: false,
-            },
-        ),
+        Ok(Some(view)) => arrive(job, view, Reached::Root),
     }
 }
 
@@ -88,57 +96,48 @@ pub(crate) fn read_cursor<P: Pages>(pages: &P, alloc: Global, job: &Job, walk: W
             drop(walk);
             Next::Go(Stage::Root)
         }
-        Ok(Some(view)) => arrive(
-            job,
-            view,
-            Way {
-                parent: Some(walk.parent),
-                first: walk.first,
-                unsplit: walk.unsplit,
-            },
-        ),
+        Ok(Some(view)) => arrive(job, view, walk.reached),
     }
 }
 
 // What comes after a page was read.
-pub(crate) fn arrive(job: &Job, view: View, way: Way) -> Next
-    ensures arrives { Arrives job.now view way result }
-    ensures passes { PassesOn job.now view way result }
-    ensures follows { follows_read job.now view way result }
+pub(crate) fn arrive(job: &Job, view: View, reached: Reached) -> Next
+    ensures arrives { Arrives job.now view reached result }
+    ensures passes { PassesOn job.now view reached result }
+    ensures follows { follows_read job.now view reached result }
 {
     let node: &Node = &view.node;
     if node.merging {
         drop(view);
-        drop(way);
+        drop(reached);
         return Next::Go(Stage::Root);
     }
     if let Some(child) = node.merging_child {
-        drop(way);
+        drop(reached);
         return help(view, child);
     }
     if node.should_split() {
-        return split(job, view, way);
+        return split(job, view, reached);
     }
     if ends_before(node, job.call.key().as_ref()) {
-        return go_on(job, view, way);
+        return go_on(job, view, reached);
     }
     if !covers(node, job.call.key().as_ref()) {
         drop(view);
-        drop(way);
+        drop(reached);
         return Next::Go(Stage::Root);
     }
-    at_key(job, view, way)
+    at_key(job, view, reached)
 }
 
 // A page that is too long.
-fn split(job: &Job, view: View, way: Way) -> Next
+fn split(job: &Job, view: View, reached: Reached) -> Next
     requires awake { view.node.merging ≡ false }
     requires free { view.node.merging_child ≡ None }
-    ensures arrives { Arrives job.now view way result }
-    ensures follows { result ≡ Go (stage.Split (record { page = view; posting = posting_of way.parent })) }
+    ensures arrives { Arrives job.now view reached result }
+    ensures follows { result ≡ Go (stage.Split (record { page = view; posting = posting_of (parent_of reached) })) }
 {
-    let Way { parent, .. } = way;
-    match parent {
+    match into_parent(reached) {
         Some(parent) => Next::Go(Stage::Split(Split {
             page: view,
             posting: Posting::Parent(parent),
@@ -151,22 +150,21 @@ fn split(job: &Job, view: View, way: Way) -> Next
 }
 
 // The key lies behind the page: a root is hoisted, and below a parent the walk goes on to the next page.
-fn go_on(job: &Job, view: View, way: Way) -> Next
+fn go_on(job: &Job, view: View, reached: Reached) -> Next
     requires awake { view.node.merging ≡ false }
     requires free { view.node.merging_child ≡ None }
     requires bounded { view.node.hi ≢ [] }
     requires behind { UpTo view.node.hi (key_of job.now.call) }
-    ensures arrives { Arrives job.now view way result }
-    ensures follows { OrNoMemory result (onward view view.node.next way.parent) }
+    ensures arrives { Arrives job.now view reached result }
+    ensures follows { OrNoMemory result (onward view view.node.next (parent_of reached)) }
 {
     let pid = view.pid;
-    let Way { parent, .. } = way;
     let Some(next) = view.node.next else {
         drop(view);
-        drop(parent);
+        drop(reached);
         return Next::Go(Stage::Root);
     };
-    match parent {
+    match into_parent(reached) {
         None => {
             let at = view.node.hi.clone();
             drop(view);
@@ -183,105 +181,110 @@ fn go_on(job: &Job, view: View, way: Way) -> Next
             drop(view);
             Next::Go(Stage::Walk(Walk {
                 cursor: next,
-                parent,
-                first: true,
-                unsplit: true,
+                reached: Reached::Next(parent),
             }))
         }
     }
 }
 
-// Whether a page that was reached so may merge: by a later pointer, and its parent can have it for its merging child.
-fn may_merge(way: &Way) -> bool
-    ensures { IsTrue result ↔ MayMerge way.now }
-{
-    if way.first {
-        return false;
-    }
-    match &way.parent {
-        None => false,
-        Some(parent) => parent.node.can_merge_child(),
-    }
-}
-
 // A page that covers the key.
-fn at_key(job: &Job, view: View, way: Way) -> Next
+fn at_key(job: &Job, view: View, reached: Reached) -> Next
     requires awake { view.node.merging ≡ false }
     requires free { view.node.merging_child ≡ None }
     requires covers { Covers view.node (key_of job.now.call) }
     requires few { count view.node.content ≤ 16 }
-    ensures arrives { Arrives job.now view way result }
-    ensures passes { PassesOn job.now view way result }
-    ensures follows { follows_here job.now view way result }
+    ensures arrives { Arrives job.now view reached result }
+    ensures passes { PassesOn job.now view reached result }
+    ensures follows { follows_here job.now view reached result }
 {
-    if way.unsplit {
-        return post(job, view, way);
-    }
-    if may_merge(&way) && view.node.should_merge() {
-        return merge(job, view, way);
-    }
-    match &view.node.content {
-        Data::Index(_) => go_down(job, view, way),
-        Data::Leaf(_) => at_leaf(job, view, way),
+    match reached {
+        Reached::Next(parent) => post(job, view, parent),
+        Reached::LaterPointer(parent) => at_later(job, view, parent),
+        Reached::FirstPointer(parent) => {
+            drop(parent);
+            at_content(job, view)
+        }
+        Reached::Root => at_content(job, view),
     }
 }
 
 // A page that was reached by `next`: its pointer is posted.
-fn post(job: &Job, view: View, way: Way) -> Next
+fn post(job: &Job, view: View, parent: View) -> Next
     requires awake { view.node.merging ≡ false }
     requires free { view.node.merging_child ≡ None }
-    requires unsplit { way.unsplit ≡ true }
-    ensures arrives { Arrives job.now view way result }
-    ensures follows { OrNoMemory result (pointed view way.parent) }
+    ensures arrives { Arrives job.now view (way.Next parent) result }
+    ensures follows { OrNoMemory result (pointed view parent) }
 {
     let pid = view.pid;
     let at = view.node.lo.clone();
     drop(view);
-    let Way { parent, .. } = way;
-    match (parent, at) {
-        (Some(parent), Ok(at)) => Next::Go(Stage::Post(Post { parent, at, pid })),
-        (parent, Err(e)) => {
+    match at {
+        Ok(at) => Next::Go(Stage::Post(Post { parent, at, pid })),
+        Err(e) => {
             drop(parent);
             Next::Refused(e)
-        }
-        (None, Ok(at)) => {
-            drop(at);
-            Next::Go(Stage::Root)
         }
     }
 }
 
-// A page of few entries that was reached by a later pointer: it merges into the page before it.
-fn merge(job: &Job, view: View, way: Way) -> Next
+// A page that was reached by a later pointer. One of few entries merges into the page before it, where the parent can have it
+// for its merging child.
+fn at_later(job: &Job, view: View, parent: View) -> Next
+    requires awake { view.node.merging ≡ false }
+    requires free { view.node.merging_child ≡ None }
+    requires covers { Covers view.node (key_of job.now.call) }
+    requires few { count view.node.content ≤ 16 }
+    ensures arrives { Arrives job.now view (way.LaterPointer parent) result }
+    ensures passes { PassesOn job.now view (way.LaterPointer parent) result }
+    ensures follows { follows_here job.now view (way.LaterPointer parent) result }
+{
+    if parent.node.can_merge_child() && view.node.should_merge() {
+        return merge(job, view, parent);
+    }
+    drop(parent);
+    at_content(job, view)
+}
+
+// A page of few entries merges into the one before it.
+fn merge(job: &Job, view: View, parent: View) -> Next
     requires awake { view.node.merging ≡ false }
     requires free { view.node.merging_child ≡ None }
     requires few { count view.node.content ≤ 3 }
-    requires may { MayMerge way }
-    requires pointed { way.unsplit ≡ false }
-    ensures arrives { Arrives job.now view way result }
-    ensures follows { follows_few way.parent view.pid result }
+    ensures arrives { Arrives job.now view (way.LaterPointer parent) result }
+    ensures follows { BeginsMerge parent view.pid result }
 {
     let pid = view.pid;
     drop(view);
-    let Way { parent, .. } = way;
-    match parent {
-        None => Next::Go(Stage::Root),
-        Some(parent) => begin(parent, pid),
+    begin(parent, pid)
+}
+
+// A page where nothing is to be repaired.
+fn at_content(job: &Job, view: View) -> Next
+    requires awake { view.node.merging ≡ false }
+    requires free { view.node.merging_child ≡ None }
+    requires covers { Covers view.node (key_of job.now.call) }
+    requires few { count view.node.content ≤ 16 }
+    ensures arrives { (by : Reached) → Arrives job.now view by result }
+    ensures passes { (by : Reached) → PassesOn job.now view by result }
+    ensures follows { follows_content view.node.content job.now view result }
+{
+    match &view.node.content {
+        Data::Index(_) => go_down(job, view),
+        Data::Leaf(_) => at_leaf(job, view),
     }
 }
 
 // An index that covers the key.
-fn go_down(job: &Job, view: View, way: Way) -> Next
+fn go_down(job: &Job, view: View) -> Next
     requires awake { view.node.merging ≡ false }
     requires free { view.node.merging_child ≡ None }
     requires covers { Covers view.node (key_of job.now.call) }
     requires few { count view.node.content ≤ 16 }
     requires index { IsIndex view.node.content }
-    ensures arrives { Arrives job.now view way result }
-    ensures passes { PassesOn job.now view way result }
+    ensures arrives { (by : Reached) → Arrives job.now view by result }
+    ensures passes { (by : Reached) → PassesOn job.now view by result }
     ensures follows { GoesDown job.now view result }
 {
-    drop(way);
     match view.node.pointer(Bound::Included(job.call.key().as_ref())) {
         None => {
             drop(view);
@@ -289,25 +292,22 @@ fn go_down(job: &Job, view: View, way: Way) -> Next
         }
         Some((cursor, first)) => Next::Go(Stage::Walk(Walk {
             cursor,
-            parent: view,
-            first,
-            unsplit: false,
+            reached: by_pointer(view, first),
         })),
     }
 }
 
 // The leaf of the key. A call that changes nothing is decided.
-fn at_leaf(job: &Job, view: View, way: Way) -> Next
+fn at_leaf(job: &Job, view: View) -> Next
     requires awake { view.node.merging ≡ false }
     requires free { view.node.merging_child ≡ None }
     requires covers { Covers view.node (key_of job.now.call) }
     requires few { count view.node.content ≤ 16 }
     requires leaf { IsLeaf view.node.content }
-    ensures arrives { Arrives job.now view way result }
-    ensures passes { PassesOn job.now view way result }
+    ensures arrives { (by : Reached) → Arrives job.now view by result }
+    ensures passes { (by : Reached) → PassesOn job.now view by result }
     ensures follows { follows_leaf job.now view result }
 {
-    drop(way);
     let value = match view.node.get(job.call.key().as_ref()) {
         Err(e) => {
             drop(view);

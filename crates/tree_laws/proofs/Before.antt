@@ -17,9 +17,7 @@ use Rattle.tree_laws.proofs.Cover.{holds_at, later_in, later_above}
 use Rattle.tree_laws.proofs.Known.{sound_at}
 use Rattle.tree_laws.proofs.Looking.{pointer_in}
 use Rattle.tree_laws.proofs.Halving.{before_child}
-
-none_some : {P A : Type 0} {a : A} → None ≡ Some a → P
-none_some e = cc
+use Rattle.tree_laws.proofs.Basics.{none_some}
 
 same_child : (c d : ℕ) → nat_eq d c ≡ true → d ≡ c
 same_child c d e = grind (arith, nat_tests)

@@ -1,9 +1,7 @@
 -- A store with no page and no tree.
 use Rattle.std.proofs.Common.{◌≡◌, Some, None, refl, inl}
 use Rattle.tree_laws.specs.Laws.{EmptyLaw}
-
-none_some : {P : Type 0} {A : Type 0} {a : A} → None ≡ Some a → P
-none_some e = cc
+use Rattle.tree_laws.proofs.Basics.{none_some}
 
 pub empty_law : EmptyLaw
 empty_law = (

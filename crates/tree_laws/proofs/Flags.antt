@@ -23,9 +23,7 @@ use Rattle.tree_laws.proofs.Replace.{same_number, some_is, false_true}
 use Rattle.tree_laws.proofs.Split.{pointer_like}
 use Rattle.tree_laws.proofs.Cover.{holds_at, later_in, later_above}
 use Rattle.tree_laws.proofs.Reflag.{Reflags, after, reflagged_kept, reflagged_keeps, reflagged_contents, reflagged_sized, reflagged_grows}
-
-none_some : {P : Type 0} {A : Type 0} {a : A} → None ≡ Some a → P
-none_some e = cc
+use Rattle.tree_laws.proofs.Basics.{none_some}
 
 sound_at : {nodes : Nodes} {roots : Tree → Option ℕ} {w : Forest} (f : WellFormed nodes roots w) (x : Place) (p : ℕ) (n : Node) → In p (w.chain x) → nodes p ≡ Some n → IsNodeAt x.height n
 sound_at f x p n i live = let h = f.page x p (f.homed x p i) in subst (λ (z : Node). IsNodeAt x.height z) (some_is h.0 n (sym h.1.live ∙ live)) h.1.sound

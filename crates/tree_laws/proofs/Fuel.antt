@@ -19,6 +19,7 @@ use Rattle.tree_laws.proofs.Order.{below_irrefl}
 use Rattle.tree_laws.proofs.Replace.{some_is, pairs_of, behind_first, head_in}
 use Rattle.tree_laws.proofs.Cover.{chain_run}
 use Rattle.tree_laws.proofs.Reading.{child_of}
+use Rattle.tree_laws.proofs.Basics.{none_some}
 
 pub page_numbers_is : page_numbers ≡ 2 ^ 64
 unfolding page_numbers
@@ -80,9 +81,6 @@ along_run (suc n) nodes (p ∷ ps) from lo hi l r =
 leaf_first : (lo hi : Key) (c : Data) → Holds 0 lo hi c → first_child (pointers c) ≡ None
 leaf_first lo hi (Leaf es) h = refl
 leaf_first lo hi (Index es) h = absurd h
-
-none_some : {P A : Type 0} {a : A} → None ≡ Some a → P
-none_some e = cc
 
 module _ {nodes : Nodes} {roots : Tree → Option ℕ} {w : Forest} (f : WellFormed nodes roots w) where
   -- the first page of a level

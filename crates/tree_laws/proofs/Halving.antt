@@ -17,15 +17,13 @@ use Rattle.sled_pages.specs.declared.node.Data.{Data}
 use Rattle.sled_pages.specs.declared.node.Data.TheVariants.{Leaf, Index}
 use Rattle.tree_laws.specs.Forest.{Holds, IsNodeAt, first_key}
 use Rattle.tree_laws.specs.Action.{Halves, IsSplit}
-use Rattle.tree_laws.specs.Stages.{IsHalved, IsJoined}
+use Rattle.tree_laws.specs.StageLaws.{IsHalved, IsJoined}
 use Rattle.tree_laws.specs.Moment.{IsOpen}
 use Rattle.tree_laws.proofs.Order.{upto-refl, upto-below, upto-trans, below-trans, upto_below-trans}
 use Rattle.tree_laws.proofs.Pairs.{each_weaker, each_append, under}
 use Rattle.tree_laws.proofs.Reading.{sorted-append}
 use Rattle.tree_laws.proofs.Runs.{In-right, In-left}
-
-none_some : {P A : Type 0} {a : A} → None ≡ Some a → P
-none_some e = cc
+use Rattle.tree_laws.proofs.Basics.{none_some}
 
 fst : (a b : Bool) → T (a && b) → T a
 fst true b p = tt

@@ -1,6 +1,8 @@
 -- What a call knows of a page that it read, and what follows while the page has its version.
 use Rattle.std.proofs.Common.{◌≡◌, ℕ, zero, suc, ◌+◌, ◌≤◌, Bool, true, false, List, [], ◌∷◌, length, Option, Some, None, MatchOption, option_map, sym, refl, ap, ◌∙◌, subst, inl, inr, ◌⊎◌, arith, Less, Equal, Greater}
 use Rattle.std.specs.FinMap.Entries.{find, put, by_order}
+use Rattle.std.specs.declared.ops.Bound.{Bound}
+use Rattle.std.specs.declared.ops.Bound.TheVariants.{Included}
 use Rattle.sled_pages.specs.In.{In}
 use Rattle.sled_pages.specs.Order.{Key, key_cmp}
 use Rattle.sled_pages.specs.Node.{pairs, count, Covers, with_pair, value_at, without, applied}
@@ -13,9 +15,10 @@ use Rattle.sled_pages.specs.declared.node.Data.{Data}
 use Rattle.sled_pages.specs.declared.node.Data.TheVariants.{Leaf, Index}
 use Rattle.sled_pages.specs.declared.page.Page.{Page}
 use Rattle.tree_laws.specs.Forest.{Tree, Forest, Place, place, head, Holds, IsNodeAt, Run, WellFormed, IsSized, contents}
-use Rattle.tree_laws.specs.Moment.{Moment, moment_of, nodes_at, IsMoment, Goes, Viewed, Stood, Look, IsOpen, IsFresh, IsFew, Seen, IsActing, Grows}
+use Rattle.tree_laws.specs.Moment.{Moment, moment_of, nodes_at, IsMoment, Goes, Viewed, Stood, Look, IsOpen, IsFresh, IsFew, Seen, LiesUnder, IsActing, Grows}
 use Rattle.tree_laws.specs.Action.{put_node}
 use Rattle.tree_laws.specs.Laws.{WriteLaw, EraseLaw, AnswerLaw, ActingLaw, IsAt, IsCurrent, Changed, Written, Steps, replaced, allocated, freed, planted, hoisted, dropped}
+use Rattle.tree_laws.proofs.Order.{under_covers}
 use Rattle.tree_laws.proofs.Replace.{some_is, head_in}
 use Rattle.tree_laws.proofs.Cover.{holds_at}
 use Rattle.tree_laws.proofs.Stable.{view_law, stood_law, now_law}
@@ -23,9 +26,7 @@ use Rattle.tree_laws.proofs.Leaf.{leaf_at, set_law, del_law}
 use Rattle.tree_laws.proofs.Reading.{find_law}
 use Rattle.tree_laws.proofs.States.{replace_law, nodes_replaced}
 use Rattle.sled_pages.specs.declared.link.Link.TheVariants.{Set, Del}
-
-none_some : {P A : Type 0} {a : A} → None ≡ Some a → P
-none_some e = cc
+use Rattle.tree_laws.proofs.Basics.{none_some}
 
 -- a call that does nothing
 pub goes_same : (mine : List ℕ) (m : Moment) (w : Forest) → IsMoment m w → Goes mine None m w m w
@@ -220,10 +221,10 @@ seen_here {m} is x number look named live i calm =
     }
 
 -- an open leaf of a chain that covers the key, as it is read
-pub acting_here : {m : Moment} {w : Forest} → IsMoment m w → (t : Tree) (number : ℕ) (key : Key) (look : Look) → m.numbers t ≡ Some number → m.state.pages look.pid ≡ Some (record { version = look.version; node = look.node }) → In look.pid (w.chain (place t 0)) → IsOpen look.node → Covers look.node key → IsActing m w t number key look
-acting_here {m} is t number key look named live i calm covers =
+pub acting_here : {m : Moment} {w : Forest} → IsMoment m w → (t : Tree) (number : ℕ) (aim : Bound Key) (look : Look) → m.numbers t ≡ Some number → m.state.pages look.pid ≡ Some (record { version = look.version; node = look.node }) → In look.pid (w.chain (place t 0)) → IsOpen look.node → LiesUnder aim look.node → IsActing m w t number aim look
+acting_here {m} is t number aim look named live i calm under =
     let b = leaf_at is.formed t look.pid look.node i (ap (option_map (λ (z : Page). z.node)) live) in
-    record { seen = seen_here is (place t 0) number look named live i calm; covers = covers; es = b.0; content = b.1 }
+    record { seen = seen_here is (place t 0) number look named live i calm; under = under; es = b.0; content = b.1 }
 
 -- what a call knows survives each action of others
 module _ {mine : List ℕ} {lost : Option Tree} {old new : Moment} {w v : Forest} (g : Goes mine lost old w new v) where
@@ -235,11 +236,11 @@ module _ {mine : List ℕ} {lost : Option Tree} {old new : Moment} {w v : Forest
     sound = k.sound;
   }
 
-  pub acting_kept : (t : Tree) (number : ℕ) (key : Key) (look : Look) → IsActing old w t number key look → IsActing new v t number key look
-  acting_kept t number key look k = record { seen = seen_kept (place t 0) number look k.seen; covers = k.covers; es = k.es; content = k.content }
+  pub acting_kept : (t : Tree) (number : ℕ) (aim : Bound Key) (look : Look) → IsActing old w t number aim look → IsActing new v t number aim look
+  acting_kept t number aim look k = record { seen = seen_kept (place t 0) number look k.seen; under = k.under; es = k.es; content = k.content }
 
 -- the change of a leaf that was read, where it has its version and the tree its number
-module _ {m : Moment} {w : Forest} (is : IsMoment m w) (t : Tree) (number : ℕ) (key : Key) (look : Look) (node : Node) (k : IsActing m w t number key look) (c : IsCurrent m t number look node) where
+module _ {m : Moment} {w : Forest} (is : IsMoment m w) (t : Tree) (number : ℕ) (key : Key) (look : Look) (node : Node) (k : IsActing m w t number (Included key) look) (c : IsCurrent m t number look node) where
   fresh : IsFresh m look
   fresh = record { page = record { version = look.version; node = node }; live = c.page; same = refl }
 
@@ -254,7 +255,7 @@ module _ {m : Moment} {w : Forest} (is : IsMoment m w) (t : Tree) (number : ℕ)
   }
 
   pub covers_now : Covers node key
-  covers_now = subst (λ (z : Node). Covers z key) (sym node_is) k.covers
+  covers_now = subst (λ (z : Node). Covers z key) (sym node_is) (under_covers key look.node k.under)
 
   -- what the leaf has at the key is what the tree has at it
   pub answers : find key_cmp key (contents (nodes_at m) w t) ≡ value_at look.node.content key
@@ -306,4 +307,4 @@ pub answer_law : AnswerLaw
 answer_law m w is t number key look node k c = answers is t number key look node k c
 
 pub acting_law : ActingLaw
-acting_law mine lost old new w v g t number key look k = acting_kept g t number key look k
+acting_law mine lost old new w v g t number aim look k = acting_kept g t number aim look k

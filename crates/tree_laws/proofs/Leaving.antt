@@ -12,9 +12,7 @@ use Rattle.tree_laws.proofs.Update.{put_there}
 use Rattle.tree_laws.proofs.Replace.{some_is}
 use Rattle.tree_laws.proofs.Fuel.{run_different}
 use Rattle.tree_laws.proofs.States.{free_law, nodes_freed}
-
-none_some : {P A : Type 0} {a : A} → None ≡ Some a → P
-none_some e = cc
+use Rattle.tree_laws.proofs.Basics.{none_some}
 
 run_leads : (nodes : Nodes) (ps : List ℕ) (from : Option ℕ) (lo hi : Key) → Run nodes ps from lo None hi → Leads nodes from ps
 run_leads nodes [] from lo hi r = r.0

@@ -1,3 +1,4 @@
+pub mod Basics
 pub mod Order
 pub mod Runs
 pub mod Pairs

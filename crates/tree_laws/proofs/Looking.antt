@@ -25,9 +25,7 @@ use Rattle.tree_laws.proofs.Reading.{child_of}
 use Rattle.tree_laws.proofs.Cover.{holds_at}
 use Rattle.tree_laws.proofs.Known.{root_in, leaf_in, index_high}
 use Rattle.tree_laws.proofs.Fuel.{page_numbers_is, chain_few, levels_few}
-
-none_some : {P A : Type 0} {a : A} → None ≡ Some a → P
-none_some e = cc
+use Rattle.tree_laws.proofs.Basics.{none_some}
 
 module _ {nodes : Nodes} {roots : Tree → Option ℕ} {w : Forest} (f : WellFormed nodes roots w) where
   -- where a pointer that is not to the merging child leads stands in the chain below

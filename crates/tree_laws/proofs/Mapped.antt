@@ -13,9 +13,7 @@ use Rattle.tree_laws.proofs.Fuel.{contents_law}
 use Rattle.tree_laws.proofs.Leaving.{left_law}
 use Rattle.tree_laws.proofs.Crashing.{adds_unseen}
 use Rattle.tree_laws.proofs.Splitting.{own_node}
-
-none_some : {P A : Type 0} {a : A} → None ≡ Some a → P
-none_some e = cc
+use Rattle.tree_laws.proofs.Basics.{none_some}
 
 -- the contents of all trees at a moment
 pub map_law : MapLaw

@@ -1,9 +1,17 @@
 -- Keys in order.
-use Rattle.std.proofs.Common.{◌≡◌, false, sym, refl, ap, subst, inl, inr, ◌⊎◌, Less, Equal, Greater, is_gt}
+use Rattle.std.proofs.Common.{◌≡◌, ◌∙◌, Bool, not, true, false, sym, refl, ap, subst, inl, inr, ◌⊎◌, Less, Equal, Greater, is_gt}
+use Rattle.std.specs.Ordering.{is_lt, ordering_reverse}
+use Rattle.std.specs.declared.cmp.Ordering.{Ordering}
+use Rattle.std.specs.declared.ops.Bound.{Bound}
+use Rattle.std.specs.declared.ops.Bound.TheVariants.{Included, Excluded, Unbounded}
 use Rattle.std.specs.Cmp.{IsTotalOrder}
 use Rattle.std.specs.FinMap.{slice_cmp-IsAntisymmetric, nat_cmp-IsAntisymmetric}
 use Rattle.std.proofs.lemmas.Cmp.{nat_list_cmp_total, upto, tied_itself}
 use Rattle.sled_pages.specs.Order.{Key, key_cmp, Below, UpTo}
+use Rattle.sled_pages.specs.Among.{is_up_to}
+use Rattle.sled_pages.specs.Node.{Covers}
+use Rattle.sled_pages.specs.declared.node.Node.{Node}
+use Rattle.tree_laws.specs.Moment.{LiesUnder}
 
 pub key_total : IsTotalOrder key_cmp
 unfolding key_cmp
@@ -45,3 +53,54 @@ below_irrefl a p = let e = tied_itself key_total a in cc
 -- what is below is not at or above
 pub below_not_upto : (a b : Key) → Below a b → UpTo b a → ⊥
 below_not_upto a b p q = below_irrefl a (below_upto-trans a b a p q)
+
+-- what is not within a key's bound stands behind the key
+pub behind_key : (k key : Key) → is_up_to (Included key) k ≡ false → Below key k
+behind_key k key e = key_total.antisymm key k ∙ below (key_cmp k key) e
+  where
+    below : (o : Ordering) → not (is_gt o) ≡ false → ordering_reverse o ≡ Less
+    below Less e = cc
+    below Equal e = cc
+    below Greater e = refl
+
+pub up_to_key : (k key : Key) → is_up_to (Included key) k ≡ true → UpTo k key
+up_to_key k key e = go (is_gt (key_cmp k key)) e
+  where
+    go : (b : Bool) → not b ≡ true → b ≡ false
+    go true e = cc
+    go false e = refl
+
+-- what is within an upper bound stands before what is not
+pub within_below : (aim : Bound Key) (a b : Key) → is_up_to aim a ≡ true → is_up_to aim b ≡ false → Below a b
+within_below (Included k) a b p q = upto_below-trans a k b (up_to_key a k p) (behind_key b k q)
+within_below (Excluded k) a b p q = below_upto-trans a k b (less (key_cmp a k) p) (go (key_cmp b k) q (key_total.antisymm k b))
+  where
+    less : (o : Ordering) → is_lt o ≡ true → o ≡ Less
+    less Less e = refl
+    less Equal e = cc
+    less Greater e = cc
+
+    go : (o : Ordering) → is_lt o ≡ false → key_cmp k b ≡ ordering_reverse o → is_gt (key_cmp k b) ≡ false
+    go Less e r = cc
+    go Equal e r = ap is_gt r
+    go Greater e r = ap is_gt r
+within_below Unbounded a b p q = absurd (apart q)
+  where
+    apart : true ≡ false → ⊥
+    apart e = cc
+
+-- at a key, what lies under the aim is what covers the key
+pub covers_under : (key : Key) (n : Node) → Covers n key → LiesUnder (Included key) n
+covers_under key n (low, high) = (
+  ap not low,
+  elim high [
+    | inl e ↦ inl e
+    | inr b ↦ inr (above (key_cmp n.hi key) (key_total.antisymm n.hi key ∙ ap ordering_reverse b))
+  ],
+)
+  where
+    above : (o : Ordering) → o ≡ Greater → not (is_gt o) ≡ false
+    above o e = ap (λ z. not (is_gt z)) e
+
+pub under_covers : (key : Key) (n : Node) → LiesUnder (Included key) n → Covers n key
+under_covers key n (low, high) = (up_to_key n.lo key low, elim high [ inl e ↦ inl e | inr b ↦ inr (behind_key n.hi key b) ])

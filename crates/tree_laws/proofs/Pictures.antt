@@ -21,9 +21,7 @@ use Rattle.tree_laws.proofs.Fuel.{contents_law}
 use Rattle.tree_laws.proofs.Looking.{pages_law}
 use Rattle.tree_laws.proofs.Replace.{false_true, some_is, head_in}
 use Rattle.tree_laws.proofs.Accepted.{forest_of, IsStanding, IsAtHome, IsForest, formed, sized}
-
-none_some : {P : Type 0} {A : Type 0} {x : A} → None ≡ Some x → P
-none_some e = cc
+use Rattle.tree_laws.proofs.Basics.{none_some}
 
 zero_suc : {P : Type 0} {g : ℕ} → 0 ≡ suc g → P
 zero_suc e = cc

@@ -17,9 +17,7 @@ use Rattle.tree_laws.proofs.Replace.{some_is, false_true, replaced_kept, replace
 use Rattle.tree_laws.proofs.Cover.{holds_at}
 use Rattle.tree_laws.proofs.Leaf.{with_content, in_place, in_place_sized, in_place_grows, each_put}
 use Rattle.tree_laws.proofs.Split.{pointer_like}
-
-none_some : {P : Type 0} {A : Type 0} {a : A} → None ≡ Some a → P
-none_some e = cc
+use Rattle.tree_laws.proofs.Basics.{none_some}
 
 put_in : (k : Key) (q : ℕ) (es : List (Key × ℕ)) (l : Key) (d : ℕ) → In (l, d) (put key_cmp k q es) → In (l, d) es ⊎ ((d ≡ q) × (l ≡ k))
 put_in k q [] l d (inl e) = inr (ap (λ (z : Key × ℕ). z.1) e, ap (λ (z : Key × ℕ). z.0) e)

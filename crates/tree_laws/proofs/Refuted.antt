@@ -21,9 +21,7 @@ use Rattle.tree_laws.proofs.Pictures.{leaf_stands, open_home, index_stands, poin
 use Rattle.tree_laws.proofs.Replace.{some_is, same_number}
 use Rattle.tree_laws.proofs.Roots.{plant_law}
 use Rattle.tree_laws.proofs.Update.{put_there}
-
-none_some : {P : Type 0} {A : Type 0} {x : A} → None ≡ Some x → P
-none_some e = cc
+use Rattle.tree_laws.proofs.Basics.{none_some}
 
 -- a merging child of 17 entries
 abbrev long : Node

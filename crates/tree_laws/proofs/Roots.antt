@@ -15,9 +15,7 @@ use Rattle.tree_laws.specs.Laws.{Rooted, HoistLaw, PlantLaw, DropLaw}
 use Rattle.tree_laws.proofs.Order.{upto-refl, upto-below}
 use Rattle.tree_laws.proofs.Update.{put_here, put_there, name_here, name_there, put_chain, chain_here, chain_there}
 use Rattle.tree_laws.proofs.Replace.{same_number, same_tree, same_place, some_is, false_true, head_in, pairs_of}
-
-none_some : {P : Type 0} {A : Type 0} {a : A} → None ≡ Some a → P
-none_some e = cc
+use Rattle.tree_laws.proofs.Basics.{none_some}
 
 -- a page with no place becomes the one page of an empty level
 pub record Raises (nodes : Nodes) (roots : Tree → Option ℕ) (w : Forest) (t : Tree) (h r : ℕ) (n : Node) : Type 0 where

@@ -8,14 +8,12 @@ use Rattle.tree_laws.specs.Forest.{Tree, Forest, Place, place, WellFormed, IsSiz
 use Rattle.tree_laws.specs.Moment.{Grows}
 use Rattle.tree_laws.proofs.Replace.{same_number, some_is, Replaces, p_home, chained_before}
 use Rattle.tree_laws.proofs.Cover.{child_below}
+use Rattle.tree_laws.proofs.Basics.{none_some}
 
 pub record IsSmall (nodes : Nodes) (w : Forest) (x : Place) (p : ℕ) (n m : Node) (added : List ℕ) : Type 0 where
   pub few : count m.content ≤ 33
   pub added_few : (q : ℕ) (d : Node) → In q added → nodes q ≡ Some d → count d.content ≤ 33
   pub child : (q : ℕ) (d : Node) → In q (w.chain (place x.tree (suc x.height))) → nodes q ≡ Some d → d.merging_child ≡ Some p → count m.content ≤ 17
-
-none_some : {P A : Type 0} {a : A} → None ≡ Some a → P
-none_some e = cc
 
 module _ {nodes new : Nodes} {roots : Tree → Option ℕ} {w v : Forest} {x : Place} {p : ℕ} {n m : Node} {xs gone added ys : List ℕ} (r : Replaces nodes new w v x p n m xs gone added ys) (f : WellFormed nodes roots w) where
   -- who has a merging child now had it

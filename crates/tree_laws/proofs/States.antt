@@ -12,6 +12,7 @@ use Rattle.tree_laws.specs.Laws.{ReplaceLaw, AllocateLaw, FreeLaw, PlantedLaw, H
 use Rattle.tree_laws.proofs.Update.{put_here, put_there, name_here, name_there}
 use Rattle.tree_laws.proofs.Outside.{outside_kept, outside_contents, outside_keeps, outside_sized, outside_grows}
 use Rattle.tree_laws.proofs.Replace.{same_number, same_tree, some_is}
+use Rattle.tree_laws.proofs.Basics.{none_some}
 
 -- one more page, seen as nodes
 nodes_put : (f : ℕ → Option Page) (p : ℕ) (o : Option Page) → (λ (q : ℕ). option_map (λ (g : Page). g.node) (put_at f p o q)) ≡ put_at (λ q. option_map (λ (g : Page). g.node) (f q)) p (option_map (λ (g : Page). g.node) o)
@@ -26,9 +27,6 @@ true_on f v q e = elim (nat_eq q v) as (λ b. cond b true (f q) ≡ true) [ true
 
 not_both : {P : Type 0} (b : Bool) → b ≡ true → b ≡ false → P
 not_both b e f = cc
-
-none_some : {P A : Type 0} {a : A} → None ≡ Some a → P
-none_some e = cc
 
 pub replace_law : ReplaceLaw
 replace_law mine m w v p g new is live awake fresh owner formed keeps =

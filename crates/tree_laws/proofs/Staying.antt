@@ -1,24 +1,40 @@
 -- What a call in flight knows of its stage survives the actions of others.
-use Rattle.std.proofs.Common.{◌≡◌, ◌≢◌, ℕ, suc, Bool, true, false, List, [], ◌∷◌, ◌++◌, Option, Some, None, MatchOption, option_map, sym, refl, ap, ◌∙◌, subst, inl, inr, ◌⊎◌, le_trans}
+use Rattle.std.proofs.Common.{◌≡◌, ◌≢◌, ◌≤◌, ℕ, suc, Bool, true, false, List, [], ◌∷◌, ◌++◌, Option, Some, None, MatchOption, option_map, sym, refl, ap, ◌∙◌, subst, inl, inr, ◌⊎◌, le_trans}
+use Rattle.std.specs.declared.ops.Bound.{Bound}
 use Rattle.sled_pages.specs.In.{In}
-use Rattle.sled_pages.specs.Node.{Within}
+use Rattle.sled_pages.specs.Node.{Within, count}
 use Rattle.sled_pages.specs.Order.{Key}
 use Rattle.sled_pages.specs.State.{Nodes}
 use Rattle.sled_pages.specs.declared.node.Node.{Node}
 use Rattle.sled_pages.specs.declared.page.Page.{Page}
 use Rattle.tree_laws.specs.Forest.{Tree, Forest, Place, place, head, WellFormed}
 use Rattle.tree_laws.specs.Moment.{Moment, IsMoment, nodes_at, Goes, Grows, Viewed, Stood, Look, IsFresh}
-use Rattle.tree_laws.specs.Stages.{IsParent, IsWalking, PostsAt, AtParent, AtRoot, Nowhere, IsPlace, IsSplitting, IsOwn, IsReplacing, IsUnder, IsPosting, IsHoisting, IsSwapping, IsFreeing}
-use Rattle.tree_laws.specs.Merging.{IsIntending, IsSmallChild, IsFrozen, IsChild, IsWanted, IsMerger, IsMerging, IsCapping, IsSeeking, IsReceiving, IsOut, IsConfirming, IsMergingOf, IsCappingOf, IsSeekingOf, IsReceivingOf, IsConfirmingOf}
+use Rattle.tree_laws.specs.Stages.{IsParent, IsBelowParent, IsReached, IsWalking, IsPlace, IsSplitting, IsOwn, IsReplacing, IsUnder, IsPosting, IsHoisting, IsSwapping, IsFreeing, IsIntending, IsFrozen, IsChild, IsWanted, IsMerger, IsMerging, IsReadingChild, child_of, IsCapping, IsSeeking, IsReceiving, IsOut, IsConfirming}
+use Rattle.tree_laws.specs.StageLaws.{StageStays}
+use Rattle.tree_laws.specs.declared.flight.Reached.{Reached}
+use Rattle.tree_laws.specs.declared.flight.Reached.TheVariants as reached
+use Rattle.tree_laws.specs.declared.flight.Walk.{Walk}
+use Rattle.tree_laws.specs.declared.flight.Posting.{Posting}
+use Rattle.tree_laws.specs.declared.flight.Posting.TheVariants as posting
+use Rattle.tree_laws.specs.declared.flight.Split.{Split}
+use Rattle.tree_laws.specs.declared.flight.Shorten.{Shorten}
+use Rattle.tree_laws.specs.declared.flight.Post.{Post}
+use Rattle.tree_laws.specs.declared.flight.Hoist.{Hoist}
+use Rattle.tree_laws.specs.declared.flight.Crown.{Crown}
+use Rattle.tree_laws.specs.declared.flight.Own.{Own}
+use Rattle.tree_laws.specs.declared.flight.Merge.{Merge}
+use Rattle.tree_laws.specs.declared.flight.Cap.{Cap}
+use Rattle.tree_laws.specs.declared.flight.Seek.{Seek}
+use Rattle.tree_laws.specs.declared.flight.Receive.{Receive}
+use Rattle.tree_laws.specs.declared.flight.Confirm.{Confirm}
+use Rattle.tree_laws.specs.declared.flight.Stage.TheVariants as stage
 use Rattle.tree_laws.proofs.Replace.{some_is, false_true, head_in}
 use Rattle.tree_laws.proofs.Cover.{one_cover, one_later, later_in, pointer_within, holds_at}
 use Rattle.tree_laws.proofs.Receive.{followed}
 use Rattle.tree_laws.proofs.Roots.{top_awake}
 use Rattle.tree_laws.proofs.Stable.{view_law, stood_law, now_law, had_number, not_lost, is_number}
-use Rattle.tree_laws.proofs.Known.{fresh_node, fresh_in, seen_kept}
-
-none_some : {P : Type 0} {A : Type 0} {a : A} → None ≡ Some a → P
-none_some e = cc
+use Rattle.tree_laws.proofs.Known.{fresh_node, fresh_in, seen_kept, acting_kept}
+use Rattle.tree_laws.proofs.Basics.{none_some}
 
 pub not_true : (b : Bool) → (b ≡ true → ⊥) → b ≡ false
 not_true true not_so = absurd (not_so refl)
@@ -79,70 +95,76 @@ module _ {mine : List ℕ} {lost : Option Tree} {old new : Moment} {w v : Forest
       none_some (sym (subst (λ (z : Node). z.merging_child ≡ None) (sym n_is) seen.is_open.free) ∙ r.4) in
       record { covers = u.covers; node = m.0; chained = elim m.3 [ inl i ↦ i | inr y ↦ absurd (up y) ]; live = m.1; lo = m.2 ∙ u.lo; awake = not_true m.0.merging up }
 
-  pub walking_kept : (t : Tree) (number : ℕ) (key : Key) (cursor : ℕ) (parent : Look) (first unsplit : Bool) → IsWalking old w t number key cursor parent first unsplit → IsWalking new v t number key cursor parent first unsplit
-  walking_kept t number key cursor parent first unsplit k = record {
+  below_kept : (t : Tree) (number h : ℕ) (aim : Bound Key) (parent : Look) (lo : Key) → IsBelowParent old w t number h aim parent lo → IsBelowParent new v t number h aim parent lo
+  below_kept t number h aim parent lo k = record { above = parent_kept t number h parent k.above; under = k.under; within = k.within; few = k.few }
+
+  reached_kept : (t : Tree) (number h : ℕ) (aim : Bound Key) (by : Reached) (lo : Key) (p : ℕ) → IsReached old w t number h aim by lo p → IsReached new v t number h aim by lo p
+  reached_kept t number h aim reached.Root lo p k = k
+  reached_kept t number h aim (reached.FirstPointer parent) lo p k = below_kept t number h aim parent lo k
+  reached_kept t number h aim (reached.LaterPointer parent) lo p k = (below_kept t number h aim parent lo k.0, k.1)
+  reached_kept t number h aim (reached.Next parent) lo p k = (below_kept t number h aim parent lo k.0, k.1)
+
+  pub walking_kept : (t : Tree) (number : ℕ) (aim : Bound Key) (a : Walk) → IsWalking old w t number aim a → IsWalking new v t number aim a
+  walking_kept t number aim a k = record {
     height = k.height;
-    above = parent_kept t number k.height parent k.above;
-    covers = k.covers;
     lo = k.lo;
-    stood = stood_kept (place t k.height) number k.lo cursor k.stood;
-    within = k.within;
-    beyond = k.beyond;
-    reached = k.reached;
+    stood = stood_kept (place t k.height) number k.lo a.cursor k.stood;
+    is_reached = reached_kept t number k.height aim a.reached k.lo a.cursor k.is_reached;
   }
 
-  pub place_kept : (t : Tree) (number h : ℕ) (page : Look) (posts : PostsAt) → IsPlace old w t number h page posts → IsPlace new v t number h page posts
-  place_kept t number h page (AtParent parent) k = (parent_kept t number h parent k.0, k.1)
-  place_kept t number h page AtRoot k = k
-  place_kept t number h page Nowhere k = k
+  pub place_kept : (t : Tree) (number h : ℕ) (page : Look) (posting : Posting) → IsPlace old w t number h page posting → IsPlace new v t number h page posting
+  place_kept t number h page (posting.Parent parent) k = (parent_kept t number h parent k.0, k.1, k.2)
+  place_kept t number h page posting.Root k = k
+  place_kept t number h page posting.Nowhere k = k
 
-  pub splitting_kept : (t : Tree) (number : ℕ) (page : Look) (posts : PostsAt) → IsSplitting old w t number page posts → IsSplitting new v t number page posts
-  splitting_kept t number page posts k = record { height = k.height; seen = seen_kept g (place t k.height) number page k.seen; posted = place_kept t number k.height page posts k.posted }
+  pub splitting_kept : (t : Tree) (number : ℕ) (a : Split) → IsSplitting old w t number a → IsSplitting new v t number a
+  splitting_kept t number a k = record { height = k.height; seen = seen_kept g (place t k.height) number a.page k.seen; posted = place_kept t number k.height a.page a.posting k.posted }
 
-  pub replacing_kept : (t : Tree) (number : ℕ) (page : Look) (posts : PostsAt) (left : Node) (at : Key) (q version : ℕ) → ¬ (In q mine) → IsReplacing old w t number page posts left at q version → IsReplacing new v t number page posts left at q version
-  replacing_kept t number page posts left at q version off k = record {
+  pub replacing_kept : (t : Tree) (number : ℕ) (a : Shorten) → ¬ (In a.right mine) → IsReplacing old w t number a → IsReplacing new v t number a
+  replacing_kept t number a off k = record {
     height = k.height;
-    seen = seen_kept g (place t k.height) number page k.seen;
-    posted = place_kept t number k.height page posts k.posted;
+    seen = seen_kept g (place t k.height) number a.page k.seen;
+    posted = place_kept t number k.height a.page a.posting k.posted;
     right = k.right;
-    own = own_kept q version k.right off k.own;
+    own = own_kept a.right a.version k.right off k.own;
     split = k.split;
     begins = k.begins;
   }
 
-  pub posting_kept : (t : Tree) (number : ℕ) (parent : Look) (at : Key) (pid : ℕ) → IsPosting old w t number parent at pid → IsPosting new v t number parent at pid
-  posting_kept t number parent at pid k = record {
+  pub posting_kept : (t : Tree) (number : ℕ) (a : Post) → IsPosting old w t number a → IsPosting new v t number a
+  posting_kept t number a k = record {
     height = k.height;
-    above = parent_kept t number k.height parent k.above;
+    above = parent_kept t number k.height a.parent k.above;
+    few = k.few;
     beyond = k.beyond;
-    under = under_kept t number k.height parent at pid k.above k.under;
+    under = under_kept t number k.height a.parent a.at a.pid k.above k.under;
   }
 
-  pub hoisting_kept : (t : Tree) (number left : ℕ) (at : Key) (right : ℕ) → IsHoisting old w t number left at right → IsHoisting new v t number left at right
-  hoisting_kept t number left at right k = record {
+  pub hoisting_kept : (t : Tree) (number : ℕ) (a : Hoist) → IsHoisting old w t number a → IsHoisting new v t number a
+  hoisting_kept t number a k = record {
     height = k.height;
-    stood = stood_kept (place t k.height) number [] left k.stood;
+    stood = stood_kept (place t k.height) number [] a.left k.stood;
     beyond = k.beyond;
     beside = λ named root.
         let before = had_number g t number k.stood.tree named in
-        elim (g.rooted t left root) [
+        elim (g.rooted t a.left root) [
           | inl was ↦
               let f = is.formed in
-              let a = subst (λ o. MatchOption o ((z : ℕ) → w.chain (place t z) ≡ []) (λ q. (z : ℕ) × (head (w.chain (place t z)) ≡ Some q) × (w.chain (place t (suc z)) ≡ []))) was (f.top t) in
-              let home = f.homed (place t a.0) left (head_in _ left a.1) in
-              let n = f.page (place t a.0) left home in
-              let asleep : n.0.merging ≡ true → ⊥ = λ y. top_awake f t a.0 left n.0 a.2 home n.1.live y in
-              let same : place t a.0 ≡ place t k.height = some_is _ _ (sym home ∙ f.homed (place t k.height) left (now_law old w (place t k.height) number [] left k.stood before n.0 n.1.live (not_true n.0.merging asleep)).0) in
-              let over : w.chain (place t (suc k.height)) ≡ [] = ap (λ (z : Place). w.chain (place t (suc z.height))) (sym same) ∙ a.2 in
+              let top = subst (λ o. MatchOption o ((z : ℕ) → w.chain (place t z) ≡ []) (λ q. (z : ℕ) × (head (w.chain (place t z)) ≡ Some q) × (w.chain (place t (suc z)) ≡ []))) was (f.top t) in
+              let home = f.homed (place t top.0) a.left (head_in _ a.left top.1) in
+              let n = f.page (place t top.0) a.left home in
+              let asleep : n.0.merging ≡ true → ⊥ = λ y. top_awake f t top.0 a.left n.0 top.2 home n.1.live y in
+              let same : place t top.0 ≡ place t k.height = some_is _ _ (sym home ∙ f.homed (place t k.height) a.left (now_law old w (place t k.height) number [] a.left k.stood before n.0 n.1.live (not_true n.0.merging asleep)).0) in
+              let over : w.chain (place t (suc k.height)) ≡ [] = ap (λ (z : Place). w.chain (place t (suc z.height))) (sym same) ∙ top.2 in
               let b = k.beside before was in
-              let m = g.keeps.stood (place t k.height) right b.0 (not_lost g t number named) b.1 b.2 in
+              let m = g.keeps.stood (place t k.height) a.right b.0 (not_lost g t number named) b.1 b.2 in
               (m.0, elim m.3 [ inl i ↦ i | inr y ↦ absurd (wakes b m.0 m.1 y over) ], m.1, m.2 ∙ b.3)
           | inr fresh ↦ elim k.stood.now [
             | inl e ↦ absurd (e before)
             | inr o ↦ elim o [
               | inl e ↦ none_some (sym e ∙ fresh.1.1)
               | inr b ↦ elim b.3 [
-                | inl i ↦ absurd (fresh.0 (place t k.height) (is.formed.homed (place t k.height) left i))
+                | inl i ↦ absurd (fresh.0 (place t k.height) (is.formed.homed (place t k.height) a.left i))
                 | inr y ↦ false_true b.0.merging (subst (λ (z : Node). z.merging ≡ false) (some_is fresh.1.0 b.0 (sym fresh.1.1 ∙ b.1)) fresh.1.2) y
               ]
             ]
@@ -150,62 +172,62 @@ module _ {mine : List ℕ} {lost : Option Tree} {old new : Moment} {w v : Forest
         ];
   }
     where
-      wakes : (a : (d : Node) × In right (w.chain (place t k.height)) × (nodes_at old right ≡ Some d) × (d.lo ≡ at)) (m : Node) → nodes_at new right ≡ Some m → m.merging ≡ true → w.chain (place t (suc k.height)) ≡ [] → ⊥
-      wakes a m live y over = go a.0.merging refl
+      wakes : (r : (d : Node) × In a.right (w.chain (place t k.height)) × (nodes_at old a.right ≡ Some d) × (d.lo ≡ a.at)) (m : Node) → nodes_at new a.right ≡ Some m → m.merging ≡ true → w.chain (place t (suc k.height)) ≡ [] → ⊥
+      wakes r m live y over = go r.0.merging refl
         where
-          go : (b : Bool) → a.0.merging ≡ b → ⊥
-          go true e = top_awake is.formed t k.height right a.0 over (is.formed.homed (place t k.height) right a.1) a.2 e
-          go false e = let r = g.keeps.wakes (place t k.height) right a.0 m a.1 a.2 e live y in subst (λ l. In r.0 l) over r.2
+          go : (b : Bool) → r.0.merging ≡ b → ⊥
+          go true e = top_awake is.formed t k.height a.right r.0 over (is.formed.homed (place t k.height) a.right r.1) r.2 e
+          go false e = let q = g.keeps.wakes (place t k.height) a.right r.0 m r.1 r.2 e live y in subst (λ l. In q.0 l) over q.2
 
-  pub swapping_kept : (t : Tree) (number left q version : ℕ) → ¬ (In q mine) → IsSwapping old w t number left q version → IsSwapping new v t number left q version
-  swapping_kept t number left q version off k = record { at = k.at; right = k.right; hoisting = hoisting_kept t number left k.at k.right k.hoisting; root = k.root; over = k.over; own = own_kept q version k.root off k.own }
+  pub swapping_kept : (t : Tree) (number : ℕ) (a : Crown) → ¬ (In a.new mine) → IsSwapping old w t number a → IsSwapping new v t number a
+  swapping_kept t number a off k = record { at = k.at; right = k.right; hoisting = hoisting_kept t number (record { left = a.old; at = k.at; right = k.right }) k.hoisting; root = k.root; over = k.over; own = own_kept a.new a.version k.root off k.own }
 
-  pub freeing_kept : (pid version : ℕ) → ¬ (In pid mine) → IsFreeing old w pid version → IsFreeing new v pid version
-  freeing_kept pid version off k = record { node = k.node; own = own_kept pid version k.node off k.own }
-
-  pub intending_kept : (t : Tree) (number : ℕ) (parent : Look) (c : ℕ) → IsIntending old w t number parent c → IsIntending new v t number parent c
-  intending_kept t number parent c k = record {
-    height = k.height;
-    above = parent_kept t number k.height parent k.above;
-    key = k.key;
-    pointer = k.pointer;
-    under = under_kept t number k.height parent k.key c k.above k.under;
-  }
+  pub freeing_kept : (a : Own) → ¬ (In a.pid mine) → IsFreeing old w a → IsFreeing new v a
+  freeing_kept a off k = record { node = k.node; own = own_kept a.pid a.version k.node off k.own }
 
   -- the child of an intention takes in no page while the parent has its version: that page's parent would be this one
-  pub small_kept : Grows (nodes_at old) (nodes_at new) w → (t : Tree) (number : ℕ) (parent : Look) (c : ℕ) → IsIntending old w t number parent c → IsSmallChild old t number parent c → IsSmallChild new t number parent c
-  small_kept grows t number parent c k s = record {
-    small = λ named f m live.
-        let seen = k.above.seen in
-        let before = had_number g t number seen.stood.tree named in
-        let fresh = was_fresh parent seen.view f in
-        let u = k.under before fresh in
-        let p_in = fresh_in seen fresh before in
-        let p_is = fresh_node seen fresh in
-        let few = s.small before fresh u.node u.live in
-        elim (grows.grows (place t k.height) c u.node m u.chained u.live live) [
-          | inl le ↦ le_trans le few
-          | inr e ↦ elim e [
-            | inl le ↦ le
-            | inr r ↦ absurd (not_received p_in p_is u.node u.chained u.live r.0 r.1 r.2 r.3 r.4)
-          ]
-        ];
-  }
+  small_kept : Grows (nodes_at old) (nodes_at new) w → (t : Tree) (number : ℕ) (a : Merge) → IsIntending old w t number a → new.numbers t ≡ Some number → IsFresh new a.parent → (m : Node) → nodes_at new a.child ≡ Some m → count m.content ≤ 17
+  small_kept grows t number a k named f m live =
+      let seen = k.above.seen in
+      let before = had_number g t number seen.stood.tree named in
+      let fresh = was_fresh a.parent seen.view f in
+      let u = k.under before fresh in
+      let p_in = fresh_in seen fresh before in
+      let p_is = fresh_node seen fresh in
+      let few = k.small before fresh u.node u.live in
+      elim (grows.grows (place t k.height) a.child u.node m u.chained u.live live) [
+        | inl le ↦ le_trans le few
+        | inr e ↦ elim e [
+          | inl le ↦ le
+          | inr r ↦ absurd (not_received p_in p_is u.node u.chained u.live r.0 r.1 r.2 r.3 r.4)
+        ]
+      ]
     where
-      not_received : In parent.pid (w.chain (place t (suc k.height))) → nodes_at old parent.pid ≡ Some parent.node → (d : Node) → In c (w.chain (place t k.height)) → nodes_at old c ≡ Some d → (e : ℕ) (b : Node) → d.next ≡ Some e → nodes_at old e ≡ Some b → b.merging ≡ true → ⊥
+      not_received : In a.parent.pid (w.chain (place t (suc k.height))) → nodes_at old a.parent.pid ≡ Some a.parent.node → (d : Node) → In a.child (w.chain (place t k.height)) → nodes_at old a.child ≡ Some d → (e : ℕ) (b : Node) → d.next ≡ Some e → nodes_at old e ≡ Some b → b.merging ≡ true → ⊥
       not_received p_in p_is d c_in c_is e b next e_is capped =
           let f = is.formed in
           let h = k.height in
-          let a = followed f (place t h) c e d c_in c_is next in
-          let e_in : In e (w.chain (place t h)) = subst (λ l. In e l) (sym a.2) (at a.0 a.1) in
+          let z = followed f (place t h) a.child e d c_in c_is next in
+          let e_in : In e (w.chain (place t h)) = subst (λ l. In e l) (sym z.2) (at z.0 z.1) in
           let i = f.page (place t h) e (f.homed (place t h) e e_in) in
           let r = i.1.parent (subst (λ (z : Node). z.merging ≡ true) (some_is b i.0 (sym e_is ∙ i.1.live)) capped) in
-          let same = one_later f t h a.0 a.1 c e d b a.2 c_is e_is parent.pid r.0 parent.node r.1 k.key p_in r.2 p_is r.3 k.pointer r.4 in
-          none_some (sym (subst (λ (z : Node). z.merging_child ≡ None) (some_is parent.node r.1 (sym p_is ∙ ap (nodes_at old) same ∙ r.3)) k.above.seen.is_open.free) ∙ r.4)
+          let same = one_later f t h z.0 z.1 a.child e d b z.2 c_is e_is a.parent.pid r.0 a.parent.node r.1 k.key p_in r.2 p_is r.3 k.pointer r.4 in
+          none_some (sym (subst (λ (y : Node). y.merging_child ≡ None) (some_is a.parent.node r.1 (sym p_is ∙ ap (nodes_at old) same ∙ r.3)) k.above.seen.is_open.free) ∙ r.4)
         where
-          at : (xs ys : List ℕ) → In e (xs ++ (c ∷ (e ∷ ys)))
+          at : (xs ys : List ℕ) → In e (xs ++ (a.child ∷ (e ∷ ys)))
           at [] ys = inr (inl refl)
           at (x ∷ xs) ys = inr (at xs ys)
+
+  pub intending_kept : Grows (nodes_at old) (nodes_at new) w → (t : Tree) (number : ℕ) (a : Merge) → IsIntending old w t number a → IsIntending new v t number a
+  intending_kept grows t number a k = record {
+    height = k.height;
+    above = parent_kept t number k.height a.parent k.above;
+    key = k.key;
+    pointer = k.pointer;
+    under = under_kept t number k.height a.parent k.key a.child k.above k.under;
+    small = small_kept grows t number a k;
+    before = k.before;
+  }
 
   -- the facts of a merge
 
@@ -276,51 +298,78 @@ module _ {mine : List ℕ} {lost : Option Tree} {old new : Moment} {w v : Forest
     content = k.content;
   }
 
-  pub merging_kept : (t : Tree) (number height : ℕ) (parent : Look) (c before : ℕ) → IsMerging old w t number height parent c before → IsMerging new v t number height parent c before
-  merging_kept t number height parent c before k = record {
-    merger = merger_kept t number height c parent k.merger;
-    wanted = wanted_kept t number height c k.wanted;
+  pub merging_kept : (t : Tree) (number height : ℕ) (a : Merge) → IsMerging old w t number height a → IsMerging new v t number height a
+  merging_kept t number height a k = record {
+    merger = merger_kept t number height a.child a.parent k.merger;
+    wanted = wanted_kept t number height a.child k.wanted;
     lo = k.lo;
     low = k.low;
-    c_stood = stood_kept (place t height) number k.lo c k.c_stood;
-    left_stood = stood_kept (place t height) number k.low before k.left_stood;
+    c_stood = stood_kept (place t height) number k.lo a.child k.c_stood;
+    left_stood = stood_kept (place t height) number k.low a.before k.left_stood;
     below = k.below;
   }
 
-  pub capping_kept : (t : Tree) (number h : ℕ) (page : Look) → IsCapping old w t number h page → IsCapping new v t number h page
-  capping_kept t number h page k = record {
-    view = view_kept page k.view;
+  pub reading_kept : (t : Tree) (number : ℕ) (a : Merge) → IsReadingChild old w t number a → IsReadingChild new v t number a
+  reading_kept t number a k = record { height = k.height; merging = merging_kept t number k.height a k.merging }
+
+  pub capping_kept : (t : Tree) (number : ℕ) (a : Cap) → IsCapping old w t number a → IsCapping new v t number a
+  capping_kept t number a k = record {
+    height = k.height;
+    merging = merging_kept t number k.height a.merge k.merging;
+    view = view_kept (child_of a) k.view;
     tree = g.given number k.tree;
     is_open = k.is_open;
     wanted = λ named f.
         let before = had_number g t number k.tree named in
-        let fresh = was_fresh page k.view f in
-        elim (child_kept t h page.pid (not_lost g t number named) (k.wanted before fresh)) [
-          | inl a ↦ false_true page.node.merging k.is_open.awake (subst (λ (z : Node). z.merging ≡ true) (some_is a.0 page.node (sym a.1 ∙ fresh_was page k.view fresh)) a.2)
-          | inr a ↦ a
+        let fresh = was_fresh (child_of a) k.view f in
+        elim (child_kept t k.height a.merge.child (not_lost g t number named) (k.wanted before fresh)) [
+          | inl c ↦ false_true a.node.merging k.is_open.awake (subst (λ (z : Node). z.merging ≡ true) (some_is c.0 a.node (sym c.1 ∙ fresh_was (child_of a) k.view fresh)) c.2)
+          | inr c ↦ c
         ];
   }
 
-  pub seeking_kept : (t : Tree) (number h c version : ℕ) (d : Node) (cursor : ℕ) → IsSeeking old w t number h c version d cursor → IsSeeking new v t number h c version d cursor
-  seeking_kept t number h c version d cursor k = record { frozen = frozen_kept c version d k.frozen; lo = k.lo; stood = stood_kept (place t h) number k.lo cursor k.stood; before = k.before }
+  pub seeking_kept : (t : Tree) (number : ℕ) (a : Seek) → IsSeeking old w t number a → IsSeeking new v t number a
+  seeking_kept t number a k = record {
+    height = k.height;
+    merging = merging_kept t number k.height a.merge k.merging;
+    frozen = frozen_kept a.merge.child a.version a.node k.frozen;
+    lo = k.lo;
+    stood = stood_kept (place t k.height) number k.lo a.cursor k.stood;
+    before = k.before;
+  }
 
-  pub receiving_kept : (t : Tree) (number h c version : ℕ) (d : Node) (left : Look) → IsReceiving old w t number h c version d left → IsReceiving new v t number h c version d left
-  receiving_kept t number h c version d left k = record { seen = seen_kept g (place t h) number left k.seen; next = k.next; before = k.before; frozen = frozen_kept c version d k.frozen }
+  pub receiving_kept : (t : Tree) (number : ℕ) (a : Receive) → IsReceiving old w t number a → IsReceiving new v t number a
+  receiving_kept t number a k = record {
+    height = k.height;
+    merging = merging_kept t number k.height a.merge k.merging;
+    seen = seen_kept g (place t k.height) number a.left k.seen;
+    next = k.next;
+    before = k.before;
+    frozen = frozen_kept a.merge.child a.version a.node k.frozen;
+    few = k.few;
+  }
 
-  pub confirming_kept : (t : Tree) (number h c version : ℕ) (d : Node) (parent : Look) → IsConfirming old w t number h c version d parent → IsConfirming new v t number h c version d parent
-  confirming_kept t number h c version d parent k = record { merger = merger_kept t number h c parent k.merger; received = out_kept (place t h) c version d k.received }
+  pub confirming_kept : (t : Tree) (number : ℕ) (a : Confirm) → IsConfirming old w t number a → IsConfirming new v t number a
+  confirming_kept t number a k = record {
+    height = k.height;
+    node = k.node;
+    merger = merger_kept t number k.height a.child a.parent k.merger;
+    received = out_kept (place t k.height) a.child a.version k.node k.received;
+  }
 
-  pub merging_of_kept : (t : Tree) (number : ℕ) (parent : Look) (c before : ℕ) → IsMergingOf old w t number parent c before → IsMergingOf new v t number parent c before
-  merging_of_kept t number parent c before k = record { height = k.height; merging = merging_kept t number k.height parent c before k.merging }
-
-  pub capping_of_kept : (t : Tree) (number : ℕ) (parent : Look) (c before : ℕ) (page : Look) → IsCappingOf old w t number parent c before page → IsCappingOf new v t number parent c before page
-  capping_of_kept t number parent c before page k = record { height = k.height; merging = merging_kept t number k.height parent c before k.merging; here = k.here; capping = capping_kept t number k.height page k.capping }
-
-  pub seeking_of_kept : (t : Tree) (number : ℕ) (parent : Look) (c before version : ℕ) (d : Node) (cursor : ℕ) → IsSeekingOf old w t number parent c before version d cursor → IsSeekingOf new v t number parent c before version d cursor
-  seeking_of_kept t number parent c before version d cursor k = record { height = k.height; merging = merging_kept t number k.height parent c before k.merging; seeking = seeking_kept t number k.height c version d cursor k.seeking }
-
-  pub receiving_of_kept : (t : Tree) (number : ℕ) (parent : Look) (c before version : ℕ) (d : Node) (left : Look) → IsReceivingOf old w t number parent c before version d left → IsReceivingOf new v t number parent c before version d left
-  receiving_of_kept t number parent c before version d left k = record { height = k.height; merging = merging_kept t number k.height parent c before k.merging; receiving = receiving_kept t number k.height c version d left k.receiving }
-
-  pub confirming_of_kept : (t : Tree) (number : ℕ) (parent : Look) (c version : ℕ) (d : Node) → IsConfirmingOf old w t number parent c version d → IsConfirmingOf new v t number parent c version d
-  confirming_of_kept t number parent c version d k = record { height = k.height; confirming = confirming_kept t number k.height c version d parent k.confirming }
+pub stage_stays : StageStays
+stage_stays mine lost old w new v o t number aim stage.Root off k = tt
+stage_stays mine lost old w new v o t number aim (stage.Walk a) off k = walking_kept o.is o.goes t number aim a k
+stage_stays mine lost old w new v o t number aim (stage.Act look) off k = (acting_kept o.goes t number aim look k.0, k.1)
+stage_stays mine lost old w new v o t number aim (stage.Split a) off k = splitting_kept o.is o.goes t number a k
+stage_stays mine lost old w new v o t number aim (stage.Shorten a) off k = replacing_kept o.is o.goes t number a (off a.right (inl refl)) k
+stage_stays mine lost old w new v o t number aim (stage.Post a) off k = posting_kept o.is o.goes t number a k
+stage_stays mine lost old w new v o t number aim (stage.Hoist a) off k = hoisting_kept o.is o.goes t number a k
+stage_stays mine lost old w new v o t number aim (stage.Crown a) off k = swapping_kept o.is o.goes t number a (off a.new (inl refl)) k
+stage_stays mine lost old w new v o t number aim (stage.Free a) off k = freeing_kept o.is o.goes a (off a.pid (inl refl)) k
+stage_stays mine lost old w new v o t number aim (stage.Intend a) off k = intending_kept o.is o.goes o.grows t number a k
+stage_stays mine lost old w new v o t number aim (stage.Child a) off k = reading_kept o.is o.goes t number a k
+stage_stays mine lost old w new v o t number aim (stage.Cap a) off k = capping_kept o.is o.goes t number a k
+stage_stays mine lost old w new v o t number aim (stage.Seek a) off k = seeking_kept o.is o.goes t number a k
+stage_stays mine lost old w new v o t number aim (stage.Receive a) off k = receiving_kept o.is o.goes t number a k
+stage_stays mine lost old w new v o t number aim (stage.Confirm a) off k = confirming_kept o.is o.goes t number a k

@@ -1,7 +1,9 @@
 -- What follows where the walk has read a page.
 use Rattle.std.proofs.Common.{◌≡◌, ◌≢◌, ℕ, suc, ◌≤◌, Bool, true, false, List, [], ◌∷◌, ◌++◌, Option, Some, None, option_map, sym, refl, ap, ◌∙◌, subst, inl, inr, ◌⊎◌}
 use Rattle.std.specs.FinMap.Entries.{find}
+use Rattle.std.specs.declared.ops.Bound.{Bound}
 use Rattle.sled_pages.specs.In.{In}
+use Rattle.sled_pages.specs.Among.{IsBefore, is_up_to}
 use Rattle.sled_pages.specs.Node.{Covers, pairs, pointers, count, value_at}
 use Rattle.sled_pages.specs.Order.{Key, key_cmp, Below, UpTo}
 use Rattle.sled_pages.specs.State.{Nodes}
@@ -10,10 +12,14 @@ use Rattle.sled_pages.specs.declared.node.Data.{Data}
 use Rattle.sled_pages.specs.declared.node.Data.TheVariants.{Leaf, Index}
 use Rattle.sled_pages.specs.declared.page.Page.{Page}
 use Rattle.tree_laws.specs.Forest.{Tree, Forest, Place, place, Run, Holds, WellFormed, contents, head, later}
-use Rattle.tree_laws.specs.Moment.{Moment, IsMoment, nodes_at, Stood, Look, IsOpen, Seen, IsActing}
-use Rattle.tree_laws.specs.Stages.{IsWalking, IsHere, PostsAt, AtParent, AtRoot, IsPlace, IsSplitting, IsPosting, IsHoisting}
-use Rattle.tree_laws.specs.Merging.{IsIntending, IsSmallChild, IsMerging, IsMergingOf}
-use Rattle.tree_laws.proofs.Order.{upto-below, upto_below-trans}
+use Rattle.tree_laws.specs.Moment.{Moment, IsMoment, nodes_at, Stood, Look, IsOpen, IsFew, IsFresh, Seen, LiesUnder, IsActing}
+use Rattle.tree_laws.specs.Stages.{parent_of, by_pointer, IsParent, IsBelowParent, IsReached, IsWalking, IsHere, IsPlace, IsSplitting, IsPosting, IsHoisting, IsUnder, IsIntending, IsMerging}
+use Rattle.tree_laws.specs.declared.flight.Reached.{Reached}
+use Rattle.tree_laws.specs.declared.flight.Reached.TheVariants as reached
+use Rattle.tree_laws.specs.declared.flight.Walk.{Walk}
+use Rattle.tree_laws.specs.declared.flight.Posting.{Posting}
+use Rattle.tree_laws.specs.declared.flight.Posting.TheVariants as posting
+use Rattle.tree_laws.proofs.Order.{upto-below, upto_below-trans, within_below}
 use Rattle.tree_laws.proofs.Runs.{In_split, run_parts}
 use Rattle.tree_laws.proofs.Replace.{some_is}
 use Rattle.tree_laws.proofs.Cover.{chain_run, pointer_within, holds_at}
@@ -21,9 +27,7 @@ use Rattle.tree_laws.proofs.Inside.{behind}
 use Rattle.tree_laws.proofs.Reading.{find_law}
 use Rattle.tree_laws.proofs.Stable.{now_law}
 use Rattle.tree_laws.proofs.Known.{as_page, stands_here, view_here, seen_here, root_in, leaf_low, index_high, sound_at}
-
-none_some : {P A : Type 0} {a : A} → None ≡ Some a → P
-none_some e = cc
+use Rattle.tree_laws.proofs.Basics.{none_some}
 
 -- a page with a next page has rising bounds
 pub rises_at : {nodes : Nodes} {roots : Tree → Option ℕ} {w : Forest} (f : WellFormed nodes roots w) (x : Place) (p q : ℕ) (n : Node) → In p (w.chain x) → nodes p ≡ Some n → n.next ≡ Some q → Below n.lo n.hi
@@ -53,9 +57,9 @@ lo_now k named n live = elim k.now [
 ]
 
 -- the root, as it is read
-pub root_here : {m : Moment} {w : Forest} → IsMoment m w → (t : Tree) (number : ℕ) (key : Key) (look : Look) (first : Bool) → m.numbers t ≡ Some number → m.state.roots t ≡ Some look.pid → m.state.pages look.pid ≡ Some (record { version = look.version; node = look.node })
-    → IsHere m w t number key look None first false
-root_here {m} {w} is t number key look first named root live =
+pub root_here : {m : Moment} {w : Forest} → IsMoment m w → (t : Tree) (number : ℕ) (aim : Bound Key) (look : Look) → m.numbers t ≡ Some number → m.state.roots t ≡ Some look.pid → m.state.pages look.pid ≡ Some (record { version = look.version; node = look.node })
+    → IsHere m w t number aim look reached.Root
+root_here {m} {w} is t number aim look named root live =
     let r = root_in is.formed t look.pid root in
     let node_is : r.1 ≡ look.node = some_is r.1 look.node (sym r.3 ∙ ap (option_map (λ (z : Page). z.node)) live) in
     let lo_is : r.1.lo ≡ look.node.lo = ap (λ (z : Node). z.lo) node_is in
@@ -64,32 +68,27 @@ root_here {m} {w} is t number key look first named root live =
       live = live;
       named = named;
       stood = subst (λ l. Stood m w (place t r.0) number l look.pid) lo_is (stands_here is (place t r.0) number look.pid r.1 named r.2 r.3);
-      below = (sym lo_is ∙ r.4, refl);
+      is_reached = sym lo_is ∙ r.4;
     }
 
 -- the cursor, as it is read
-pub cursor_here : {m : Moment} {w : Forest} → IsMoment m w → (t : Tree) (number : ℕ) (key : Key) (parent look : Look) (first unsplit : Bool) → m.numbers t ≡ Some number → IsWalking m w t number key look.pid parent first unsplit → m.state.pages look.pid ≡ Some (record { version = look.version; node = look.node })
-    → IsHere m w t number key look (Some parent) first unsplit
-cursor_here {m} {w} is t number key parent look first unsplit named k live =
-    let lo_is : k.lo ≡ look.node.lo = lo_now k.stood named look.node (ap (option_map (λ (z : Page). z.node)) live) in
+pub cursor_here : {m : Moment} {w : Forest} → IsMoment m w → (t : Tree) (number : ℕ) (aim : Bound Key) (a : Walk) (look : Look) → m.numbers t ≡ Some number → IsWalking m w t number aim a → look.pid ≡ a.cursor → m.state.pages look.pid ≡ Some (record { version = look.version; node = look.node })
+    → IsHere m w t number aim look a.reached
+cursor_here {m} {w} is t number aim a look named k at live =
+    let stood : Stood m w (place t k.height) number k.lo look.pid = subst (λ p. Stood m w (place t k.height) number k.lo p) (sym at) k.stood in
+    let lo_is : k.lo ≡ look.node.lo = lo_now stood named look.node (ap (option_map (λ (z : Page). z.node)) live) in
     record {
       height = k.height;
       live = live;
       named = named;
-      stood = subst (λ l. Stood m w (place t k.height) number l look.pid) lo_is k.stood;
-      below = record {
-        above = k.above;
-        covers = k.covers;
-        within = subst (λ l. Covers parent.node l) lo_is k.within;
-        beyond = λ y. subst (λ l. Below parent.node.lo l) lo_is (k.beyond y);
-        reached = λ a b. subst (λ l. In (l, look.pid) (later (pointers parent.node.content))) lo_is (k.reached a b);
-      };
+      stood = subst (λ l. Stood m w (place t k.height) number l look.pid) lo_is stood;
+      is_reached = subst (λ l. IsReached m w t number k.height aim a.reached l look.pid) lo_is (subst (λ p. IsReached m w t number k.height aim a.reached k.lo p) (sym at) k.is_reached);
     }
 
 -- where a page with a merging child was read, and its pointer is not the first, a merge begins
 pub merge_begins : {m : Moment} {w : Forest} → IsMoment m w → (t : Tree) (number h c before : ℕ) (look : Look) (es : List (Key × ℕ)) (k low : Key) → m.numbers t ≡ Some number
     → In look.pid (w.chain (place t (suc h))) → m.state.pages look.pid ≡ Some (record { version = look.version; node = look.node })
-    → look.node.merging ≡ false → look.node.merging_child ≡ Some c → look.node.content ≡ Index es → In (k, c) (pointers look.node.content) → In (low, before) (pointers look.node.content) → Below low k → IsMerging m w t number h look c before
+    → look.node.merging ≡ false → look.node.merging_child ≡ Some c → look.node.content ≡ Index es → In (k, c) (pointers look.node.content) → In (low, before) (pointers look.node.content) → Below low k → IsMerging m w t number h (record { parent = look; child = c; before = before })
 merge_begins {m} is t number h c before look es k low named i live awake child content ci bi below =
     let node : nodes_at m look.pid ≡ Some look.node = ap (option_map (λ (z : Page). z.node)) live in
     let c_stood = pointer_stood is t number h look.pid look.node k c named i node ci in
@@ -110,142 +109,134 @@ merge_begins {m} is t number h c before look es k low named i live awake child c
       below = below;
     }
 
-module _ {m : Moment} {w : Forest} {t : Tree} {number : ℕ} {key : Key} {look : Look} {o : Option Look} {first unsplit : Bool} (is : IsMoment m w) (here : IsHere m w t number key look o first unsplit) where
-  pub here_node : nodes_at m look.pid ≡ Some look.node
+module _ {m : Moment} {w : Forest} {t : Tree} {number : ℕ} {aim : Bound Key} {look : Look} {by : Reached} (is : IsMoment m w) (here : IsHere m w t number aim look by) (calm : IsOpen look.node) where
+  here_node : nodes_at m look.pid ≡ Some look.node
   here_node = ap (option_map (λ (z : Page). z.node)) here.live
 
-  -- a page that is not merging stands in its chain
-  pub here_in : look.node.merging ≡ false → In look.pid (w.chain (place t here.height))
-  here_in awake = (now_law m w (place t here.height) number look.node.lo look.pid here.stood here.named look.node here_node awake).0
+  -- it stands in its chain
+  here_in : In look.pid (w.chain (place t here.height))
+  here_in = (now_law m w (place t here.height) number look.node.lo look.pid here.stood here.named look.node here_node calm.awake).0
 
-  -- a page with a merging child begins a merge
-  pub to_merging : (c before : ℕ) (k low : Key) → look.node.merging ≡ false → look.node.merging_child ≡ Some c → In (k, c) (pointers look.node.content) → In (low, before) (pointers look.node.content) → Below low k → IsMergingOf m w t number look c before
-  to_merging c before k low awake child ci bi below =
-      let i = here_in awake in
-      let up = index_at here.height (sound_at is.formed (place t here.height) look.pid look.node i here_node).holds in
-      record { height = up.0; merging = merge_begins is t number up.0 c before look up.2 k low here.named (subst (λ h. In look.pid (w.chain (place t h))) up.1 i) here.live awake child up.3 ci bi below }
-    where
-      -- who has a pointer is an index
-      index_at : (h : ℕ) → Holds h look.node.lo look.node.hi look.node.content → (g : ℕ) × (h ≡ suc g) × (es : List (Key × ℕ)) × (look.node.content ≡ Index es)
-      index_at h s = go look.node.content refl s ci
-        where
-          go : (d : Data) → look.node.content ≡ d → Holds h look.node.lo look.node.hi d → In (k, c) (pointers d) → (g : ℕ) × (h ≡ suc g) × (es : List (Key × ℕ)) × (look.node.content ≡ Index es)
-          go (Leaf es) e s j = absurd j
-          go (Index es) e s j = let up = index_high h look.node.lo look.node.hi es s in (up.0, up.1, es, e)
+  here_seen : Seen m w (place t here.height) number look
+  here_seen = seen_here is (place t here.height) number look here.named here.live here_in calm
 
-  module _ (calm : IsOpen look.node) where
-    pub here_seen : Seen m w (place t here.height) number look
-    here_seen = seen_here is (place t here.height) number look here.named here.live (here_in calm.awake) calm
+  here_under : (parent : Look) → Covers parent.node look.node.lo → IsUnder m w (place t here.height) parent look.node.lo look.pid
+  here_under parent within = record { covers = within; node = look.node; chained = here_in; live = here_node; lo = refl; awake = calm.awake }
 
-    -- the page behind it
-    pub here_next : (q : ℕ) → look.node.hi ≢ [] → look.node.next ≡ Some q → (e : Node) × In q (w.chain (place t here.height)) × (nodes_at m q ≡ Some e) × (e.lo ≡ look.node.hi)
-    here_next q more next = elim (behind is.formed (place t here.height) look.pid look.node (here_in calm.awake) here_node) [
-      | inl e ↦ absurd (more e)
-      | inr a ↦
-          let same : a.0 ≡ q = some_is a.0 q (sym a.5 ∙ next) in
-          (a.1, subst (λ z. In z (w.chain (place t here.height))) same a.2, ap (nodes_at m) (sym same) ∙ a.3, a.4)
-    ]
+  -- the page behind it
+  here_next : (q : ℕ) → look.node.hi ≢ [] → look.node.next ≡ Some q → (e : Node) × In q (w.chain (place t here.height)) × (nodes_at m q ≡ Some e) × (e.lo ≡ look.node.hi)
+  here_next q more next = elim (behind is.formed (place t here.height) look.pid look.node here_in here_node) [
+    | inl e ↦ absurd (more e)
+    | inr a ↦
+        let same : a.0 ≡ q = some_is a.0 q (sym a.5 ∙ next) in
+        (a.1, subst (λ z. In z (w.chain (place t here.height))) same a.2, ap (nodes_at m) (sym same) ∙ a.3, a.4)
+  ]
 
-    pub here_rises : (q : ℕ) → look.node.next ≡ Some q → Below look.node.lo look.node.hi
-    here_rises q next = rises_at is.formed (place t here.height) look.pid q look.node (here_in calm.awake) here_node next
+  here_rises : (q : ℕ) → look.node.next ≡ Some q → Below look.node.lo look.node.hi
+  here_rises q next = rises_at is.formed (place t here.height) look.pid q look.node here_in here_node next
 
-    -- it is to be split
-    pub to_splitting : (posts : PostsAt) → IsPlace m w t number here.height look posts → IsSplitting m w t number look posts
-    to_splitting posts k = record { height = here.height; seen = here_seen; posted = k }
+  -- it lies below the parent through which it was reached
+  here_below : (by : Reached) (p : Look) → parent_of by ≡ Some p → IsReached m w t number here.height aim by look.node.lo look.pid → IsBelowParent m w t number here.height aim p look.node.lo
+  here_below reached.Root p e k = none_some e
+  here_below (reached.FirstPointer parent) p e k = subst (λ z. IsBelowParent m w t number here.height aim z look.node.lo) (some_is parent p e) k
+  here_below (reached.LaterPointer parent) p e k = subst (λ z. IsBelowParent m w t number here.height aim z look.node.lo) (some_is parent p e) k.0
+  here_below (reached.Next parent) p e k = subst (λ z. IsBelowParent m w t number here.height aim z look.node.lo) (some_is parent p e) k.0
 
-    -- it covers the key and is a leaf
-    pub to_acting : (es : List (Key × Key)) → look.node.content ≡ Leaf es → Covers look.node key → IsActing m w t number key look
-    to_acting es leaf covers =
-        let low = leaf_low here.height look.node.lo look.node.hi es (subst (λ c. Holds here.height look.node.lo look.node.hi c) leaf here_seen.sound.holds) in
-        record { seen = subst (λ h. Seen m w (place t h) number look) low here_seen; covers = covers; es = es; content = leaf }
-
-    -- it covers the key and is an index: the walk goes down
-    pub to_child : (es : List (Key × ℕ)) (l : Key) (c : ℕ) (is_first : Bool) → look.node.content ≡ Index es → Covers look.node key → In (l, c) es → (is_first ≡ false → In (l, c) (later es)) → IsWalking m w t number key c look is_first false
-    to_child es l c is_first index covers j further =
-        let up = index_high here.height look.node.lo look.node.hi es (subst (λ d. Holds here.height look.node.lo look.node.hi d) index here_seen.sound.holds) in
-        let i : In look.pid (w.chain (place t (suc up.0))) = subst (λ h. In look.pid (w.chain (place t h))) up.1 (here_in calm.awake) in
-        let ci : In (l, c) (pointers look.node.content) = subst (λ d. In (l, c) (pointers d)) (sym index) j in
-        record {
-          height = up.0;
-          above = record { seen = subst (λ h. Seen m w (place t h) number look) up.1 here_seen; es = es; content = index };
-          covers = covers;
-          lo = l;
-          stood = pointer_stood is t number up.0 look.pid look.node l c here.named i here_node ci;
-          within = pointer_within up.0 look.node.lo look.node.hi look.node.content (holds_at is.formed (place t (suc up.0)) look.pid look.node i here_node) l c ci;
-          beyond = λ y. absurd (not_both y);
-          reached = λ a b. subst (λ d. In (l, c) (later (pointers d))) (sym index) (further a);
-        }
-      where
-        not_both : false ≡ true → ⊥
-        not_both e = cc
-
-    -- what a leaf that covers the key has at it is what the tree has at it
-    pub here_answers : (es : List (Key × Key)) → look.node.content ≡ Leaf es → Covers look.node key → find key_cmp key (contents (nodes_at m) w t) ≡ value_at look.node.content key
-    here_answers es leaf covers =
-        let low = leaf_low here.height look.node.lo look.node.hi es (subst (λ c. Holds here.height look.node.lo look.node.hi c) leaf here_seen.sound.holds) in
-        let i : In look.pid (w.chain (place t 0)) = subst (λ h. In look.pid (w.chain (place t h))) low (here_in calm.awake) in
-        find_law (nodes_at m) m.state.roots w is.formed t look.pid look.node key i here_node covers ∙ ap (λ c. find key_cmp key (pairs c)) leaf ∙ sym (ap (λ c. value_at c key) leaf)
-
--- an open page under its parent
-module _ {m : Moment} {w : Forest} {t : Tree} {number : ℕ} {key : Key} {look parent : Look} {first unsplit : Bool} (is : IsMoment m w) (here : IsHere m w t number key look (Some parent) first unsplit) (calm : IsOpen look.node) where
-  -- the key lies further on: the walk goes to the next page
-  pub to_next : (q : ℕ) (is_first : Bool) → look.node.hi ≢ [] → UpTo look.node.hi key → look.node.next ≡ Some q → IsWalking m w t number key q parent is_first true
-  to_next q is_first more further next =
-      let a = here_next is here calm q more next in
-      let b = here.below in
-      let on : Below parent.node.lo look.node.hi = upto_below-trans parent.node.lo look.node.lo look.node.hi b.within.0 (here_rises is here calm q next) in
-      record {
-        height = here.height;
-        above = b.above;
-        covers = b.covers;
-        lo = look.node.hi;
-        stood = subst (λ l. Stood m w (place t here.height) number l q) a.3 (stands_here is (place t here.height) number q a.0 here.named a.1 a.2);
-        within = (upto-below parent.node.lo look.node.hi on, elim b.covers.1 [ inl e ↦ inl e | inr c ↦ inr (upto_below-trans look.node.hi key parent.node.hi further c) ]);
-        beyond = λ y. on;
-        reached = λ x e. absurd (apart e);
-      }
-    where
-      apart : true ≡ false → ⊥
-      apart e = cc
-
-  -- it has no pointer yet: it is to be posted
-  pub to_posting : unsplit ≡ true → IsPosting m w t number parent look.node.lo look.pid
-  to_posting y = record {
-    height = here.height;
-    above = here.below.above;
-    beyond = here.below.beyond y;
-    under = λ named fresh. record { covers = here.below.within; node = look.node; chained = here_in is here calm.awake; live = here_node is here; lo = refl; awake = calm.awake };
-  }
-
-  -- it should merge, and was reached by a later pointer: it is to become the merging child
-  pub to_intending : first ≡ false → unsplit ≡ false → IsIntending m w t number parent look.pid
-  to_intending a b = record {
-    height = here.height;
-    above = here.below.above;
-    key = look.node.lo;
-    pointer = here.below.reached a b;
-    under = λ named fresh. record { covers = here.below.within; node = look.node; chained = here_in is here calm.awake; live = here_node is here; lo = refl; awake = calm.awake };
-  }
-
-  pub to_small : count look.node.content ≤ 17 → IsSmallChild m t number parent look.pid
-  to_small few = record { small = λ named fresh d live. subst (λ (z : Node). count z.content ≤ 17) (some_is look.node d (sym (here_node is here) ∙ live)) few }
+  -- or is the root
+  here_root : (by : Reached) → parent_of by ≡ None → IsReached m w t number here.height aim by look.node.lo look.pid → look.node.lo ≡ []
+  here_root reached.Root e k = k
+  here_root (reached.FirstPointer parent) e k = none_some (sym e)
+  here_root (reached.LaterPointer parent) e k = none_some (sym e)
+  here_root (reached.Next parent) e k = none_some (sym e)
 
   -- it is to be split, and its right half is posted at the parent
-  pub to_parent_place : IsPlace m w t number here.height look (AtParent parent)
-  to_parent_place = (here.below.above, here.below.within)
+  pub to_split_below : (p : Look) → parent_of by ≡ Some p → IsSplitting m w t number (record { page = look; posting = posting.Parent p })
+  to_split_below p e = let b = here_below by p e here.is_reached in record { height = here.height; seen = here_seen; posted = (b.above, b.within, b.few) }
 
--- the root, open
-module _ {m : Moment} {w : Forest} {t : Tree} {number : ℕ} {key : Key} {look : Look} {first unsplit : Bool} (is : IsMoment m w) (here : IsHere m w t number key look None first unsplit) (calm : IsOpen look.node) where
-  -- the key lies further on: a new root is to come over the root and the next page
-  pub to_hoisting : (q : ℕ) → look.node.hi ≢ [] → look.node.next ≡ Some q → IsHoisting m w t number look.pid look.node.hi q
-  to_hoisting q more next =
-      let a = here_next is here calm q more next in
+  pub to_split_root : parent_of by ≡ None → IsSplitting m w t number (record { page = look; posting = posting.Root })
+  to_split_root e = record { height = here.height; seen = here_seen; posted = here_root by e here.is_reached }
+
+  -- the aim lies further on: the walk goes to the next page
+  pub to_next : (parent : Look) (q : ℕ) → parent_of by ≡ Some parent → look.node.hi ≢ [] → is_up_to aim look.node.hi ≡ true → look.node.next ≡ Some q → IsWalking m w t number aim (record { cursor = q; reached = reached.Next parent })
+  to_next parent q e more further next =
+      let a = here_next q more next in
+      let b = here_below by parent e here.is_reached in
+      let on : Below parent.node.lo look.node.hi = upto_below-trans parent.node.lo look.node.lo look.node.hi b.within.0 (here_rises q next) in
       record {
         height = here.height;
-        stood = subst (λ l. Stood m w (place t here.height) number l look.pid) here.below.0 here.stood;
-        beyond = subst (λ l. Below l look.node.hi) here.below.0 (here_rises is here calm q next);
+        lo = look.node.hi;
+        stood = subst (λ l. Stood m w (place t here.height) number l q) a.3 (stands_here is (place t here.height) number q a.0 here.named a.1 a.2);
+        is_reached = (
+          record {
+            above = b.above;
+            under = b.under;
+            within = (upto-below parent.node.lo look.node.hi on, elim b.under.1 [ inl e ↦ inl e | inr c ↦ inr (within_below aim look.node.hi parent.node.hi further c) ]);
+            few = b.few;
+          },
+          on,
+        );
+      }
+
+  -- or a new root is to come over the root and the next page
+  pub to_hoisting : (q : ℕ) → parent_of by ≡ None → look.node.hi ≢ [] → look.node.next ≡ Some q → IsHoisting m w t number (record { left = look.pid; at = look.node.hi; right = q })
+  to_hoisting q e more next =
+      let a = here_next q more next in
+      let lo_is = here_root by e here.is_reached in
+      record {
+        height = here.height;
+        stood = subst (λ l. Stood m w (place t here.height) number l look.pid) lo_is here.stood;
+        beyond = subst (λ l. Below l look.node.hi) lo_is (here_rises q next);
         beside = λ named root. (a.0, a.1, a.2, a.3);
       }
 
-  pub to_root_place : IsPlace m w t number here.height look AtRoot
-  to_root_place = here.below.0
+  -- it has no pointer yet: it is to be posted
+  pub to_posting : (parent : Look) → by ≡ reached.Next parent → IsPosting m w t number (record { parent = parent; at = look.node.lo; pid = look.pid })
+  to_posting parent e =
+      let b = subst (λ z. IsReached m w t number here.height aim z look.node.lo look.pid) e here.is_reached in
+      record { height = here.height; above = b.0.above; few = b.0.few; beyond = b.1; under = λ named fresh. here_under parent b.0.within }
+
+  -- it should merge, and was reached by a later pointer: it is to become the merging child
+  pub to_intending : (parent : Look) (before : ℕ) → by ≡ reached.LaterPointer parent → count look.node.content ≤ 17 → IsBefore look.pid (pointers parent.node.content) before
+      → IsIntending m w t number (record { parent = parent; child = look.pid; before = before })
+  to_intending parent before e few is_before =
+      let b = subst (λ z. IsReached m w t number here.height aim z look.node.lo look.pid) e here.is_reached in
+      record {
+        height = here.height;
+        above = b.0.above;
+        key = look.node.lo;
+        pointer = b.1;
+        under = λ named fresh. here_under parent b.0.within;
+        small = λ named fresh d live. subst (λ (z : Node). count z.content ≤ 17) (some_is look.node d (sym here_node ∙ live)) few;
+        before = is_before;
+      }
+
+  -- it lies under the aim and is a leaf
+  pub to_acting : (es : List (Key × Key)) → look.node.content ≡ Leaf es → LiesUnder aim look.node → IsActing m w t number aim look
+  to_acting es leaf under =
+      let low = leaf_low here.height look.node.lo look.node.hi es (subst (λ c. Holds here.height look.node.lo look.node.hi c) leaf here_seen.sound.holds) in
+      record { seen = subst (λ h. Seen m w (place t h) number look) low here_seen; under = under; es = es; content = leaf }
+
+  -- or an index: the walk goes down
+  pub to_child : (es : List (Key × ℕ)) (l : Key) (c : ℕ) (is_first : Bool) → look.node.content ≡ Index es → LiesUnder aim look.node → IsFew look → In (l, c) es → (is_first ≡ false → In (l, c) (later es)) → IsWalking m w t number aim (record { cursor = c; reached = by_pointer look is_first })
+  to_child es l c is_first index under few j further =
+      let up = index_high here.height look.node.lo look.node.hi es (subst (λ d. Holds here.height look.node.lo look.node.hi d) index here_seen.sound.holds) in
+      let i : In look.pid (w.chain (place t (suc up.0))) = subst (λ h. In look.pid (w.chain (place t h))) up.1 here_in in
+      let ci : In (l, c) (pointers look.node.content) = subst (λ d. In (l, c) (pointers d)) (sym index) j in
+      let b : IsBelowParent m w t number up.0 aim look l = record {
+        above = record { seen = subst (λ h. Seen m w (place t h) number look) up.1 here_seen; es = es; content = index };
+        under = under;
+        within = pointer_within up.0 look.node.lo look.node.hi look.node.content (holds_at is.formed (place t (suc up.0)) look.pid look.node i here_node) l c ci;
+        few = few;
+      } in
+      record { height = up.0; lo = l; stood = pointer_stood is t number up.0 look.pid look.node l c here.named i here_node ci; is_reached = go is_first up.0 further b }
+    where
+      go : (is_first : Bool) (h : ℕ) → (is_first ≡ false → In (l, c) (later es)) → IsBelowParent m w t number h aim look l → IsReached m w t number h aim (by_pointer look is_first) l c
+      go true h further b = b
+      go false h further b = (b, subst (λ d. In (l, c) (later (pointers d))) (sym index) (further refl))
+
+  -- what a leaf that covers a key has at it is what the tree has at it
+  pub here_answers : (es : List (Key × Key)) (key : Key) → look.node.content ≡ Leaf es → Covers look.node key → find key_cmp key (contents (nodes_at m) w t) ≡ value_at look.node.content key
+  here_answers es key leaf covers =
+      let low = leaf_low here.height look.node.lo look.node.hi es (subst (λ c. Holds here.height look.node.lo look.node.hi c) leaf here_seen.sound.holds) in
+      let i : In look.pid (w.chain (place t 0)) = subst (λ h. In look.pid (w.chain (place t h))) low here_in in
+      find_law (nodes_at m) m.state.roots w is.formed t look.pid look.node key i here_node covers ∙ ap (λ c. find key_cmp key (pairs c)) leaf ∙ sym (ap (λ c. value_at c key) leaf)

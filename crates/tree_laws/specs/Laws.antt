@@ -2,6 +2,8 @@
 use Rattle.std.specs.Prelude.{◌≡◌, ◌≢◌, ◌⊎◌, ℕ, suc, ◌<◌, ◌≤◌, ◌^◌, true, false, T, List, [], ◌∷◌, ◌++◌, length, Option, Some, None, option_map}
 use Rattle.std.specs.FinMap.Entries.{put, find, is_sorted}
 use Rattle.std.specs.List.{AllByRecursion}
+use Rattle.std.specs.declared.ops.Bound.{Bound}
+use Rattle.std.specs.declared.ops.Bound.TheVariants.{Included}
 use Rattle.sled_pages.specs.Order.{Key, key_cmp, Below, UpTo}
 use Rattle.sled_pages.specs.In.{In}
 use Rattle.sled_pages.specs.Update.{put_at, put_name}
@@ -199,24 +201,24 @@ pub record Written (old : Moment) (w : Forest) (new : Moment) (t : Tree) (change
 
 -- a `Set` at the leaf that a call means to change puts the pair into the tree's contents
 abbrev pub WriteLaw : Type 0
-WriteLaw = (m : Moment) (w : Forest) → IsMoment m w → (t : Tree) (number : ℕ) (key : Key) (look : Look) (node : Node) → IsActing m w t number key look → IsCurrent m t number look node
+WriteLaw = (m : Moment) (w : Forest) → IsMoment m w → (t : Tree) (number : ℕ) (key : Key) (look : Look) (node : Node) → IsActing m w t number (Included key) look → IsCurrent m t number look node
     → (value : Key) (version : ℕ) → m.versions version ≡ false
     → Written m w (replaced m look.pid (record { version = version; node = applied (Set key value) node })) t (put key_cmp key value) (count (applied (Set key value) node).content ≤ 17)
 
 -- a `Del` takes it out
 abbrev pub EraseLaw : Type 0
-EraseLaw = (m : Moment) (w : Forest) → IsMoment m w → (t : Tree) (number : ℕ) (key : Key) (look : Look) (node : Node) → IsActing m w t number key look → IsCurrent m t number look node
+EraseLaw = (m : Moment) (w : Forest) → IsMoment m w → (t : Tree) (number : ℕ) (key : Key) (look : Look) (node : Node) → IsActing m w t number (Included key) look → IsCurrent m t number look node
     → (version : ℕ) → m.versions version ≡ false
     → Written m w (replaced m look.pid (record { version = version; node = applied (Del key) node })) t (without key) (Unit {0})
 
 -- and what the view has at the key is what the tree has at it then
 abbrev pub AnswerLaw : Type 0
-AnswerLaw = (m : Moment) (w : Forest) → IsMoment m w → (t : Tree) (number : ℕ) (key : Key) (look : Look) (node : Node) → IsActing m w t number key look → IsCurrent m t number look node
+AnswerLaw = (m : Moment) (w : Forest) → IsMoment m w → (t : Tree) (number : ℕ) (key : Key) (look : Look) (node : Node) → IsActing m w t number (Included key) look → IsCurrent m t number look node
     → find key_cmp key (contents (nodes_at m) w t) ≡ value_at look.node.content key
 
 -- a leaf that a call means to change stays so through each action of others
 abbrev pub ActingLaw : Type 0
-ActingLaw = (mine : List ℕ) (lost : Option Tree) (old new : Moment) (w v : Forest) → Goes mine lost old w new v → (t : Tree) (number : ℕ) (key : Key) (look : Look) → IsActing old w t number key look → IsActing new v t number key look
+ActingLaw = (mine : List ℕ) (lost : Option Tree) (old new : Moment) (w v : Forest) → Goes mine lost old w new v → (t : Tree) (number : ℕ) (aim : Bound Key) (look : Look) → IsActing old w t number aim look → IsActing new v t number aim look
 
 -- the number of a tree's pages as a function is the forest's: those of the levels from the root's down
 abbrev pub PagesLaw : Type 0

@@ -7,7 +7,6 @@ pub mod Laws
 pub mod CrashLaws
 pub mod PageLaws
 pub mod Stages
-pub mod Merging
 pub mod Paths
 pub mod Drops
 pub mod StageLaws

@@ -1,15 +1,17 @@
 -- The store at one moment, what every action of a call keeps for the others, and what a call in flight knows.
-use Rattle.std.specs.Prelude.{◌≡◌, ◌≢◌, ℕ, suc, ◌<◌, ◌≤◌, ◌^◌, ◌⊎◌, Bool, true, false, List, Option, Some, None}
+use Rattle.std.specs.Prelude.{◌≡◌, ◌≢◌, ℕ, suc, ◌<◌, ◌≤◌, ◌^◌, ◌⊎◌, Bool, true, false, List, [], ◌++◌, Option, Some, None}
+use Rattle.std.specs.declared.ops.Bound.{Bound}
 use Rattle.sled_pages.specs.Order.{Key}
 use Rattle.sled_pages.specs.In.{In}
-use Rattle.sled_pages.specs.Node.{count, Within}
+use Rattle.sled_pages.specs.Among.{is_up_to}
+use Rattle.sled_pages.specs.Node.{count}
 use Rattle.sled_pages.specs.State.{State, Nodes, nodes_of}
 use Rattle.sled_pages.specs.Store.{Store, now}
 use Rattle.sled_pages.specs.declared.node.Node.{Node}
 use Rattle.sled_pages.specs.declared.node.Data.TheVariants.{Leaf}
 use Rattle.sled_pages.specs.declared.page.Page.{Page}
 use Rattle.sled_pages.specs.declared.page.View.{View}
-use Rattle.tree_laws.specs.Forest.{Tree, Forest, Place, place, WellFormed, IsNodeAt}
+use Rattle.tree_laws.specs.Forest.{Tree, Forest, Place, place, WellFormed, IsNodeAt, IsSized}
 
 -- The pages and roots now, the page numbers and versions ever given, each tree's number now, and the tree numbers ever given
 pub record Moment : Type 0 where
@@ -92,6 +94,16 @@ pub record Grows (old new : Nodes) (w : Forest) : Type 0 where
   pub grows : (x : Place) (p : ℕ) (n m : Node) → In p (w.chain x) → old p ≡ Some n → new p ≡ Some m
       → (count m.content ≤ count n.content) ⊎ ((count m.content ≤ 17) ⊎ ((c : ℕ) × (d : Node) × (n.next ≡ Some c) × (old c ≡ Some d) × (d.merging ≡ true)))
 
+-- An action of a call that owned the pages `mine` before it and owns `own` after it
+pub record Acts (mine own : List ℕ) (old : Moment) (w : Forest) (new : Moment) (v : Forest) : Type 0 where
+  pub is : IsMoment new v
+  pub goes : Goes (mine ++ own) None old w new v
+  -- what it came to own was its own, or is new, or had a home until then
+  pub fresh : (q : ℕ) → In q own → In q mine ⊎ ((old.pids q ≡ false) ⊎ ((x : Place) × (w.home q ≡ Some x)))
+  -- no page gets too many entries
+  pub sized : IsSized (nodes_at old) w → IsSized (nodes_at new) v
+  pub grows : Grows (nodes_at old) (nodes_at new) w
+
 -- a view of the page p at version v as the node n: it speaks of the page while the page has this version
 pub record Viewed (m : Moment) (p v : ℕ) (n : Node) : Type 0 where
   pub given : m.versions v ≡ true
@@ -126,10 +138,14 @@ pub record Seen (m : Moment) (w : Forest) (x : Place) (number : ℕ) (look : Loo
   pub is_open : IsOpen look.node
   pub sound : IsNodeAt x.height look.node
 
--- a leaf that covers the key
-pub record IsActing (m : Moment) (w : Forest) (t : Tree) (number : ℕ) (key : Key) (look : Look) : Type 0 where
+-- the node may hold what a walk aims at: it begins within the aim, and does not end within it
+abbrev pub LiesUnder : Bound Key → Node → Type 0
+LiesUnder aim n = (is_up_to aim n.lo ≡ true) × ((n.hi ≡ []) ⊎ (is_up_to aim n.hi ≡ false))
+
+-- a leaf that lies under the aim
+pub record IsActing (m : Moment) (w : Forest) (t : Tree) (number : ℕ) (aim : Bound Key) (look : Look) : Type 0 where
   pub seen : Seen m w (place t 0) number look
-  pub covers : Within look.node.lo look.node.hi key
+  pub under : LiesUnder aim look.node
   pub es : List (Key × Key)
   pub content : look.node.content ≡ Leaf es
 

@@ -14,174 +14,200 @@ use Rattle.sled_pages.specs.declared.node.Node.{Node}
 use Rattle.sled_pages.specs.declared.node.Data.TheVariants.{Leaf, Index}
 use Rattle.sled_pages.specs.declared.link.Link.TheVariants.{ParentMergeIntention, ParentMergeConfirm, ChildMergeCap}
 use Rattle.tree_laws.specs.Forest.{Tree, Forest, Place, place, IsNodeAt, WellFormed, contents, later}
-use Rattle.tree_laws.specs.Moment.{Moment, IsMoment, nodes_at, Stood, Goes, Grows, Look, IsOpen, IsFew, IsActing}
+use Rattle.tree_laws.specs.Action.{IsSplit, IsReceived}
+use Rattle.tree_laws.specs.Moment.{Moment, IsMoment, nodes_at, Stood, Goes, Grows, Acts, Look, IsOpen, IsFew, LiesUnder, IsActing}
 use Rattle.tree_laws.specs.Laws.{IsCurrent, replaced, allocated, freed, hoisted}
-use Rattle.tree_laws.specs.Stages.{IsWalking, IsHere, PostsAt, AtParent, AtRoot, Nowhere, IsSplitting, IsReplacing, IsPosting, IsHoisting, IsOver, IsSwapping, IsFreeing, Quiet, IsHalved, IsJoined}
-use Rattle.tree_laws.specs.Merging.{IsIntending, IsSmallChild, IsMergingOf, IsCappingOf, IsSeekingOf, IsReceivingOf, IsConfirmingOf}
+use Rattle.tree_laws.specs.Stages.{parent_of, by_pointer, IsWalking, IsHere, IsSplitting, IsPosting, IsHoisting, IsOver, IsIntending, IsReadingChild, IsStage, owned}
+use Rattle.tree_laws.specs.declared.flight.Reached.{Reached}
+use Rattle.tree_laws.specs.declared.flight.Reached.TheVariants as reached
+use Rattle.tree_laws.specs.declared.flight.Posting.{Posting}
+use Rattle.tree_laws.specs.declared.flight.Posting.TheVariants as posting
+use Rattle.tree_laws.specs.declared.flight.Walk.{Walk}
+use Rattle.tree_laws.specs.declared.flight.Split.{Split}
+use Rattle.tree_laws.specs.declared.flight.Shorten.{Shorten}
+use Rattle.tree_laws.specs.declared.flight.Post.{Post}
+use Rattle.tree_laws.specs.declared.flight.Hoist.{Hoist}
+use Rattle.tree_laws.specs.declared.flight.Crown.{Crown}
+use Rattle.tree_laws.specs.declared.flight.Own.{Own}
+use Rattle.tree_laws.specs.declared.flight.Merge.{Merge}
+use Rattle.tree_laws.specs.declared.flight.Cap.{Cap}
+use Rattle.tree_laws.specs.declared.flight.Seek.{Seek}
+use Rattle.tree_laws.specs.declared.flight.Receive.{Receive}
+use Rattle.tree_laws.specs.declared.flight.Confirm.{Confirm}
+use Rattle.tree_laws.specs.declared.flight.Stage.{Stage}
+use Rattle.tree_laws.specs.declared.flight.Stage.TheVariants as stage
 
 -- an action of another call
 pub record IsOthers (mine : List ℕ) (lost : Option Tree) (old : Moment) (w : Forest) (new : Moment) (v : Forest) : Type 0 where
   pub is : IsMoment old w
   pub goes : Goes mine lost old w new v
+  pub grows : Grows (nodes_at old) (nodes_at new) w
 
--- What a call knows at each of its stages, it knows still after an action of another call, if its own pages are not the other's
-pub record StagesKept (mine : List ℕ) (old : Moment) (w : Forest) (new : Moment) (v : Forest) (t : Tree) (number : ℕ) : Type 0 where
-  pub walking : (key : Key) (cursor : ℕ) (parent : Look) (first unsplit : Bool) → IsWalking old w t number key cursor parent first unsplit → IsWalking new v t number key cursor parent first unsplit
-  pub acting : (key : Key) (look : Look) → IsActing old w t number key look → IsActing new v t number key look
-  pub splitting : (page : Look) (posts : PostsAt) → IsSplitting old w t number page posts → IsSplitting new v t number page posts
-  pub replacing : (page : Look) (posts : PostsAt) (left : Node) (at : Key) (q version : ℕ) → ¬ (In q mine) → IsReplacing old w t number page posts left at q version → IsReplacing new v t number page posts left at q version
-  pub posting : (parent : Look) (at : Key) (pid : ℕ) → IsPosting old w t number parent at pid → IsPosting new v t number parent at pid
-  pub hoisting : (left : ℕ) (at : Key) (right : ℕ) → IsHoisting old w t number left at right → IsHoisting new v t number left at right
-  pub swapping : (left q version : ℕ) → ¬ (In q mine) → IsSwapping old w t number left q version → IsSwapping new v t number left q version
-  pub freeing : (pid version : ℕ) → ¬ (In pid mine) → IsFreeing old w pid version → IsFreeing new v pid version
-  pub intending : (parent : Look) (c : ℕ) → IsIntending old w t number parent c → IsIntending new v t number parent c
-  pub small : Grows (nodes_at old) (nodes_at new) w → (parent : Look) (c : ℕ) → IsIntending old w t number parent c → IsSmallChild old t number parent c → IsSmallChild new t number parent c
-  pub merging : (parent : Look) (c before : ℕ) → IsMergingOf old w t number parent c before → IsMergingOf new v t number parent c before
-  pub capping : (parent : Look) (c before : ℕ) (page : Look) → IsCappingOf old w t number parent c before page → IsCappingOf new v t number parent c before page
-  pub seeking : (parent : Look) (c before version : ℕ) (d : Node) (cursor : ℕ) → IsSeekingOf old w t number parent c before version d cursor → IsSeekingOf new v t number parent c before version d cursor
-  pub receiving : (parent : Look) (c before version : ℕ) (d : Node) (left : Look) → IsReceivingOf old w t number parent c before version d left → IsReceivingOf new v t number parent c before version d left
-  pub confirming : (parent : Look) (c version : ℕ) (d : Node) → IsConfirmingOf old w t number parent c version d → IsConfirmingOf new v t number parent c version d
-
-abbrev pub StagesLaw : Type 0
-StagesLaw = (mine : List ℕ) (lost : Option Tree) (old : Moment) (w : Forest) (new : Moment) (v : Forest) → IsOthers mine lost old w new v → (t : Tree) (number : ℕ) → StagesKept mine old w new v t number
+-- What a call knows at its stage, it knows still after an action of another call, if its own pages are not the other's
+abbrev pub StageStays : Type 0
+StageStays = (mine : List ℕ) (lost : Option Tree) (old : Moment) (w : Forest) (new : Moment) (v : Forest) → IsOthers mine lost old w new v → (t : Tree) (number : ℕ) (aim : Bound Key) (a : Stage)
+    → ((q : ℕ) → In q (owned a) → ¬ (In q mine)) → IsStage old w t number aim a → IsStage new v t number aim a
 
 -- Where each page that a call came to own was its own, or is new, or had a home until then, a page that is another call's own
 -- and was not this call's own is not so now
 abbrev pub ApartLaw : Type 0
 ApartLaw = (mine own : List ℕ) (old : Moment) (w : Forest) → IsMoment old w → ((q : ℕ) → In q own → In q mine ⊎ ((old.pids q ≡ false) ⊎ ((x : Place) × (w.home q ≡ Some x))))
-    → (pid version : ℕ) → IsFreeing old w pid version → ¬ (In pid mine) → ¬ (In pid own)
+    → (t : Tree) (number : ℕ) (aim : Bound Key) (a : Stage) → IsStage old w t number aim a → (q : ℕ) → In q (owned a) → ¬ (In q mine) → ¬ (In q own)
 
 -- What follows where the walk has read an open page, by what it finds there
-pub record Follows (m : Moment) (w : Forest) (t : Tree) (number : ℕ) (key : Key) (look : Look) (parent : Option Look) (first unsplit : Bool) : Type 0 where
+pub record Follows (m : Moment) (w : Forest) (t : Tree) (number : ℕ) (aim : Bound Key) (look : Look) (by : Reached) : Type 0 where
   -- it is too long: it is split, and the right half is posted at the parent or the root
-  pub splits_below : (p : Look) → parent ≡ Some p → IsSplitting m w t number look (AtParent p)
-  pub splits_root : parent ≡ None → IsSplitting m w t number look AtRoot
-  -- the key lies further on: a root is hoisted, below a parent the walk goes to the next page
-  pub hoists : (q : ℕ) → parent ≡ None → look.node.hi ≢ [] → look.node.next ≡ Some q → IsHoisting m w t number look.pid look.node.hi q
-  pub goes_on : (p : Look) (q : ℕ) (is_first : Bool) → parent ≡ Some p → look.node.hi ≢ [] → UpTo look.node.hi key → look.node.next ≡ Some q → IsWalking m w t number key q p is_first true
+  pub splits_below : (p : Look) → parent_of by ≡ Some p → IsSplitting m w t number (record { page = look; posting = posting.Parent p })
+  pub splits_root : parent_of by ≡ None → IsSplitting m w t number (record { page = look; posting = posting.Root })
+  -- the aim lies further on: a root is hoisted, below a parent the walk goes to the next page
+  pub hoists : (q : ℕ) → parent_of by ≡ None → look.node.hi ≢ [] → look.node.next ≡ Some q → IsHoisting m w t number (record { left = look.pid; at = look.node.hi; right = q })
+  pub goes_on : (p : Look) (q : ℕ) → parent_of by ≡ Some p → look.node.hi ≢ [] → is_up_to aim look.node.hi ≡ true → look.node.next ≡ Some q → IsWalking m w t number aim (record { cursor = q; reached = reached.Next p })
   -- it was reached by `next`: its pointer is posted
-  pub posts : (p : Look) → parent ≡ Some p → unsplit ≡ true → IsPosting m w t number p look.node.lo look.pid
+  pub posts : (p : Look) → by ≡ reached.Next p → IsPosting m w t number (record { parent = p; at = look.node.lo; pid = look.pid })
   -- it was reached by a later pointer, and should merge: it becomes the parent's merging child
-  pub intends : (p : Look) → parent ≡ Some p → first ≡ false → unsplit ≡ false → IsIntending m w t number p look.pid
-  pub small : (p : Look) → count look.node.content ≤ 17 → IsSmallChild m t number p look.pid
-  -- it is an index that covers the key: the walk goes down
-  pub descends : (es : List (Key × ℕ)) (low : Key) (c : ℕ) (is_first : Bool) → look.node.content ≡ Index es → Covers look.node key → In (low, c) es → (is_first ≡ false → In (low, c) (later es)) → IsWalking m w t number key c look is_first false
-  -- it is a leaf that covers the key: the call acts or answers
-  pub acts : (es : List (Key × Key)) → look.node.content ≡ Leaf es → Covers look.node key → IsActing m w t number key look
-  pub answers : (es : List (Key × Key)) → look.node.content ≡ Leaf es → Covers look.node key → find key_cmp key (contents (nodes_at m) w t) ≡ value_at look.node.content key
+  pub intends : (p : Look) (before : ℕ) → by ≡ reached.LaterPointer p → count look.node.content ≤ 17 → IsBefore look.pid (pointers p.node.content) before
+      → IsIntending m w t number (record { parent = p; child = look.pid; before = before })
+  -- it is an index that lies under the aim: the walk goes down
+  pub descends : (es : List (Key × ℕ)) (low : Key) (c : ℕ) (is_first : Bool) → look.node.content ≡ Index es → LiesUnder aim look.node → IsFew look → In (low, c) es → (is_first ≡ false → In (low, c) (later es))
+      → IsWalking m w t number aim (record { cursor = c; reached = by_pointer look is_first })
+  -- it is a leaf that lies under the aim: the call acts, or answers by a key that the leaf covers
+  pub acts : (es : List (Key × Key)) → look.node.content ≡ Leaf es → LiesUnder aim look.node → IsActing m w t number aim look
+  pub answers : (es : List (Key × Key)) (key : Key) → look.node.content ≡ Leaf es → Covers look.node key → find key_cmp key (contents (nodes_at m) w t) ≡ value_at look.node.content key
 
 abbrev pub HereLaw : Type 0
-HereLaw = (m : Moment) (w : Forest) → IsMoment m w → (t : Tree) (number : ℕ) (key : Key) (look : Look) (parent : Option Look) (first unsplit : Bool)
-    → IsHere m w t number key look parent first unsplit → IsOpen look.node → Follows m w t number key look parent first unsplit
+HereLaw = (m : Moment) (w : Forest) → IsMoment m w → (t : Tree) (number : ℕ) (aim : Bound Key) (look : Look) (by : Reached) → IsHere m w t number aim look by → IsOpen look.node → Follows m w t number aim look by
 
 -- the root and the cursor, as they are read
 abbrev pub RootHereLaw : Type 0
-RootHereLaw = (m : Moment) (w : Forest) → IsMoment m w → (t : Tree) (number : ℕ) (key : Key) (look : Look) (first : Bool) → m.numbers t ≡ Some number → m.state.roots t ≡ Some look.pid → m.state.pages look.pid ≡ Some (record { version = look.version; node = look.node })
-    → IsHere m w t number key look None first false
+RootHereLaw = (m : Moment) (w : Forest) → IsMoment m w → (t : Tree) (number : ℕ) (aim : Bound Key) (look : Look) → m.numbers t ≡ Some number → m.state.roots t ≡ Some look.pid → m.state.pages look.pid ≡ Some (record { version = look.version; node = look.node })
+    → IsHere m w t number aim look reached.Root
 
 abbrev pub CursorHereLaw : Type 0
-CursorHereLaw = (m : Moment) (w : Forest) → IsMoment m w → (t : Tree) (number : ℕ) (key : Key) (parent look : Look) (first unsplit : Bool) → m.numbers t ≡ Some number → IsWalking m w t number key look.pid parent first unsplit → m.state.pages look.pid ≡ Some (record { version = look.version; node = look.node })
-    → IsHere m w t number key look (Some parent) first unsplit
+CursorHereLaw = (m : Moment) (w : Forest) → IsMoment m w → (t : Tree) (number : ℕ) (aim : Bound Key) (a : Walk) (look : Look) → m.numbers t ≡ Some number → IsWalking m w t number aim a → look.pid ≡ a.cursor → m.state.pages look.pid ≡ Some (record { version = look.version; node = look.node })
+    → IsHere m w t number aim look a.reached
 
--- a page with a merging child begins a merge
-abbrev pub MergeHereLaw : Type 0
-MergeHereLaw = (m : Moment) (w : Forest) → IsMoment m w → (t : Tree) (number : ℕ) (key : Key) (look : Look) (parent : Option Look) (first unsplit : Bool)
-    → IsHere m w t number key look parent first unsplit → (c before : ℕ) (k low : Key) → look.node.merging ≡ false → look.node.merging_child ≡ Some c → In (k, c) (pointers look.node.content) → In (low, before) (pointers look.node.content) → Below low k
-    → IsMergingOf m w t number look c before
-
--- A page that stood on a level was read with a merging child of its own: that merge begins. So it does where the search for the
--- page before a child, or the reading of the child, finds one
+-- A page that stood on a level was read with a merging child of its own: that merge begins. So it does where the walk, the search
+-- for the page before a child, or the reading of a child finds one
 abbrev pub StoodMergesLaw : Type 0
-StoodMergesLaw = (m : Moment) (w : Forest) (t : Tree) (number h c before : ℕ) (look : Look) (lo k low : Key) → IsMoment m w → m.numbers t ≡ Some number → Stood m w (place t h) number lo look.pid → m.state.pages look.pid ≡ Some (record { version = look.version; node = look.node })
-    → look.node.merging ≡ false → look.node.merging_child ≡ Some c → In (k, c) (pointers look.node.content) → In (low, before) (pointers look.node.content) → Below low k → IsMergingOf m w t number look c before
+StoodMergesLaw = (m : Moment) (w : Forest) (t : Tree) (number h : ℕ) (look : Look) (lo : Key) → IsMoment m w → m.numbers t ≡ Some number → Stood m w (place t h) number lo look.pid → m.state.pages look.pid ≡ Some (record { version = look.version; node = look.node })
+    → look.node.merging ≡ false → (c before : ℕ) → look.node.merging_child ≡ Some c → IsBefore c (pointers look.node.content) before → IsReadingChild m w t number (record { parent = look; child = c; before = before })
 
--- The steps of a split: the right half is allocated,
-abbrev pub HalfLaw : Type 0
-HalfLaw = (m : Moment) (w : Forest) (t : Tree) (number : ℕ) (page : Look) (posts : PostsAt) (left right : Node) (q version : ℕ) → IsMoment m w → m.pids q ≡ false → m.versions version ≡ false → q < 2 ^ 64
-    → IsSplitting m w t number page posts → IsHalved page.node left right q
-    → let new : Moment = allocated m q (record { version = version; node = right }) in Quiet [] (q ∷ []) m w new w (Unit {0}) × IsReplacing new w t number page posts left right.lo q version
+-- An action of a call from its stage a to its stage b, which no tree's contents show: what the other calls can count on, and what
+-- the call knows then
+pub record StageAction (m : Moment) (w : Forest) (new : Moment) (v : Forest) (t : Tree) (number : ℕ) (aim : Bound Key) (a b : Stage) : Type 0 where
+  pub acts : Acts (owned a) (owned b) m w new v
+  pub same : (u : Tree) → contents (nodes_at new) v u ≡ contents (nodes_at m) w u
+  pub knows : IsStage new v t number aim b
 
--- the page becomes the left half, where it has its version and the tree its number,
-pub record Halved (m : Moment) (w : Forest) (new : Moment) (t : Tree) (number : ℕ) (page : Look) (posts : PostsAt) (left right : Node) (at : Key) (q : ℕ) : Type 0 where
-  pub after : Forest
-  pub quiet : Quiet (q ∷ []) [] m w new after (Unit {0})
-  -- the right half stands in a tree
-  pub stands : (x : Place) × In q (after.chain x)
-  pub posted : (parent : Look) → posts ≡ AtParent parent → IsPosting new after t number parent at q
-  pub hoisted : posts ≡ AtRoot → IsHoisting new after t number page.pid at q
+-- A split: the right half is allocated,
+abbrev pub SplitAction : Type 0
+SplitAction = (m : Moment) (w : Forest) (t : Tree) (number : ℕ) (aim : Bound Key) (a : Split) (q version : ℕ) → IsMoment m w → m.pids q ≡ false → m.versions version ≡ false → q < 2 ^ 64 → 2 ≤ count a.page.node.content
+    → IsStage m w t number aim (stage.Split a)
+    → StageAction m w (allocated m q (record { version = version; node = right_half a.page.node })) w t number aim (stage.Split a)
+    (stage.Shorten (record { page = a.page; posting = a.posting; left = record (left_half a.page.node) { next = Some q }; at = (right_half a.page.node).lo; right = q; version = version }))
 
-abbrev pub LeftHalfLaw : Type 0
-LeftHalfLaw = (m : Moment) (w : Forest) (t : Tree) (number : ℕ) (page : Look) (posts : PostsAt) (left : Node) (at : Key) (q own version : ℕ) (node : Node) → IsMoment m w → (k : IsReplacing m w t number page posts left at q own) → IsCurrent m t number page node → m.versions version ≡ false
-    → Halved m w (replaced m page.pid (record { version = version; node = left })) t number page posts left k.right at q
+-- the page becomes the left half, where it has its version and the tree its number, and the right half then stands in the tree, and is
+-- posted or hoisted over,
+abbrev pub posts_half : Shorten → Posting → Stage
+posts_half a (posting.Parent parent) = stage.Post (record { parent = parent; at = a.at; pid = a.right })
+posts_half a posting.Root = stage.Hoist (record { left = a.page.pid; at = a.at; right = a.right })
+posts_half a posting.Nowhere = stage.Root
+
+abbrev pub ShortenAction : Type 0
+ShortenAction = (m : Moment) (w : Forest) (t : Tree) (number : ℕ) (aim : Bound Key) (a : Shorten) (version : ℕ) (node : Node) → IsMoment m w → IsCurrent m t number a.page node → m.versions version ≡ false → IsStage m w t number aim (stage.Shorten a)
+    → let new : Moment = replaced m a.page.pid (record { version = version; node = a.left }) in
+    (v : Forest) × StageAction m w new v t number aim (stage.Shorten a) (posts_half a a.posting) × ((x : Place) × In a.right (v.chain x))
+
+-- or else it is to be freed,
+abbrev pub ShortenLate : Type 0
+ShortenLate = (m : Moment) (w : Forest) (t : Tree) (number : ℕ) (aim : Bound Key) (a : Shorten) → IsStage m w t number aim (stage.Shorten a) → IsStage m w t number aim (stage.Free (record { pid = a.right; version = a.version }))
 
 -- and the pointer to it goes into the parent
-abbrev pub PointerLaw : Type 0
-PointerLaw = (m : Moment) (w : Forest) (t : Tree) (number : ℕ) (parent : Look) (at : Key) (pid version : ℕ) (node : Node) → IsMoment m w → IsPosting m w t number parent at pid → IsCurrent m t number parent node → m.versions version ≡ false
-    → (v : Forest) × Quiet [] [] m w (replaced m parent.pid (record { version = version; node = record (parent.node) { content = with_pointer at pid parent.node.content } })) v (IsFew parent)
+abbrev pub PostAction : Type 0
+PostAction = (m : Moment) (w : Forest) (t : Tree) (number : ℕ) (aim : Bound Key) (a : Post) (version : ℕ) (node : Node) → IsMoment m w → IsCurrent m t number a.parent node → m.versions version ≡ false → IsStage m w t number aim (stage.Post a)
+    → let new : Moment = replaced m a.parent.pid (record { version = version; node = record (a.parent.node) { content = with_pointer a.at a.pid a.parent.node.content } }) in
+    (v : Forest) × StageAction m w new v t number aim (stage.Post a) stage.Root
 
--- the steps of a hoist: the new root is allocated, and becomes the root
-abbrev pub RaiseLaw : Type 0
-RaiseLaw = (m : Moment) (w : Forest) (t : Tree) (number left right q version : ℕ) (at : Key) (n : Node) → IsMoment m w → m.pids q ≡ false → m.versions version ≡ false → q < 2 ^ 64
-    → IsHoisting m w t number left at right → IsOver n left at right
-    → let new : Moment = allocated m q (record { version = version; node = n }) in Quiet [] (q ∷ []) m w new w (Unit {0}) × IsSwapping new w t number left q version
+-- A hoist: the new root is allocated,
+abbrev pub HoistAction : Type 0
+HoistAction = (m : Moment) (w : Forest) (t : Tree) (number : ℕ) (aim : Bound Key) (a : Hoist) (q version : ℕ) (n : Node) → IsMoment m w → m.pids q ≡ false → m.versions version ≡ false → q < 2 ^ 64 → IsOver n a.left a.at a.right
+    → IsStage m w t number aim (stage.Hoist a)
+    → StageAction m w (allocated m q (record { version = version; node = n })) w t number aim (stage.Hoist a) (stage.Crown (record { old = a.left; new = q; version = version }))
 
-abbrev pub SwapLaw : Type 0
-SwapLaw = (m : Moment) (w : Forest) (t : Tree) (number left q version : ℕ) → IsMoment m w → m.numbers t ≡ Some number → m.state.roots t ≡ Some left → IsSwapping m w t number left q version
-    → (v : Forest) × Quiet (q ∷ []) [] m w (hoisted m t q) v (Unit {0})
+-- and set, where the old one is still the root,
+abbrev pub CrownAction : Type 0
+CrownAction = (m : Moment) (w : Forest) (t : Tree) (number : ℕ) (aim : Bound Key) (a : Crown) → IsMoment m w → m.numbers t ≡ Some number → m.state.roots t ≡ Some a.old → IsStage m w t number aim (stage.Crown a)
+    → (v : Forest) × StageAction m w (hoisted m t a.new) v t number aim (stage.Crown a) stage.Root
 
--- a page that is the call's own is freed
-abbrev pub FreesLaw : Type 0
-FreesLaw = (m : Moment) (w : Forest) (pid version : ℕ) → IsMoment m w → IsFreeing m w pid version → Quiet (pid ∷ []) [] m w (freed m pid) w (Unit {0})
+-- or else it is to be freed,
+abbrev pub CrownLate : Type 0
+CrownLate = (m : Moment) (w : Forest) (t : Tree) (number : ℕ) (aim : Bound Key) (a : Crown) → IsStage m w t number aim (stage.Crown a) → IsStage m w t number aim (stage.Free (record { pid = a.new; version = a.version }))
 
--- The steps of a merge: the parent takes the child for its merging child. `before` is the page whose pointer stands before one to
--- the child
-abbrev pub IntendLaw : Type 0
-IntendLaw = (m : Moment) (w : Forest) (t : Tree) (number : ℕ) (parent : Look) (c before version : ℕ) (k low : Key) (node : Node) → IsMoment m w → IsIntending m w t number parent c → IsCurrent m t number parent node → m.versions version ≡ false
-    → In (k, c) (pointers parent.node.content) → In (low, before) (pointers parent.node.content) → Below low k
-    → let next : Node = applied (ParentMergeIntention c) parent.node in let new : Moment = replaced m parent.pid (record { version = version; node = next }) in
-    (v : Forest) × Quiet [] [] m w new v (IsSmallChild m t number parent c) × IsMergingOf new v t number (record { pid = parent.pid; version = version; node = next }) c before
+-- and a page that is the call's own is freed
+abbrev pub FreeAction : Type 0
+FreeAction = (m : Moment) (w : Forest) (t : Tree) (number : ℕ) (aim : Bound Key) (a : Own) → IsMoment m w → IsStage m w t number aim (stage.Free a)
+    → StageAction m w (freed m a.pid) w t number aim (stage.Free a) stage.Root
 
--- the child was read, and is merging already, or open,
-abbrev pub ChildSeeksLaw : Type 0
-ChildSeeksLaw = (m : Moment) (w : Forest) (t : Tree) (number : ℕ) (parent : Look) (c before version : ℕ) (d : Node) → m.numbers t ≡ Some number → IsMergingOf m w t number parent c before → m.state.pages c ≡ Some (record { version = version; node = d }) → d.merging ≡ true → IsSeekingOf m w t number parent c before version d before
+-- A merge: the parent takes the child for its merging child,
+abbrev pub IntendAction : Type 0
+IntendAction = (m : Moment) (w : Forest) (t : Tree) (number : ℕ) (aim : Bound Key) (a : Merge) (version : ℕ) (node : Node) → IsMoment m w → IsCurrent m t number a.parent node → m.versions version ≡ false → IsStage m w t number aim (stage.Intend a)
+    → let new : Moment = replaced m a.parent.pid (record { version = version; node = applied (ParentMergeIntention a.child) a.parent.node }) in
+    (v : Forest) × StageAction m w new v t number aim (stage.Intend a) (stage.Child (record { parent = record { pid = a.parent.pid; version = version; node = record (a.parent.node) { merging_child = Some a.child } }; child = a.child; before = a.before }))
 
-abbrev pub ChildCapsLaw : Type 0
-ChildCapsLaw = (m : Moment) (w : Forest) (t : Tree) (number : ℕ) (parent page : Look) (before : ℕ) → IsMoment m w → m.numbers t ≡ Some number → IsMergingOf m w t number parent page.pid before → m.state.pages page.pid ≡ Some (record { version = page.version; node = page.node }) → IsOpen page.node → IsCappingOf m w t number parent page.pid before page
+-- the child is read, and is merging already, or open,
+abbrev pub ChildSeeks : Type 0
+ChildSeeks = (m : Moment) (w : Forest) (t : Tree) (number : ℕ) (aim : Bound Key) (a : Merge) (version : ℕ) (d : Node) → m.numbers t ≡ Some number → m.state.pages a.child ≡ Some (record { version = version; node = d }) → d.merging ≡ true → IsStage m w t number aim (stage.Child a)
+    → IsStage m w t number aim (stage.Seek (record { merge = a; version = version; node = d; cursor = a.before }))
 
--- the child is capped,
-abbrev pub CapsLaw : Type 0
-CapsLaw = (m : Moment) (w : Forest) (t : Tree) (number : ℕ) (parent page : Look) (c before version : ℕ) (node : Node) → IsMoment m w → IsCappingOf m w t number parent c before page → IsCurrent m t number page node → m.versions version ≡ false
-    → let next : Node = applied ChildMergeCap page.node in let new : Moment = replaced m page.pid (record { version = version; node = next }) in
-    (v : Forest) × Quiet [] [] m w new v (Unit {0}) × IsSeekingOf new v t number parent c before version next before
+abbrev pub ChildCaps : Type 0
+ChildCaps = (m : Moment) (w : Forest) (t : Tree) (number : ℕ) (aim : Bound Key) (a : Merge) (version : ℕ) (d : Node) → IsMoment m w → m.numbers t ≡ Some number → m.state.pages a.child ≡ Some (record { version = version; node = d }) → IsOpen d → IsStage m w t number aim (stage.Child a)
+    → IsStage m w t number aim (stage.Cap (record { merge = a; version = version; node = d }))
 
--- the page before the child is looked for: what follows where the search has read an open page
-pub record Finds (m : Moment) (w : Forest) (t : Tree) (number : ℕ) (parent : Look) (c before version : ℕ) (d : Node) (left : Look) : Type 0 where
+-- it is capped, or, where that came too late, is read again,
+abbrev pub CapAction : Type 0
+CapAction = (m : Moment) (w : Forest) (t : Tree) (number : ℕ) (aim : Bound Key) (a : Cap) (version : ℕ) (node : Node) → IsMoment m w → IsCurrent m t number (record { pid = a.merge.child; version = a.version; node = a.node }) node → m.versions version ≡ false → IsStage m w t number aim (stage.Cap a)
+    → let new : Moment = replaced m a.merge.child (record { version = version; node = applied ChildMergeCap a.node }) in
+    (v : Forest) × StageAction m w new v t number aim (stage.Cap a) (stage.Seek (record { merge = a.merge; version = version; node = applied ChildMergeCap a.node; cursor = a.merge.before }))
+
+abbrev pub CapLate : Type 0
+CapLate = (m : Moment) (w : Forest) (t : Tree) (number : ℕ) (aim : Bound Key) (a : Cap) → IsStage m w t number aim (stage.Cap a) → IsStage m w t number aim (stage.Child a.merge)
+
+-- the page before it is looked for: what follows where the search has read an open page
+pub record Finds (m : Moment) (w : Forest) (t : Tree) (number : ℕ) (aim : Bound Key) (a : Seek) (left : Look) : Type 0 where
   -- it ends before where the child begins: the search goes on
-  pub further : (q : ℕ) → left.node.hi ≢ [] → Below left.node.hi d.lo → left.node.next ≡ Some q → IsSeekingOf m w t number parent c before version d q
+  pub further : (q : ℕ) → left.node.hi ≢ [] → Below left.node.hi a.node.lo → left.node.next ≡ Some q → IsStage m w t number aim (stage.Seek (record { merge = a.merge; version = a.version; node = a.node; cursor = q }))
   -- it reaches where the child begins and does not lead to it: the child was received
-  pub done : (left.node.hi ≡ []) ⊎ UpTo d.lo left.node.hi → left.node.next ≢ Some c → IsConfirmingOf m w t number parent c version d
+  pub done : (left.node.hi ≡ []) ⊎ UpTo a.node.lo left.node.hi → left.node.next ≢ Some a.merge.child → IsStage m w t number aim (stage.Confirm (record { parent = a.merge.parent; child = a.merge.child; version = a.version }))
   -- it leads to the child: it receives it, or is split first
-  pub receives : left.node.next ≡ Some c → IsReceivingOf m w t number parent c before version d left
-  pub splits : IsSplitting m w t number left Nowhere
+  pub receives : left.node.next ≡ Some a.merge.child → IsFew left → IsStage m w t number aim (stage.Receive (record { merge = a.merge; version = a.version; node = a.node; left = left }))
+  pub splits : IsStage m w t number aim (stage.Split (record { page = left; posting = posting.Nowhere }))
 
 abbrev pub SeekLaw : Type 0
-SeekLaw = (m : Moment) (w : Forest) (t : Tree) (number : ℕ) (parent : Look) (c before version : ℕ) (d : Node) (left : Look) → IsMoment m w → m.numbers t ≡ Some number → IsSeekingOf m w t number parent c before version d left.pid → m.state.pages left.pid ≡ Some (record { version = left.version; node = left.node }) → IsOpen left.node
-    → Finds m w t number parent c before version d left
+SeekLaw = (m : Moment) (w : Forest) (t : Tree) (number : ℕ) (aim : Bound Key) (a : Seek) (left : Look) → IsMoment m w → m.numbers t ≡ Some number → left.pid ≡ a.cursor → m.state.pages left.pid ≡ Some (record { version = left.version; node = left.node }) → IsOpen left.node
+    → IsStage m w t number aim (stage.Seek a) → Finds m w t number aim a left
 
--- the page before the child receives it, or, where that came too late, is looked for again,
-abbrev pub ReceivesLaw : Type 0
-ReceivesLaw = (m : Moment) (w : Forest) (t : Tree) (number : ℕ) (parent : Look) (c before old : ℕ) (d : Node) (left : Look) (both : Node) (version : ℕ) (node : Node) → IsMoment m w → IsReceivingOf m w t number parent c before old d left → IsCurrent m t number left node → m.versions version ≡ false → IsJoined left.node d both
-    → let new : Moment = replaced m left.pid (record { version = version; node = both }) in
-    (v : Forest) × Quiet [] [] m w new v (IsFew left) × IsConfirmingOf new v t number parent c old d
+-- that page receives the child, or, where that came too late, is looked for again,
+abbrev pub ReceiveAction : Type 0
+ReceiveAction = (m : Moment) (w : Forest) (t : Tree) (number : ℕ) (aim : Bound Key) (a : Receive) (version : ℕ) (node : Node) → IsMoment m w → IsCurrent m t number a.left node → m.versions version ≡ false → IsStage m w t number aim (stage.Receive a)
+    → let new : Moment = replaced m a.left.pid (record { version = version; node = received a.left.node a.node }) in
+    (v : Forest) × StageAction m w new v t number aim (stage.Receive a) (stage.Confirm (record { parent = a.merge.parent; child = a.merge.child; version = a.version }))
 
-abbrev pub SeekAgainLaw : Type 0
-SeekAgainLaw = (m : Moment) (w : Forest) (t : Tree) (number : ℕ) (parent : Look) (c before version : ℕ) (d : Node) (left : Look) → IsReceivingOf m w t number parent c before version d left → IsSeekingOf m w t number parent c before version d left.pid
+abbrev pub ReceiveLate : Type 0
+ReceiveLate = (m : Moment) (w : Forest) (t : Tree) (number : ℕ) (aim : Bound Key) (a : Receive) → IsStage m w t number aim (stage.Receive a) → IsStage m w t number aim (stage.Seek (record { merge = a.merge; version = a.version; node = a.node; cursor = a.left.pid }))
 
 -- and the pointer to the child goes, and the child is the call's own
-abbrev pub ConfirmsLaw : Type 0
-ConfirmsLaw = (m : Moment) (w : Forest) (t : Tree) (number : ℕ) (parent : Look) (c old : ℕ) (d : Node) (version : ℕ) (node : Node) → IsMoment m w → IsConfirmingOf m w t number parent c old d → IsCurrent m t number parent node → m.versions version ≡ false
-    → let new : Moment = replaced m parent.pid (record { version = version; node = applied ParentMergeConfirm parent.node }) in
-    (v : Forest) × Quiet [] (c ∷ []) m w new v (Unit {0}) × IsFreeing new v c old
+abbrev pub ConfirmAction : Type 0
+ConfirmAction = (m : Moment) (w : Forest) (t : Tree) (number : ℕ) (aim : Bound Key) (a : Confirm) (version : ℕ) (node : Node) → IsMoment m w → IsCurrent m t number a.parent node → m.versions version ≡ false → IsStage m w t number aim (stage.Confirm a)
+    → let new : Moment = replaced m a.parent.pid (record { version = version; node = applied ParentMergeConfirm a.parent.node }) in
+    (v : Forest) × StageAction m w new v t number aim (stage.Confirm a) (stage.Free (record { pid = a.child; version = a.version }))
+
+-- the halves of a page make a split, whatever its height, where the right half is the page q
+pub record IsHalved (n left right : Node) (q : ℕ) : Type 0 where
+  pub split : (h : ℕ) → IsNodeAt h n → IsOpen n → IsSplit h n left right q
+
+-- n with what the page behind it holds, whatever its height
+pub record IsJoined (n d both : Node) : Type 0 where
+  pub joined : (h : ℕ) → IsNodeAt h n → IsNodeAt h d → n.hi ≡ d.lo → Below n.lo d.lo → (d.hi ≡ []) ⊎ Below d.lo d.hi → IsReceived h n d both
 
 -- The halves of a node of two entries or more are halves, the joined node is joined, and the pointer before one to a page stands
 -- below it

@@ -1,13 +1,34 @@
--- What a call in flight knows of the store, by its stage, while it walks, splits, posts and hoists.
-use Rattle.std.specs.Prelude.{◌≡◌, ℕ, suc, Bool, true, false, List, ◌⊎◌, [], ◌∷◌, ◌++◌, Option, Some, None}
+-- What a call in flight knows of the store, by its stage.
+use Rattle.std.specs.Prelude.{◌≡◌, ◌≢◌, ℕ, suc, ◌≤◌, Bool, true, false, List, ◌⊎◌, [], ◌∷◌, Option, Some, None}
+use Rattle.std.specs.declared.ops.Bound.{Bound}
 use Rattle.sled_pages.specs.Order.{Key, Below}
 use Rattle.sled_pages.specs.In.{In}
-use Rattle.sled_pages.specs.Node.{pointers, Covers}
+use Rattle.sled_pages.specs.Among.{IsBefore}
+use Rattle.sled_pages.specs.Node.{pointers, count, Covers}
 use Rattle.sled_pages.specs.declared.node.Node.{Node}
 use Rattle.sled_pages.specs.declared.node.Data.TheVariants.{Index}
-use Rattle.tree_laws.specs.Forest.{Tree, Forest, Place, place, IsNodeAt, IsSized, contents, later}
-use Rattle.tree_laws.specs.Action.{IsSplit, IsReceived}
-use Rattle.tree_laws.specs.Moment.{Moment, IsMoment, nodes_at, IsStray, Goes, Grows, Stood, Look, IsOpen, IsFresh, Seen}
+use Rattle.sled_pages.specs.declared.page.View.{View}
+use Rattle.tree_laws.specs.Forest.{Tree, Forest, Place, place, later}
+use Rattle.tree_laws.specs.Action.{IsSplit}
+use Rattle.tree_laws.specs.Moment.{Moment, nodes_at, IsStray, Viewed, Stood, Look, IsOpen, IsFresh, IsFew, Seen, LiesUnder, IsActing}
+use Rattle.tree_laws.specs.declared.flight.Reached.{Reached}
+use Rattle.tree_laws.specs.declared.flight.Reached.TheVariants as reached
+use Rattle.tree_laws.specs.declared.flight.Walk.{Walk}
+use Rattle.tree_laws.specs.declared.flight.Posting.{Posting}
+use Rattle.tree_laws.specs.declared.flight.Posting.TheVariants as posting
+use Rattle.tree_laws.specs.declared.flight.Split.{Split}
+use Rattle.tree_laws.specs.declared.flight.Shorten.{Shorten}
+use Rattle.tree_laws.specs.declared.flight.Post.{Post}
+use Rattle.tree_laws.specs.declared.flight.Hoist.{Hoist}
+use Rattle.tree_laws.specs.declared.flight.Crown.{Crown}
+use Rattle.tree_laws.specs.declared.flight.Own.{Own}
+use Rattle.tree_laws.specs.declared.flight.Merge.{Merge}
+use Rattle.tree_laws.specs.declared.flight.Cap.{Cap}
+use Rattle.tree_laws.specs.declared.flight.Seek.{Seek}
+use Rattle.tree_laws.specs.declared.flight.Receive.{Receive}
+use Rattle.tree_laws.specs.declared.flight.Confirm.{Confirm}
+use Rattle.tree_laws.specs.declared.flight.Stage.{Stage}
+use Rattle.tree_laws.specs.declared.flight.Stage.TheVariants as stage
 
 -- an open index above the height h, to which the tree's pages of that height may get pointers
 pub record IsParent (m : Moment) (w : Forest) (t : Tree) (number h : ℕ) (look : Look) : Type 0 where
@@ -15,56 +36,60 @@ pub record IsParent (m : Moment) (w : Forest) (t : Tree) (number h : ℕ) (look 
   pub es : List (Key × ℕ)
   pub content : look.node.content ≡ Index es
 
--- The walk: the cursor stood on the level below the parent, and began within the parent's bounds. Where it was reached by a
--- later pointer, it is one
-pub record IsWalking (m : Moment) (w : Forest) (t : Tree) (number : ℕ) (key : Key) (cursor : ℕ) (parent : Look) (first unsplit : Bool) : Type 0 where
-  pub height : ℕ
-  pub above : IsParent m w t number height parent
-  pub covers : Covers parent.node key
-  pub lo : Key
-  pub stood : Stood m w (place t height) number lo cursor
-  pub within : Covers parent.node lo
-  pub beyond : unsplit ≡ true → Below parent.node.lo lo
-  pub reached : first ≡ false → unsplit ≡ false → In (lo, cursor) (later (pointers parent.node.content))
-
--- a page lies below the parent, as the walk does
-pub record IsBelowParent (m : Moment) (w : Forest) (t : Tree) (number h : ℕ) (key : Key) (look : Look) (parent : Look) (first unsplit : Bool) : Type 0 where
+-- what begins at lo on the level below a parent lies within its bounds. The parent lies under the aim, and takes one pointer more
+pub record IsBelowParent (m : Moment) (w : Forest) (t : Tree) (number h : ℕ) (aim : Bound Key) (parent : Look) (lo : Key) : Type 0 where
   pub above : IsParent m w t number h parent
-  pub covers : Covers parent.node key
-  pub within : Covers parent.node look.node.lo
-  pub beyond : unsplit ≡ true → Below parent.node.lo look.node.lo
-  pub reached : first ≡ false → unsplit ≡ false → In (look.node.lo, look.pid) (later (pointers parent.node.content))
+  pub under : LiesUnder aim parent.node
+  pub within : Covers parent.node lo
+  pub few : IsFew parent
 
--- a page that was just read: the root begins at the empty key, and any other lies below the parent
-abbrev pub IsBelow : Moment → Forest → Tree → ℕ → ℕ → Key → Look → Option Look → Bool → Bool → Type 0
-IsBelow m w t number h key look None first unsplit = (look.node.lo ≡ []) × (unsplit ≡ false)
-IsBelow m w t number h key look (Some parent) first unsplit = IsBelowParent m w t number h key look parent first unsplit
+-- the index that a page was reached through, if it is not the root
+abbrev pub parent_of : Reached → Option View
+parent_of reached.Root = None
+parent_of (reached.FirstPointer parent) = Some parent
+parent_of (reached.LaterPointer parent) = Some parent
+parent_of (reached.Next parent) = Some parent
 
--- A page as it was just read, at the root or below the parent: it is live at the version that was read, and stood on its level
-pub record IsHere (m : Moment) (w : Forest) (t : Tree) (number : ℕ) (key : Key) (look : Look) (parent : Option Look) (first unsplit : Bool) : Type 0 where
+-- by a pointer, and whether that is the first
+abbrev pub by_pointer : View → Bool → Reached
+by_pointer parent true = reached.FirstPointer parent
+by_pointer parent false = reached.LaterPointer parent
+
+-- how the page p was reached, which begins at lo: the root begins at the empty key, and any other lies below its parent. One that
+-- was reached by a later pointer has it, and one that was reached by `next` begins behind the parent
+abbrev pub IsReached : Moment → Forest → Tree → ℕ → ℕ → Bound Key → Reached → Key → ℕ → Type 0
+IsReached m w t number h aim reached.Root lo p = lo ≡ []
+IsReached m w t number h aim (reached.FirstPointer parent) lo p = IsBelowParent m w t number h aim parent lo
+IsReached m w t number h aim (reached.LaterPointer parent) lo p = IsBelowParent m w t number h aim parent lo × In (lo, p) (later (pointers parent.node.content))
+IsReached m w t number h aim (reached.Next parent) lo p = IsBelowParent m w t number h aim parent lo × Below parent.node.lo lo
+
+-- the walk: its cursor stood on a level, where it was reached
+pub record IsWalking (m : Moment) (w : Forest) (t : Tree) (number : ℕ) (aim : Bound Key) (a : Walk) : Type 0 where
+  pub height : ℕ
+  pub lo : Key
+  pub stood : Stood m w (place t height) number lo a.cursor
+  pub is_reached : IsReached m w t number height aim a.reached lo a.cursor
+
+-- a page as it was just read: it is live at the version that was read, and stood on its level
+pub record IsHere (m : Moment) (w : Forest) (t : Tree) (number : ℕ) (aim : Bound Key) (look : Look) (by : Reached) : Type 0 where
   pub height : ℕ
   pub live : m.state.pages look.pid ≡ Some (record { version = look.version; node = look.node })
   pub named : m.numbers t ≡ Some number
   pub stood : Stood m w (place t height) number look.node.lo look.pid
-  pub below : IsBelow m w t number height key look parent first unsplit
+  pub is_reached : IsReached m w t number height aim by look.node.lo look.pid
 
--- where the right half of a split is posted: at the parent, at the root, or, of a split that serves a merge, nowhere
-pub data PostsAt : Type 0 where
-  AtParent : (parent : Look) → PostsAt
-  AtRoot : PostsAt
-  Nowhere : PostsAt
-
--- the page lies below the parent, or is the first of its level
-abbrev pub IsPlace : Moment → Forest → Tree → ℕ → ℕ → Look → PostsAt → Type 0
-IsPlace m w t number h page (AtParent parent) = IsParent m w t number h parent × Covers parent.node page.node.lo
-IsPlace m w t number h page AtRoot = page.node.lo ≡ []
-IsPlace m w t number h page Nowhere = Unit {0}
+-- where the right half of a split is posted: at a parent, which takes one pointer more and below which the page lies, at the root, where
+-- the page is the first of its level, or, of a split that serves a merge, nowhere
+abbrev pub IsPlace : Moment → Forest → Tree → ℕ → ℕ → Look → Posting → Type 0
+IsPlace m w t number h page (posting.Parent parent) = IsParent m w t number h parent × Covers parent.node page.node.lo × IsFew parent
+IsPlace m w t number h page posting.Root = page.node.lo ≡ []
+IsPlace m w t number h page posting.Nowhere = Unit {0}
 
 -- an open page is to be split
-pub record IsSplitting (m : Moment) (w : Forest) (t : Tree) (number : ℕ) (page : Look) (posts : PostsAt) : Type 0 where
+pub record IsSplitting (m : Moment) (w : Forest) (t : Tree) (number : ℕ) (a : Split) : Type 0 where
   pub height : ℕ
-  pub seen : Seen m w (place t height) number page
-  pub posted : IsPlace m w t number height page posts
+  pub seen : Seen m w (place t height) number a.page
+  pub posted : IsPlace m w t number height a.page a.posting
 
 -- a page that is no part of any tree, live at this version
 pub record IsOwn (m : Moment) (w : Forest) (pid version : ℕ) (n : Node) : Type 0 where
@@ -72,14 +97,14 @@ pub record IsOwn (m : Moment) (w : Forest) (pid version : ℕ) (n : Node) : Type
   pub stray : IsStray w pid
 
 -- the right half is a new page, and the page is to become the left half
-pub record IsReplacing (m : Moment) (w : Forest) (t : Tree) (number : ℕ) (page : Look) (posts : PostsAt) (left : Node) (at : Key) (new version : ℕ) : Type 0 where
+pub record IsReplacing (m : Moment) (w : Forest) (t : Tree) (number : ℕ) (a : Shorten) : Type 0 where
   pub height : ℕ
-  pub seen : Seen m w (place t height) number page
-  pub posted : IsPlace m w t number height page posts
+  pub seen : Seen m w (place t height) number a.page
+  pub posted : IsPlace m w t number height a.page a.posting
   pub right : Node
-  pub own : IsOwn m w new version right
-  pub split : IsSplit height page.node left right new
-  pub begins : right.lo ≡ at
+  pub own : IsOwn m w a.right a.version right
+  pub split : IsSplit height a.page.node a.left right a.right
+  pub begins : right.lo ≡ a.at
 
 -- q stands on the level below the parent, begins there within the parent's bounds, and is not merging
 pub record IsUnder (m : Moment) (w : Forest) (x : Place) (parent : Look) (at : Key) (q : ℕ) : Type 0 where
@@ -90,19 +115,20 @@ pub record IsUnder (m : Moment) (w : Forest) (x : Place) (parent : Look) (at : K
   pub lo : node.lo ≡ at
   pub awake : node.merging ≡ false
 
--- the parent is to get a pointer to a page: while the parent has its version, the page stands under it
-pub record IsPosting (m : Moment) (w : Forest) (t : Tree) (number : ℕ) (parent : Look) (at : Key) (pid : ℕ) : Type 0 where
+-- the parent takes one pointer more and is to get one to a page: while the parent has its version, the page stands under it
+pub record IsPosting (m : Moment) (w : Forest) (t : Tree) (number : ℕ) (a : Post) : Type 0 where
   pub height : ℕ
-  pub above : IsParent m w t number height parent
-  pub beyond : Below parent.node.lo at
-  pub under : m.numbers t ≡ Some number → IsFresh m parent → IsUnder m w (place t height) parent at pid
+  pub above : IsParent m w t number height a.parent
+  pub few : IsFew a.parent
+  pub beyond : Below a.parent.node.lo a.at
+  pub under : m.numbers t ≡ Some number → IsFresh m a.parent → IsUnder m w (place t height) a.parent a.at a.pid
 
 -- a new root is to come over two pages: while the left one is the root, the right one stands beside it
-pub record IsHoisting (m : Moment) (w : Forest) (t : Tree) (number : ℕ) (left : ℕ) (at : Key) (right : ℕ) : Type 0 where
+pub record IsHoisting (m : Moment) (w : Forest) (t : Tree) (number : ℕ) (a : Hoist) : Type 0 where
   pub height : ℕ
-  pub stood : Stood m w (place t height) number [] left
-  pub beyond : Below [] at
-  pub beside : m.numbers t ≡ Some number → m.state.roots t ≡ Some left → (d : Node) × In right (w.chain (place t height)) × (nodes_at m right ≡ Some d) × (d.lo ≡ at)
+  pub stood : Stood m w (place t height) number [] a.left
+  pub beyond : Below [] a.at
+  pub beside : m.numbers t ≡ Some number → m.state.roots t ≡ Some a.left → (d : Node) × In a.right (w.chain (place t height)) × (nodes_at m a.right ≡ Some d) × (d.lo ≡ a.at)
 
 -- an index with empty bounds over two pages
 pub record IsOver (n : Node) (left : ℕ) (at : Key) (right : ℕ) : Type 0 where
@@ -114,39 +140,142 @@ pub record IsOver (n : Node) (left : ℕ) (at : Key) (right : ℕ) : Type 0 wher
   pub content : n.content ≡ Index (([], left) ∷ (at, right) ∷ [])
 
 -- the new root is a new page, and is to become the root
-pub record IsSwapping (m : Moment) (w : Forest) (t : Tree) (number : ℕ) (left new version : ℕ) : Type 0 where
+pub record IsSwapping (m : Moment) (w : Forest) (t : Tree) (number : ℕ) (a : Crown) : Type 0 where
   pub at : Key
   pub right : ℕ
-  pub hoisting : IsHoisting m w t number left at right
+  pub hoisting : IsHoisting m w t number (record { left = a.old; at = at; right = right })
   pub root : Node
-  pub over : IsOver root left at right
-  pub own : IsOwn m w new version root
+  pub over : IsOver root a.old at right
+  pub own : IsOwn m w a.new a.version root
 
 -- a page that is no part of any tree is to be freed
-pub record IsFreeing (m : Moment) (w : Forest) (pid version : ℕ) : Type 0 where
+pub record IsFreeing (m : Moment) (w : Forest) (a : Own) : Type 0 where
   pub node : Node
-  pub own : IsOwn m w pid version node
+  pub own : IsOwn m w a.pid a.version node
 
--- A step of a call that no tree's contents show. The call owned the pages `mine` before it and owns `own` after it. Where the
--- pages are small enough, the size is kept too
-pub record Quiet (mine own : List ℕ) (old : Moment) (w : Forest) (new : Moment) (v : Forest) (few : Type 0) : Type 0 where
-  pub is : IsMoment new v
-  pub goes : Goes (mine ++ own) None old w new v
-  -- what it came to own was its own, or is new, or had a home until then
-  pub fresh : (q : ℕ) → In q own → In q mine ⊎ ((old.pids q ≡ false) ⊎ ((x : Place) × (w.home q ≡ Some x)))
-  pub same : (t : Tree) → contents (nodes_at new) v t ≡ contents (nodes_at old) w t
-  pub sized : few → IsSized (nodes_at old) w → IsSized (nodes_at new) v
-  pub grows : few → Grows (nodes_at old) (nodes_at new) w
+-- The stages of a merge of a page into the one before it
 
--- the halves of a page make a split, whatever its height, where the right half is the page q
-pub record IsHalved (n left right : Node) (q : ℕ) : Type 0 where
-  pub split : (h : ℕ) → IsNodeAt h n → IsOpen n → IsSplit h n left right q
+-- The parent is to take a later child for its merging child: while the parent has its version, the child stands under it, and has
+-- at most 17 entries. `before` is the page whose pointer stands before the child's
+pub record IsIntending (m : Moment) (w : Forest) (t : Tree) (number : ℕ) (a : Merge) : Type 0 where
+  pub height : ℕ
+  pub above : IsParent m w t number height a.parent
+  pub key : Key
+  pub pointer : In (key, a.child) (later (pointers a.parent.node.content))
+  pub under : m.numbers t ≡ Some number → IsFresh m a.parent → IsUnder m w (place t height) a.parent key a.child
+  pub small : m.numbers t ≡ Some number → IsFresh m a.parent → (d : Node) → nodes_at m a.child ≡ Some d → count d.content ≤ 17
+  pub before : IsBefore a.child (pointers a.parent.node.content) a.before
 
--- n with what the page behind it holds, whatever its height
-pub record IsJoined (n d both : Node) : Type 0 where
-  pub joined : (h : ℕ) → IsNodeAt h n → IsNodeAt h d → n.hi ≡ d.lo → Below n.lo d.lo → (d.hi ≡ []) ⊎ Below d.lo d.hi → IsReceived h n d both
+-- the page c was capped as d at this version: it is gone, or this still
+pub record IsFrozen (m : Moment) (c version : ℕ) (d : Node) : Type 0 where
+  pub page : m.pids c ≡ true
+  pub capped : d.merging ≡ true
+  pub now : (m.state.pages c ≡ None) ⊎ (m.state.pages c ≡ Some (record { version = version; node = d }))
 
--- a leaf as it was read, of a scan or a read that goes on later: it covers the target, and nothing is said of the store
-pub record IsResting (key : Key) (look : Look) : Type 0 where
+-- a chain page of the level above has c for its merging child
+pub record IsChild (m : Moment) (w : Forest) (t : Tree) (h c : ℕ) : Type 0 where
+  pub parent : ℕ
+  pub node : Node
+  pub chained : In parent (w.chain (place t (suc h)))
+  pub live : nodes_at m parent ≡ Some node
+  pub child : node.merging_child ≡ Some c
+
+-- a page above took c for its merging child: the tree's number is not the name's now, or c is gone, or merging, or a page
+-- above has it still
+pub record IsWanted (m : Moment) (w : Forest) (t : Tree) (number h c : ℕ) : Type 0 where
+  pub page : m.pids c ≡ true
+  pub tree : m.given number ≡ true
+  pub now : (m.numbers t ≢ Some number) ⊎ ((nodes_at m c ≡ None) ⊎ (((d : Node) × (nodes_at m c ≡ Some d) × (d.merging ≡ true)) ⊎ IsChild m w t h c))
+
+-- an index as it was read, with the merging child c
+pub record IsMerger (m : Moment) (w : Forest) (t : Tree) (number h c : ℕ) (look : Look) : Type 0 where
+  pub view : Viewed m look.pid look.version look.node
+  pub stood : Stood m w (place t (suc h)) number look.node.lo look.pid
   pub awake : look.node.merging ≡ false
-  pub covers : Covers look.node key
+  pub child : look.node.merging_child ≡ Some c
+  pub es : List (Key × ℕ)
+  pub content : look.node.content ≡ Index es
+
+-- a merge as it begins: the index with its merging child, and the page whose pointer stands before the child's
+pub record IsMerging (m : Moment) (w : Forest) (t : Tree) (number height : ℕ) (a : Merge) : Type 0 where
+  pub merger : IsMerger m w t number height a.child a.parent
+  pub wanted : IsWanted m w t number height a.child
+  pub lo : Key
+  pub low : Key
+  pub c_stood : Stood m w (place t height) number lo a.child
+  pub left_stood : Stood m w (place t height) number low a.before
+  pub below : Below low lo
+
+-- the merging child is to be read
+pub record IsReadingChild (m : Moment) (w : Forest) (t : Tree) (number : ℕ) (a : Merge) : Type 0 where
+  pub height : ℕ
+  pub merging : IsMerging m w t number height a
+
+-- the merging child, as it was read
+abbrev pub child_of : Cap → View
+child_of a = record { pid = a.merge.child; version = a.version; node = a.node }
+
+-- the child is open and is to be capped: while it has its version, a page above has it for its merging child
+pub record IsCapping (m : Moment) (w : Forest) (t : Tree) (number : ℕ) (a : Cap) : Type 0 where
+  pub height : ℕ
+  pub merging : IsMerging m w t number height a.merge
+  pub view : Viewed m a.merge.child a.version a.node
+  pub tree : m.given number ≡ true
+  pub is_open : IsOpen a.node
+  pub wanted : m.numbers t ≡ Some number → IsFresh m (child_of a) → IsChild m w t height a.merge.child
+
+-- the search for the page that the child follows: its cursor stood left of the child
+pub record IsSeeking (m : Moment) (w : Forest) (t : Tree) (number : ℕ) (a : Seek) : Type 0 where
+  pub height : ℕ
+  pub merging : IsMerging m w t number height a.merge
+  pub frozen : IsFrozen m a.merge.child a.version a.node
+  pub lo : Key
+  pub stood : Stood m w (place t height) number lo a.cursor
+  pub before : Below lo a.node.lo
+
+-- the page that the child follows is to receive it, and takes one entry more
+pub record IsReceiving (m : Moment) (w : Forest) (t : Tree) (number : ℕ) (a : Receive) : Type 0 where
+  pub height : ℕ
+  pub merging : IsMerging m w t number height a.merge
+  pub seen : Seen m w (place t height) number a.left
+  pub next : a.left.node.next ≡ Some a.merge.child
+  pub before : Below a.left.node.lo a.node.lo
+  pub frozen : IsFrozen m a.merge.child a.version a.node
+  pub few : IsFew a.left
+
+-- the capped page c was received: it is gone, or merging and out of the chain of its place for good
+pub record IsOut (m : Moment) (w : Forest) (x : Place) (c version : ℕ) (d : Node) : Type 0 where
+  pub frozen : IsFrozen m c version d
+  pub out : (nodes_at m c ≡ None) ⊎ ¬ (In c (w.chain x))
+
+-- the pointer to the child, which was received, is to go
+pub record IsConfirming (m : Moment) (w : Forest) (t : Tree) (number : ℕ) (a : Confirm) : Type 0 where
+  pub height : ℕ
+  pub node : Node
+  pub merger : IsMerger m w t number height a.child a.parent
+  pub received : IsOut m w (place t height) a.child a.version node
+
+-- what a call that aims at this knows at its stage
+abbrev pub IsStage : Moment → Forest → Tree → ℕ → Bound Key → Stage → Type 0
+IsStage m w t number aim stage.Root = Unit {0}
+IsStage m w t number aim (stage.Walk a) = IsWalking m w t number aim a
+IsStage m w t number aim (stage.Act v) = IsActing m w t number aim v × IsFew v
+IsStage m w t number aim (stage.Split a) = IsSplitting m w t number a
+IsStage m w t number aim (stage.Shorten a) = IsReplacing m w t number a
+IsStage m w t number aim (stage.Post a) = IsPosting m w t number a
+IsStage m w t number aim (stage.Hoist a) = IsHoisting m w t number a
+IsStage m w t number aim (stage.Crown a) = IsSwapping m w t number a
+IsStage m w t number aim (stage.Free a) = IsFreeing m w a
+IsStage m w t number aim (stage.Intend a) = IsIntending m w t number a
+IsStage m w t number aim (stage.Child a) = IsReadingChild m w t number a
+IsStage m w t number aim (stage.Cap a) = IsCapping m w t number a
+IsStage m w t number aim (stage.Seek a) = IsSeeking m w t number a
+IsStage m w t number aim (stage.Receive a) = IsReceiving m w t number a
+IsStage m w t number aim (stage.Confirm a) = IsConfirming m w t number a
+
+-- the pages that are a call's own at its stage: it made them, and no tree has them yet, or any more
+abbrev pub owned : Stage → List ℕ
+owned (stage.Shorten a) = a.right ∷ []
+owned (stage.Crown a) = a.new ∷ []
+owned (stage.Free a) = a.pid ∷ []
+owned other = []

@@ -1,7 +1,8 @@
 //! The theory of the tree: what is well formed, what a tree's contents are, and what page actions keep of both.
 //!
-//! Nothing here runs, and there is no function. A law is a type in `specs/` that speaks of the definitions there, and a lemma of
-//! `proofs/` of that type proves it; a crate above cites the lemma.
+//! Nothing is done here. A law is a type in `specs/` that speaks of the definitions there, and a lemma of `proofs/` of that type
+//! proves it; a crate above cites the lemma. The stages of a call in flight are values (`flight`), so that what a call knows at
+//! a stage can be said of the stage itself.
 //!
 //! # The form
 //!
@@ -94,8 +95,8 @@
 //!
 //! A moment is a store now, with each tree's number. Whatever an action does, `Goes` is what it gives to every other call:
 //! numbers and versions never come again, a page of a chain stands there or is merging, a merging page and another call's own
-//! page stay as they are, and a page that left its chain never comes back. What a call knows at a stage survives that
-//! (`StagesLaw`), whether or not its view is stale. A tree that was dropped takes its number with it, and of a call whose
+//! page stay as they are, and a page that left its chain never comes back. What a call knows at a stage (`IsStage`) survives that
+//! (`StageStays`), whether or not its view is stale. What a walk aims at is a bound: of a call at a key the key itself. A tree that was dropped takes its number with it, and of a call whose
 //! number is not the name's now nothing is claimed.
 //!
 //! # The laws
@@ -183,29 +184,31 @@
 //! - `ReceiveLaw`: The merge of a capped page into the page before it changes no tree, and the capped page then is in no chain.
 //! - `ConfirmLaw`: The confirmation of a merge changes no tree, and the child then has no home.
 //!
-//! `stages`: what a call in flight knows at its stages, and what its steps do.
+//! `stages`: what a call in flight knows at its stages, and what its actions make of that.
 //!
-//! - `StagesLaw`: What a call knows at its stage it knows still after an action of another call.
+//! - `StageStays`: What a call knows at its stage it knows still after an action of another call.
 //! - `ApartLaw`: No page becomes two calls' own.
 //! - `RootHereLaw`: What is known of the root as it is read.
 //! - `CursorHereLaw`: What is known of the cursor of a walk as it is read.
 //! - `HereLaw`: What a walk knows after it read an open page, by what it goes on to.
-//! - `MergeHereLaw`: Where a walk read a page with a merging child, that merge begins.
 //! - `StoodMergesLaw`: Where a page of a level was read with a merging child of its own, that merge begins.
-//! - `HalfLaw`: A split begins with its right half as a new page, and changes no tree.
-//! - `LeftHalfLaw`: The page that is split becomes its left half, which changes no tree, and its right half is to be posted or hoisted over.
-//! - `PointerLaw`: The pointer to the right half goes into the parent, which changes no tree.
-//! - `RaiseLaw`: A hoist begins with the new root as a new page.
-//! - `SwapLaw`: The new root becomes the root, which changes no tree.
-//! - `FreesLaw`: A page that is a call's own is freed, which changes no tree.
-//! - `IntendLaw`: The parent takes its merging child, which changes no tree, and the merge begins.
-//! - `ChildSeeksLaw`: Where the merging child was read and is merging already, the page before it is looked for.
-//! - `ChildCapsLaw`: Where the merging child was read and is open, it is to be capped.
-//! - `CapsLaw`: The merging child is capped, which changes no tree, and the page before it is looked for.
+//! - `SplitAction`: A split begins with its right half as a new page, and changes no tree.
+//! - `ShortenAction`: The page that is split becomes its left half, which changes no tree, and its right half is to be posted or hoisted over.
+//! - `ShortenLate`: Where the page changed before, the right half is to be freed.
+//! - `PostAction`: The pointer to the right half goes into the parent, which changes no tree.
+//! - `HoistAction`: A hoist begins with the new root as a new page.
+//! - `CrownAction`: The new root becomes the root, which changes no tree.
+//! - `CrownLate`: Where the tree has another root already, the new one is to be freed.
+//! - `FreeAction`: A page that is a call's own is freed, which changes no tree.
+//! - `IntendAction`: The parent takes its merging child, which changes no tree, and the merge begins.
+//! - `ChildSeeks`: Where the merging child was read and is merging already, the page before it is looked for.
+//! - `ChildCaps`: Where the merging child was read and is open, it is to be capped.
+//! - `CapAction`: The merging child is capped, which changes no tree, and the page before it is looked for.
+//! - `CapLate`: Where the child changed before it could be capped, it is read again.
 //! - `SeekLaw`: What the search for the page before the child knows after it read an open page.
-//! - `ReceivesLaw`: The page before the child receives it, which changes no tree.
-//! - `SeekAgainLaw`: Where the page before the child changed before it could receive, it is looked for again.
-//! - `ConfirmsLaw`: The pointer to the received child goes, which changes no tree, and the child is the call's own.
+//! - `ReceiveAction`: The page before the child receives it, which changes no tree.
+//! - `ReceiveLate`: Where the page before the child changed before it could receive, it is looked for again.
+//! - `ConfirmAction`: The pointer to the received child goes, which changes no tree, and the child is the call's own.
 //!
 //! `steps`: page actions as steps of a store, which keep what every other call knows.
 //!
@@ -221,3 +224,6 @@
 //! - `FreesLeftLaw`: To free the first page that is left of a level of a dropped tree is a step, and the rest of the level is left.
 //! - `AnswerLaw`: What such a leaf has at the key is what the tree has at it.
 #![tactic(auto)]
+
+pub mod flight;
+pub mod half;

@@ -4,10 +4,10 @@ use Rattle.sled_tree.proofs.Passing.{shut_pointless, down_passes}
 use Rattle.sled_tree.proofs.walk.go_down.Goals as goal
 
 pub returns-in-None-clause-passes : goal.returns-in-None-clause-passes
-returns-in-None-clause-passes c = shut_pointless _ _ _ _ (c.as_ref.ensures ∙ c.key.ensures) c.requires.index (rw c.deref.ensures at c.in-None.ensures) _
+returns-in-None-clause-passes c by = shut_pointless _ _ by _ (c.as_ref.ensures ∙ c.key.ensures) c.requires.index (rw c.deref.ensures at c.in-None.ensures) _
 
 pub returns-in-Some-clause-arrives : goal.returns-in-Some-clause-arrives
-returns-in-Some-clause-arrives c = descends _ _ _ c.requires.awake c.requires.free c.requires.covers c.requires.few _ _ c.requires.index (at_bound _ _ _ _ _ (c.as_ref.ensures ∙ c.key.ensures) (rw c.deref.ensures at c.in-Some.ensures))
+returns-in-Some-clause-arrives c by = rw c.by_pointer.ensures (descends _ _ by c.requires.awake c.requires.free c.requires.covers c.requires.few _ _ c.requires.index (at_bound _ _ _ _ _ (c.as_ref.ensures ∙ c.key.ensures) (rw c.deref.ensures at c.in-Some.ensures)))
 
 pub returns-in-Some-clause-passes : goal.returns-in-Some-clause-passes
-returns-in-Some-clause-passes c = down_passes _ _ _ _ _ c.requires.index (at_bound _ _ _ _ _ (c.as_ref.ensures ∙ c.key.ensures) (rw c.deref.ensures at c.in-Some.ensures))
+returns-in-Some-clause-passes c by = rw c.by_pointer.ensures (down_passes _ _ by _ _ c.requires.index (at_bound _ _ _ _ _ (c.as_ref.ensures ∙ c.key.ensures) (rw c.deref.ensures at c.in-Some.ensures)))

@@ -1,5 +1,5 @@
 use Rattle.sled_tree.proofs.Arriving.{merges}
 use Rattle.sled_tree.proofs.walk.merge.Goals as goal
 
-pub returns-in-Some-clause-arrives : goal.returns-in-Some-clause-arrives
-returns-in-Some-clause-arrives c = merges _ _ _ c.requires.awake c.requires.free _ _ c.in-Some.is c.requires.may.0 c.requires.pointed c.requires.few c.begin.ensures
+pub returns-clause-arrives : goal.returns-clause-arrives
+returns-clause-arrives c = merges _ _ _ _ c.requires.awake c.requires.free c.requires.few c.begin.ensures

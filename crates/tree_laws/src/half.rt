@@ -23,7 +23,7 @@ impl Model for Half {
 
 impl Half {
     /// The node, apart. Refused with `NoMemory` alone.
-    pub(crate) fn new(alloc: Global, node: Node) -> Result<Half>
+    pub fn new(alloc: Global, node: Node) -> Result<Half>
         ensures ok { IfOk result (λ made. made ≡ node) }
         ensures err { IfErr result (λ e. e ≡ NoMemory) }
     {
@@ -33,14 +33,14 @@ impl Half {
     }
 
     /// The node goes on at a page.
-    pub(crate) fn set_next(&mut self, next: Pid)
+    pub fn set_next(&mut self, next: Pid)
         ensures { self.new ≡ record self.old { next = Some next } }
     {
         self.node.next = Some(next);
     }
 
     /// The node.
-    pub(crate) fn into_node(self) -> Node
+    pub fn into_node(self) -> Node
         ensures { result ≡ self }
     {
         let Half { node } = self;
