@@ -6,15 +6,15 @@ use crate::crowd::run_calls;
 use crate::forms::{Command, Verb, push_help, read};
 use crate::levels::tell_levels;
 use crate::store::Kept;
+use line_files::Program;
 use sled::{DEFAULT_TREE, Db};
 use sled_lines::command;
-use sled_lines::files::Program;
 use sled_lines::input::{Stopped, read_line, without_end};
 use sled_lines::print::Piece::{Number, Text};
 use sled_lines::session::{Session, write};
 use sled_pages::Error;
 use std::alloc::Global;
-use std::io::{BufRead, Write};
+use std::io::{self, BufRead, ErrorKind, Write};
 use std::sync::atomic::{AtomicU64, Ordering};
 
 // The name that databases are opened under.
@@ -460,9 +460,12 @@ pub fn run<R: BufRead, W: Write>(
 pub struct Sessions;
 
 impl Program for Sessions {
-    fn run(&self, alloc: Global, lines: &[u8], printed: &mut Vec<u8>) -> Result<(), Stopped> {
+    fn run(&self, alloc: Global, lines: &[u8], printed: &mut Vec<u8>) -> io::Result<()> {
         let mut input = lines;
-        run(alloc, &mut input, printed, false)?;
-        Ok(())
+        // Nothing is read or written but in memory, so it was that which was missing.
+        match run(alloc, &mut input, printed, false) {
+            Ok(_) => Ok(()),
+            Err(_) => Err(io::Error::from(ErrorKind::OutOfMemory)),
+        }
     }
 }
