@@ -1,6 +1,6 @@
 //! A session of the shell: lines, from opening to opening.
 
-use crate::calls::{ask, run_steps, tell, tell_refused, tell_turns};
+use crate::calls::{ask, run_steps, take_handle, tell, tell_refused, tell_turns};
 use crate::counting::Counting;
 use crate::crowd::run_calls;
 use crate::forms::{Command, Verb, push_help, read};
@@ -199,6 +199,12 @@ impl<'a> Shell<'a> {
     fn ask(&mut self, state: &mut State<'a>, verb: Verb, numbers: [u64; 3]) -> Result<(), Stopped> {
         match (state, verb) {
             (State::Open(session), Verb::Run) => self.run_steps(session),
+            (State::Open(session), Verb::Handle) => take_handle(
+                self.alloc,
+                session,
+                self.line.as_slice(),
+                &mut self.out,
+            ),
             (State::Open(session), verb) => {
                 ask(
                     self.alloc,
@@ -219,8 +225,13 @@ impl<'a> Shell<'a> {
         let numbers = three(self.numbers.as_slice());
         let is_shut = matches!(&*state, State::Shut(_));
         let told = match verb {
-            Verb::Turns | Verb::Recovered | Verb::Run | Verb::Load | Verb::Find | Verb::Overtake =>
-                self.ask(state, verb, numbers),
+            Verb::Turns
+            | Verb::Recovered
+            | Verb::Run
+            | Verb::Load
+            | Verb::Find
+            | Verb::Overtake
+            | Verb::Handle => self.ask(state, verb, numbers),
             Verb::Pages if is_shut => tell_refused(&mut self.out, Error::Closed),
             Verb::Mark if numbers[0] < self.mark => self.tell_below(numbers[0]),
             Verb::Crowd => run_calls(self.alloc, numbers[0], numbers[1], &mut self.out),
