@@ -4,7 +4,6 @@ use std::alloc::Global;
 use std::io::{self, BufRead, Read, Write};
 use std::sync::Arc;
 use std::sync::atomic::{AtomicU64, Ordering};
-use std::test::Fail;
 
 // A reader that gives one line at a time. It fails where a line is not answered yet, and at its end if it is cut.
 #[derive(Drop)]
@@ -65,44 +64,83 @@ impl Write for Page {
     }
 }
 
-// The exit status, and how many lines were written.
-fn served(
-    alloc: Global,
-    rest: &[u8],
+/// Lines over a reader that may fail at their end, and a writer that takes so many bytes and may fail at a flush.
+#[derive(Clone, Copy)]
+pub struct Case {
+    pub what: &'static str,
+    lines: &'static [u8],
     is_cut: bool,
     room: usize,
     flushes: bool,
-) -> Result<(u8, u64), Fail> {
+}
+
+/// Each flushes before it waits for its first line, so where that fails it ends there.
+pub const CASES: [Case; 7] = [
+    Case {
+        what: "a read fails within the third line",
+        lines: b"insert a 1\nget a\nge",
+        is_cut: true,
+        room: 99,
+        flushes: true,
+    },
+    Case {
+        what: "two lines fit",
+        lines: b"get a\nget a\n",
+        is_cut: false,
+        room: 16,
+        flushes: true,
+    },
+    Case {
+        what: "the second of two lines does not fit",
+        lines: b"get a\nget a\n",
+        is_cut: false,
+        room: 15,
+        flushes: true,
+    },
+    Case {
+        what: "a line and a bad one fit",
+        lines: b"get a\nbad\n",
+        is_cut: false,
+        room: 19,
+        flushes: true,
+    },
+    Case {
+        what: "the bad line does not fit",
+        lines: b"get a\nbad\n",
+        is_cut: false,
+        room: 18,
+        flushes: true,
+    },
+    Case {
+        what: "a flush fails before a line",
+        lines: b"get a\n",
+        is_cut: false,
+        room: 16,
+        flushes: false,
+    },
+    Case {
+        what: "a flush fails before a bad line",
+        lines: b"bad\n",
+        is_cut: false,
+        room: 16,
+        flushes: false,
+    },
+];
+
+/// The exit status, and how many lines were written.
+pub fn served(alloc: Global, case: &Case) -> io::Result<(u8, u64)> {
     let answers = Arc::new(alloc, AtomicU64::new(0))?;
     let mut input = Lines {
-        rest,
-        is_cut,
+        rest: case.lines,
+        is_cut: case.is_cut,
         given: 0,
         answers: Arc::try_clone(&answers)?,
     };
     let mut output = Page {
-        room,
-        flushes,
+        room: case.room,
+        flushes: case.flushes,
         answers: Arc::try_clone(&answers)?,
     };
     let ended = serve(alloc, &mut input, &mut output);
     Ok((ended, answers.load(Ordering::SeqCst)))
-}
-
-#[test]
-fn reads_and_writes_that_fail(rt: HostRuntime) -> Result<(), Fail> {
-    for (rest, is_cut, room, flushes, status, lines) in [
-        (b"insert a 1\nget a\nge".as_slice(), true, 99, true, 2, 2),
-        (b"get a\nget a\n", false, 16, true, 0, 2),
-        (b"get a\nget a\n", false, 15, true, 2, 1),
-        (b"get a\nbad\n", false, 19, true, 1, 2),
-        (b"get a\nbad\n", false, 18, true, 2, 1),
-        // It flushes before it waits for the first line, so it ends there.
-        (b"get a\n", false, 16, false, 2, 0),
-        (b"bad\n", false, 16, false, 2, 0),
-    ] {
-        let (ended, answers) = served(rt.alloc(), rest, is_cut, room, flushes)?;
-        assert_eq!(rt; (ended, answers), (status, lines), "{rest:?}");
-    }
-    Ok(())
 }
