@@ -4,7 +4,6 @@ use sled::{DEFAULT_TREE, empty_pages};
 use sled_model::{Outcome, Reply};
 use sled_pages::{IVec, Pages, Result as Told};
 use std::alloc::Global;
-use std::io;
 
 // Whether a get was decided and found this value.
 fn finds(got: &Option<Outcome>, value: &[u8]) -> bool {
@@ -14,18 +13,8 @@ fn finds(got: &Option<Outcome>, value: &[u8]) -> bool {
     }
 }
 
-// What was answered; a refusal is one for want of memory.
-fn answered(answer: Told<bool>) -> io::Result<bool> {
-    match answer {
-        Ok(is) => Ok(is),
-        Err(error) => {
-            drop(error);
-            Err(io::Error::from(io::ErrorKind::OutOfMemory))
-        }
-    }
-}
-
-fn insert_and_read(alloc: Global) -> Told<bool> {
+/// Whether what was inserted in a new database is read.
+pub fn is_read(alloc: Global) -> Told<bool> {
     let key = IVec::from_slice(alloc, b"a")?;
     let value = IVec::from_slice(alloc, b"1")?;
     let got = insert_then_get_in_new(alloc, b"db", &key, &value)?;
@@ -34,20 +23,11 @@ fn insert_and_read(alloc: Global) -> Told<bool> {
     Ok(is_found)
 }
 
-/// Whether what was inserted in a new database is read.
-pub fn is_read(alloc: Global) -> io::Result<bool> {
-    answered(insert_and_read(alloc))
-}
-
-fn crash_and_open(alloc: Global) -> Told<bool> {
+/// Whether a database that is opened has a default tree after a crash.
+pub fn survives(alloc: Global) -> Told<bool> {
     let (outcomes, left) = survive(alloc, empty_pages(alloc), b"db", &[], 0)?;
     drop(outcomes);
     let has_default = left.root(DEFAULT_TREE.as_bytes()).is_some();
     drop(left);
     Ok(has_default)
-}
-
-/// Whether a database that is opened has a default tree after a crash.
-pub fn survives(alloc: Global) -> io::Result<bool> {
-    answered(crash_and_open(alloc))
 }

@@ -6,7 +6,7 @@ mod callers;
 mod streams;
 
 use callers::{is_read, survives};
-use std::io;
+use sled_lines::input::Stopped;
 use std::process::ExitCode;
 use streams::{CASES, served};
 
@@ -14,7 +14,7 @@ fn answer(is: bool) -> &'static str {
     if is { "yes" } else { "no" }
 }
 
-fn run(rt: &HostRuntime) -> io::Result<()> {
+fn run(rt: &HostRuntime) -> Result<(), Stopped> {
     println!(rt;
         "what was inserted is read: {}",
         answer(is_read(rt.alloc())?)
@@ -25,7 +25,7 @@ fn run(rt: &HostRuntime) -> io::Result<()> {
     )?;
     for case in &CASES {
         let (status, lines) = served(rt.alloc(), case)?;
-        println!(rt; "{}: status {status} and {lines} lines", case.what)?;
+        println!(rt; "{}: status {status} and {lines} lines", case.0)?;
     }
     Ok(())
 }
@@ -33,6 +33,6 @@ fn run(rt: &HostRuntime) -> io::Result<()> {
 fn main(rt: HostRuntime) -> ExitCode {
     match run(&rt) {
         Ok(()) => ExitCode::SUCCESS,
-        Err(_) => ExitCode::FAILURE,
+        Err(Stopped) => ExitCode::FAILURE,
     }
 }

@@ -64,81 +64,52 @@ impl Write for Page {
     }
 }
 
-/// Lines over a reader that may fail at their end, and a writer that takes so many bytes and may fail at a flush.
-#[derive(Clone, Copy)]
-pub struct Case {
-    pub what: &'static str,
-    lines: &'static [u8],
-    is_cut: bool,
-    room: usize,
-    flushes: bool,
-}
+/// What a case shows; its lines, whether the reader fails at their end, how many bytes the writer takes, and whether it can be
+/// flushed.
+pub type Case = (&'static str, &'static [u8], bool, usize, bool);
 
-/// Each flushes before it waits for its first line, so where that fails it ends there.
+/// Output is flushed before the first line is waited for, so where that fails no line is answered.
 pub const CASES: [Case; 7] = [
-    Case {
-        what: "a read fails within the third line",
-        lines: b"insert a 1\nget a\nge",
-        is_cut: true,
-        room: 99,
-        flushes: true,
-    },
-    Case {
-        what: "two lines fit",
-        lines: b"get a\nget a\n",
-        is_cut: false,
-        room: 16,
-        flushes: true,
-    },
-    Case {
-        what: "the second of two lines does not fit",
-        lines: b"get a\nget a\n",
-        is_cut: false,
-        room: 15,
-        flushes: true,
-    },
-    Case {
-        what: "a line and a bad one fit",
-        lines: b"get a\nbad\n",
-        is_cut: false,
-        room: 19,
-        flushes: true,
-    },
-    Case {
-        what: "the bad line does not fit",
-        lines: b"get a\nbad\n",
-        is_cut: false,
-        room: 18,
-        flushes: true,
-    },
-    Case {
-        what: "a flush fails before a line",
-        lines: b"get a\n",
-        is_cut: false,
-        room: 16,
-        flushes: false,
-    },
-    Case {
-        what: "a flush fails before a bad line",
-        lines: b"bad\n",
-        is_cut: false,
-        room: 16,
-        flushes: false,
-    },
+    (
+        "a read fails within a line",
+        b"insert a 1\nget a\nge",
+        true,
+        99,
+        true,
+    ),
+    ("two lines fit", b"get a\nget a\n", false, 16, true),
+    ("one of two lines fits", b"get a\nget a\n", false, 15, true),
+    ("a line and a bad one fit", b"get a\nbad\n", false, 19, true),
+    (
+        "the bad line does not fit",
+        b"get a\nbad\n",
+        false,
+        18,
+        true,
+    ),
+    ("a flush fails before a line", b"get a\n", false, 16, false),
+    (
+        "a flush fails before a bad line",
+        b"bad\n",
+        false,
+        16,
+        false,
+    ),
 ];
 
 /// The exit status, and how many lines were written.
 pub fn served(alloc: Global, case: &Case) -> io::Result<(u8, u64)> {
+    let (_, rest, is_cut, room, flushes) = *case;
     let answers = Arc::new(alloc, AtomicU64::new(0))?;
     let mut input = Lines {
-        rest: case.lines,
-        is_cut: case.is_cut,
+        rest,
+        is_cut,
         given: 0,
         answers: Arc::try_clone(&answers)?,
     };
     let mut output = Page {
-        room: case.room,
-        flushes: case.flushes,
+        room,
+        flushes,
         answers: Arc::try_clone(&answers)?,
     };
     let ended = serve(alloc, &mut input, &mut output);
