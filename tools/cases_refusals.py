@@ -606,3 +606,46 @@ def a_bad_line_may_be_the_last(s):
     s.line('get a', 'value -')
     s.line('get', 'bad line 3: `get` takes K, one word')
     s.end = ''
+
+
+@case
+def what_names_no_tree_is_refused(s):
+    """What names a tree of another database, or a number or a name that the database does not have, is refused. Calls in flight
+    go on."""
+    s.rows('''
+        handle sledsh __sled__default 1    done
+        insert a 1                         old -
+        begin insert a 2                   slot 1
+        handle sledsh __sled__default 2    done
+        get a                              refused E1
+        begin get a                        refused E1
+        run begin get a, flush             refused E1
+                                           flushed 1
+        handle sledsh other 1              done
+        insert a 3                         refused E1
+        step 1                             moved
+        handle other __sled__default 1     done
+        get a                              refused E2
+        remove a                           refused E2
+        begin cas a 1 -                    refused E2
+        handle other other 7               done
+        get a                              refused E2
+        flush                              flushed 0
+        dump                               pair __sled__default a 1
+                                           end 1
+        step 1                             old 1
+        handle sledsh __sled__default 1    done
+        begin get a                        slot 2
+        finish 2                           value 2
+    ''')
+    s.note('The default tree is current after an opening.')
+    s.rows('''
+        handle % % 0                       done
+        get a                              refused E2
+        reopen                             opened
+        get a                              value 2
+        handle sledsh - 1                  bad line 29: `-` is no byte string: % and two lower-case hexadecimal digits stand for a byte
+        handle sledsh __sled__default      bad line 30: `handle` takes DATABASE NAME N, three words
+        handle sledsh __sled__default -1   bad line 31: `-1` is no number: decimal digits without leading zeros
+        get a                              value 2
+    ''')

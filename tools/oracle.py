@@ -18,6 +18,8 @@ from collections import Counter, namedtuple
 from dataclasses import dataclass, replace
 
 TREE = b'__sled__default'
+# What names the default tree: the database, the tree and its number.
+HANDLE = b'sledsh', TREE, 1
 GREATEST = 2**64 - 1
 
 
@@ -388,10 +390,10 @@ def merge(store, parent, child):
 FORMS = """insert K V; get K; remove K; cas K OLD NEW; begin insert K V; begin get K; begin remove K; begin cas K OLD NEW
 step N; finish N; abandon N; turns N; flush; crash N; dump; new; new refuse N ..; reopen; reopen refuse N ..
 reopen unreadable PID ..; reopen mark N; recover; recover refuse N ..; recovered; pages; crowd SEED CALLS; run STEP, ..
-reads; load N MOST ALL; find N PAGES; overtake N COUNT; help; quit"""
+reads; load N MOST ALL; find N PAGES; overtake N COUNT; handle DATABASE NAME N; help; quit"""
 FORMS = [form.split(' ') for form in re.split('; |\n', FORMS)]
 POINT = ('insert', 'get', 'remove', 'cas')
-READERS = {'K': value_of, 'V': value_of, 'OLD': optional, 'NEW': optional}
+READERS = {'K': value_of, 'V': value_of, 'DATABASE': value_of, 'NAME': value_of, 'OLD': optional, 'NEW': optional}
 
 
 def fit(form, words):
@@ -462,7 +464,7 @@ class Shell:
 
     def open(self):
         """Opens the pages: an empty store gets a leaf without pairs, and all is flushed. Slots end."""
-        self.slots, self.begun, self.opened = {}, 0, False
+        self.slots, self.begun, self.opened, self.handle = {}, 0, False, HANDLE
         if TREE not in self.store.roots:
             self.store.swap_root(None, self.store.allocate(Node()).pid)
         self.store.flush()
@@ -498,6 +500,11 @@ class Shell:
             return [self.slot(name, words[0])]
         if not self.opened:
             raise Refused(8)
+        if name == 'handle':
+            self.handle = words
+            return ['done']
+        if name in POINT + ('begin',) and self.handle != HANDLE:
+            raise Refused(2 if self.handle[0] != HANDLE[0] else 1)
         if name in POINT:
             return [self.advance([fly(store, (name,) + words), 0], True)]
         if name == 'begin':

@@ -1,10 +1,9 @@
-//! Callers of `examples` where there is memory: no contract says that they do not give up.
+//! Callers in `examples` where there is memory: no contract says that they do not give up.
 use examples::{insert_then_get_in_new, survive};
 use sled::{DEFAULT_TREE, empty_pages};
 use sled_model::{Outcome, Reply};
 use sled_pages::{IVec, Pages, Result as Told};
 use std::alloc::Global;
-use std::test::Fail;
 
 // Whether a get was decided and found this value.
 fn finds(got: &Option<Outcome>, value: &[u8]) -> bool {
@@ -14,8 +13,8 @@ fn finds(got: &Option<Outcome>, value: &[u8]) -> bool {
     }
 }
 
-// Whether what was inserted is read.
-fn is_read(alloc: Global) -> Told<bool> {
+/// Whether what was inserted in a new database is read.
+pub fn is_read(alloc: Global) -> Told<bool> {
     let key = IVec::from_slice(alloc, b"a")?;
     let value = IVec::from_slice(alloc, b"1")?;
     let got = insert_then_get_in_new(alloc, b"db", &key, &value)?;
@@ -24,23 +23,11 @@ fn is_read(alloc: Global) -> Told<bool> {
     Ok(is_found)
 }
 
-// Whether a database that is opened has a default tree after a crash.
-fn survives(alloc: Global) -> Told<bool> {
+/// Whether a database that is opened has a default tree after a crash.
+pub fn survives(alloc: Global) -> Told<bool> {
     let (outcomes, left) = survive(alloc, empty_pages(alloc), b"db", &[], 0)?;
     drop(outcomes);
     let has_default = left.root(DEFAULT_TREE.as_bytes()).is_some();
     drop(left);
     Ok(has_default)
-}
-
-#[test]
-fn what_was_inserted_is_read_in_a_new_database(rt: HostRuntime) -> Result<(), Fail> {
-    assert!(rt; is_read(rt.alloc())?);
-    Ok(())
-}
-
-#[test]
-fn a_new_database_survives_a_crash(rt: HostRuntime) -> Result<(), Fail> {
-    assert!(rt; survives(rt.alloc())?);
-    Ok(())
 }

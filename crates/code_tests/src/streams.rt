@@ -4,7 +4,6 @@ use std::alloc::Global;
 use std::io::{self, BufRead, Read, Write};
 use std::sync::Arc;
 use std::sync::atomic::{AtomicU64, Ordering};
-use std::test::Fail;
 
 // A reader that gives one line at a time. It fails where a line is not answered yet, and at its end if it is cut.
 #[derive(Drop)]
@@ -65,14 +64,42 @@ impl Write for Page {
     }
 }
 
-// The exit status, and how many lines were written.
-fn served(
-    alloc: Global,
-    rest: &[u8],
-    is_cut: bool,
-    room: usize,
-    flushes: bool,
-) -> Result<(u8, u64), Fail> {
+/// What a case shows; its lines, whether the reader fails at their end, how many bytes the writer takes, and whether it can be
+/// flushed.
+pub type Case = (&'static str, &'static [u8], bool, usize, bool);
+
+/// Output is flushed before the first line is waited for, so where that fails no line is answered.
+pub const CASES: [Case; 7] = [
+    (
+        "a read fails within a line",
+        b"insert a 1\nget a\nge",
+        true,
+        99,
+        true,
+    ),
+    ("two lines fit", b"get a\nget a\n", false, 16, true),
+    ("one of two lines fits", b"get a\nget a\n", false, 15, true),
+    ("a line and a bad one fit", b"get a\nbad\n", false, 19, true),
+    (
+        "the bad line does not fit",
+        b"get a\nbad\n",
+        false,
+        18,
+        true,
+    ),
+    ("a flush fails before a line", b"get a\n", false, 16, false),
+    (
+        "a flush fails before a bad line",
+        b"bad\n",
+        false,
+        16,
+        false,
+    ),
+];
+
+/// The exit status, and how many lines were written.
+pub fn served(alloc: Global, case: &Case) -> io::Result<(u8, u64)> {
+    let (_, rest, is_cut, room, flushes) = *case;
     let answers = Arc::new(alloc, AtomicU64::new(0))?;
     let mut input = Lines {
         rest,
@@ -87,22 +114,4 @@ fn served(
     };
     let ended = serve(alloc, &mut input, &mut output);
     Ok((ended, answers.load(Ordering::SeqCst)))
-}
-
-#[test]
-fn reads_and_writes_that_fail(rt: HostRuntime) -> Result<(), Fail> {
-    for (rest, is_cut, room, flushes, status, lines) in [
-        (b"insert a 1\nget a\nge".as_slice(), true, 99, true, 2, 2),
-        (b"get a\nget a\n", false, 16, true, 0, 2),
-        (b"get a\nget a\n", false, 15, true, 2, 1),
-        (b"get a\nbad\n", false, 19, true, 1, 2),
-        (b"get a\nbad\n", false, 18, true, 2, 1),
-        // It flushes before it waits for the first line, so it ends there.
-        (b"get a\n", false, 16, false, 2, 0),
-        (b"bad\n", false, 16, false, 2, 0),
-    ] {
-        let (ended, answers) = served(rt.alloc(), rest, is_cut, room, flushes)?;
-        assert_eq!(rt; (ended, answers), (status, lines), "{rest:?}");
-    }
-    Ok(())
 }

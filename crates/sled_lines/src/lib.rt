@@ -2,7 +2,6 @@
 #![tactic(auto)]
 
 pub mod command;
-pub mod files;
 pub mod input;
 pub mod print;
 pub mod serve;

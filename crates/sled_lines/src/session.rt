@@ -60,6 +60,12 @@ impl<P: Pages, M: MergeOperator> Session<P, M> {
         &self.tree
     }
 
+    /// Makes a tree current, whether or not the database has it.
+    pub fn set_tree(&mut self, tree: Tree) {
+        let old = std::mem::replace(&mut self.tree, tree);
+        drop(old);
+    }
+
     /// The database. The calls in flight are given up.
     pub fn into_db(self) -> Db<P, M> {
         let Session {

@@ -7,9 +7,9 @@ use sled_lines::input::{Stopped, without_end};
 use sled_lines::print::Piece::{Number, Text, Word};
 use sled_lines::print::{Piece, Shown, push_outcome, push_pieces, push_refused};
 use sled_lines::session::Session;
-use sled_lines::words::first_word;
+use sled_lines::words::{first_word, read_number, read_word};
 use sled_model::{Call, Outcome, Reply, Slot, Step, Tree, Whole};
-use sled_pages::Error;
+use sled_pages::{Error, IVec};
 use std::alloc::Global;
 use std::sync::atomic::{AtomicU64, Ordering};
 
@@ -268,4 +268,43 @@ pub fn run_steps(
     };
     drop(steps);
     done
+}
+
+// The byte string of a word.
+fn bytes_of(alloc: Global, word: &[u8]) -> Result<IVec> {
+    match answered(read_word(alloc, word))? {
+        Some(bytes) => Ok(bytes),
+        None => Err(Stopped),
+    }
+}
+
+// What names a tree, of the words of a database, a name and a number.
+fn tree_of(alloc: Global, database: &[u8], words: &[u8]) -> Result<Tree> {
+    let (name, number) = first_word(words);
+    let number = read_number(number.unwrap_or(b"")).ok_or(Stopped)?;
+    let database = bytes_of(alloc, database)?;
+    match bytes_of(alloc, name) {
+        Ok(name) => Ok(Tree {
+            database,
+            name,
+            number,
+        }),
+        Err(stopped) => {
+            drop(database);
+            Err(stopped)
+        }
+    }
+}
+
+/// Makes the tree current that a line names.
+pub fn take_handle(
+    alloc: Global,
+    session: &mut Session<Counting<'_>>,
+    line: &[u8],
+    out: &mut Vec<u8>,
+) -> Result<()> {
+    let words = first_word(without_end(line)).1.unwrap_or(b"");
+    let (database, words) = first_word(words);
+    session.set_tree(tree_of(alloc, database, words.unwrap_or(b""))?);
+    tell(out, &[Text(b"done\n")])
 }

@@ -30,6 +30,7 @@ pub enum Verb {
     Load,
     Find,
     Overtake,
+    Handle,
     Help,
     Quit,
 }
@@ -37,9 +38,9 @@ pub enum Verb {
 // A command's own words, what it takes, and what it does.
 type Form = (&'static str, &'static str, Verb, &'static str);
 
-// What a command takes has words of its own: K, V, OLD and NEW are byte strings, STEP a step of a call in flight, and the others
-// numbers; `..` stands for more of the word before it.
-const FORMS: [Form; 33] = [
+// What a command takes has words of its own: K, V, OLD, NEW, DATABASE and NAME are byte strings, STEP a step of a call in flight,
+// and the others numbers; `..` stands for more of the word before it.
+const FORMS: [Form; 34] = [
     (
         "insert",
         "K V",
@@ -191,6 +192,12 @@ const FORMS: [Form; 33] = [
         Verb::Overtake,
         "so often an insert comes between two steps of the call in a slot; prints its turns",
     ),
+    (
+        "handle",
+        "DATABASE NAME N",
+        Verb::Handle,
+        "makes current what names a tree: a database, the tree's name and its number",
+    ),
     ("help", "", Verb::Help, "prints these lines"),
     ("quit", "", Verb::Quit, "ends"),
 ];
@@ -330,8 +337,8 @@ fn count_of(form: &Form, count: usize) -> &'static str {
 // What is said of a word that is not what a command takes in its place; nothing where it is.
 fn odd(alloc: Global, part: &[u8], word: &[u8]) -> Result<&'static str> {
     match part {
-        b"K" | b"V" if word == b"-".as_slice() => Ok(NO_BYTES),
-        b"K" | b"V" | b"OLD" | b"NEW" => {
+        b"K" | b"V" | b"DATABASE" | b"NAME" if word == b"-".as_slice() => Ok(NO_BYTES),
+        b"K" | b"V" | b"OLD" | b"NEW" | b"DATABASE" | b"NAME" => {
             let value = read_value(alloc, word)?;
             let said = if value.is_some() { "" } else { NO_BYTES };
             drop(value);

@@ -11,8 +11,8 @@ mod plain;
 mod shell;
 mod store;
 
+use line_files::check;
 use shell::{Sessions, run};
-use sled_lines::files::check;
 use sled_lines::input::Stopped;
 use std::io::{BufReader, BufWriter, IsTerminal, Write};
 use std::process::ExitCode;
@@ -37,7 +37,9 @@ fn run_files(rt: &HostRuntime, names: &[String], output: &mut impl Write) -> Res
 fn run_names(rt: &HostRuntime, names: &[String], output: &mut impl Write) -> Result<bool, Stopped> {
     match names {
         [] => run_input(rt, output),
-        [first, names @ ..] if first.as_str() == "check" => check(rt, &Sessions, names, output),
+        [first, names @ ..] if first.as_str() == "check" => Ok(check(
+            rt, &Sessions, names, output,
+        )?),
         names => run_files(rt, names, output),
     }
 }

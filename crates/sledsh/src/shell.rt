@@ -1,20 +1,20 @@
 //! A session of the shell: lines, from opening to opening.
 
-use crate::calls::{ask, run_steps, tell, tell_refused, tell_turns};
+use crate::calls::{ask, run_steps, take_handle, tell, tell_refused, tell_turns};
 use crate::counting::Counting;
 use crate::crowd::run_calls;
 use crate::forms::{Command, Verb, push_help, read};
 use crate::levels::tell_levels;
 use crate::store::Kept;
+use line_files::Program;
 use sled::{DEFAULT_TREE, Db};
 use sled_lines::command;
-use sled_lines::files::Program;
 use sled_lines::input::{Stopped, read_line, without_end};
 use sled_lines::print::Piece::{Number, Text};
 use sled_lines::session::{Session, write};
 use sled_pages::Error;
 use std::alloc::Global;
-use std::io::{BufRead, Write};
+use std::io::{self, BufRead, ErrorKind, Write};
 use std::sync::atomic::{AtomicU64, Ordering};
 
 // The name that databases are opened under.
@@ -199,6 +199,12 @@ impl<'a> Shell<'a> {
     fn ask(&mut self, state: &mut State<'a>, verb: Verb, numbers: [u64; 3]) -> Result<(), Stopped> {
         match (state, verb) {
             (State::Open(session), Verb::Run) => self.run_steps(session),
+            (State::Open(session), Verb::Handle) => take_handle(
+                self.alloc,
+                session,
+                self.line.as_slice(),
+                &mut self.out,
+            ),
             (State::Open(session), verb) => {
                 ask(
                     self.alloc,
@@ -219,8 +225,13 @@ impl<'a> Shell<'a> {
         let numbers = three(self.numbers.as_slice());
         let is_shut = matches!(&*state, State::Shut(_));
         let told = match verb {
-            Verb::Turns | Verb::Recovered | Verb::Run | Verb::Load | Verb::Find | Verb::Overtake =>
-                self.ask(state, verb, numbers),
+            Verb::Turns
+            | Verb::Recovered
+            | Verb::Run
+            | Verb::Load
+            | Verb::Find
+            | Verb::Overtake
+            | Verb::Handle => self.ask(state, verb, numbers),
             Verb::Pages if is_shut => tell_refused(&mut self.out, Error::Closed),
             Verb::Mark if numbers[0] < self.mark => self.tell_below(numbers[0]),
             Verb::Crowd => run_calls(self.alloc, numbers[0], numbers[1], &mut self.out),
@@ -460,9 +471,12 @@ pub fn run<R: BufRead, W: Write>(
 pub struct Sessions;
 
 impl Program for Sessions {
-    fn run(&self, alloc: Global, lines: &[u8], printed: &mut Vec<u8>) -> Result<(), Stopped> {
+    fn run(&self, alloc: Global, lines: &[u8], printed: &mut Vec<u8>) -> io::Result<()> {
         let mut input = lines;
-        run(alloc, &mut input, printed, false)?;
-        Ok(())
+        // Nothing is read or written but in memory, so it was that which was missing.
+        match run(alloc, &mut input, printed, false) {
+            Ok(_) => Ok(()),
+            Err(_) => Err(io::Error::from(ErrorKind::OutOfMemory)),
+        }
     }
 }

@@ -1,9 +1,11 @@
-//! Texts of lines: what they print, and where that differs from what they should print.
+//! Texts of lines, and what they print.
 use crate::line::Line;
 use crate::store::Store;
 use crate::values::{compare_values, kind_of};
 use crate::words::{Result, Stop, read_number, split};
+use line_files::Program;
 use std::alloc::Global;
+use std::{io, str};
 
 /// What the lines of a text print, from a fresh store on.
 pub fn printed_by(alloc: Global, text: &str) -> Result<Line> {
@@ -73,38 +75,17 @@ fn repeat(store: &mut Store, words: &[&str], answer: &mut Line) -> Result<()> {
     Ok(())
 }
 
-// How many lines two texts have in common, and the lines that come then and differ, where `None` is the end.
-type Difference<'a> = (u64, Option<&'a str>, Option<&'a str>);
+/// Texts of lines, each run from a fresh store on.
+#[derive(Clone, Copy)]
+pub struct Texts;
 
-fn first_difference<'a>(printed: &'a str, expected: &'a str) -> Difference<'a> {
-    let mut lines = printed.lines();
-    let mut others = expected.lines();
-    for count in 0..u64::MAX {
-        let (line, other) = (lines.next(), others.next());
-        if line != other || line.is_none() {
-            return (count, line, other);
-        }
-    }
-    (u64::MAX, None, None)
-}
-
-/// Whether a text is the expected one. Adds a line that says so, or shows the first line that differs.
-pub fn compare(name: &str, printed: &str, expected: &str, out: &mut Line) -> bool {
-    out.push(name);
-    match first_difference(printed, expected) {
-        (count, None, None) => {
-            out.push_numbered(":", count);
-            out.push(" lines as expected\n");
-            true
-        }
-        (count, line, other) => {
-            out.push_numbered(": after", count);
-            out.push(" lines: ");
-            out.push(line.unwrap_or("the end"));
-            out.push("\n  expected: ");
-            out.push(other.unwrap_or("the end"));
-            out.push("\n");
-            false
-        }
+impl Program for Texts {
+    fn run(&self, alloc: Global, lines: &[u8], printed: &mut Vec<u8>) -> io::Result<()> {
+        let Ok(text) = str::from_utf8(lines) else {
+            return Err(io::Error::from(io::ErrorKind::InvalidData));
+        };
+        let answers = printed_by(alloc, text)?;
+        printed.extend_from_slice(answers.text()?.as_bytes())?;
+        Ok(())
     }
 }

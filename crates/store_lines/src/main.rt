@@ -12,8 +12,8 @@ mod store;
 mod values;
 mod words;
 
-use check::{compare, printed_by};
-use line::Line;
+use check::{Texts, printed_by};
+use line_files::check;
 use std::process::ExitCode;
 use std::{env, fs, io};
 
@@ -100,38 +100,9 @@ fn run_input(rt: &HostRuntime) -> io::Result<()> {
     run_text(rt, text.as_str())
 }
 
-// The file of a name and an ending.
-fn read(rt: &HostRuntime, name: &str, ending: &str) -> io::Result<String> {
-    let path = format!(in rt.alloc(); "{name}.{ending}")?;
-    fs::read_to_string(rt, path.as_str())
-}
-
-// What the lines of a name print.
-fn printed_of(rt: &HostRuntime, name: &str) -> io::Result<Line> {
-    let lines = read(rt, name, "lines")?;
-    Ok(printed_by(rt.alloc(), lines.as_str())?)
-}
-
-// Whether lines of a name print what they should. Says so.
-fn check_printed(rt: &HostRuntime, name: &str, printed: &Line) -> io::Result<bool> {
-    let expected = read(rt, name, "expected")?;
-    let mut out = Line::new(rt.alloc());
-    let is_same = compare(name, printed.text()?, expected.as_str(), &mut out);
-    rt.print(out.text()?)?;
-    Ok(is_same)
-}
-
-fn check_name(rt: &HostRuntime, name: &str) -> io::Result<bool> {
-    let printed = printed_of(rt, name)?;
-    check_printed(rt, name, &printed)
-}
-
+// Whether the lines of each name print what they should. Says so.
 fn check_names(rt: &HostRuntime, names: &[String]) -> io::Result<bool> {
-    let mut all_same = true;
-    for name in names {
-        all_same &= check_name(rt, name.as_str())?;
-    }
-    Ok(all_same)
+    check(rt, &Texts, names, &mut io::writer(rt))
 }
 
 // Whether no file printed something else than it should.
