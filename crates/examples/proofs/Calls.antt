@@ -25,7 +25,7 @@ use Rattle.sled_model.specs.declared.outcome.Outcome.TheVariants as outcome
 use Rattle.sled_model.specs.declared.outcome.Step.TheVariants as step
 use Rattle.sled.specs.Values.{db_state}
 use Rattle.sled_machine.specs.Values.{MachineValue, instant_of, slots_of}
-use Rattle.sled_machine.specs.Step.{Reaches}
+use Rattle.sled_machine.specs.Step.{MachineStep, Reaches}
 use Rattle.sled_machine.specs.Finish.{Finishes, steps_of, outcomes_of}
 use Rattle.sled_machine.proofs.Runs.{model_run}
 use Rattle.examples.specs.Reads.{ReadsAs, PutsOne, found_in, maps_now, later}
@@ -246,8 +246,8 @@ module _ {P M : Type 0} (store : P → Store) (number : P → ℕ) (meant : M �
       greater : (n : ℕ) → n ≡ n + 1 → ⊥
       greater n e = omega arith
 
-  pub steps_mean : (old new : MachineValue P M) (at : ℕ) (o : Outcome) (slot : ℕ) (tree : Tree) (call : Call) → Reaches store number meant old (step.Step at) o new → Means (slots_at old) slot tree call → Means (slots_at new) slot tree call
-  steps_mean old new at o slot tree call r m = step_means (instant_of store number meant old) (instant_of store number meant new) at o r.step.maps slot tree call r.step.step m
+  pub steps_mean : (old new : MachineValue P M) (at : ℕ) (o : Outcome) (slot : ℕ) (tree : Tree) (call : Call) → MachineStep store number meant old (step.Step at) o new → Means (slots_at old) slot tree call → Means (slots_at new) slot tree call
+  steps_mean old new at o slot tree call r m = step_means (instant_of store number meant old) (instant_of store number meant new) at o r.maps slot tree call r.step m
 
   -- what the last step that was decided made of the maps
   abbrev pub LastPut : Maps → Tree → Key → Key → Key → Option Bool → Maps → Type 0
@@ -259,8 +259,8 @@ module _ {P M : Type 0} (store : P → Store) (number : P → ℕ) (meant : M �
   last_put start old new tree key first second value is_second (Some before) e l p = subst (λ v. PutsOne start new tree.name key v) e (puts_twice start old new tree.name key _ value l p)
 
   pub races : (start : Maps) (old new : MachineValue P M) (slot : ℕ) (o : Outcome) (tree : Tree) (key first second value : Key) (is_second : Bool) (last : Option Bool) → value ≡ cond is_second second first
-      → Means (slots_at old) slot tree (Insert key value) → Reaches store number meant old (step.Step slot) o new → LastPut start tree key first second last (maps_now store meant old.db) → LastPut start tree key first second (later o is_second last) (maps_now store meant new.db)
-  races start old new slot o tree key first second value is_second last e m r l = go o (step_told (instant_of store number meant old) (instant_of store number meant new) slot o r.step.maps tree (Insert key value) m r.step.step)
+      → Means (slots_at old) slot tree (Insert key value) → MachineStep store number meant old (step.Step slot) o new → LastPut start tree key first second last (maps_now store meant old.db) → LastPut start tree key first second (later o is_second last) (maps_now store meant new.db)
+  races start old new slot o tree key first second value is_second last e m r l = go o (step_told (instant_of store number meant old) (instant_of store number meant new) slot o r.maps tree (Insert key value) m r.step)
     where
       same : trees_at new ≡ trees_at old → LastPut start tree key first second last (maps_now store meant new.db)
       same t = subst (LastPut start tree key first second last) (sym (ap maps_at t)) l

@@ -1,4 +1,5 @@
 pub mod Keys
 pub mod Calls
 pub mod Opened
+pub mod Meant
 pub mod Surviving

@@ -18,6 +18,7 @@ use Rattle.sled_machine.specs.CrashMaps.{Leaves}
 use Rattle.sled_machine.specs.Run.{Performs}
 use Rattle.sled_machine.specs.Values.{MachineValue}
 use Rattle.examples.specs.Survive.{machine_over, Survives}
+use Rattle.examples.proofs.Meant.{plain, plain_machine, plain_keeps, plain_opens}
 
 -- an element of a list is one of the list once repetitions are taken out
 once_has : {X : Type 0} (once xs : List X) (y : X) → Repeats once xs → In y xs → In y once
@@ -51,7 +52,7 @@ module _ {M : Type 0} (meant : M → Merge) (before : Store) (name : Key) where
   pub survives : (steps : List Step) (outcomes : List Outcome) (keep : ℕ) (start last : MachineValue MemPages M) (first : DbValue MemPages M) (pages left : MemPages) (again : DbValue MemPages M) (end : MemPages)
       → Opens store_of before name first → start.db ≡ first → start.flights ≡ [] → start.slots_given ≡ 0 → Performs store_of flush_number_of meant start steps outcomes last → pages ≡ last.db.pages
       → MayLeave (store_of pages) (store_of left).base → Crashes keep (store_of pages) (store_of left) → Opens store_of (store_of left) name again → end ≡ again.pages
-      → Survives meant before name steps outcomes keep (store_of end)
+      → Survives before name steps outcomes keep (store_of end)
   survives steps outcomes keep start last first pages left again end o same none unused run p may crash reopens out =
       let over : start ≡ machine_over first = λ i. record { db = same i; flights = none i; slots_given = unused i } in
       let leaves : Leaves (store_of first.pages) (trees_of (now (store_of first.pages)) ∷ []) = record { is = subst (λ l. Matches (map trees_of l) (trees_of (now (store_of first.pages)) ∷ [])) (sym o.left) (record { once = trees_of (now (store_of first.pages)) ∷ []; left = (refl, inl tt); right = (refl, inl tt) }) } in
@@ -60,15 +61,15 @@ module _ {M : Type 0} (meant : M → Merge) (before : Store) (name : Key) where
       let base : now (store_of left) ≡ (store_of left).base = ap now crash.is ∙ sym (ap (λ (s : Store). s.base) crash.is) in
       let one : In (trees_of (store_of left).base) k.last = matches_has (map trees_of (states_left (store_of last.db.pages))) k.last (trees_of (store_of left).base) k.leaves.is (map_has trees_of (states_left (store_of last.db.pages)) (store_of left).base here) in
       record {
-        first = first;
-        opens = o;
-        last = last;
-        runs = k;
+        first = plain store_of flush_number_of meant first;
+        opens = plain_opens store_of flush_number_of meant before name first o;
+        last = plain_machine store_of flush_number_of meant last;
+        runs = plain_keeps store_of flush_number_of meant (machine_over first) last (trees_of (now (store_of first.pages)) ∷ []) steps outcomes k;
         left = store_of left;
         crashes = subst (λ (q : MemPages). Crashes keep (store_of q) (store_of left)) p crash;
         one = subst (λ (z : PageState). In (trees_of z) k.last) (sym base) one;
-        again = again;
-        reopens = reopens;
+        again = plain store_of flush_number_of meant again;
+        reopens = plain_opens store_of flush_number_of meant (store_of left) name again reopens;
         is = ap store_of out;
         maps = ap (λ (q : MemPages). trees_of (now (store_of q))) out ∙ reopens.maps;
       }

@@ -7,7 +7,7 @@ ghost use Rattle.examples.specs.Survive.{Survives};
 
 use sled::{Db, crash_pages};
 use sled_machine::Machine;
-use sled_model::{MergeOperator, Outcome, Step};
+use sled_model::{Outcome, Step};
 use sled_pages::{MemPages, Result};
 use std::alloc::Global;
 
@@ -22,7 +22,7 @@ pub fn survive(
 ) -> Result<(Vec<Outcome>, MemPages)>
     requires well { IsWhole (now (store_of pages)) }
     requires calm { (now (store_of pages)).in_group ≡ false }
-    ensures ok { IfOk result (λ r. Survives ⟦<Box<dyn MergeOperator + Send> as MergeOperator>⟧.meant (store_of pages) name.now steps.now r.0.items keep (store_of r.1)) }
+    ensures ok { IfOk result (λ r. Survives (store_of pages) name.now steps.now r.0.items keep (store_of r.1)) }
     ensures well { IfOk result (λ r. IsWhole (now (store_of r.1))) }
     ensures calm { IfOk result (λ r. (now (store_of r.1)).in_group ≡ false) }
 {

@@ -1,9 +1,8 @@
 -- A flush changes what a crash may leave, and nothing else.
-use Rattle.std.proofs.Common.{◌≡◌, ℕ, ◌+◌, ◌<◌, true, false, not, [], ◌∷◌, Option, Some, None, sym, refl, ap, ◌∙◌, subst, arith, option_map}
+use Rattle.std.proofs.Common.{◌≡◌, ℕ, ◌+◌, ◌<◌, true, false, not, [], ◌∷◌, Option, sym, refl, ap, ◌∙◌, subst, arith, option_map}
 use Rattle.std.specs.FinMap.Entries.{find}
 use Rattle.std.specs.Ordering.{nat_cmp}
 use Rattle.sled_pages.specs.In.{In}
-use Rattle.sled_pages.specs.Crash.{states_left}
 use Rattle.sled_pages.specs.Store.{Store, now, flushed, Refused, refused_as}
 use Rattle.sled_pages.specs.declared.error.Error.{Error}
 use Rattle.sled_pages.specs.declared.error.Error.TheVariants as error

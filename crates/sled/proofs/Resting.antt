@@ -1,6 +1,6 @@
 -- Stores that differ in the count of faults alone, or show the same now.
-use Rattle.std.proofs.Common.{◌≡◌, ℕ, ◌+◌, Bool, List, [], refl, ap, inl, inr}
-use Rattle.sled_pages.specs.State.{State, Action, after_all}
+use Rattle.std.proofs.Common.{◌≡◌, ℕ, ◌+◌, [], ap, inl, inr}
+use Rattle.sled_pages.specs.State.{after_all}
 use Rattle.sled_pages.specs.Store.{Store, now, flushed}
 use Rattle.sled_pages.specs.Crash.{states_left}
 use Rattle.sled_pages.specs.declared.error.Error.{Error}

@@ -1,5 +1,5 @@
 -- What contracts see of a database, and the state of the model that it stands for.
-use Rattle.std.specs.Prelude.{◌≡◌, ℕ, nat_le, nat_lt, ◌&&◌, Bool, not, List, Option, Some, None, option_map, codes}
+use Rattle.std.specs.Prelude.{ℕ, nat_le, nat_lt, ◌&&◌, Bool, not, List, Option, Some, None, option_map, codes}
 use Rattle.std.specs.FinMap.Entries.{find}
 use Rattle.std.specs.Ordering.{nat_cmp}
 use Rattle.sled_pages.specs.Order.{Key, key_cmp}

@@ -16,11 +16,12 @@ pub use db::Db;
 pub use export::Collection;
 pub use memory::{crash_pages, empty_pages};
 pub use sled_model::{
-    Call, Event, MAX_LOOPS, MergeOperator, Outcome, Reply, Slot, Step, Tree, Whole,
+    Call, CompareAndSwapError, Decision, Effect, Event, MAX_LOOPS, MergeOperator, Outcome,
+    QUEUE_LIMIT, Reply, Slot, Step, Tree, Whole,
 };
 pub use sled_pages::{
-    Data, Error, Fault, IVec, Index, Leaf, Link, MemPages, Node, Page, Pages, Pid, Result, Version,
-    View,
+    Data, Error, Fault, IVec, Index, Leaf, Link, MemPages, Node, Page, Pages, Pid, Result, Shared,
+    Version, View,
 };
 pub use sled_tree::{Flight, Job, Stage, Went};
 

@@ -1,5 +1,5 @@
 //! A session: a database from its opening to a crash or the end.
-ghost use Rattle.std.specs.Prelude.{◌≡◌, false, IfErr};
+ghost use Rattle.std.specs.Prelude.{IfErr};
 ghost use Rattle.sled_pages.specs.Store.{now};
 ghost use Rattle.tree_laws.specs.Crashes.{IsWhole, IsCrashWhole};
 
@@ -38,7 +38,6 @@ impl<P: Pages, M: MergeOperator> Session<P, M> {
     pub fn over(alloc: Global, db: Db<P, M>) -> Result<Session<P, M>, (P, Error)>
         ensures whole { IfErr result (λ e. IsCrashWhole (P.store e.0)) }
         ensures well { IfErr result (λ e. IsWhole (now (P.store e.0))) }
-        ensures calm { IfErr result (λ e. (now (P.store e.0)).in_group ≡ false) }
     {
         match db.default_tree() {
             Ok(tree) => Ok(Session {

@@ -1,5 +1,5 @@
 -- Steps of one call until it ends.
-use Rattle.std.proofs.Common.{◌≡◌, ◌≢◌, ℕ, zero, suc, ◌+◌, ◌<◌, true, false, cond, nat_eq, List, [], ◌∷◌, ◌++◌, length, Option, Some, None, option_map, inr, sym, refl, ap, ◌∙◌, subst, arith}
+use Rattle.std.proofs.Common.{◌≡◌, ◌≢◌, ℕ, zero, suc, ◌+◌, ◌<◌, true, false, cond, nat_eq, List, [], ◌∷◌, ◌++◌, length, Some, None, option_map, inr, sym, refl, ap, ◌∙◌, subst, arith}
 use Rattle.std.proofs.lemmas.Bool.{eq-eqb, ne_eqb, eqb-true}
 use Rattle.sled_pages.specs.Update.{put_at}
 use Rattle.sled_pages.specs.Store.{Store, now}
@@ -24,7 +24,7 @@ use Rattle.sled.specs.Values.{DbValue, db_state, moment_of_db}
 use Rattle.sled.specs.Flights.{FliesTimes, FliesToEnd, Ends, GoesOn, flying_of, has_turns, outcome_of}
 use Rattle.sled.proofs.Flying.{end_reached}
 use Rattle.sled_machine.specs.Slots.{kept_at}
-use Rattle.sled_machine.specs.Values.{MachineValue, slots_of}
+use Rattle.sled_machine.specs.Values.{MachineValue}
 use Rattle.sled_machine.specs.Sound.{IsMachine}
 use Rattle.sled_machine.specs.Step.{Reaches}
 use Rattle.sled_machine.specs.Run.{Performs, ReachesAll, NoCalls, OneCall}

@@ -1,12 +1,11 @@
 -- One step of the machine.
 use Rattle.std.specs.Prelude.{◌≡◌, ◌≢◌, ℕ, suc, ◌<◌, List, [], ◌∷◌, length, Option, Some, None}
 use Rattle.sled_pages.specs.Store.{Store, now, flushed}
-use Rattle.sled_pages.specs.declared.error.Error.{Error}
 use Rattle.sled_model.specs.Maps.{Maps, Merge}
 use Rattle.sled_model.specs.Answer.{answer_of}
 use Rattle.sled_model.specs.Refusal.{must_refuse_of, turns_limit}
 use Rattle.sled_model.specs.State.{State, NamedTree, Flying, maps_of}
-use Rattle.sled_model.specs.Steps.{Instant, Steps}
+use Rattle.sled_model.specs.Steps.{Steps}
 use Rattle.sled_model.specs.declared.outcome.Step.{Step}
 use Rattle.sled_model.specs.declared.outcome.Step.TheVariants as step
 use Rattle.sled_model.specs.declared.outcome.Outcome.{Outcome}

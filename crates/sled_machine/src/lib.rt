@@ -2,7 +2,7 @@
 //!
 //! Each call of a machine is one step of the model, in whatever order calls are stepped, and says what it adds to the maps
 //! that a crash may leave. Over a list of steps those are the maps at the last flush and after each decided call since
-//! (`specs/Crash`). Between two steps all that the calls in flight know of the pages is true (`specs/Sound`).
+//! (`specs/Step`, `specs/CrashMaps`, `specs/Run`). Between two steps all that the calls in flight know of the pages is true (`specs/Sound`).
 #![tactic(auto)]
 
 mod flights;
@@ -11,3 +11,6 @@ mod place;
 mod table;
 
 pub use machine::Machine;
+pub use sled_model::{
+    Call, CompareAndSwapError, MergeOperator, Outcome, Reply, Slot, Step, Tree, Whole,
+};

@@ -8,9 +8,9 @@ use Rattle.sled_pages.specs.Crash.{states_left, left_from}
 use Rattle.sled_pages.specs.declared.error.Error.{Error}
 use Rattle.tree_laws.specs.Crashes.{IsCrashWhole, Trees, Extends}
 use Rattle.tree_laws.specs.Contents.{trees_of}
-use Rattle.sled.specs.declared.TheConstants.{DEFAULT_TREE}
+use Rattle.sled.specs.Values.{default_name}
 use Rattle.sled.specs.Opens.{planted, GrowsAtMost, RefusesOpen}
-use Rattle.sledsh.specs.Store.{CanOpen, HasDefault}
+use Rattle.sledsh.specs.Store.{IsKept, HasDefault}
 
 nil_of_length : (l : List Action) → length l ≡ 0 → l ≡ []
 nil_of_length [] e = refl
@@ -29,19 +29,19 @@ is_some_map f None e = e
 is_some_map f (Some x) e = refl
 
 module _ (old new : Store) (e : Error) (has : HasDefault old) (r : RefusesOpen old e new) (safe : IsCrashWhole old) where
-  none_planted : planted DEFAULT_TREE.now (trees_of (now old)) ≡ []
-  none_planted = cond-true _ _ _ (is_some_map _ ((now old).roots DEFAULT_TREE.now) has)
+  none_planted : planted default_name (trees_of (now old)) ≡ []
+  none_planted = cond-true _ _ _ (is_some_map _ ((now old).roots default_name) has)
 
   few : new.actions ≤ old.actions
   few = omega (arith, r.again.few, ap length none_planted)
 
-  by_growth : GrowsAtMost DEFAULT_TREE.now old new → IsCrashWhole new
+  by_growth : GrowsAtMost default_name old new → IsCrashWhole new
   by_growth (inl x) = idle_safe _ old new x.0 few safe
   by_growth (inr x) = idle_safe _ old new x.0 few safe
 
   refused_safe : IsCrashWhole new
   refused_safe = by_growth r.again.grows
 
--- the pages that a refused opening gives back can be opened
-pub refused_can : (crashes : Bool) (old new : Store) (e : Error) → CanOpen crashes old → (crashes ≡ true → HasDefault old) → RefusesOpen old e new → CanOpen crashes new
-refused_can crashes old new e can has r = record { well = r.again.well; calm = r.again.calm; safe = λ t. refused_safe old new e (has t) r (can.safe t) }
+-- the pages that a refused opening gives back are well formed
+pub refused_can : (crashes : Bool) (old new : Store) (e : Error) → IsKept crashes old → (crashes ≡ true → HasDefault old) → RefusesOpen old e new → IsKept crashes new
+refused_can crashes old new e can has r = record { well = r.again.well; safe = λ t. refused_safe old new e (has t) r (can.safe t) }

@@ -1,15 +1,14 @@
 -- Pages between two openings.
-use Rattle.std.specs.Prelude.{◌≡◌, Bool, true, false, is_some}
+use Rattle.std.specs.Prelude.{◌≡◌, Bool, true, is_some}
 use Rattle.sled_pages.specs.Store.{Store, now}
 use Rattle.tree_laws.specs.Crashes.{IsWhole, IsCrashWhole}
-use Rattle.sled.specs.declared.TheConstants.{DEFAULT_TREE}
+use Rattle.sled.specs.Values.{default_name}
 
--- the pages can be opened, and where `crashes` says so every state that a crash may leave can be
-pub record CanOpen (crashes : Bool) (s : Store) : Type 0 where
+-- the pages are well formed, and where `crashes` says so every state that a crash may leave is. They can be opened where no group is open
+pub record IsKept (crashes : Bool) (s : Store) : Type 0 where
   pub well : IsWhole (now s)
-  pub calm : (now s).in_group ≡ false
   pub safe : crashes ≡ true → IsCrashWhole s
 
 -- there is a default tree
 abbrev pub HasDefault : Store → Type 0
-HasDefault s = is_some ((now s).roots DEFAULT_TREE.now) ≡ true
+HasDefault s = is_some ((now s).roots default_name) ≡ true

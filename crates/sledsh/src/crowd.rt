@@ -8,7 +8,7 @@ use sled_lines::input::{Stopped, without_end};
 use sled_lines::print::Piece::{Number, Text, Word};
 use sled_machine::Machine;
 use sled_model::{Call, Outcome, Reply, Slot, Tree, Whole};
-use sled_pages::{IVec, MemPages};
+use sled_pages::{IVec, MemPages, Pages};
 use std::alloc::Global;
 
 // What a life does.
@@ -447,6 +447,10 @@ fn live_over(crowd: &mut Crowd, db: Db<MemPages>, place: u64) -> Result<Option<K
 // The same over pages, which are opened.
 fn live(crowd: &mut Crowd, kept: Kept, place: u64) -> Result<Option<Kept>, Stopped> {
     let (pages, _) = kept.into_pages();
+    if pages.in_group() {
+        drop(pages);
+        return Err(Stopped);
+    }
     match Db::open(crowd.alloc, pages, b"crowd") {
         Ok(db) => live_over(crowd, db, place),
         Err(refused) => {

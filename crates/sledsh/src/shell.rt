@@ -12,7 +12,7 @@ use sled_lines::command;
 use sled_lines::input::{Stopped, read_line, without_end};
 use sled_lines::print::Piece::{Number, Text};
 use sled_lines::session::{Session, write};
-use sled_pages::Error;
+use sled_pages::{Error, Pages};
 use std::alloc::Global;
 use std::io::{self, BufRead, ErrorKind, Write};
 use std::sync::atomic::{AtomicU64, Ordering};
@@ -349,6 +349,9 @@ impl<'a> Shell<'a> {
         output: &mut W,
     ) -> Result<(Kept, Verb), Stopped> {
         let (pages, crashes) = kept.into_pages();
+        if pages.in_group() {
+            return self.live_shut(Kept::refused(pages, crashes), Error::Closed, input, output);
+        }
         let counting = Counting {
             inner: pages,
             reads: self.reads,

@@ -11,7 +11,7 @@ use sled_pages::{Error, MemPages, Pages, Pid};
 use std::alloc::Global;
 use std::marker::Model;
 
-/// Pages that can be opened.
+/// Well-formed pages. They can be opened where no group is open.
 #[derive(Drop)]
 pub struct Kept {
     pages: MemPages,
@@ -23,17 +23,17 @@ pub struct Kept {
 impl Model for Kept {
     ghost use Rattle.std.specs.Prelude.{Bool};
     ghost use Rattle.sled_pages.specs.Memory.{store_of};
-    ghost use Rattle.sledsh.specs.Store.{CanOpen};
+    ghost use Rattle.sledsh.specs.Store.{IsKept};
 
     ghost Value = { Bool };
 
     ghost view = { λ k. k.crashes };
 
-    ghost invariant = { λ k. CanOpen k.crashes (store_of k.pages) };
+    ghost invariant = { λ k. IsKept k.crashes (store_of k.pages) };
 }
 
 impl Kept {
-    ghost use Rattle.sledsh.specs.Store.{CanOpen, HasDefault};
+    ghost use Rattle.sledsh.specs.Store.{IsKept, HasDefault};
 
     /// An empty store.
     pub fn empty(alloc: Global) -> Kept {
@@ -55,14 +55,15 @@ impl Kept {
 
     /// Pages that an opening gave back.
     pub fn refused(pages: MemPages, crashes: bool) -> Kept
-        requires { CanOpen crashes (store_of pages) }
+        requires { IsKept crashes (store_of pages) }
     {
         Kept { pages, crashes }
     }
 
     /// The pages, and whether a crash may keep some of their actions also where an opening is refused.
+    #[tactic(auto, unfolding(sled::specs::Values::default_name))]
     pub fn into_pages(self) -> (MemPages, bool)
-        ensures can { CanOpen result.1 (store_of result.0) }
+        ensures can { IsKept result.1 (store_of result.0) }
         ensures default { result.1 ≡ true → HasDefault (store_of result.0) }
     {
         let Kept { pages, crashes } = self;

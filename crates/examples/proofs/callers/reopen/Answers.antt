@@ -8,7 +8,7 @@ use Rattle.examples.proofs.callers.reopen.Goals as goal
 pub returns-in-Ok-clause-same : goal.returns-in-Ok-clause-same
 returns-in-Ok-clause-same g c =
     let store = g.P.Pages.store in
-    ap (λ p. trees_of (now (store p))) c.into_pages-in-Ok.ensures.pages
+    ap (λ p. trees_of (now (store p))) c.into_pages.ensures.pages
     ∙ (opened_maps store _ _ _ _ (ap store c.into_pages-pages.ensures.pages) c.into_pages-pages.ensures.sound c.in-Ok.ensures.ok
     ∙ ap (λ (v : DbValue g.row.P.Denot g.row.M.Denot). trees_of (now (store v.pages))) c.into_db.ensures)
 

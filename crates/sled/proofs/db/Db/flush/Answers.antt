@@ -1,5 +1,5 @@
 use Rattle.std.proofs.Common.{sym, ◌∙◌}
-use Rattle.sled.proofs.Flushing.{flush_refused_as, flush_done_as, flush_db, refused_db}
+use Rattle.sled.proofs.Flushing.{flush_refused_as, flush_done_as}
 use Rattle.sled.proofs.db.Db.flush.Goals as goal
 
 pub returns-in-Err-clause-err : goal.returns-in-Err-clause-err

@@ -1,4 +1,4 @@
-use Rattle.std.proofs.Common.{rules, ◌≡◌, arith, ◌++◌, ◌∷◌, [], take, ◌∙◌, ap, ◌+◌, subst, sym}
+use Rattle.std.proofs.Common.{rules, ◌≡◌, arith, ◌++◌, ◌∷◌, [], take, ◌∙◌, ap, ◌+◌, sym}
 use Rattle.std.proofs.lemmas.List.{take_more}
 use Rattle.sled_machine.proofs.Runs.{performs_all_none, performs_all_more}
 use Rattle.sled_machine.proofs.machine.Machine.run.Goals as goal
