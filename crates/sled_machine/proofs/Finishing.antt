@@ -115,7 +115,7 @@ module _ {P M : Type 0} (store : P → Store) (meant : M → Merge) (inside old 
     tested = subst (λ (z : MachineValue P M). must_refuse_of (db_state store meant z.db) (tree ∷ []) ≡ None) (sym e) must
 
     pub known_new : IsKnown (moment (store inside.db.pages) inside.db.trees inside.db.trees_given) f
-    known_new = subst (λ z. IsKnown (moment (store inside.db.pages) inside.db.trees inside.db.trees_given) z) (sym begun_is) (record { told = λ w m. tt; few = omega arith; begins = λ none. refl })
+    known_new = subst (λ z. IsKnown (moment (store inside.db.pages) inside.db.trees inside.db.trees_given) z) (sym begun_is) (record { told = λ w m. (tt, tt); few = omega arith; begins = λ none. refl })
 
     pub tested_new : must_refuse_of (db_state store meant inside.db) (f.job.tree ∷ []) ≡ None
     tested_new = ap (λ (z : Flight). must_refuse_of (db_state store meant inside.db) (z.job.tree ∷ [])) begun_is ∙ tested
