@@ -188,7 +188,7 @@ module _ {P M : Type 0} (store : P → Store) (number : P → ℕ) (meant : M �
     tested = subst (λ (z : MachineValue P M). must_refuse_of (db_state store meant z.db) (tree ∷ []) ≡ None) (sym e) must
 
     pub known_new : IsKnown (moment_of_db store inside.db) f
-    known_new = subst (λ z. IsKnown (moment_of_db store inside.db) z) (sym begun_is) (record { told = λ w m. tt; few = omega arith; begins = λ none. refl })
+    known_new = subst (λ z. IsKnown (moment_of_db store inside.db) z) (sym begun_is) (record { told = λ w m. (tt, tt); few = omega arith; begins = λ none. refl })
 
     pub tested_new : must_refuse_of (db_state store meant inside.db) (f.job.tree ∷ []) ≡ None
     tested_new = ap (λ (z : Flight). must_refuse_of (db_state store meant inside.db) (z.job.tree ∷ [])) begun_is ∙ tested

@@ -319,7 +319,7 @@ module _ {P M : Type 0} (store : P → Store) (number : P → ℕ) (meant : M �
               | inr o ↦ let z = im.given j h o.1 in omega arith
             ];
             known = λ j h k. elim (cases j h k) [
-              | inl s ↦ subst (λ z. IsKnown (moment_of_db store v.db) z) (sym (s.1 ∙ is)) (record { told = λ w m. tt; few = omega arith; begins = λ none. refl })
+              | inl s ↦ subst (λ z. IsKnown (moment_of_db store v.db) z) (sym (s.1 ∙ is)) (record { told = λ w m. (tt, tt); few = omega arith; begins = λ none. refl })
               | inr o ↦ im.known j h o.1
             ];
             apart = λ j k h g a b off. elim (cases j h a) [

@@ -28,12 +28,7 @@ of_merge (stage.Post a) root walk act split shorten post hoist crown free = absu
 of_merge (stage.Hoist a) root walk act split shorten post hoist crown free = absurd (hoist a refl)
 of_merge (stage.Crown a) root walk act split shorten post hoist crown free = absurd (crown a refl)
 of_merge (stage.Free a) root walk act split shorten post hoist crown free = absurd (free a refl)
-of_merge (stage.Intend a) root walk act split shorten post hoist crown free = tt
-of_merge (stage.Child a) root walk act split shorten post hoist crown free = tt
-of_merge (stage.Cap a) root walk act split shorten post hoist crown free = tt
-of_merge (stage.Seek a) root walk act split shorten post hoist crown free = tt
-of_merge (stage.Receive a) root walk act split shorten post hoist crown free = tt
-of_merge (stage.Confirm a) root walk act split shorten post hoist crown free = tt
+of_merge other root walk act split shorten post hoist crown free = tt
 
 -- and one of a merge is one of these
 pub no_other : (s : Stage) → IsOfMerge s → ((a : Merge) → s ≡ stage.Intend a → ⊥) → ((a : Merge) → s ≡ stage.Child a → ⊥) → ((a : Cap) → s ≡ stage.Cap a → ⊥) → ((a : Seek) → s ≡ stage.Seek a → ⊥) → ((a : Receive) → s ≡ stage.Receive a → ⊥) → ((a : Confirm) → s ≡ stage.Confirm a → ⊥) → ⊥
