@@ -1,0 +1,118 @@
+-- How many pairs stand before a leaf.
+use Rattle.std.proofs.Common.{◌≡◌, ℕ, suc, ◌+◌, ◌≤◌, true, List, [], ◌∷◌, ◌++◌, length, flat_map, Option, Some, None, option_map, sym, refl, ap, ◌∙◌, subst, inl, inr, append_assoc, append-nil, length-append, arith}
+use Rattle.std.specs.declared.ops.Bound.TheVariants.{Included}
+use Rattle.sled_pages.specs.Order.{Key, Below}
+use Rattle.sled_pages.specs.In.{In}
+use Rattle.sled_pages.specs.Among.{is_up_to}
+use Rattle.sled_pages.specs.Node.{pairs}
+use Rattle.sled_pages.specs.State.{State, Nodes, nodes_of}
+use Rattle.sled_pages.specs.Store.{Store, now, AreGiven, view_of}
+use Rattle.sled_pages.specs.declared.node.Node.{Node}
+use Rattle.sled_pages.specs.declared.page.Page.{Page}
+use Rattle.sled_pages.specs.declared.page.View.{View}
+use Rattle.tree_laws.specs.Forest.{Tree, Forest, place, head, Run, WellFormed, node_pairs}
+use Rattle.tree_laws.specs.Paths.{tree_pages}
+use Rattle.tree_laws.proofs.Cover.{chain_run}
+use Rattle.tree_laws.proofs.Order.{upto_cases}
+use Rattle.tree_laws.proofs.Replace.{some_is}
+use Rattle.tree_laws.proofs.Runs.{In-right, run_parts, run_to}
+use Rattle.tree_laws.proofs.Looking.{next_in}
+use Rattle.tree_reads.specs.Walk.{IsLeafFor, HasTooMany, once}
+use Rattle.tree_reads.specs.Leaves.{OfContents, Counts}
+use Rattle.tree_reads.specs.declared.TheConstants.{MOST_PAGES}
+use Rattle.tree_reads.proofs.Walking.{viewed, gone}
+use Rattle.tree_reads.proofs.Seeking.{node_at, nothing_below, not_true}
+
+none_some : {P X : Type 0} {x : X} → None ≡ Some x → P
+none_some e = cc
+
+chain_at : (w : Forest) (t : Tree) (p : ℕ) (xs ys : List ℕ) → w.chain (place t 0) ≡ xs ++ p ∷ ys → In p (w.chain (place t 0))
+chain_at w t p xs ys e = subst (λ l. In p l) (sym e) (In-right xs (p ∷ ys) p (inl refl))
+
+-- the run of a chain from one of its pages on
+parts : (nodes : Nodes) (roots : Tree → Option ℕ) (w : Forest) → WellFormed nodes roots w → (t : Tree) (p : ℕ) (xs ys : List ℕ) → w.chain (place t 0) ≡ xs ++ p ∷ ys
+    → (mid : Option ℕ) × (key : Key) × Run nodes xs (head (w.chain (place t 0))) [] mid key × Run nodes (p ∷ ys) mid key None []
+parts nodes roots w f t p xs ys e = run_parts nodes xs (p ∷ ys) _ _ _ _ (subst (λ z. Run nodes z (head (w.chain (place t 0))) [] None []) e (chain_run f (place t 0) p (chain_at w t p xs ys e)))
+
+-- nothing stands before a page without a lo
+none_before : (nodes : Nodes) (roots : Tree → Option ℕ) (w : Forest) → WellFormed nodes roots w → (t : Tree) (p : ℕ) (n : Node) (xs ys : List ℕ) → w.chain (place t 0) ≡ xs ++ p ∷ ys → nodes p ≡ Some n → n.lo ≡ [] → xs ≡ []
+none_before nodes roots w f t p n [] ys e live low = refl
+none_before nodes roots w f t p n (x ∷ xs) ys e live low =
+    let r = parts nodes roots w f t p (x ∷ xs) ys e in
+    let early = subst (λ g. Run nodes (x ∷ xs) (head (w.chain (place t 0))) [] g r.1) r.3.1.here r.2 in
+    let key : r.1 ≡ [] = r.3.1.lo_is ∙ ap (λ (z : Node). z.lo) (some_is r.3.0 n (sym r.3.1.live ∙ live)) ∙ low in
+    absurd (nothing_below r.2.0.lo (subst (λ k. Below r.2.0.lo k) key (run_to nodes (x ∷ xs) _ p _ _ early x r.2.0 (inl refl) r.2.1.live)))
+
+-- the pairs of one page more
+one_more : (f : ℕ → List (Key × Key)) (xs : List ℕ) (p : ℕ) → length (flat_map f (xs ++ p ∷ [])) ≡ length (flat_map f xs) + length (f p)
+one_more f [] p = ap length (append-nil (f p)) ∙ none (length (f p))
+  where
+    none : (a : ℕ) → a ≡ 0 + a
+    none a = omega arith
+one_more f (x ∷ xs) p = length-append (f x) (flat_map f (xs ++ p ∷ [])) ∙ ap (λ z. length (f x) + z) (one_more f xs p) ∙ sum (length (f x)) (length (flat_map f xs)) (length (f p)) ∙ ap (λ z. z + length (f p)) (sym (length-append (f x) (flat_map f xs)))
+  where
+    sum : (a b c : ℕ) → a + (b + c) ≡ (a + b) + c
+    sum a b c = omega arith
+
+pub count_first : (s : Store) (root : ℕ) (v : View) (looked : ℕ) → AreGiven s → IsLeafFor (now s) root (Included []) 0 v looked → Counts (now s) root v looked 0
+count_first s root v looked given leaf = record {
+  read = record { live = leaf.live; below = given.numbered };
+  told = λ w f t is.
+      let k = leaf.told w f t is in
+      let low = empty v.node.lo k.0.begins in
+      let none = none_before (nodes_of (now s)) (now s).roots w f t v.pid v.node k.2.before k.2.behind k.2.is (node_at (now s) v leaf.live) low in
+      (k.2.before, k.2.behind, k.2.is, few k.1 (length k.2.behind) looked (tree_pages (now s) t) k.2.count k.3, sym (ap (λ z. length (flat_map (λ p. node_pairs (nodes_of (now s) p)) z)) none));
+}
+  where
+    few : (a b l n : ℕ) → a ≡ suc b + 0 → a + l ≤ n + 0 + 1 → l + b ≤ n
+    few a b l n c h = omega arith
+
+    empty : (k : Key) → is_up_to (Included []) k ≡ true → k ≡ []
+    empty k b = elim (upto_cases k [] (not_true _ b)) [ inl l ↦ absurd (nothing_below k l) | inr e ↦ e ]
+
+module _ (s : State) (root : ℕ) (v : View) (looked total : ℕ) (k : Counts s root v looked total) (n : Node) (same : n ≡ v.node) (more : ℕ) (with : more ≡ total + length (pairs n.content)) where
+  all_here : (before : List ℕ) → total ≡ length (flat_map (λ p. node_pairs (nodes_of s p)) before) → more ≡ length (flat_map (λ p. node_pairs (nodes_of s p)) (before ++ v.pid ∷ []))
+  all_here before e = with ∙ ap (λ z. z + length (pairs n.content)) e ∙ ap (λ z. length (flat_map (λ p. node_pairs (nodes_of s p)) before) + z) (ap (λ (z : Node). length (pairs z.content)) same ∙ sym (ap (λ z. length (node_pairs z)) (node_at s v k.read.live))) ∙ sym (one_more (λ p. node_pairs (nodes_of s p)) before v.pid)
+
+  pub count_ends : (m : Node) → m ≡ v.node → m.next ≡ None → OfContents s root (λ all. more ≡ length all)
+  count_ends m at last = record {
+    told = λ w f t is.
+        let a = k.told w f t is in
+        let r = parts (nodes_of s) s.roots w f t v.pid a.0 a.1 a.2 in
+        all_here a.0 a.4 ∙ ap (λ z. length (flat_map (λ p. node_pairs (nodes_of s p)) z)) (ap (λ z. a.0 ++ v.pid ∷ z) (sym (none a.1 r.3.0 (some_is r.3.0 v.node (sym r.3.1.live ∙ node_at s v k.read.live)) r.3.2)) ∙ sym a.2);
+  }
+    where
+      none : (ys : List ℕ) (d : Node) → d ≡ v.node → Run (nodes_of s) ys d.next d.hi None [] → ys ≡ []
+      none [] d e r = refl
+      none (y ∷ ys) d e r = none_some (sym (ap (λ (z : Node). z.next) (e ∙ sym at) ∙ last) ∙ r.1.here)
+
+  pub count_more : (m : Node) → m ≡ v.node → (q : ℕ) (u : View) → m.next ≡ Some q → Some u ≡ view_of q (s.pages q) → Counts s root u (looked + 1) more
+  count_more m at q u next read =
+      let x = viewed q (s.pages q) u read in record {
+        read = record { live = ap s.pages x.0 ∙ x.1; below = k.read.below };
+        told = λ w f t is.
+            let a = k.told w f t is in
+            let r = parts (nodes_of s) s.roots w f t v.pid a.0 a.1 a.2 in
+            let b = behind a.1 r.3.0 (some_is r.3.0 v.node (sym r.3.1.live ∙ node_at s v k.read.live)) r.3.2 in
+            (a.0 ++ v.pid ∷ [], b.0, a.2 ∙ ap (λ z. a.0 ++ v.pid ∷ z) (b.1 ∙ ap (λ p. p ∷ b.0) (sym x.0)) ∙ sym (append_assoc a.0 (v.pid ∷ []) (u.pid ∷ b.0)), fewer looked (length a.1) (length b.0) (tree_pages s t) a.3 (ap length b.1), all_here a.0 a.4);
+      }
+    where
+      behind : (ys : List ℕ) (d : Node) → d ≡ v.node → Run (nodes_of s) ys d.next d.hi None [] → (zs : List ℕ) × (ys ≡ q ∷ zs)
+      behind [] d e r = none_some (sym r.0 ∙ ap (λ (z : Node). z.next) (e ∙ sym at) ∙ next)
+      behind (y ∷ ys) d e r = (ys, ap (λ p. p ∷ ys) (some_is y q (sym r.1.here ∙ ap (λ (z : Node). z.next) (e ∙ sym at) ∙ next)))
+
+      fewer : (l b c n : ℕ) → l + b ≤ n → b ≡ suc c → (l + 1) + c ≤ n
+      fewer l b c n h e = omega arith
+
+module _ (s : State) (root : ℕ) (v : View) (looked total : ℕ) (k : Counts s root v looked total) where
+  pub count_gone : (m : Node) → m ≡ v.node → (q : ℕ) → m.next ≡ Some q → None ≡ view_of q (s.pages q) → HasTooMany once s root
+  count_gone m at q next read w f t is =
+      let a = k.told w f t is in
+      let d = next_in f (place t 0) v.pid q v.node (chain_at w t v.pid a.0 a.1 a.2) (node_at s v k.read.live) (ap (λ (z : Node). z.next) (sym at) ∙ next) in
+      none_some (sym (ap (option_map (λ (g : Page). g.node)) (gone q (s.pages q) read)) ∙ d.2)
+
+  pub count_full : MOST_PAGES ≤ looked → HasTooMany once s root
+  count_full full w f t is = let a = k.told w f t is in enough looked (length a.1) (tree_pages s t) full a.3
+    where
+      enough : (l b m : ℕ) → MOST_PAGES ≤ l → l + b ≤ m → MOST_PAGES ≤ m
+      enough l b m h g = omega arith

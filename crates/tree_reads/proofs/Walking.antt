@@ -1,0 +1,144 @@
+-- Walks from a root to the leaf under a target.
+use Rattle.std.proofs.Common.{◌≡◌, ℕ, suc, ◌+◌, ◌<◌, ◌≤◌, Bool, true, List, [], ◌∷◌, length, Option, Some, None, option_map, sym, refl, ap, ◌∙◌, subst, inl, arith}
+use Rattle.std.specs.declared.ops.Bound.{Bound}
+use Rattle.std.specs.declared.ops.Bound.TheVariants.{Included}
+use Rattle.sled_pages.specs.Order.{Key}
+use Rattle.sled_pages.specs.In.{In}
+use Rattle.sled_pages.specs.Among.{is_up_to}
+use Rattle.sled_pages.specs.State.{State, nodes_of}
+use Rattle.sled_pages.specs.Store.{Store, now, AreGiven, view_of}
+use Rattle.sled_pages.specs.declared.page.Page.{Page}
+use Rattle.sled_pages.specs.declared.page.View.{View}
+use Rattle.tree_laws.specs.Forest.{Tree, Forest, Place, place, WellFormed}
+use Rattle.tree_laws.specs.Paths.{CleanFrom, IsAhead, tree_pages}
+use Rattle.tree_laws.proofs.Known.{root_in}
+use Rattle.tree_laws.proofs.Runs.{In-right}
+use Rattle.tree_laws.proofs.Looking.{ahead_at, ahead_few, pages_law}
+use Rattle.tree_laws.proofs.Replace.{some_is}
+use Rattle.tree_reads.specs.Walk.{Stands, Turns, IsLeafFor, HasTooMany}
+use Rattle.tree_reads.specs.declared.TheConstants.{MOST_PAGES}
+
+none_some : {P X : Type 0} {x : X} → None ≡ Some x → P
+none_some e = cc
+
+-- A walk stands at the page, at every forest, and all the pages that it looked at and that are ahead are the tree's; and along
+-- a clean path so many are left of the path
+pub record Walks (s : State) (root : ℕ) (target : Bound Key) (from pid looked : ℕ) : Type 0 where
+  pub more : from ≤ looked
+  pub told : (w : Forest) → WellFormed (nodes_of s) s.roots w → (t : Tree) → s.roots t ≡ Some root → (ahead : ℕ) × Stands (nodes_of s) w t target pid ahead × (ahead + looked ≤ tree_pages s t + from)
+  pub clean : (key : Key) → target ≡ Included key → (first : Bool) (path : List ℕ) → CleanFrom (nodes_of s) key root first path
+      → (b : Bool) × (rest : List ℕ) × (looked + length rest ≤ from + length path) × CleanFrom (nodes_of s) key pid b rest
+
+at_root : (a b c from : ℕ) → a ≤ b → c ≡ b → a + from ≤ c + from
+at_root a b c from h e = omega arith
+
+no_less : (a : ℕ) → a ≤ a
+no_less a = omega arith
+
+pub walk_first : (s : Store) (root : ℕ) (target : Bound Key) (from : ℕ) → AreGiven s → is_up_to target [] ≡ true → Walks (now s) root target from root from
+walk_first s root target from k begins = record {
+  more = no_less from;
+  told = λ w f t is.
+      let r = root_in f t root is in
+      let l = pages_law (now s) w f k.numbered t root is in
+      let a = ahead_at f t l.0 root l.1 in (
+        a.0,
+        record { height = l.0; node = r.1; live = r.3; begins = ap (is_up_to target) r.4 ∙ begins; is = a.1 },
+        at_root a.0 _ (tree_pages (now s) t) from (ahead_few f t l.0 root a.0 a.1) l.2,
+      );
+  clean = λ key is first path c. (first, path, no_less (from + length path), c);
+}
+
+pub viewed : (pid : ℕ) (page : Option Page) (v : View) → Some v ≡ view_of pid page → (v.pid ≡ pid) × (page ≡ Some (record { version = v.version; node = v.node }))
+viewed pid None v e = none_some (sym e)
+viewed pid (Some g) v e = let is = some_is v (record { pid = pid; version = g.version; node = g.node }) e in (ap (λ (z : View). z.pid) is, ap (λ (z : View). Some (record { version = z.version; node = z.node })) (sym is))
+
+pub gone : (pid : ℕ) (page : Option Page) → None ≡ view_of pid page → page ≡ None
+gone pid None e = refl
+gone pid (Some g) e = none_some e
+
+one_less : (k a l m : ℕ) → k < a → a + l ≤ m → k + (l + 1) ≤ m
+one_less k a l m h e = omega arith
+
+one_more : (a b : ℕ) → a ≤ b → a ≤ b + 1
+one_more a b h = omega arith
+
+one_left : (l r q m n : ℕ) → l + r ≤ m → r ≡ suc q → (l + 1) + q ≤ m
+one_left l r q m n h e = omega arith
+
+-- a path is not empty
+pub some_left : (s : State) (key : Key) (p : ℕ) (b : Bool) (rest : List ℕ) → CleanFrom (nodes_of s) key p b rest → 1 ≤ length rest
+some_left s key p b [] c = absurd c
+some_left s key p b (q ∷ rest) c = one (length rest)
+  where
+    one : (n : ℕ) → 1 ≤ suc n
+    one n = omega arith
+
+module _ (s : State) (root : ℕ) (target : Bound Key) (from pid looked : ℕ) (k : Walks s root target from pid looked) where
+  pub walk_more : (v : View) (q : ℕ) → Some v ≡ view_of pid (s.pages pid) → Turns target v.node (Some q) → Walks s root target from q (looked + 1)
+  walk_more v q read turns = record {
+    more = one_more from looked k.more;
+    told = λ w f t is.
+        let x = viewed pid (s.pages pid) v read in
+        let a = k.told w f t is in
+        let b = turns.told (nodes_of s) s.roots w f t pid a.0 (ap (option_map (λ (g : Page). g.node)) x.1) a.1 in
+        (b.0, b.2, one_less b.0 a.0 looked (tree_pages s t + from) b.1 a.2);
+    clean = λ key is first path c.
+        let x = viewed pid (s.pages pid) v read in
+        let d = k.clean key is first path c in
+        let e = turns.clean (nodes_of s) key pid d.0 d.1 is (ap (option_map (λ (g : Page). g.node)) x.1) d.3 in
+        (e.0, e.1, one_left looked (length d.1) (length e.1) (from + length path) 0 d.2 e.2, e.3);
+  }
+
+  pub walk_ends : (v : View) (count : ℕ) → Some v ≡ view_of pid (s.pages pid) → Turns target v.node None → count ≡ looked + 1 → IsLeafFor s root target from v count
+  walk_ends v count read turns next =
+      let x = viewed pid (s.pages pid) v read in record {
+        live = ap s.pages x.0 ∙ x.1;
+        more = above from looked count k.more next;
+        told = λ w f t is.
+            let a = k.told w f t is in
+            let b = turns.told (nodes_of s) s.roots w f t pid a.0 (ap (option_map (λ (g : Page). g.node)) x.1) a.1 in
+            let i = subst (λ p. In p (w.chain (place t 0))) (sym x.0) b.1 in
+            let c = lower w f t v.pid a.0 (subst (λ p. Stands (nodes_of s) w t target p a.0) (sym x.0) a.1) i in
+            (b.0, c.0, c.1, all_in c.0 a.0 looked count (tree_pages s t) from c.2 a.2 next);
+      }
+    where
+      above : (from looked count : ℕ) → from ≤ looked → count ≡ looked + 1 → from < count
+      above from looked count h e = omega arith
+
+      all_in : (c a l count m from : ℕ) → c ≤ a → a + l ≤ m + from → count ≡ l + 1 → c + count ≤ m + from + 1
+      all_in c a l count m from h e n = omega arith
+
+      -- the pages ahead of the leaf on its level are no more than all that lie ahead
+      lower : (w : Forest) → WellFormed (nodes_of s) s.roots w → (t : Tree) (p ahead : ℕ) → Stands (nodes_of s) w t target p ahead → In p (w.chain (place t 0)) → (n : ℕ) × IsAhead w t 0 p n × (n ≤ ahead)
+      lower w f t p ahead stands i = (ahead, subst (λ h. IsAhead w t h p ahead) (same_height w f t p stands.height 0 stands.is i) stands.is, no_less ahead)
+        where
+          same_height : (w : Forest) → WellFormed (nodes_of s) s.roots w → (t : Tree) (p h g : ℕ) → IsAhead w t h p ahead → In p (w.chain (place t g)) → h ≡ g
+          same_height w f t p h g a i = ap (λ (x : Place). x.height) (some_is (place t h) (place t g) (sym (f.homed (place t h) p (in_chain a)) ∙ f.homed (place t g) p i))
+            where
+              in_chain : IsAhead w t h p ahead → In p (w.chain (place t h))
+              in_chain a = subst (λ l. In p l) (sym a.is) (In-right a.before (p ∷ a.behind) p (inl refl))
+
+  pub walk_gone : None ≡ view_of pid (s.pages pid) → (of : ℕ → ℕ) → HasTooMany of s root
+  walk_gone read of w f t is =
+      let a = k.told w f t is in
+      none_some (sym (ap (option_map (λ (g : Page). g.node)) (gone pid (s.pages pid) read)) ∙ a.1.live)
+
+  pub walk_lost : None ≡ view_of pid (s.pages pid) → (key : Key) → target ≡ Included key → (first : Bool) (path : List ℕ) → CleanFrom (nodes_of s) key root first path → MOST_PAGES < from + length path
+  walk_lost read key is first path c = let d = k.clean key is first path c in go d.0 d.1 d.3
+    where
+      go : (b : Bool) (rest : List ℕ) → CleanFrom (nodes_of s) key pid b rest → MOST_PAGES < from + length path
+      go b [] c = absurd c
+      go b (q ∷ rest) c = none_some (sym (ap (option_map (λ (g : Page). g.node)) (gone pid (s.pages pid) read)) ∙ c.2.live)
+
+  pub walk_full : MOST_PAGES ≤ looked → HasTooMany (λ pages. pages + from) s root
+  walk_full full w f t is = let a = k.told w f t is in enough a.0 looked (tree_pages s t + from) a.2 full
+    where
+      enough : (a l m : ℕ) → a + l ≤ m → MOST_PAGES ≤ l → MOST_PAGES ≤ m
+      enough a l m h g = omega arith
+
+  pub walk_long : MOST_PAGES ≤ looked → (key : Key) → target ≡ Included key → (first : Bool) (path : List ℕ) → CleanFrom (nodes_of s) key root first path → MOST_PAGES < from + length path
+  walk_long full key is first path c = let d = k.clean key is first path c in enough looked (length d.1) (from + length path) d.2 (some_left s key pid d.0 d.1 d.3) full
+    where
+      enough : (l r m : ℕ) → l + r ≤ m → 1 ≤ r → MOST_PAGES ≤ l → MOST_PAGES < m
+      enough l r m h e g = omega arith

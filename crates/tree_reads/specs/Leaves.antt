@@ -1,0 +1,55 @@
+-- Searches along the leaves of a tree, and the leaves at which they stand.
+use Rattle.std.specs.Prelude.{◌≡◌, ◌≢◌, ℕ, ◌+◌, ◌*◌, ◌<◌, ◌≤◌, ◌^◌, true, false, List, [], ◌∷◌, ◌++◌, length, flat_map, Option, Some, None}
+use Rattle.std.specs.declared.ops.Bound.{Bound}
+use Rattle.sled_pages.specs.Order.{Key, Below, UpTo}
+use Rattle.sled_pages.specs.In.{In}
+use Rattle.sled_pages.specs.Among.{is_up_to, is_from}
+use Rattle.sled_pages.specs.State.{State, nodes_of}
+use Rattle.sled_pages.specs.declared.page.Page.{Page}
+use Rattle.sled_pages.specs.declared.page.View.{View}
+use Rattle.tree_laws.specs.Forest.{Tree, Forest, place, WellFormed, contents, node_pairs}
+use Rattle.tree_laws.specs.Paths.{IsAhead, tree_pages}
+
+-- at every forest that shows the pages well formed it is so of the contents of the tree with this root
+pub record OfContents (s : State) (root : ℕ) (is : List (Key × Key) → Type 0) : Type 0 where
+  pub told : (w : Forest) → WellFormed (nodes_of s) s.roots w → (t : Tree) → s.roots t ≡ Some root → is (contents (nodes_of s) w t)
+
+-- no key below what begins within the target is within the lower bound
+pub record StartsAt (lo target : Bound Key) : Type 0 where
+  pub all : is_up_to target [] ≡ true
+  pub below : (k m : Key) → is_up_to target m ≡ true → Below k m → is_from lo k ≡ false
+
+-- the page is live as it was read, and page numbers fit 64 bits
+pub record IsRead (s : State) (v : View) : Type 0 where
+  pub live : s.pages v.pid ≡ Some (record { version = v.version; node = v.node })
+  pub below : (p : ℕ) (g : Page) → s.pages p ≡ Some g → p < 2 ^ 64
+
+-- A search to the right stands at a leaf: all pairs before the leaf are without the lower bound, and the pages looked at so far,
+-- this one among them, and those ahead are no more than the tree's
+pub record Seeks (s : State) (root : ℕ) (lo : Bound Key) (v : View) (looked : ℕ) : Type 0 where
+  pub read : IsRead s v
+  pub told : (w : Forest) → WellFormed (nodes_of s) s.roots w → (t : Tree) → s.roots t ≡ Some root
+      → (ahead : ℕ) × IsAhead w t 0 v.pid ahead × (ahead + looked ≤ tree_pages s t + 1) × ((e : Key × Key) → In e (contents (nodes_of s) w t) → Below e.0 v.node.lo → is_from lo e.0 ≡ false)
+
+-- A search to the left stands at a leaf: all pairs behind the leaf are without the upper bound, and the pages looked at so far,
+-- and a walk to each leaf before this one, are no more than a walk to each page
+pub record SeeksBack (s : State) (root : ℕ) (hi : Bound Key) (v : View) (looked : ℕ) : Type 0 where
+  pub read : IsRead s v
+  pub told : (w : Forest) → WellFormed (nodes_of s) s.roots w → (t : Tree) → s.roots t ≡ Some root
+      → (before : List ℕ) × (behind : List ℕ) × (w.chain (place t 0) ≡ before ++ v.pid ∷ behind) × (looked + length before * tree_pages s t ≤ tree_pages s t * tree_pages s t)
+      × ((e : Key × Key) → In e (contents (nodes_of s) w t) → v.node.hi ≢ [] → UpTo v.node.hi e.0 → is_up_to hi e.0 ≡ false)
+
+-- A count stands at a leaf: so many pairs stand before it
+pub record Counts (s : State) (root : ℕ) (v : View) (looked total : ℕ) : Type 0 where
+  pub read : IsRead s v
+  pub told : (w : Forest) → WellFormed (nodes_of s) s.roots w → (t : Tree) → s.roots t ≡ Some root
+      → (before : List ℕ) × (behind : List ℕ) × (w.chain (place t 0) ≡ before ++ v.pid ∷ behind) × (looked + length behind ≤ tree_pages s t) × (total ≡ length (flat_map (λ p. node_pairs (nodes_of s p)) before))
+
+-- the leaf at hand, if there is one
+abbrev pub SeeksAt : State → ℕ → Bound Key → Option View → Type 0
+SeeksAt s root lo None = Unit {0}
+SeeksAt s root lo (Some v) = Seeks s root lo v 0
+
+abbrev pub SeeksBackAt : State → ℕ → Bound Key → Option View → Type 0
+SeeksBackAt s root hi None = Unit {0}
+SeeksBackAt s root hi (Some v) = SeeksBack s root hi v 0

@@ -1,0 +1,98 @@
+-- The pairs of a tree within two bounds.
+use Rattle.std.specs.Prelude.{◌≡◌, ◌+◌, ◌&&◌, ℕ, Bool, true, false, not, cond, filter, length, List, [], ◌∷◌, ◌++◌, ◌⊎◌, Option, Some, None, Ok, Err, Result}
+use Rattle.std.specs.Iterator.{Count, at_most}
+use Rattle.std.specs.Ordering.{is_lt, is_gt}
+use Rattle.std.specs.declared.ops.Bound.{Bound}
+use Rattle.std.specs.declared.ops.Bound.TheVariants.{Included, Excluded, Unbounded}
+use Rattle.sled_pages.specs.Order.{Key, key_cmp}
+use Rattle.sled_pages.specs.Among.{is_up_to, is_from}
+use Rattle.sled_pages.specs.State.{State, nodes_of}
+use Rattle.sled_pages.specs.Store.{Store}
+use Rattle.sled_pages.specs.declared.error.Error.{Error}
+use Rattle.tree_laws.specs.Forest.{Tree, Forest, WellFormed}
+use Rattle.tree_reads.specs.Walk.{RefusesWalk, once, for_each}
+
+-- the pairs whose keys are within both bounds
+abbrev pub pairs_within : Bound Key → Bound Key → List (Key × Key) → List (Key × Key)
+pairs_within lo hi pairs = filter (λ e. is_from lo e.0 && is_up_to hi e.0) pairs
+
+-- the start stands above the end, or at it where not both are included. No start is the empty key, included
+abbrev pub is_reversed : Bound Key → Bound Key → Bool
+is_reversed (Included a) (Included b) = is_gt (key_cmp a b)
+is_reversed (Included a) (Excluded b) = not (is_lt (key_cmp a b))
+is_reversed (Excluded a) (Included b) = not (is_lt (key_cmp a b))
+is_reversed (Excluded a) (Excluded b) = not (is_lt (key_cmp a b))
+is_reversed Unbounded (Excluded b) = not (is_lt (key_cmp [] b))
+is_reversed Unbounded hi = false
+is_reversed lo Unbounded = false
+
+-- the pages are well formed, and the page is a tree's root
+pub record IsRoot (s : State) (root : ℕ) : Type 0 where
+  pub forest : Forest
+  pub formed : WellFormed (nodes_of s) s.roots forest
+  pub tree : Tree
+  pub is : s.roots tree ≡ Some root
+
+-- what is still to come of the tree with this root in these pages, and whether nothing more is given
+pub record Coming (P : Type 0) : Type 0 where
+  pub pages : P
+  pub root : ℕ
+  pub pairs : List (Key × Key)
+  pub ended : Bool
+
+-- Which of the pairs is taken, what is shown of it, and why a taking is refused
+module _ {P A : Type 0} (store : P → Store) (splits : List (Key × Key) → Key × Key → List (Key × Key) → Type 0) (shows : Key × Key → A) (of : ℕ → ℕ) where
+  -- none where there is none or it has ended; else one of the pairs, and the others are left. After none and after an error it has ended
+  abbrev pub takes : Coming P → Option (Result A Error) → Coming P → Type 0
+  takes old None new = ((old.pairs ≡ []) ⊎ (old.ended ≡ true)) × (new ≡ record old { ended = true })
+  takes old (Some (Ok x)) new = (old.ended ≡ false) × (p : Key × Key) × (x ≡ shows p) × (rest : List (Key × Key)) × splits old.pairs p rest × (new ≡ record old { pairs = rest })
+  takes old (Some (Err e)) new = (old.ended ≡ false) × (new ≡ record old { ended = true }) × RefusesWalk of (store old.pages) old.root e
+
+abbrev pub is_first : List (Key × Key) → Key × Key → List (Key × Key) → Type 0
+is_first all p rest = all ≡ p ∷ rest
+
+abbrev pub is_last : List (Key × Key) → Key × Key → List (Key × Key) → Type 0
+is_last all p rest = all ≡ rest ++ p ∷ []
+
+-- the first of what is to come is taken, and what is shown of it is given
+pub record TakesFirst {P A : Type 0} (store : P → Store) (shows : Key × Key → A) (old : Coming P) (given : Option (Result A Error)) (new : Coming P) : Type 0 where
+  pub told : takes store is_first shows once old given new
+
+-- the last is
+pub record TakesLast {P A : Type 0} (store : P → Store) (shows : Key × Key → A) (old : Coming P) (given : Option (Result A Error)) (new : Coming P) : Type 0 where
+  pub told : takes store is_last shows for_each old given new
+
+abbrev pub whole : Key × Key → Key × Key
+whole p = p
+
+abbrev pub key_alone : Key × Key → Key
+key_alone p = p.0
+
+abbrev pub value_alone : Key × Key → Key
+value_alone p = p.1
+
+-- what is shown of the pair, if one is given
+abbrev pub shown_of : {A : Type 0} → (Key × Key → A) → Option (Result (Key × Key) Error) → Option (Result A Error)
+shown_of shows None = None
+shown_of shows (Some (Ok p)) = Some (Ok (shows p))
+shown_of shows (Some (Err e)) = Some (Err e)
+
+-- each pair comes once at most, and an error once
+abbrev pub coming_count : {P : Type 0} → Coming P → Count
+coming_count c = at_most (cond c.ended 0 (length c.pairs + 1))
+
+-- one search for the next pair of a range, from the front: none, or the first, and the lower bound goes on to its key
+abbrev pub advances : List (Key × Key) → Bound Key → Bound Key → Option (Key × Key) → Bound Key → Type 0
+advances all lo hi None new = (pairs_within lo hi all ≡ []) × (new ≡ lo)
+advances all lo hi (Some p) new = (pairs_within lo hi all ≡ p ∷ pairs_within new hi all)
+
+pub record Advances (all : List (Key × Key)) (lo hi : Bound Key) (found : Option (Key × Key)) (new : Bound Key) : Type 0 where
+  pub told : advances all lo hi found new
+
+-- and from the back
+abbrev pub retreats : List (Key × Key) → Bound Key → Bound Key → Option (Key × Key) → Bound Key → Type 0
+retreats all lo hi None new = (pairs_within lo hi all ≡ []) × (new ≡ hi)
+retreats all lo hi (Some p) new = (pairs_within lo hi all ≡ pairs_within lo new all ++ p ∷ [])
+
+pub record Retreats (all : List (Key × Key)) (lo hi : Bound Key) (found : Option (Key × Key)) (new : Bound Key) : Type 0 where
+  pub told : retreats all lo hi found new

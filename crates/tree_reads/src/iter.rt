@@ -1,0 +1,358 @@
+//! The pairs of a range, from both ends.
+ghost use Rattle.std.specs.Prelude.{◌≡◌, false, true, [], IfOk, IfErr, OnOk};
+ghost use Rattle.std.specs.Iterator.{at_most};
+ghost use Rattle.std.specs.declared.ops.Bound.TheVariants.{Excluded};
+ghost use Rattle.sled_pages.specs.Among.{bound_of};
+ghost use Rattle.sled_pages.specs.Store.{now};
+ghost use Rattle.sled_pages.specs.State.{nodes_of};
+ghost use Rattle.sled_pages.specs.declared.error.Error.TheVariants.{NoMemory};
+ghost use Rattle.tree_laws.specs.Contents.{pairs_under};
+ghost use Rattle.tree_reads.specs.Walk.{RefusesWalk, once, for_each};
+ghost use Rattle.tree_reads.specs.Leaves.{SeeksAt, SeeksBackAt};
+ghost use Rattle.tree_reads.specs.Ranges.{pairs_within, is_reversed as ends_before, IsRoot, Advances, Retreats, TakesFirst, TakesLast, whole, key_alone, value_alone, shown_of, coming_count};
+
+use crate::nearest::{first_at, last_at};
+use crate::reads::{Reads, law_given};
+use crate::walk::{is_from, is_up_to};
+use sled_pages::{IVec, Pid, Result, View};
+use std::alloc::Global;
+use std::iter::{DoubleEndedIterator, Iterator};
+use std::marker::Model;
+use std::mem;
+use std::ops::Bound;
+
+// A bound, lent.
+fn lend(bound: &Bound<IVec>) -> Bound<&[u8]>
+    ensures { bound_of result ≡ bound.now }
+{
+    match bound {
+        Bound::Included(key) => Bound::Included(key.as_ref()),
+        Bound::Excluded(key) => Bound::Excluded(key.as_ref()),
+        Bound::Unbounded => Bound::Unbounded,
+    }
+}
+
+// The empty key.
+const LEAST: &[u8] = &[];
+
+// Whether a range starts above its end, or at it where not both are included.
+#[tactic(auto, unfolding(sled_pages::specs::Order::key_cmp))]
+fn is_reversed(lo: Bound<&[u8]>, hi: Bound<&[u8]>) -> bool
+    ensures { result ≡ ends_before (bound_of lo.entry) (bound_of hi.entry) }
+{
+    match (lo, hi) {
+        (Bound::Included(start), Bound::Included(end)) => start.cmp(end).is_gt(),
+        (Bound::Included(start), Bound::Excluded(end)) => !start.cmp(end).is_lt(),
+        (Bound::Excluded(start), Bound::Included(end)) => !start.cmp(end).is_lt(),
+        (Bound::Excluded(start), Bound::Excluded(end)) => !start.cmp(end).is_lt(),
+        (Bound::Unbounded, Bound::Excluded(end)) => !LEAST.cmp(end).is_lt(),
+        _ => false,
+    }
+}
+
+// The bound becomes the key, excluded.
+fn move_to(bound: &mut Bound<IVec>, key: &IVec) -> Result<()>
+    ensures ok { OnOk result (bound.new ≡ Excluded key.now) }
+    ensures err { IfErr result (λ e. (e ≡ NoMemory) × (bound.new ≡ bound.old)) }
+{
+    let key = key.clone()?;
+    let old = mem::replace(bound, Bound::Excluded(key));
+    drop(old);
+    Ok(())
+}
+
+// The first pair of the tree within two bounds. The lower one goes on to its key.
+fn first_within<R: Reads>(
+    alloc: Global,
+    pages: &R,
+    root: Pid,
+    hand: &mut Option<View>,
+    lo: &mut Bound<IVec>,
+    hi: Bound<&[u8]>,
+) -> Result<Option<(IVec, IVec)>>
+    requires root { IsRoot (now (R.store pages.now)) root }
+    requires at { SeeksAt (now (R.store pages.now)) root lo.old hand.old }
+    ensures ok { IfOk result (λ found. Advances (pairs_under (nodes_of (now (R.store pages.now))) root) lo.old (bound_of hi.entry) found lo.new) }
+    ensures err { IfErr result (λ e. RefusesWalk once (R.store pages.now) root e × (lo.new ≡ lo.old)) }
+    ensures kept { SeeksAt (now (R.store pages.now)) root lo.new hand.new }
+{
+    law_given(pages);
+    let pair = match first_at(alloc, pages, root, hand, lend(lo)) {
+        Ok(Some(pair)) => pair,
+        Ok(None) => return Ok(None),
+        Err(e) => return Err(e),
+    };
+    if !is_up_to(pair.0.as_ref(), hi) {
+        drop(pair);
+        return Ok(None);
+    }
+    match move_to(lo, &pair.0) {
+        Ok(()) => Ok(Some(pair)),
+        Err(e) => {
+            drop(pair);
+            Err(e)
+        }
+    }
+}
+
+// The last pair of the tree within two bounds. The upper one goes on to its key.
+fn last_within<R: Reads>(
+    alloc: Global,
+    pages: &R,
+    root: Pid,
+    hand: &mut Option<View>,
+    lo: Bound<&[u8]>,
+    hi: &mut Bound<IVec>,
+) -> Result<Option<(IVec, IVec)>>
+    requires root { IsRoot (now (R.store pages.now)) root }
+    requires at { SeeksBackAt (now (R.store pages.now)) root hi.old hand.old }
+    ensures ok { IfOk result (λ found. Retreats (pairs_under (nodes_of (now (R.store pages.now))) root) (bound_of lo.entry) hi.old found hi.new) }
+    ensures err { IfErr result (λ e. RefusesWalk for_each (R.store pages.now) root e × (hi.new ≡ hi.old)) }
+    ensures kept { SeeksBackAt (now (R.store pages.now)) root hi.new hand.new }
+{
+    law_given(pages);
+    let pair = match last_at(alloc, pages, root, hand, lend(hi)) {
+        Ok(Some(pair)) => pair,
+        Ok(None) => return Ok(None),
+        Err(e) => return Err(e),
+    };
+    if !is_from(pair.0.as_ref(), lo) {
+        drop(pair);
+        return Ok(None);
+    }
+    match move_to(hi, &pair.0) {
+        Ok(()) => Ok(Some(pair)),
+        Err(e) => {
+            drop(pair);
+            Err(e)
+        }
+    }
+}
+
+/// The pairs of a tree within two bounds that are still to come, from both ends. After an error nothing comes.
+///
+/// From the front each leaf is read once. From the back each leaf is walked to from the root.
+#[derive(Drop)]
+pub struct Iter<'a, R: Reads> {
+    alloc: Global,
+    pages: &'a R,
+    root: Pid,
+    lo: Bound<IVec>,
+    hi: Bound<IVec>,
+    // the leaves at which the searches from both ends stand
+    front: Option<View>,
+    back: Option<View>,
+    ended: bool,
+}
+
+impl<'a, R: Reads> Model for Iter<'a, R> {
+    ghost use Rattle.sled_pages.specs.Store.{now};
+    ghost use Rattle.sled_pages.specs.State.{nodes_of};
+    ghost use Rattle.tree_laws.specs.Contents.{pairs_under};
+    ghost use Rattle.tree_reads.specs.Leaves.{SeeksAt, SeeksBackAt};
+    ghost use Rattle.tree_reads.specs.Ranges.{pairs_within, Coming, IsRoot};
+
+    ghost Value = { Coming R };
+
+    ghost view = { λ r. record { pages = r.pages.now; root = r.root; pairs = pairs_within r.lo r.hi (pairs_under (nodes_of (now (R.store r.pages.now))) r.root); ended = r.ended } };
+
+    ghost invariant = { λ r. IsRoot (now (R.store r.pages.now)) r.root × SeeksAt (now (R.store r.pages.now)) r.root r.lo r.front × SeeksBackAt (now (R.store r.pages.now)) r.root r.hi r.back };
+}
+
+/// The pairs of the tree with this root whose keys are within two bounds. It reads no page. Where the range starts above its
+/// end, or at it and not both are included, the iterator has ended.
+pub fn pairs_of<'a, R: Reads>(
+    alloc: Global,
+    pages: &'a R,
+    root: Pid,
+    lo: Bound<IVec>,
+    hi: Bound<IVec>,
+) -> Iter<'a, R>
+    requires { IsRoot (now (R.store pages.now)) root }
+    ensures is { result ≡ record { pages = pages.now; root = root; pairs = pairs_within lo hi (pairs_under (nodes_of (now (R.store pages.now))) root); ended = ends_before lo hi } }
+    ensures none { ends_before lo hi ≡ true → pairs_within lo hi (pairs_under (nodes_of (now (R.store pages.now))) root) ≡ [] }
+{
+    let ended = is_reversed(lend(&lo), lend(&hi));
+    Iter {
+        alloc,
+        pages,
+        root,
+        lo,
+        hi,
+        front: None,
+        back: None,
+        ended,
+    }
+}
+
+impl<'a, R: Reads> Iter<'a, R> {
+    /// The keys of the pairs still to come.
+    pub fn keys(self) -> Keys<'a, R>
+        ensures { result ≡ self.entry }
+    {
+        Keys { pairs: self }
+    }
+
+    /// The values of the pairs still to come.
+    pub fn values(self) -> Values<'a, R>
+        ensures { result ≡ self.entry }
+    {
+        Values { pairs: self }
+    }
+}
+
+impl<'a, R: Reads> Iterator for Iter<'a, R> {
+    type Item = Result<(IVec, IVec)>;
+
+    ghost next_gives = { TakesFirst R.store whole };
+
+    ghost remaining = { coming_count };
+
+    fn next(&mut self) -> Option<Result<(IVec, IVec)>> {
+        if self.ended {
+            return None;
+        }
+        match first_within(
+            self.alloc,
+            self.pages,
+            self.root,
+            &mut self.front,
+            &mut self.lo,
+            lend(&self.hi),
+        ) {
+            Ok(Some(pair)) => Some(Ok(pair)),
+            Ok(None) => {
+                self.ended = true;
+                None
+            }
+            Err(e) => {
+                self.ended = true;
+                Some(Err(e))
+            }
+        }
+    }
+}
+
+impl<'a, R: Reads> DoubleEndedIterator for Iter<'a, R> {
+    ghost next_back_gives = { TakesLast R.store whole };
+
+    fn next_back(&mut self) -> Option<Result<(IVec, IVec)>> {
+        if self.ended {
+            return None;
+        }
+        match last_within(
+            self.alloc,
+            self.pages,
+            self.root,
+            &mut self.back,
+            lend(&self.lo),
+            &mut self.hi,
+        ) {
+            Ok(Some(pair)) => Some(Ok(pair)),
+            Ok(None) => {
+                self.ended = true;
+                None
+            }
+            Err(e) => {
+                self.ended = true;
+                Some(Err(e))
+            }
+        }
+    }
+}
+
+/// The keys of a range, from both ends. After an error nothing comes.
+#[derive(Drop)]
+pub struct Keys<'a, R: Reads> {
+    pairs: Iter<'a, R>,
+}
+
+impl<'a, R: Reads> Model for Keys<'a, R> {
+    ghost use Rattle.tree_reads.specs.Ranges.{Coming};
+
+    ghost Value = { Coming R };
+
+    ghost view = { λ k. k.pairs };
+}
+
+// What is left of a pair whose value is let go.
+fn key_of(pair: Option<Result<(IVec, IVec)>>) -> Option<Result<IVec>>
+    ensures { result ≡ shown_of key_alone pair }
+{
+    match pair {
+        Some(Ok((key, value))) => {
+            drop(value);
+            Some(Ok(key))
+        }
+        Some(Err(e)) => Some(Err(e)),
+        None => None,
+    }
+}
+
+// What is left of a pair whose key is let go.
+fn value_of(pair: Option<Result<(IVec, IVec)>>) -> Option<Result<IVec>>
+    ensures { result ≡ shown_of value_alone pair }
+{
+    match pair {
+        Some(Ok((key, value))) => {
+            drop(key);
+            Some(Ok(value))
+        }
+        Some(Err(e)) => Some(Err(e)),
+        None => None,
+    }
+}
+
+impl<'a, R: Reads> Iterator for Keys<'a, R> {
+    type Item = Result<IVec>;
+
+    ghost next_gives = { TakesFirst R.store key_alone };
+
+    ghost remaining = { coming_count };
+
+    fn next(&mut self) -> Option<Result<IVec>> {
+        key_of(self.pairs.next())
+    }
+}
+
+impl<'a, R: Reads> DoubleEndedIterator for Keys<'a, R> {
+    ghost next_back_gives = { TakesLast R.store key_alone };
+
+    fn next_back(&mut self) -> Option<Result<IVec>> {
+        key_of(self.pairs.next_back())
+    }
+}
+
+/// The values of a range, from both ends. After an error nothing comes.
+#[derive(Drop)]
+pub struct Values<'a, R: Reads> {
+    pairs: Iter<'a, R>,
+}
+
+impl<'a, R: Reads> Model for Values<'a, R> {
+    ghost use Rattle.tree_reads.specs.Ranges.{Coming};
+
+    ghost Value = { Coming R };
+
+    ghost view = { λ v. v.pairs };
+}
+
+impl<'a, R: Reads> Iterator for Values<'a, R> {
+    type Item = Result<IVec>;
+
+    ghost next_gives = { TakesFirst R.store value_alone };
+
+    ghost remaining = { coming_count };
+
+    fn next(&mut self) -> Option<Result<IVec>> {
+        value_of(self.pairs.next())
+    }
+}
+
+impl<'a, R: Reads> DoubleEndedIterator for Values<'a, R> {
+    ghost next_back_gives = { TakesLast R.store value_alone };
+
+    fn next_back(&mut self) -> Option<Result<IVec>> {
+        value_of(self.pairs.next_back())
+    }
+}

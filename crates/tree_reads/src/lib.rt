@@ -1,0 +1,22 @@
+//! Reads of a tree that repair nothing, by the number of its root, over any store of pages.
+//!
+//! A walk goes from the root to the leaf under its target: right along `next`, and down by pointers, but never by that to a
+//! merging child, whose pairs the page before it leads to (`specs/Walk`). Searches go on from leaf to leaf (`specs/Leaves`).
+//! What is found is told of the contents at every forest that shows the pages well formed. An iterator is its two bounds: the
+//! pairs still to come are a function of the pages and the bounds (`specs/Ranges`), and no list is kept.
+#![tactic(auto)]
+
+mod count;
+mod iter;
+mod nearest;
+mod reads;
+mod walk;
+
+pub use count::count_pairs;
+pub use iter::{Iter, Keys, Values, pairs_of};
+pub use nearest::{first_from, last_up_to, value_at};
+pub use reads::Reads;
+pub use walk::{is_up_to, leaf_at};
+
+/// A read that has looked at this many pages is given up.
+pub const MOST_PAGES: u64 = 1_000_000;
