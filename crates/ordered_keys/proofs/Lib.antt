@@ -1,0 +1,4 @@
+pub mod Bytes
+pub mod Order
+pub mod Apart
+pub mod Reading

@@ -1,0 +1,27 @@
+//! Numbers in eight bytes, the highest first.
+ghost use Rattle.std.specs.Prelude.{◌≡◌, ◌≢◌, ℕ, ◌++◌, List, OnOk, IfErr, IfSome, IfNone};
+ghost use Rattle.sled_pages.specs.declared.error.Error.TheVariants.{NoMemory};
+ghost use Rattle.ordered_keys.specs.Keys.{spelled_number};
+
+use sled_pages::Result;
+
+/// Adds a number at the end: eight bytes, the highest first. Refused with `NoMemory` alone, and nothing is added then.
+#[tactic(auto, unfolding(crate::specs::Keys::spelled_number))]
+pub fn push_number(out: &mut Vec<u8>, number: u64) -> Result<()>
+    ensures ok { OnOk result (out.new.items ≡ out.old.items ++ spelled_number number) }
+    ensures err { IfErr result (λ e. (e ≡ NoMemory) × (out.new.items ≡ out.old.items)) }
+{
+    out.extend_from_slice(&number.to_be_bytes())?;
+    Ok(())
+}
+
+/// Reads the number that the bytes begin with, and what follows it. `None` where there are fewer than eight bytes, so
+/// that they begin with no number.
+#[tactic(auto, unfolding(crate::specs::Keys::spelled_number))]
+pub fn read_number(bytes: &[u8]) -> Option<(u64, &[u8])>
+    ensures some { IfSome result (λ found. bytes.now ≡ spelled_number found.0 ++ found.1.now) }
+    ensures none { IfNone result ((n : ℕ) (rest : List ℕ) → bytes.now ≢ spelled_number n ++ rest) }
+{
+    let (front, rest) = bytes.split_first_chunk::<8>()?;
+    Some((u64::from_be_bytes(*front), rest))
+}

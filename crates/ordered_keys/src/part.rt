@@ -1,0 +1,71 @@
+//! Parts, and keys of them.
+ghost use Rattle.std.specs.Prelude.{◌≡◌, ◌≢◌, ◌++◌, List, OnOk, IfOk, IfErr, IfSome, IfNone};
+ghost use Rattle.sled_pages.specs.declared.error.Error.TheVariants.{NoMemory};
+ghost use Rattle.sled_pages.specs.Order.{Key};
+ghost use Rattle.ordered_keys.specs.declared.part.Part.{Part};
+ghost use Rattle.ordered_keys.specs.Keys.{spelled_part, spelled, IsOfKind, HasShape};
+
+use crate::number::{push_number, read_number};
+use crate::text::{push_text, read_text};
+use sled_pages::{IVec, Result};
+use std::alloc::Global;
+
+/// What a part is. The kinds of the parts of a key, in order, are its shape.
+#[derive(Clone, Copy)]
+pub enum Kind {
+    /// A number of 64 bits.
+    Number,
+    /// A byte string of any length, as a name.
+    Text,
+}
+
+/// One part of a key.
+#[derive(Drop)]
+pub enum Part {
+    /// A number, whose order is by size.
+    Number(u64),
+    /// A byte string, whose order is by its bytes.
+    Text(IVec),
+}
+
+/// Adds a part at the end. Refused with `NoMemory` alone, and nothing is added then.
+pub fn push_part(out: &mut Vec<u8>, part: &Part) -> Result<()>
+    ensures ok { OnOk result (out.new.items ≡ out.old.items ++ spelled_part part.now) }
+    ensures err { IfErr result (λ e. (e ≡ NoMemory) × (out.new.items ≡ out.old.items)) }
+{
+    match part {
+        Part::Number(number) => push_number(out, *number),
+        Part::Text(text) => push_text(out, text.as_ref()),
+    }
+}
+
+/// The key of these parts. Refused with `NoMemory` alone.
+pub fn key_of(alloc: Global, parts: &[Part]) -> Result<IVec>
+    ensures ok { IfOk result (λ key. key ≡ spelled parts.now) }
+    ensures err { IfErr result (λ e. e ≡ NoMemory) }
+{
+    let mut bytes = Vec::new(alloc);
+    'parts: for part in parts {
+        push_part(&mut bytes, part)?;
+    }
+    IVec::from_slice(alloc, bytes.as_slice())
+}
+
+/// Reads a part of this kind, which the bytes begin with, and what follows it. `Ok(None)` where they begin with none. Refused
+/// with `NoMemory` alone.
+pub fn read_part(alloc: Global, kind: Kind, bytes: &[u8]) -> Result<Option<(Part, &[u8])>>
+    ensures some { IfOk result (λ found. IfSome found (λ f. IsOfKind kind f.0 × (bytes.now ≡ spelled_part f.0 ++ f.1.now))) }
+    ensures none { IfOk result (λ found. IfNone found ((part : Part) (rest : Key) → IsOfKind kind part → bytes.now ≢ spelled_part part ++ rest)) }
+    ensures err { IfErr result (λ e. e ≡ NoMemory) }
+{
+    match kind {
+        Kind::Number => match read_number(bytes) {
+            Some((number, rest)) => Ok(Some((Part::Number(number), rest))),
+            None => Ok(None),
+        },
+        Kind::Text => match read_text(alloc, bytes)? {
+            Some((text, rest)) => Ok(Some((Part::Text(text), rest))),
+            None => Ok(None),
+        },
+    }
+}
