@@ -1,6 +1,7 @@
 //! The commands: what each line asks for, and why a line asks for nothing.
 
 use crate::calls::tell;
+use crate::look::{From, Look, read_bound};
 use sled_lines::command::{self, parse};
 use sled_lines::input::Stopped;
 use sled_lines::print::Piece::Text;
@@ -30,6 +31,8 @@ pub enum Verb {
     Load,
     Find,
     Overtake,
+    /// A read that takes no slot.
+    Look(Look),
     Help,
     Quit,
 }
@@ -37,9 +40,9 @@ pub enum Verb {
 // A command's own words, what it takes, and what it does.
 type Form = (&'static str, &'static str, Verb, &'static str);
 
-// What a command takes has words of its own: K, V, OLD and NEW are byte strings, STEP a step of a call in flight, and the others
-// numbers; `..` stands for more of the word before it.
-const FORMS: [Form; 33] = [
+// What a command takes has words of its own: K, V, OLD and NEW are byte strings, LO and HI bounds, STEP a step of a call in
+// flight, and the others numbers; `..` stands for more of the word before it.
+const FORMS: [Form; 48] = [
     (
         "insert",
         "K V",
@@ -191,6 +194,96 @@ const FORMS: [Form; 33] = [
         Verb::Overtake,
         "so often an insert comes between two steps of the call in a slot; prints its turns",
     ),
+    (
+        "has",
+        "K",
+        Verb::Look(Look::Has),
+        "prints whether a key is present, by a call that takes no slot, as all of these do",
+    ),
+    (
+        "read",
+        "K",
+        Verb::Look(Look::Read),
+        "prints the value at a key",
+    ),
+    (
+        "lt",
+        "K",
+        Verb::Look(Look::Below),
+        "prints the pair with the greatest key below this one",
+    ),
+    (
+        "gt",
+        "K",
+        Verb::Look(Look::Above),
+        "prints the pair with the least key above this one",
+    ),
+    (
+        "first",
+        "",
+        Verb::Look(Look::First),
+        "prints the pair with the least key",
+    ),
+    (
+        "last",
+        "",
+        Verb::Look(Look::Last),
+        "prints the pair with the greatest key",
+    ),
+    (
+        "len",
+        "",
+        Verb::Look(Look::Len),
+        "prints how many pairs there are",
+    ),
+    (
+        "empty",
+        "",
+        Verb::Look(Look::Empty),
+        "prints whether there is no pair",
+    ),
+    (
+        "range",
+        "LO HI",
+        Verb::Look(Look::Pairs(From::Front)),
+        "prints the pairs within two bounds: [K is from or up to K, (K the same without K, .. is no bound",
+    ),
+    (
+        "range-back",
+        "LO HI",
+        Verb::Look(Look::Pairs(From::Back)),
+        "prints them from the back",
+    ),
+    (
+        "range-ends",
+        "LO HI",
+        Verb::Look(Look::Pairs(From::Ends)),
+        "prints them from both ends in turn",
+    ),
+    (
+        "keys",
+        "LO HI",
+        Verb::Look(Look::Keys(From::Front)),
+        "prints the keys within two bounds",
+    ),
+    (
+        "keys-back",
+        "LO HI",
+        Verb::Look(Look::Keys(From::Back)),
+        "prints them from the back",
+    ),
+    (
+        "values",
+        "LO HI",
+        Verb::Look(Look::Values(From::Front)),
+        "prints the values within two bounds",
+    ),
+    (
+        "values-back",
+        "LO HI",
+        Verb::Look(Look::Values(From::Back)),
+        "prints them from the back",
+    ),
     ("help", "", Verb::Help, "prints these lines"),
     ("quit", "", Verb::Quit, "ends"),
 ];
@@ -199,6 +292,8 @@ const NO_NUMBER: &str = "is no number: decimal digits without leading zeros";
 
 const NO_BYTES: &str =
     "is no byte string: % and two lower-case hexadecimal digits stand for a byte";
+
+const NO_BOUND: &str = "is no bound: [ or ( and a byte string, or ..";
 
 /// What a line asks for.
 #[derive(Drop)]
@@ -335,6 +430,12 @@ fn odd(alloc: Global, part: &[u8], word: &[u8]) -> Result<&'static str> {
             let value = read_value(alloc, word)?;
             let said = if value.is_some() { "" } else { NO_BYTES };
             drop(value);
+            Ok(said)
+        }
+        b"LO" | b"HI" => {
+            let bound = read_bound(alloc, word)?;
+            let said = if bound.is_some() { "" } else { NO_BOUND };
+            drop(bound);
             Ok(said)
         }
         _ if read_number(word).is_some() => Ok(""),
