@@ -1,7 +1,7 @@
 //! The commands: what each line asks for, and why a line asks for nothing.
 
 use crate::calls::tell;
-use crate::look::{From, Look, read_bound};
+use crate::look::{Look, Side, read_bound};
 use sled_lines::command::{self, parse};
 use sled_lines::input::Stopped;
 use sled_lines::print::Piece::Text;
@@ -245,43 +245,43 @@ const FORMS: [Form; 48] = [
     (
         "range",
         "LO HI",
-        Verb::Look(Look::Pairs(From::Front)),
+        Verb::Look(Look::Pairs(Side::Front)),
         "prints the pairs within two bounds: [K is from or up to K, (K the same without K, .. is no bound",
     ),
     (
         "range-back",
         "LO HI",
-        Verb::Look(Look::Pairs(From::Back)),
+        Verb::Look(Look::Pairs(Side::Back)),
         "prints them from the back",
     ),
     (
         "range-ends",
         "LO HI",
-        Verb::Look(Look::Pairs(From::Ends)),
+        Verb::Look(Look::Pairs(Side::Ends)),
         "prints them from both ends in turn",
     ),
     (
         "keys",
         "LO HI",
-        Verb::Look(Look::Keys(From::Front)),
+        Verb::Look(Look::Keys(Side::Front)),
         "prints the keys within two bounds",
     ),
     (
         "keys-back",
         "LO HI",
-        Verb::Look(Look::Keys(From::Back)),
+        Verb::Look(Look::Keys(Side::Back)),
         "prints them from the back",
     ),
     (
         "values",
         "LO HI",
-        Verb::Look(Look::Values(From::Front)),
+        Verb::Look(Look::Values(Side::Front)),
         "prints the values within two bounds",
     ),
     (
         "values-back",
         "LO HI",
-        Verb::Look(Look::Values(From::Back)),
+        Verb::Look(Look::Values(Side::Back)),
         "prints them from the back",
     ),
     ("help", "", Verb::Help, "prints these lines"),

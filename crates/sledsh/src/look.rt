@@ -17,7 +17,7 @@ type Answer<T> = sled_pages::Result<T>;
 
 /// From which end pairs are taken.
 #[derive(Clone, Copy)]
-pub enum From {
+pub enum Side {
     Front,
     Back,
     /// From both in turn.
@@ -35,9 +35,9 @@ pub enum Look {
     Last,
     Len,
     Empty,
-    Pairs(From),
-    Keys(From),
-    Values(From),
+    Pairs(Side),
+    Keys(Side),
+    Values(Side),
 }
 
 // A key, if the word is one.
@@ -137,16 +137,16 @@ fn tell_end(out: &mut Vec<u8>, count: u64) -> Result<()> {
 }
 
 // Whether the item of this turn is taken from the back.
-fn is_back(from: From, turn: u64) -> bool {
+fn is_back(from: Side, turn: u64) -> bool {
     match from {
-        From::Front => false,
-        From::Back => true,
-        From::Ends => turn % 2 == 1,
+        Side::Front => false,
+        Side::Back => true,
+        Side::Ends => turn % 2 == 1,
     }
 }
 
 // Adds the pairs, and how many there were or why no more come.
-fn tell_pairs(out: &mut Vec<u8>, mut pairs: Iter<'_, Counting<'_>>, from: From) -> Result<()> {
+fn tell_pairs(out: &mut Vec<u8>, mut pairs: Iter<'_, Counting<'_>>, from: Side) -> Result<()> {
     let mut told = Ok(());
     for turn in 0..u64::MAX {
         let item = if is_back(from, turn) {
@@ -183,7 +183,7 @@ fn tell_item(out: &mut Vec<u8>, item: Option<Answer<IVec>>, count: u64) -> Resul
     }
 }
 
-fn tell_keys(out: &mut Vec<u8>, pairs: Iter<'_, Counting<'_>>, from: From) -> Result<()> {
+fn tell_keys(out: &mut Vec<u8>, pairs: Iter<'_, Counting<'_>>, from: Side) -> Result<()> {
     let (mut keys, mut more) = (pairs.keys(), Ok(true));
     for turn in 0..u64::MAX {
         let item = if is_back(from, turn) {
@@ -200,7 +200,7 @@ fn tell_keys(out: &mut Vec<u8>, pairs: Iter<'_, Counting<'_>>, from: From) -> Re
     more.map(|_| ())
 }
 
-fn tell_values(out: &mut Vec<u8>, pairs: Iter<'_, Counting<'_>>, from: From) -> Result<()> {
+fn tell_values(out: &mut Vec<u8>, pairs: Iter<'_, Counting<'_>>, from: Side) -> Result<()> {
     let (mut values, mut more) = (pairs.values(), Ok(true));
     for turn in 0..u64::MAX {
         let item = if is_back(from, turn) {
@@ -225,7 +225,7 @@ fn tell_range(out: &mut Vec<u8>, pairs: Answer<Iter<'_, Counting<'_>>>, look: Lo
             Look::Keys(from) => tell_keys(out, pairs, from),
             Look::Values(from) => tell_values(out, pairs, from),
             Look::Pairs(from) => tell_pairs(out, pairs, from),
-            _ => tell_pairs(out, pairs, From::Front),
+            _ => tell_pairs(out, pairs, Side::Front),
         },
     }
 }
