@@ -624,8 +624,11 @@ def what_names_no_tree_is_refused(s):
         handle sledsh other 1              done
         insert a 3                         refused E1
         step 1                             moved
+        has a                              refused E1
+        range .. ..                        refused E1
         handle other __sled__default 1     done
         get a                              refused E2
+        len                                refused E2
         remove a                           refused E2
         begin cas a 1 -                    refused E2
         handle other other 7               done
@@ -644,8 +647,8 @@ def what_names_no_tree_is_refused(s):
         get a                              refused E2
         reopen                             opened
         get a                              value 2
-        handle sledsh - 1                  bad line 29: `-` is no byte string: % and two lower-case hexadecimal digits stand for a byte
-        handle sledsh __sled__default      bad line 30: `handle` takes DATABASE NAME N, three words
-        handle sledsh __sled__default -1   bad line 31: `-1` is no number: decimal digits without leading zeros
+        handle sledsh - 1                  bad line 32: `-` is no byte string: % and two lower-case hexadecimal digits stand for a byte
+        handle sledsh __sled__default      bad line 33: `handle` takes DATABASE NAME N, three words
+        handle sledsh __sled__default -1   bad line 34: `-1` is no number: decimal digits without leading zeros
         get a                              value 2
     ''')

@@ -56,6 +56,18 @@ def optional(text):
     return None if text == '-' else value_of(text)
 
 
+def bound_of(text):
+    """The bound that a word spells: whether the key itself is within it, and the key; or none."""
+    if text == '..':
+        return None
+    try:
+        if text[:1] in ('[', '('):
+            return text[0] == '[', value_of(text[1:])
+    except BadLine:
+        pass
+    raise BadLine(f'`{text}` is no bound: [ or ( and a byte string, or ..')
+
+
 def number_of(text):
     """The number that a word spells."""
     if not re.fullmatch('0|[1-9][0-9]*', text) or int(text) > GREATEST:
@@ -385,15 +397,89 @@ def merge(store, parent, child):
         yield
 
 
+# Reads that repair nothing. A bound is none, or a pair: whether the key itself is within it, and the key.
+
+def is_from(lo, key):
+    return lo is None or lo[1] < key or lo == (True, key)
+
+
+def is_up_to(hi, key):
+    return hi is None or key < hi[1] or hi == (True, key)
+
+
+def look(store, target):
+    """The leaf in which a key just within an upper bound lies. It goes right, or down by the last pointer within the bound, but
+    to no merging child."""
+    pid = store.roots[TREE]
+    while True:
+        node = store.read(pid).node
+        if node.hi != b'' and is_up_to(target, node.hi):
+            pid = node.next
+        elif node.leaf:
+            return node
+        else:
+            pids = [p for k, p in node.entries if is_up_to(target, k)]
+            pid = pids[-2] if pids[-1] == node.child else pids[-1]
+
+
+class Range:
+    """The pairs within two bounds, from both ends. The leaves at which both searches stand are at hand."""
+
+    def __init__(self, store, lo, hi):
+        self.store, self.lo, self.hi, self.leaf, self.last = store, lo, hi, None, None
+        start = (True, b'') if lo is None else lo
+        self.ended = hi is not None and (start[1] > hi[1] or start[1] == hi[1] and not (start[0] and hi[0]))
+
+    def search(self):
+        """The first pair within the lower bound."""
+        if self.leaf is None:
+            self.leaf = look(self.store, (True, b'' if self.lo is None else self.lo[1]))
+        while True:
+            found = next((e for e in self.leaf.entries if is_from(self.lo, e[0])), None)
+            if found or self.leaf.next is None:
+                return found
+            self.leaf = self.store.read(self.leaf.next).node
+
+    def search_back(self):
+        """The last pair within the upper bound."""
+        if self.hi == (False, b''):
+            return None
+        if self.last is None:
+            self.last = look(self.store, self.hi)
+        while True:
+            found = next((e for e in self.last.entries[::-1] if is_up_to(self.hi, e[0])), None)
+            if found or self.last.lo == b'':
+                return found
+            self.last = look(self.store, (False, self.last.lo))
+
+    def take(self, back=False):
+        """The first or the last pair that is still to come. Nothing comes after none, or after a refusal."""
+        if self.ended:
+            return None
+        self.ended = True
+        found = self.search_back() if back else self.search()
+        if found is None or not (is_from(self.lo, found[0]) if back else is_up_to(self.hi, found[0])):
+            return None
+        self.ended = False
+        if back:
+            self.hi = False, found[0]
+        else:
+            self.lo = False, found[0]
+        return found
+
+
 # The shell.
 
 FORMS = """insert K V; get K; remove K; cas K OLD NEW; begin insert K V; begin get K; begin remove K; begin cas K OLD NEW
 step N; finish N; abandon N; turns N; flush; crash N; dump; new; new refuse N ..; reopen; reopen refuse N ..
 reopen unreadable PID ..; reopen mark N; recover; recover refuse N ..; recovered; pages; crowd SEED CALLS; run STEP, ..
-reads; load N MOST ALL; find N PAGES; overtake N COUNT; handle DATABASE NAME N; help; quit"""
+reads; load N MOST ALL; find N PAGES; overtake N COUNT; handle DATABASE NAME N; help; quit
+has K; read K; lt K; gt K; first; last; len; empty; range LO HI; range-back LO HI; range-ends LO HI
+keys LO HI; keys-back LO HI; values LO HI; values-back LO HI"""
 FORMS = [form.split(' ') for form in re.split('; |\n', FORMS)]
 POINT = ('insert', 'get', 'remove', 'cas')
-READERS = {'K': value_of, 'V': value_of, 'DATABASE': value_of, 'NAME': value_of, 'OLD': optional, 'NEW': optional}
+LOOKS = ('has', 'read', 'lt', 'gt', 'first', 'last', 'len', 'empty', 'range', 'keys', 'values')
+READERS = {'K': value_of, 'V': value_of, 'DATABASE': value_of, 'NAME': value_of, 'OLD': optional, 'NEW': optional, 'LO': bound_of, 'HI': bound_of}
 
 
 def fit(form, words):
@@ -503,10 +589,12 @@ class Shell:
         if name == 'handle':
             self.handle = words
             return ['done']
-        if name in POINT + ('begin',) and self.handle != HANDLE:
+        if name.partition('-')[0] in POINT + LOOKS + ('begin',) and self.handle != HANDLE:
             raise Refused(2 if self.handle[0] != HANDLE[0] else 1)
         if name in POINT:
             return [self.advance([fly(store, (name,) + words), 0], True)]
+        if name.partition('-')[0] in LOOKS:
+            return self.looked(name, *words)
         if name == 'begin':
             self.begun += 1
             self.slots[self.begun] = [fly(store, words), 0]
@@ -533,6 +621,36 @@ class Shell:
         finally:
             self.open()
         return [f'level {len(level)} {max(len(n.entries) for n in level)}' for level in levels] + [f'end {len(levels)}']
+
+    def looked(self, name, *words):
+        """What a read prints that takes no slot."""
+        store = self.store
+        if name in ('has', 'read'):
+            value = look(store, (True, words[0])).get(words[0])
+            return [f'value {word(value)}'] if name == 'read' else ['no' if value is None else 'yes']
+        if name in ('lt', 'gt', 'first', 'last', 'empty'):
+            bounds = {'lt': lambda k: (None, (False, k)), 'gt': lambda k: ((False, k), None)}.get(name, lambda: (None, None))(*words)
+            all = Range(store, *bounds)
+            pair = all.search_back() if name in ('lt', 'last') else all.search()
+            if name == 'empty':
+                return ['no' if pair else 'yes']
+            return ['found ' + (f'{word(pair[0])} {word(pair[1])}' if pair else '-')]
+        if name == 'len':
+            leaf = look(store, (True, b''))
+            count = len(leaf.entries)
+            while leaf.next is not None:
+                leaf = store.read(leaf.next).node
+                count += len(leaf.entries)
+            return [f'number {count}']
+        what, _, way = name.partition('-')
+        pairs, printed = Range(store, *words), []
+        try:
+            while (pair := pairs.take(way == 'back' or way == 'ends' and len(printed) % 2 == 1)) is not None:
+                shown = {'keys': pair[:1], 'values': pair[1:]}.get(what, pair)
+                printed.append(' '.join(['at'] + [word(part) for part in shown]))
+        except Refused as refusal:
+            return printed + [f'refused E{refusal}']
+        return printed + [f'end {len(printed)}']
 
     def reads(self):
         """How many pages were read since this was asked last. Of lines that print pairs or levels nothing is said."""

@@ -7,7 +7,7 @@ answers, what each dump has, and that a crash leaves the pairs of some moment si
 import os
 import re
 import sys
-from oracle import GREATEST, Shell, read_line, word
+from oracle import GREATEST, LOOKS, Shell, is_from, is_up_to, read_line, word
 
 DATA = os.path.join(os.path.dirname(os.path.abspath(__file__)), '..', 'crates', 'sledsh', 'data')
 CASES = []
@@ -60,6 +60,33 @@ class Plain:
         if value is not None:
             self.pairs[key] = value
 
+    def look(self, name, *words):
+        """What a read prints that takes no slot."""
+        pairs = sorted(self.pairs.items())
+        what, _, way = name.partition('-')
+        if what in ('range', 'keys', 'values'):
+            lo, hi = words
+            pairs = [p for p in pairs if is_from(lo, p[0]) and is_up_to(hi, p[0])]
+            if way == 'back':
+                pairs = pairs[::-1]
+            if way == 'ends':
+                pairs = [pairs[i // 2 if i % 2 == 0 else -1 - i // 2] for i in range(len(pairs))]
+            parts = {'keys': slice(1), 'values': slice(1, 2)}.get(what, slice(2))
+            return [' '.join(['at'] + [word(part) for part in p[parts]]) for p in pairs] + [f'end {len(pairs)}']
+        if name == 'len':
+            return [f'number {len(pairs)}']
+        if name == 'empty':
+            return ['no' if pairs else 'yes']
+        if name in ('has', 'read'):
+            value = self.pairs.get(words[0])
+            return [f'value {word(value)}'] if name == 'read' else ['no' if value is None else 'yes']
+        if name in ('lt', 'gt'):
+            pairs = [p for p in pairs if (p[0] < words[0] if name == 'lt' else p[0] > words[0])]
+        if not pairs:
+            return ['found -']
+        found = pairs[-1 if name in ('lt', 'last') else 0]
+        return [f'found {word(found[0])} {word(found[1])}']
+
     def is_left(self, pairs, keep):
         """A crash left these pairs, and kept so many actions: they are those of a moment since the last flush."""
         while self.pairs != pairs or len(self.changes) > keep:
@@ -73,6 +100,8 @@ class Plain:
             return
         if name in ('insert', 'get', 'remove', 'cas'):
             expect(last == self.answer(words), words, last)
+        elif name.partition('-')[0] in LOOKS:
+            expect(printed == self.look(*words), words, printed)
         elif name == 'begin':
             self.calls[int(last[5:])] = words[1:]
         elif name in ('step', 'finish') and last not in ('moved', 'no slot'):

@@ -6,3 +6,4 @@ pub mod Flying
 pub mod Flushing
 pub mod Opening
 pub mod Reopening
+pub mod Reading

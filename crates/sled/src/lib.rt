@@ -4,13 +4,14 @@
 //! are well formed, now and in every state that a crash may leave (`specs/Sound`); `Db::audit` tells callers so. One step of
 //! a call in flight is a step of the model, adds the map after the call to what a crash may leave if it was decided, and
 //! keeps true what every other call in flight knows (`specs/Flights`). Opening, flushing and exporting are stated in
-//! `specs/Opens`, `specs/Flush` and `specs/Export`.
+//! `specs/Opens`, `specs/Flush` and `specs/Export`, and reads that take no slot in `specs/Reads`.
 #![tactic(auto)]
 
 mod db;
 mod export;
 mod memory;
 mod open;
+mod read;
 
 pub use db::Db;
 pub use export::Collection;
@@ -24,6 +25,7 @@ pub use sled_pages::{
     Version, View,
 };
 pub use sled_tree::{Flight, Job, Stage, Went};
+pub use tree_reads::{Iter, Keys, Values};
 
 /// The name of the default tree, which every database has.
 pub const DEFAULT_TREE: &str = "__sled__default";

@@ -13,7 +13,8 @@ use sled_pages::{Error, IVec};
 use std::alloc::Global;
 use std::sync::atomic::{AtomicU64, Ordering};
 
-type Result<T> = std::result::Result<T, Stopped>;
+/// What telling comes to.
+pub type Result<T> = std::result::Result<T, Stopped>;
 
 // What the numbers of the keys begin with.
 const SEED: u64 = 88172645463325252;
@@ -66,7 +67,8 @@ pub fn call_of(alloc: Global, line: &[Piece<'_>]) -> Result<Call> {
     }
 }
 
-fn tell_whether(out: &mut Vec<u8>, is: bool) -> Result<()> {
+/// Adds `yes` or `no`.
+pub fn tell_whether(out: &mut Vec<u8>, is: bool) -> Result<()> {
     let word: &[u8] = if is { b"yes\n" } else { b"no\n" };
     tell(out, &[Text(word)])
 }

@@ -1,6 +1,7 @@
 //! The commands: what each line asks for, and why a line asks for nothing.
 
 use crate::calls::tell;
+use crate::look::{Look, Side, read_bound};
 use sled_lines::command::{self, parse};
 use sled_lines::input::Stopped;
 use sled_lines::print::Piece::Text;
@@ -31,6 +32,8 @@ pub enum Verb {
     Find,
     Overtake,
     Handle,
+    /// A read that takes no slot.
+    Look(Look),
     Help,
     Quit,
 }
@@ -38,9 +41,9 @@ pub enum Verb {
 // A command's own words, what it takes, and what it does.
 type Form = (&'static str, &'static str, Verb, &'static str);
 
-// What a command takes has words of its own: K, V, OLD, NEW, DATABASE and NAME are byte strings, STEP a step of a call in flight,
-// and the others numbers; `..` stands for more of the word before it.
-const FORMS: [Form; 34] = [
+// What a command takes has words of its own: K, V, OLD, NEW, DATABASE and NAME are byte strings, LO and HI bounds, STEP a step of a
+// call in flight, and the others numbers; `..` stands for more of the word before it.
+const FORMS: [Form; 49] = [
     (
         "insert",
         "K V",
@@ -198,6 +201,96 @@ const FORMS: [Form; 34] = [
         Verb::Handle,
         "makes current what names a tree: a database, the tree's name and its number",
     ),
+    (
+        "has",
+        "K",
+        Verb::Look(Look::Has),
+        "prints whether a key is present, by a call that takes no slot, as all of these do",
+    ),
+    (
+        "read",
+        "K",
+        Verb::Look(Look::Read),
+        "prints the value at a key",
+    ),
+    (
+        "lt",
+        "K",
+        Verb::Look(Look::Below),
+        "prints the pair with the greatest key below this one",
+    ),
+    (
+        "gt",
+        "K",
+        Verb::Look(Look::Above),
+        "prints the pair with the least key above this one",
+    ),
+    (
+        "first",
+        "",
+        Verb::Look(Look::First),
+        "prints the pair with the least key",
+    ),
+    (
+        "last",
+        "",
+        Verb::Look(Look::Last),
+        "prints the pair with the greatest key",
+    ),
+    (
+        "len",
+        "",
+        Verb::Look(Look::Len),
+        "prints how many pairs there are",
+    ),
+    (
+        "empty",
+        "",
+        Verb::Look(Look::Empty),
+        "prints whether there is no pair",
+    ),
+    (
+        "range",
+        "LO HI",
+        Verb::Look(Look::Pairs(Side::Front)),
+        "prints the pairs within two bounds: [K is from or up to K, (K the same without K, .. is no bound",
+    ),
+    (
+        "range-back",
+        "LO HI",
+        Verb::Look(Look::Pairs(Side::Back)),
+        "prints them from the back",
+    ),
+    (
+        "range-ends",
+        "LO HI",
+        Verb::Look(Look::Pairs(Side::Ends)),
+        "prints them from both ends in turn",
+    ),
+    (
+        "keys",
+        "LO HI",
+        Verb::Look(Look::Keys(Side::Front)),
+        "prints the keys within two bounds",
+    ),
+    (
+        "keys-back",
+        "LO HI",
+        Verb::Look(Look::Keys(Side::Back)),
+        "prints them from the back",
+    ),
+    (
+        "values",
+        "LO HI",
+        Verb::Look(Look::Values(Side::Front)),
+        "prints the values within two bounds",
+    ),
+    (
+        "values-back",
+        "LO HI",
+        Verb::Look(Look::Values(Side::Back)),
+        "prints them from the back",
+    ),
     ("help", "", Verb::Help, "prints these lines"),
     ("quit", "", Verb::Quit, "ends"),
 ];
@@ -206,6 +299,8 @@ const NO_NUMBER: &str = "is no number: decimal digits without leading zeros";
 
 const NO_BYTES: &str =
     "is no byte string: % and two lower-case hexadecimal digits stand for a byte";
+
+const NO_BOUND: &str = "is no bound: [ or ( and a byte string, or ..";
 
 /// What a line asks for.
 #[derive(Drop)]
@@ -342,6 +437,12 @@ fn odd(alloc: Global, part: &[u8], word: &[u8]) -> Result<&'static str> {
             let value = read_value(alloc, word)?;
             let said = if value.is_some() { "" } else { NO_BYTES };
             drop(value);
+            Ok(said)
+        }
+        b"LO" | b"HI" => {
+            let bound = read_bound(alloc, word)?;
+            let said = if bound.is_some() { "" } else { NO_BOUND };
+            drop(bound);
             Ok(said)
         }
         _ if read_number(word).is_some() => Ok(""),

@@ -7,6 +7,7 @@ mod counting;
 mod crowd;
 mod forms;
 mod levels;
+mod look;
 mod plain;
 mod shell;
 mod store;

@@ -5,6 +5,7 @@ use crate::counting::Counting;
 use crate::crowd::run_calls;
 use crate::forms::{Command, Verb, push_help, read};
 use crate::levels::tell_levels;
+use crate::look::{Look, tell_look};
 use crate::store::Kept;
 use line_files::Program;
 use sled::{DEFAULT_TREE, Db};
@@ -12,6 +13,7 @@ use sled_lines::command;
 use sled_lines::input::{Stopped, read_line, without_end};
 use sled_lines::print::Piece::{Number, Text};
 use sled_lines::session::{Session, write};
+use sled_lines::words::first_word;
 use sled_pages::{Error, Pages};
 use std::alloc::Global;
 use std::io::{self, BufRead, ErrorKind, Write};
@@ -195,6 +197,21 @@ impl<'a> Shell<'a> {
         self.tell_bad()
     }
 
+    // Answers a read, with the words behind its own.
+    fn look(&mut self, session: &Session<Counting<'a>>, which: Look) -> Result<(), Stopped> {
+        let text = first_word(without_end(self.line.as_slice())).1;
+        let (first, more) = first_word(text.unwrap_or(b""));
+        let words = (first, more.unwrap_or(b""));
+        tell_look(
+            self.alloc,
+            session.db(),
+            session.tree(),
+            which,
+            words,
+            &mut self.out,
+        )
+    }
+
     // Answers a command that asks a database.
     fn ask(&mut self, state: &mut State<'a>, verb: Verb, numbers: [u64; 3]) -> Result<(), Stopped> {
         match (state, verb) {
@@ -205,6 +222,7 @@ impl<'a> Shell<'a> {
                 self.line.as_slice(),
                 &mut self.out,
             ),
+            (State::Open(session), Verb::Look(which)) => self.look(session, which),
             (State::Open(session), verb) => {
                 ask(
                     self.alloc,
@@ -231,7 +249,8 @@ impl<'a> Shell<'a> {
             | Verb::Load
             | Verb::Find
             | Verb::Overtake
-            | Verb::Handle => self.ask(state, verb, numbers),
+            | Verb::Handle
+            | Verb::Look(_) => self.ask(state, verb, numbers),
             Verb::Pages if is_shut => tell_refused(&mut self.out, Error::Closed),
             Verb::Mark if numbers[0] < self.mark => self.tell_below(numbers[0]),
             Verb::Crowd => run_calls(self.alloc, numbers[0], numbers[1], &mut self.out),

@@ -1,0 +1,189 @@
+-- Reads of a tree's map.
+use Rattle.std.proofs.Common.{◌≡◌, ℕ, ◌+◌, ◌<◌, ◌≤◌, Bool, true, false, ◌↔◌, IsTrue, List, [], ◌∷◌, ◌++◌, length, Option, Some, None, option_map, is_some, is_none, sym, refl, ap, ◌∙◌, subst, inl, inr}
+use Rattle.std.specs.List.{list_any}
+use Rattle.std.specs.FinMap.Entries.{find}
+use Rattle.std.specs.declared.ops.Bound.{Bound}
+use Rattle.std.specs.declared.ops.Bound.TheVariants.{Included, Unbounded}
+use Rattle.sled_pages.specs.Order.{Key, key_cmp}
+use Rattle.sled_pages.specs.Among.{IsSuccessor, IsFirst}
+use Rattle.sled_pages.specs.State.{nodes_of}
+use Rattle.sled_pages.specs.Store.{Store, now, AreGiven}
+use Rattle.sled_pages.specs.declared.error.Error.{Error}
+use Rattle.sled_pages.specs.declared.error.Error.TheVariants.{CollectionNotFound, Unsupported, ReportableBug, Io, Corruption, NoMemory, FullQueue, Closed}
+use Rattle.sled_model.specs.Maps.{Map, Merge}
+use Rattle.sled_model.specs.State.{NamedTree}
+use Rattle.sled_model.specs.Refusal.{MustRefuse, IsClosed, IsForeign, IsDropped, is_number, must_refuse_of, tells}
+use Rattle.sled_model.specs.declared.tree.Tree.{Tree}
+use Rattle.tree_laws.specs.Contents.{pairs_under}
+use Rattle.tree_reads.specs.Walk.{RefusesWalk, refuses_walk_as, GivesUp, gives_up_as}
+use Rattle.tree_reads.specs.Leaves.{OfContents}
+use Rattle.tree_reads.specs.Ranges.{IsRoot, Coming, pairs_within, is_reversed}
+use Rattle.tree_reads.proofs.Ranging.{of_pairs}
+use Rattle.sled.specs.Values.{DbValue, numbers_of, named, db_state}
+use Rattle.sled.specs.Sound.{IsDb}
+use Rattle.sled.specs.Calls.{MustBeRefused, must_be_refused_as}
+use Rattle.sled.specs.Reads.{ReadsMap, Begins, RefusesReading, refuses_reading_as, stops_reading, RefusesRange, refuses_range_as, GivesUpGet, gives_up_get_as}
+use Rattle.sled.proofs.Trees.{current}
+
+some_is : {X : Type 0} {x y : X} → Some x ≡ Some y → x ≡ y
+some_is e = cc
+
+none_some : {P X : Type 0} {x : X} → None ≡ Some x → P
+none_some e = cc
+
+-- what reads need of a database between two calls: a forest that shows its pages well formed, and that its pages were given
+pub root_is : (s : Store) (trees : List (Key × ℕ)) (given : ℕ) → IsDb s trees given → (t : Key) (root : ℕ) → (now s).roots t ≡ Some root → IsRoot (now s) root
+root_is s trees given db t root e = record { forest = db.forest; formed = db.is.formed; tree = t; is = e }
+
+pub pages_given : (s : Store) (trees : List (Key × ℕ)) (given : ℕ) → IsDb s trees given → AreGiven s
+pages_given s trees given db = record { pid = db.is.pids; version = db.is.versions; numbered = db.is.below }
+
+module _ {P M : Type 0} (store : P → Store) (meant : M → Merge) (d : DbValue P M) (tree : Tree) where
+  -- a tree that passes the tests has a root, and its map is what stands under it
+  pub tree_under : must_refuse_of (db_state store meant d) (tree ∷ []) ≡ None
+      → (found : NamedTree) × (root : ℕ) × ((db_state store meant d).trees tree.name ≡ Some found) × ((now (store d.pages)).roots tree.name ≡ Some root) × (found.map ≡ pairs_under (nodes_of (now (store d.pages))) root)
+  tree_under tested = go _ (numbers_of d.trees tree.name) ((now (store d.pages)).roots tree.name) refl refl (current (db_state store meant d) tree tested)
+    where
+      false_true : {X : Type 0} → false ≡ true → X
+      false_true e = cc
+
+      go : (merge : ℕ → Option Merge) (n r : Option ℕ) → numbers_of d.trees tree.name ≡ n → (now (store d.pages)).roots tree.name ≡ r → is_number tree.number (named n (option_map (pairs_under (nodes_of (now (store d.pages)))) r) merge) ≡ true
+          → (found : NamedTree) × (root : ℕ) × (named (numbers_of d.trees tree.name) (option_map (pairs_under (nodes_of (now (store d.pages)))) ((now (store d.pages)).roots tree.name)) merge ≡ Some found) × ((now (store d.pages)).roots tree.name ≡ Some root) × (found.map ≡ pairs_under (nodes_of (now (store d.pages))) root)
+      go merge None r a b e = false_true e
+      go merge (Some n) None a b e = false_true e
+      go merge (Some n) (Some r) a b e = (
+        record { number = n; map = pairs_under (nodes_of (now (store d.pages))) r; merge = merge n },
+        r,
+        ap (λ z. named z (option_map (pairs_under (nodes_of (now (store d.pages)))) ((now (store d.pages)).roots tree.name)) merge) a ∙ ap (λ z. named (Some n) (option_map (pairs_under (nodes_of (now (store d.pages)))) z) merge) b,
+        b,
+        refl,
+      )
+
+  pub no_root : {X : Type 0} → must_refuse_of (db_state store meant d) (tree ∷ []) ≡ None → None ≡ (now (store d.pages)).roots tree.name → X
+  no_root tested e = let k = tree_under tested in none_some (e ∙ k.3)
+
+  module _ (tested : must_refuse_of (db_state store meant d) (tree ∷ []) ≡ None) (root : ℕ) (there : (now (store d.pages)).roots tree.name ≡ Some root) where
+    map_under : (k : (found : NamedTree) × (r : ℕ) × ((db_state store meant d).trees tree.name ≡ Some found) × ((now (store d.pages)).roots tree.name ≡ Some r) × (found.map ≡ pairs_under (nodes_of (now (store d.pages))) r)) → pairs_under (nodes_of (now (store d.pages))) root ≡ k.0.map
+    map_under k = ap (pairs_under (nodes_of (now (store d.pages)))) (some_is (sym there ∙ k.3)) ∙ sym k.4
+
+    pub reads : (db : IsDb (store d.pages) d.trees d.trees_given) (so : Map → Type 0) → OfContents (now (store d.pages)) root so → ReadsMap store meant d tree so
+    reads db so near =
+        let k = tree_under tested in
+        record { tested = tested; named = k.0; there = k.2; told = subst so (map_under k) (of_pairs (store d.pages) root (pages_given _ _ _ db) (root_is _ _ _ db tree.name root there) so near) }
+
+    pub begins : (lo hi : Bound Key) (pairs : Coming P) → pairs ≡ record { pages = d.pages; root = root; pairs = pairs_within lo hi (pairs_under (nodes_of (now (store d.pages))) root); ended = is_reversed lo hi } → Begins store meant d tree lo hi pairs
+    begins lo hi pairs is =
+        let k = tree_under tested in
+        record {
+          over = ap (λ (z : Coming P). z.pages) is;
+          all = record { tested = tested; named = k.0; there = k.2; told = ap (λ (z : Coming P). z.pairs) is ∙ ap (pairs_within lo hi) (map_under k) };
+          ended = ap (λ (z : Coming P). z.ended) is;
+        }
+
+    pub refuses : (db : IsDb (store d.pages) d.trees d.trees_given) (of : ℕ → ℕ) (e : Error) → RefusesWalk of (store d.pages) root e → RefusesReading store meant d tree of e
+    refuses db of e r = record { told = subst (λ m. refuses_reading_as store meant d tree of m e) (sym tested) (go e r.told) }
+      where
+        go : (e : Error) → refuses_walk_as of (store d.pages) root e → stops_reading store meant d tree of e
+        go NoMemory k = tt
+        go (Io fault) k = k
+        go (ReportableBug text) k = k db.forest db.is.formed tree.name there
+        go (CollectionNotFound name) k = absurd k
+        go (Unsupported text) k = absurd k
+        go (Corruption fault) k = absurd k
+        go FullQueue k = absurd k
+        go Closed k = absurd k
+
+    pub gives_up : (key : Key) (e : Error) → GivesUp (now (store d.pages)) root (Included key) 0 e → GivesUpGet store meant d tree key e
+    gives_up key e g = record { told = go e (g.told key refl) }
+      where
+        go : (e : Error) → gives_up_as (now (store d.pages)) root key 0 e → gives_up_get_as store meant d tree key e
+        go NoMemory k = tt
+        go (Io fault) k = tt
+        go (ReportableBug text) k = λ path c. k true path (subst (λ r. Rattle.tree_laws.specs.Paths.CleanFrom (nodes_of (now (store d.pages))) key r true path) (some_is (sym c.is_root ∙ there)) c.clean)
+        go (CollectionNotFound name) k = tt
+        go (Unsupported text) k = tt
+        go (Corruption fault) k = tt
+        go FullQueue k = tt
+        go Closed k = tt
+
+    pub no_memory : RefusesRange store meant d tree NoMemory
+    no_memory = record { told = subst (λ m. refuses_range_as store meant d tree m NoMemory) (sym tested) refl }
+
+  pub must_read : (of : ℕ → ℕ) (e : Error) → MustBeRefused (must_refuse_of (db_state store meant d) (tree ∷ [])) e → RefusesReading store meant d tree of e
+  must_read of e m = record { told = go (must_refuse_of (db_state store meant d) (tree ∷ [])) m.told }
+    where
+      go : (o : Option MustRefuse) → must_be_refused_as o e → refuses_reading_as store meant d tree of o e
+      go None k = absurd k
+      go (Some must) k = k
+
+  pub must_range : (e : Error) → MustBeRefused (must_refuse_of (db_state store meant d) (tree ∷ [])) e → RefusesRange store meant d tree e
+  must_range e m = record { told = go (must_refuse_of (db_state store meant d) (tree ∷ [])) m.told }
+    where
+      go : (o : Option MustRefuse) → must_be_refused_as o e → refuses_range_as store meant d tree o e
+      go None k = absurd k
+      go (Some must) k = k
+
+  pub must_give_up : (key : Key) (e : Error) → MustBeRefused (must_refuse_of (db_state store meant d) (tree ∷ [])) e → GivesUpGet store meant d tree key e
+  must_give_up key e m = record { told = go (must_refuse_of (db_state store meant d) (tree ∷ [])) e m.told }
+    where
+      apart : {X : Type 0} {e : Error} (text : Rattle.std.proofs.Common.Bor Key) → ReportableBug text ≡ Closed → X
+      apart text e = cc
+
+      no_name : {X : Type 0} (text : Rattle.std.proofs.Common.Bor Key) (name : Key) → ReportableBug text ≡ CollectionNotFound name → X
+      no_name text name e = cc
+
+      no_want : {X : Type 0} (text : Rattle.std.proofs.Common.Bor Key) → ReportableBug text ≡ NoMemory → X
+      no_want text e = cc
+
+      bug : (must : MustRefuse) (text : Rattle.std.proofs.Common.Bor Key) → tells must (ReportableBug text) → gives_up_get_as store meant d tree key (ReportableBug text)
+      bug IsClosed text k = apart text k
+      bug IsForeign text k = absurd k
+      bug (IsDropped name) text k = elim k [ inl a ↦ no_name text name a | inr a ↦ no_want text a ]
+
+      go : (o : Option MustRefuse) (e : Error) → must_be_refused_as o e → gives_up_get_as store meant d tree key e
+      go None e k = absurd k
+      go (Some must) NoMemory k = tt
+      go (Some must) (Io fault) k = tt
+      go (Some must) (ReportableBug text) k = bug must text k
+      go (Some must) (CollectionNotFound name) k = tt
+      go (Some must) (Unsupported text) k = tt
+      go (Some must) (Corruption fault) k = tt
+      go (Some must) FullQueue k = tt
+      go (Some must) Closed k = tt
+
+  -- what follows of a map
+  pub reads_more : (so more : Map → Type 0) → ((m : Map) → so m → more m) → ReadsMap store meant d tree so → ReadsMap store meant d tree more
+  reads_more so more then r = record { tested = r.tested; named = r.named; there = r.there; told = then r.named.map r.told }
+
+  pub reads_some : (key : Key) (value : Option Key) (there : Bool) → there ≡ is_some value → ReadsMap store meant d tree (λ map. value ≡ find key_cmp key map) → ReadsMap store meant d tree (λ map. there ≡ is_some (find key_cmp key map))
+  reads_some key value there e r = reads_more _ _ (λ m k. e ∙ ap is_some k) r
+
+  pub reads_empty : (found : Option (Key × Key)) (empty : Bool) → empty ≡ is_none found → ReadsMap store meant d tree (λ map. IsSuccessor Unbounded map found) → ReadsMap store meant d tree (λ map. IsTrue empty ↔ (map ≡ []))
+  reads_empty found empty e r = reads_more _ _ (λ m k. subst (λ b. IsTrue b ↔ (m ≡ [])) (sym e) (go found m k)) r
+    where
+      not_empty : (xs ys : Map) (x : Key × Key) → xs ++ x ∷ ys ≡ [] → ⊥
+      not_empty [] ys x e = cc
+      not_empty (y ∷ xs) ys x e = cc
+
+      go : (found : Option (Key × Key)) (m : Map) → IsSuccessor Unbounded m found → IsTrue (is_none found) ↔ (m ≡ [])
+      go None [] k = (λ t. refl, λ i. tt)
+      go None (x ∷ xs) k = absurd (apart k)
+        where
+          apart : true ≡ false → ⊥
+          apart e = cc
+      go (Some x) m k = (λ t. absurd t, λ i. not_empty k.before k.after x (sym k.is ∙ i))
+
+-- the same of a database that is seen as this value
+module _ {P M : Type 0} (store : P → Store) (meant : M → Merge) (tree : Tree) (d seen : DbValue P M) (same : d ≡ seen) (tested : must_refuse_of (db_state store meant seen) (tree ∷ []) ≡ None) (root : ℕ) (there : (now (store seen.pages)).roots tree.name ≡ Some root) where
+  pub reads_in : IsDb (store d.pages) d.trees d.trees_given → (so : Map → Type 0) → OfContents (now (store d.pages)) root so → ReadsMap store meant seen tree so
+  reads_in db so near = reads store meant seen tree tested root there (subst (λ (z : DbValue P M). IsDb (store z.pages) z.trees z.trees_given) same db) so (subst (λ (z : DbValue P M). OfContents (now (store z.pages)) root so) same near)
+
+  pub refuses_in : IsDb (store d.pages) d.trees d.trees_given → (of : ℕ → ℕ) (e : Error) → RefusesWalk of (store d.pages) root e → RefusesReading store meant seen tree of e
+  refuses_in db of e r = refuses store meant seen tree tested root there (subst (λ (z : DbValue P M). IsDb (store z.pages) z.trees z.trees_given) same db) of e (subst (λ (z : DbValue P M). RefusesWalk of (store z.pages) root e) same r)
+
+  pub begins_in : (lo hi : Bound Key) (pairs : Coming P) → pairs ≡ record { pages = d.pages; root = root; pairs = pairs_within lo hi (pairs_under (nodes_of (now (store d.pages))) root); ended = is_reversed lo hi } → Begins store meant seen tree lo hi pairs
+  begins_in lo hi pairs is = begins store meant seen tree tested root there lo hi pairs
+      (is ∙ ap (λ (z : DbValue P M). record { pages = z.pages; root = root; pairs = pairs_within lo hi (pairs_under (nodes_of (now (store z.pages))) root); ended = is_reversed lo hi }) same)
+
+  pub begins_between : (a b lo hi : Bound Key) → a ≡ lo → b ≡ hi → (pairs : Coming P) → pairs ≡ record { pages = d.pages; root = root; pairs = pairs_within a b (pairs_under (nodes_of (now (store d.pages))) root); ended = is_reversed a b } → Begins store meant seen tree lo hi pairs
+  begins_between a b lo hi e f pairs is = subst (λ z. Begins store meant seen tree lo z pairs) f (subst (λ z. Begins store meant seen tree z b pairs) e (begins_in a b pairs is))

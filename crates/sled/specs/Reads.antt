@@ -1,0 +1,61 @@
+-- What reads answer, and why they are refused.
+use Rattle.std.specs.Prelude.{◌≡◌, ℕ, ◌<◌, ◌≤◌, true, false, List, [], ◌∷◌, Option, Some, None, length}
+use Rattle.std.specs.declared.ops.Bound.{Bound}
+use Rattle.sled_pages.specs.Order.{Key}
+use Rattle.sled_pages.specs.Store.{Store, now}
+use Rattle.sled_pages.specs.declared.error.Error.{Error}
+use Rattle.sled_pages.specs.declared.error.Error.TheVariants.{NoMemory, Io, ReportableBug}
+use Rattle.sled_model.specs.Maps.{Map, Merge}
+use Rattle.sled_model.specs.State.{NamedTree}
+use Rattle.sled_model.specs.Refusal.{MustRefuse, must_refuse_of, tells}
+use Rattle.sled_model.specs.declared.tree.Tree.{Tree}
+use Rattle.tree_laws.specs.Paths.{IsClean, tree_pages}
+use Rattle.tree_reads.specs.Ranges.{Coming, pairs_within, is_reversed}
+use Rattle.tree_reads.specs.declared.TheConstants.{MOST_PAGES}
+use Rattle.sled.specs.Values.{DbValue, db_state}
+
+module _ {P M : Type 0} (store : P → Store) (meant : M → Merge) (d : DbValue P M) (tree : Tree) where
+  -- none of the tests fails, and it is so of the tree's map
+  pub record ReadsMap (is : Map → Type 0) : Type 0 where
+    pub tested : must_refuse_of (db_state store meant d) (tree ∷ []) ≡ None
+    pub named : NamedTree
+    pub there : (db_state store meant d).trees tree.name ≡ Some named
+    pub told : is named.map
+
+  -- the iterator begins with the pairs of the tree's map within the bounds, over the pages as they are
+  pub record Begins (lo hi : Bound Key) (pairs : Coming P) : Type 0 where
+    pub over : pairs.pages ≡ d.pages
+    pub all : ReadsMap (λ map. pairs.pairs ≡ pairs_within lo hi map)
+    pub ended : pairs.ended ≡ is_reversed lo hi
+
+  -- want of memory, a page that is not readable, or as many pages looked at as may be: the tree has so many that this function of
+  -- their number comes to the limit
+  abbrev pub stops_reading : (ℕ → ℕ) → Error → Type 0
+  stops_reading of NoMemory = Unit {0}
+  stops_reading of (Io fault) = (pid : ℕ) × ((store d.pages).is_readable pid ≡ false)
+  stops_reading of (ReportableBug text) = MOST_PAGES ≤ of (tree_pages (now (store d.pages)) tree.name)
+  stops_reading of e = ⊥
+
+  abbrev pub refuses_reading_as : (ℕ → ℕ) → Option MustRefuse → Error → Type 0
+  refuses_reading_as of (Some must) e = tells must e
+  refuses_reading_as of None e = stops_reading of e
+
+  -- refused by the first of the tests that fails, or where none fails for one of these causes
+  pub record RefusesReading (of : ℕ → ℕ) (e : Error) : Type 0 where
+    pub told : refuses_reading_as of (must_refuse_of (db_state store meant d) (tree ∷ [])) e
+
+  abbrev pub refuses_range_as : Option MustRefuse → Error → Type 0
+  refuses_range_as (Some must) e = tells must e
+  refuses_range_as None e = e ≡ NoMemory
+
+  -- refused by the first of the tests that fails, or where none fails for want of memory
+  pub record RefusesRange (e : Error) : Type 0 where
+    pub told : refuses_range_as (must_refuse_of (db_state store meant d) (tree ∷ [])) e
+
+  abbrev pub gives_up_get_as : Key → Error → Type 0
+  gives_up_get_as key (ReportableBug text) = (path : List ℕ) → IsClean (now (store d.pages)) tree.name key path → MOST_PAGES < length path
+  gives_up_get_as key e = Unit {0}
+
+  -- over a clean path to the key a read is given up only where the path has more pages than may be looked at
+  pub record GivesUpGet (key : Key) (e : Error) : Type 0 where
+    pub told : gives_up_get_as key e

@@ -1,0 +1,217 @@
+//! Reads of a tree that repair nothing and take no slot.
+ghost use Rattle.std.specs.Prelude.{◌≡◌, ◌↔◌, IsTrue, IfOk, IfErr, OnOk, is_some, length, [], ◌∷◌, Some, None};
+ghost use Rattle.std.specs.FinMap.Entries.{find};
+ghost use Rattle.std.specs.declared.ops.Bound.TheVariants.{Excluded, Unbounded};
+ghost use Rattle.sled_pages.specs.Among.{bound_of, IsSuccessor, IsPredecessor};
+ghost use Rattle.sled_pages.specs.Order.{key_cmp};
+ghost use Rattle.sled_pages.specs.Store.{now};
+ghost use Rattle.sled_pages.specs.declared.error.Error.TheVariants.{NoMemory};
+ghost use Rattle.sled_model.specs.Refusal.{must_refuse_of};
+ghost use Rattle.tree_reads.specs.Walk.{once, for_each};
+ghost use Rattle.tree_reads.specs.Ranges.{IsRoot};
+ghost use Rattle.sled.specs.Calls.{MustBeRefused};
+ghost use Rattle.sled.specs.Reads.{ReadsMap, Begins, RefusesReading, RefusesRange, GivesUpGet};
+
+use crate::db::Db;
+use sled_model::{MergeOperator, Tree};
+use sled_pages::{Error, IVec, Pages, Pid, Result};
+use std::alloc::Global;
+use std::ops::Bound;
+use tree_reads::{Iter, count_pairs, first_from, last_up_to, pairs_of, value_at};
+
+// A bound of one's own. Refused with `NoMemory` alone.
+fn owned(alloc: Global, bound: Bound<&[u8]>) -> Result<Bound<IVec>>
+    ensures ok { IfOk result (λ own. own ≡ bound_of bound.entry) }
+    ensures err { IfErr result (λ e. e ≡ NoMemory) }
+{
+    match bound {
+        Bound::Included(key) => Ok(Bound::Included(IVec::from_slice(alloc, key)?)),
+        Bound::Excluded(key) => Ok(Bound::Excluded(IVec::from_slice(alloc, key)?)),
+        Bound::Unbounded => Ok(Bound::Unbounded),
+    }
+}
+
+impl<P: Pages, M: MergeOperator> Db<P, M> {
+    ghost use Rattle.sled.specs.Values.{db_state};
+
+    // The root of a tree that passes the tests.
+    fn root_of(&self, tree: &Tree) -> Result<Pid>
+        ensures tested { OnOk result (must_refuse_of (db_state P.store M.meant self.now) (tree.now ∷ []) ≡ None) }
+        ensures is { IfOk result (λ root. (now (P.store self.now.pages)).roots tree.now.name ≡ Some root) }
+        ensures root { IfOk result (IsRoot (now (P.store self.now.pages))) }
+        ensures err { IfErr result (MustBeRefused (must_refuse_of (db_state P.store M.meant self.now) (tree.now ∷ []))) }
+    {
+        if let Err(e) = self.check(tree) {
+            return Err(e);
+        }
+        match self.pages.root(tree.name.as_ref()) {
+            Some(root) => Ok(root),
+            None => unreachable!(),
+        }
+    }
+
+    /// The value at a key, or `None` where it is absent. It reads one page of each level where nothing on the way is half done.
+    pub fn get(&self, tree: &Tree, key: &[u8]) -> Result<Option<IVec>>
+        ensures ok { IfOk result (λ value. ReadsMap P.store M.meant self.now tree.now (λ map. value ≡ find key_cmp key.now map)) }
+        ensures err { IfErr result (RefusesReading P.store M.meant self.now tree.now once) }
+        ensures gives_up { IfErr result (GivesUpGet P.store M.meant self.now tree.now key.now) }
+    {
+        let root = match self.root_of(tree) {
+            Ok(root) => root,
+            Err(e) => return Err(e),
+        };
+        match value_at(self.alloc, &self.pages, root, key) {
+            Ok(value) => Ok(value),
+            Err(e) => Err(e),
+        }
+    }
+
+    /// Whether a key is present.
+    pub fn contains_key(&self, tree: &Tree, key: &[u8]) -> Result<bool>
+        ensures ok { IfOk result (λ there. ReadsMap P.store M.meant self.now tree.now (λ map. there ≡ is_some (find key_cmp key.now map))) }
+        ensures err { IfErr result (RefusesReading P.store M.meant self.now tree.now once) }
+        ensures gives_up { IfErr result (GivesUpGet P.store M.meant self.now tree.now key.now) }
+    {
+        match self.get(tree, key) {
+            Ok(value) => {
+                let there = value.is_some();
+                drop(value);
+                Ok(there)
+            }
+            Err(e) => Err(e),
+        }
+    }
+
+    // The first pair within a lower bound.
+    fn first_in(&self, tree: &Tree, lo: Bound<&[u8]>) -> Result<Option<(IVec, IVec)>>
+        ensures ok { IfOk result (λ found. ReadsMap P.store M.meant self.now tree.now (λ map. IsSuccessor (bound_of lo.entry) map found)) }
+        ensures err { IfErr result (RefusesReading P.store M.meant self.now tree.now once) }
+    {
+        let root = match self.root_of(tree) {
+            Ok(root) => root,
+            Err(e) => return Err(e),
+        };
+        match first_from(self.alloc, &self.pages, root, lo) {
+            Ok(found) => Ok(found),
+            Err(e) => Err(e),
+        }
+    }
+
+    // The last pair within an upper bound.
+    fn last_in(&self, tree: &Tree, hi: Bound<&[u8]>) -> Result<Option<(IVec, IVec)>>
+        ensures ok { IfOk result (λ found. ReadsMap P.store M.meant self.now tree.now (λ map. IsPredecessor (bound_of hi.entry) map found)) }
+        ensures err { IfErr result (RefusesReading P.store M.meant self.now tree.now for_each) }
+    {
+        let root = match self.root_of(tree) {
+            Ok(root) => root,
+            Err(e) => return Err(e),
+        };
+        match last_up_to(self.alloc, &self.pages, root, hi) {
+            Ok(found) => Ok(found),
+            Err(e) => Err(e),
+        }
+    }
+
+    /// The pair with the greatest key below this one.
+    pub fn get_lt(&self, tree: &Tree, key: &[u8]) -> Result<Option<(IVec, IVec)>>
+        ensures ok { IfOk result (λ found. ReadsMap P.store M.meant self.now tree.now (λ map. IsPredecessor (Excluded key.now) map found)) }
+        ensures err { IfErr result (RefusesReading P.store M.meant self.now tree.now for_each) }
+    {
+        self.last_in(tree, Bound::Excluded(key))
+    }
+
+    /// The pair with the least key above this one.
+    pub fn get_gt(&self, tree: &Tree, key: &[u8]) -> Result<Option<(IVec, IVec)>>
+        ensures ok { IfOk result (λ found. ReadsMap P.store M.meant self.now tree.now (λ map. IsSuccessor (Excluded key.now) map found)) }
+        ensures err { IfErr result (RefusesReading P.store M.meant self.now tree.now once) }
+    {
+        self.first_in(tree, Bound::Excluded(key))
+    }
+
+    /// The pair with the least key.
+    pub fn first(&self, tree: &Tree) -> Result<Option<(IVec, IVec)>>
+        ensures ok { IfOk result (λ found. ReadsMap P.store M.meant self.now tree.now (λ map. IsSuccessor Unbounded map found)) }
+        ensures err { IfErr result (RefusesReading P.store M.meant self.now tree.now once) }
+    {
+        self.first_in(tree, Bound::Unbounded)
+    }
+
+    /// The pair with the greatest key.
+    pub fn last(&self, tree: &Tree) -> Result<Option<(IVec, IVec)>>
+        ensures ok { IfOk result (λ found. ReadsMap P.store M.meant self.now tree.now (λ map. IsPredecessor Unbounded map found)) }
+        ensures err { IfErr result (RefusesReading P.store M.meant self.now tree.now for_each) }
+    {
+        self.last_in(tree, Bound::Unbounded)
+    }
+
+    /// How many pairs there are. It reads each leaf.
+    pub fn len(&self, tree: &Tree) -> Result<usize>
+        ensures ok { IfOk result (λ count. ReadsMap P.store M.meant self.now tree.now (λ map. count ≡ length map)) }
+        ensures err { IfErr result (RefusesReading P.store M.meant self.now tree.now once) }
+    {
+        let root = match self.root_of(tree) {
+            Ok(root) => root,
+            Err(e) => return Err(e),
+        };
+        match count_pairs(self.alloc, &self.pages, root) {
+            Ok(count) => Ok(count),
+            Err(e) => Err(e),
+        }
+    }
+
+    /// Whether there is no pair.
+    pub fn is_empty(&self, tree: &Tree) -> Result<bool>
+        ensures ok { IfOk result (λ empty. ReadsMap P.store M.meant self.now tree.now (λ map. IsTrue empty ↔ (map ≡ []))) }
+        ensures err { IfErr result (RefusesReading P.store M.meant self.now tree.now once) }
+    {
+        match self.first(tree) {
+            Ok(found) => {
+                let empty = found.is_none();
+                drop(found);
+                Ok(empty)
+            }
+            Err(e) => Err(e),
+        }
+    }
+
+    /// All pairs, from both ends. It reads no page; the iterator does.
+    pub fn iter(&self, tree: &Tree) -> Result<Iter<'_, P>>
+        ensures ok { IfOk result (Begins P.store M.meant self.now tree.now Unbounded Unbounded) }
+        ensures err { IfErr result (RefusesRange P.store M.meant self.now tree.now) }
+    {
+        let root = match self.root_of(tree) {
+            Ok(root) => root,
+            Err(e) => return Err(e),
+        };
+        Ok(pairs_of(
+            self.alloc,
+            &self.pages,
+            root,
+            Bound::Unbounded,
+            Bound::Unbounded,
+        ))
+    }
+
+    /// The pairs within two bounds, from both ends. It reads no page; the iterator does.
+    pub fn range(&self, tree: &Tree, lo: Bound<&[u8]>, hi: Bound<&[u8]>) -> Result<Iter<'_, P>>
+        ensures ok { IfOk result (Begins P.store M.meant self.now tree.now (bound_of lo.entry) (bound_of hi.entry)) }
+        ensures err { IfErr result (RefusesRange P.store M.meant self.now tree.now) }
+    {
+        let root = match self.root_of(tree) {
+            Ok(root) => root,
+            Err(e) => return Err(e),
+        };
+        let lo = match owned(self.alloc, lo) {
+            Ok(lo) => lo,
+            Err(e) => return Err(e),
+        };
+        let hi = match owned(self.alloc, hi) {
+            Ok(hi) => hi,
+            Err(e) => {
+                drop(lo);
+                return Err(e);
+            }
+        };
+        Ok(pairs_of(self.alloc, &self.pages, root, lo, hi))
+    }
+}
