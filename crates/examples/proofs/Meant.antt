@@ -13,7 +13,7 @@ use Rattle.tree_laws.specs.Contents.{trees_of}
 use Rattle.sled.specs.Opens.{Opens}
 use Rattle.sled.specs.Values.{DbValue, named, numbers_of}
 use Rattle.sled_machine.specs.CrashMaps.{Leaves, kept_after}
-use Rattle.sled_machine.specs.Run.{RunsKeeping, KeepsAll, KeepsMore, Keeps}
+use Rattle.sled_machine.specs.Run.{RunsKeeping, KeepsAll, KeepsMore}
 use Rattle.sled_machine.specs.Step.{MachineStep}
 use Rattle.sled_machine.specs.Values.{MachineValue, instant_of, slots_of}
 
@@ -61,7 +61,7 @@ module _ {P M : Type 0} (store : P → Store) (number : P → ℕ) (meant : M �
     keeps = λ kept l. subst (λ (y : Instant). Leaves (store b.db.pages) (kept_after s o r.maps (maps_of y.state) kept)) (sym (same_instant b)) (r.keeps kept l);
   }
 
-  plain_run : (a b : MachineValue P M) (kept : List Maps) (ss : List Step) (os : List Outcome) (last : List Maps) → RunsKeeping store number meant a kept ss os b last → RunsKeeping store number (λ m. m) (plain_machine a) kept ss os (plain_machine b) last
+  pub plain_run : (a b : MachineValue P M) (kept : List Maps) (ss : List Step) (os : List Outcome) (last : List Maps) → RunsKeeping store number meant a kept ss os b last → RunsKeeping store number (λ m. m) (plain_machine a) kept ss os (plain_machine b) last
   unfolding plain_step
   plain_run a b kept [] [] last KeepsAll = KeepsAll
   plain_run a b kept (s ∷ ss) (o ∷ os) last (KeepsMore {m = m} one run) =
@@ -69,9 +69,6 @@ module _ {P M : Type 0} (store : P → Store) (number : P → ℕ) (meant : M �
       (subst (λ (y : Instant). RunsKeeping store number (λ m. m) (plain_machine m) (kept_after s o one.maps (maps_of y.state) kept) ss os (plain_machine b) last) (sym (same_instant m)) (plain_run m b _ ss os last run))
   plain_run a b kept [] (o ∷ os) last run = elim run [ ]
   plain_run a b kept (s ∷ ss) [] last run = elim run [ ]
-
-  pub plain_keeps : (a b : MachineValue P M) (kept : List Maps) (ss : List Step) (os : List Outcome) → Keeps store number meant a ss os b kept → Keeps store number (λ m. m) (plain_machine a) ss os (plain_machine b) kept
-  plain_keeps a b kept ss os k = record { last = k.last; run = plain_run a b kept ss os k.last k.run; leaves = k.leaves }
 
   pub plain_opens : (before : Store) (called : Key) (d : DbValue P M) → Opens store before called d → Opens store before called (plain d)
   plain_opens before called d o = record {

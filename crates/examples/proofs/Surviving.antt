@@ -18,7 +18,7 @@ use Rattle.sled_machine.specs.CrashMaps.{Leaves}
 use Rattle.sled_machine.specs.Run.{Performs}
 use Rattle.sled_machine.specs.Values.{MachineValue}
 use Rattle.examples.specs.Survive.{machine_over, Survives}
-use Rattle.examples.proofs.Meant.{plain, plain_machine, plain_keeps, plain_opens}
+use Rattle.examples.proofs.Meant.{plain, plain_machine, plain_run, plain_opens}
 
 -- an element of a list is one of the list once repetitions are taken out
 once_has : {X : Type 0} (once xs : List X) (y : X) → Repeats once xs → In y xs → In y once
@@ -64,7 +64,7 @@ module _ {M : Type 0} (meant : M → Merge) (before : Store) (name : Key) where
         first = plain store_of flush_number_of meant first;
         opens = plain_opens store_of flush_number_of meant before name first o;
         last = plain_machine store_of flush_number_of meant last;
-        runs = plain_keeps store_of flush_number_of meant (machine_over first) last (trees_of (now (store_of first.pages)) ∷ []) steps outcomes k;
+        runs = record { last = k.last; run = plain_run store_of flush_number_of meant (machine_over first) last (trees_of (now (store_of first.pages)) ∷ []) steps outcomes k.last k.run; leaves = k.leaves };
         left = store_of left;
         crashes = subst (λ (q : MemPages). Crashes keep (store_of q) (store_of left)) p crash;
         one = subst (λ (z : PageState). In (trees_of z) k.last) (sym base) one;

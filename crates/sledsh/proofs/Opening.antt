@@ -9,6 +9,7 @@ use Rattle.sled_pages.specs.declared.error.Error.{Error}
 use Rattle.tree_laws.specs.Crashes.{IsCrashWhole, Trees, Extends}
 use Rattle.tree_laws.specs.Contents.{trees_of}
 use Rattle.sled.specs.Values.{default_name}
+use Rattle.sled.proofs.Opening.{default_is}
 use Rattle.sled.specs.Opens.{planted, GrowsAtMost, RefusesOpen}
 use Rattle.sledsh.specs.Store.{IsKept, HasDefault}
 
@@ -30,7 +31,7 @@ is_some_map f (Some x) e = refl
 
 module _ (old new : Store) (e : Error) (has : HasDefault old) (r : RefusesOpen old e new) (safe : IsCrashWhole old) where
   none_planted : planted default_name (trees_of (now old)) ≡ []
-  none_planted = cond-true _ _ _ (is_some_map _ ((now old).roots default_name) has)
+  none_planted = cond-true _ _ _ (is_some_map _ ((now old).roots default_name) (subst (λ k. is_some ((now old).roots k) ≡ true) default_is has))
 
   few : new.actions ≤ old.actions
   few = omega (arith, r.again.few, ap length none_planted)

@@ -2,7 +2,7 @@
 use Rattle.std.specs.Prelude.{◌≡◌, Bool, true, is_some}
 use Rattle.sled_pages.specs.Store.{Store, now}
 use Rattle.tree_laws.specs.Crashes.{IsWhole, IsCrashWhole}
-use Rattle.sled.specs.Values.{default_name}
+use Rattle.sled.specs.declared.TheConstants.{DEFAULT_TREE}
 
 -- the pages are well formed, and where `crashes` says so every state that a crash may leave is. They can be opened where no group is open
 pub record IsKept (crashes : Bool) (s : Store) : Type 0 where
@@ -11,4 +11,4 @@ pub record IsKept (crashes : Bool) (s : Store) : Type 0 where
 
 -- there is a default tree
 abbrev pub HasDefault : Store → Type 0
-HasDefault s = is_some ((now s).roots default_name) ≡ true
+HasDefault s = is_some ((now s).roots DEFAULT_TREE.now) ≡ true

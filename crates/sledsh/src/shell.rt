@@ -369,7 +369,7 @@ impl<'a> Shell<'a> {
     ) -> Result<(Kept, Verb), Stopped> {
         let (pages, crashes) = kept.into_pages();
         if pages.in_group() {
-            return self.live_shut(Kept::refused(pages, crashes), Error::Closed, input, output);
+            return self.live_shut(Kept::closed(pages, crashes), Error::Closed, input, output);
         }
         let counting = Counting {
             inner: pages,

@@ -60,8 +60,14 @@ impl Kept {
         Kept { pages, crashes }
     }
 
+    /// Pages in which a group is open, so that they are not opened.
+    pub fn closed(pages: MemPages, crashes: bool) -> Kept
+        requires { IsKept crashes (store_of pages) }
+    {
+        Kept::refused(pages, crashes)
+    }
+
     /// The pages, and whether a crash may keep some of their actions also where an opening is refused.
-    #[tactic(auto, unfolding(sled::specs::Values::default_name))]
     pub fn into_pages(self) -> (MemPages, bool)
         ensures can { IsKept result.1 (store_of result.0) }
         ensures default { result.1 ≡ true → HasDefault (store_of result.0) }
