@@ -1,5 +1,5 @@
 -- Reads of a tree's map.
-use Rattle.std.proofs.Common.{◌≡◌, ℕ, ◌+◌, ◌<◌, ◌≤◌, Bool, true, false, ◌↔◌, IsTrue, List, [], ◌∷◌, ◌++◌, length, Option, Some, None, option_map, is_some, is_none, sym, refl, ap, ◌∙◌, subst, inl, inr}
+use Rattle.std.proofs.Common.{◌≡◌, ℕ, ◌+◌, ◌<◌, ◌≤◌, Bool, true, false, not, ◌↔◌, IsTrue, List, [], ◌∷◌, ◌++◌, length, Option, Some, None, option_map, is_some, is_none, sym, refl, ap, ◌∙◌, subst, inl, inr, arith}
 use Rattle.std.specs.List.{list_any}
 use Rattle.std.specs.FinMap.Entries.{find}
 use Rattle.std.specs.declared.ops.Bound.{Bound}
@@ -12,12 +12,13 @@ use Rattle.sled_pages.specs.declared.error.Error.{Error}
 use Rattle.sled_pages.specs.declared.error.Error.TheVariants.{CollectionNotFound, Unsupported, ReportableBug, Io, Corruption, NoMemory, FullQueue, Closed}
 use Rattle.sled_model.specs.Maps.{Map, Merge}
 use Rattle.sled_model.specs.State.{NamedTree}
-use Rattle.sled_model.specs.Refusal.{MustRefuse, IsClosed, IsForeign, IsDropped, is_number, must_refuse_of, tells}
+use Rattle.sled_model.specs.Refusal.{MustRefuse, IsClosed, IsForeign, IsDropped, HasNoOperator, is_number, must_refuse_of, tells}
 use Rattle.sled_model.specs.declared.tree.Tree.{Tree}
 use Rattle.tree_laws.specs.Contents.{pairs_under}
 use Rattle.tree_reads.specs.Walk.{RefusesWalk, refuses_walk_as, GivesUp, gives_up_as}
 use Rattle.tree_reads.specs.Leaves.{OfContents}
 use Rattle.tree_reads.specs.Ranges.{IsRoot, Coming, pairs_within, is_reversed}
+use Rattle.tree_reads.specs.declared.TheConstants.{MOST_PAGES}
 use Rattle.tree_reads.proofs.Ranging.{of_pairs}
 use Rattle.sled.specs.Values.{DbValue, numbers_of, named, db_state}
 use Rattle.sled.specs.Sound.{IsDb}
@@ -32,11 +33,11 @@ none_some : {P X : Type 0} {x : X} → None ≡ Some x → P
 none_some e = cc
 
 -- what reads need of a database between two calls: a forest that shows its pages well formed, and that its pages were given
-pub root_is : (s : Store) (trees : List (Key × ℕ)) (given : ℕ) → IsDb s trees given → (t : Key) (root : ℕ) → (now s).roots t ≡ Some root → IsRoot (now s) root
-root_is s trees given db t root e = record { forest = db.forest; formed = db.is.formed; tree = t; is = e }
+pub root_is : {P M : Type 0} (store : P → Store) (d : DbValue P M) → IsDb store d → (t : Key) (root : ℕ) → (now (store d.pages)).roots t ≡ Some root → IsRoot (now (store d.pages)) root
+root_is store d db t root e = record { forest = db.forest; formed = db.is.formed; tree = t; is = e }
 
-pub pages_given : (s : Store) (trees : List (Key × ℕ)) (given : ℕ) → IsDb s trees given → AreGiven s
-pages_given s trees given db = record { pid = db.is.pids; version = db.is.versions; numbered = db.is.below }
+pub pages_given : {P M : Type 0} (store : P → Store) (d : DbValue P M) → IsDb store d → AreGiven (store d.pages)
+pages_given store d db = record { pid = db.is.pids; version = db.is.versions; numbered = db.is.below }
 
 module _ {P M : Type 0} (store : P → Store) (meant : M → Merge) (d : DbValue P M) (tree : Tree) where
   -- a tree that passes the tests has a root, and its map is what stands under it
@@ -66,10 +67,10 @@ module _ {P M : Type 0} (store : P → Store) (meant : M → Merge) (d : DbValue
     map_under : (k : (found : NamedTree) × (r : ℕ) × ((db_state store meant d).trees tree.name ≡ Some found) × ((now (store d.pages)).roots tree.name ≡ Some r) × (found.map ≡ pairs_under (nodes_of (now (store d.pages))) r)) → pairs_under (nodes_of (now (store d.pages))) root ≡ k.0.map
     map_under k = ap (pairs_under (nodes_of (now (store d.pages)))) (some_is (sym there ∙ k.3)) ∙ sym k.4
 
-    pub reads : (db : IsDb (store d.pages) d.trees d.trees_given) (so : Map → Type 0) → OfContents (now (store d.pages)) root so → ReadsMap store meant d tree so
+    pub reads : (db : IsDb store d) (so : Map → Type 0) → OfContents (now (store d.pages)) root so → ReadsMap store meant d tree so
     reads db so near =
         let k = tree_under tested in
-        record { tested = tested; named = k.0; there = k.2; told = subst so (map_under k) (of_pairs (store d.pages) root (pages_given _ _ _ db) (root_is _ _ _ db tree.name root there) so near) }
+        record { tested = tested; named = k.0; there = k.2; told = subst so (map_under k) (of_pairs (store d.pages) root (pages_given store d db) (root_is store d db tree.name root there) so near) }
 
     pub begins : (lo hi : Bound Key) (pairs : Coming P) → pairs ≡ record { pages = d.pages; root = root; pairs = pairs_within lo hi (pairs_under (nodes_of (now (store d.pages))) root); ended = is_reversed lo hi } → Begins store meant d tree lo hi pairs
     begins lo hi pairs is =
@@ -80,7 +81,7 @@ module _ {P M : Type 0} (store : P → Store) (meant : M → Merge) (d : DbValue
           ended = ap (λ (z : Coming P). z.ended) is;
         }
 
-    pub refuses : (db : IsDb (store d.pages) d.trees d.trees_given) (of : ℕ → ℕ) (e : Error) → RefusesWalk of (store d.pages) root e → RefusesReading store meant d tree of e
+    pub refuses : (db : IsDb store d) (of : ℕ → ℕ) (e : Error) → RefusesWalk of (store d.pages) root e → RefusesReading store meant d tree of e
     refuses db of e r = record { told = subst (λ m. refuses_reading_as store meant d tree of m e) (sym tested) (go e r.told) }
       where
         go : (e : Error) → refuses_walk_as of (store d.pages) root e → stops_reading store meant d tree of e
@@ -96,10 +97,13 @@ module _ {P M : Type 0} (store : P → Store) (meant : M → Merge) (d : DbValue
     pub gives_up : (key : Key) (e : Error) → GivesUp (now (store d.pages)) root (Included key) 0 e → GivesUpGet store meant d tree key e
     gives_up key e g = record { told = go e (g.told key refl) }
       where
+        at_zero : (n : ℕ) → MOST_PAGES < 0 + n → MOST_PAGES < n
+        at_zero n h = omega arith
+
         go : (e : Error) → gives_up_as (now (store d.pages)) root key 0 e → gives_up_get_as store meant d tree key e
         go NoMemory k = tt
         go (Io fault) k = tt
-        go (ReportableBug text) k = λ path c. k true path (subst (λ r. Rattle.tree_laws.specs.Paths.CleanFrom (nodes_of (now (store d.pages))) key r true path) (some_is (sym c.is_root ∙ there)) c.clean)
+        go (ReportableBug text) k = λ path c. at_zero (length path) (k true path (subst (λ r. Rattle.tree_laws.specs.Paths.CleanFrom (nodes_of (now (store d.pages))) key r true path) (some_is (sym c.is_root ∙ there)) c.clean))
         go (CollectionNotFound name) k = tt
         go (Unsupported text) k = tt
         go (Corruption fault) k = tt
@@ -126,7 +130,7 @@ module _ {P M : Type 0} (store : P → Store) (meant : M → Merge) (d : DbValue
   pub must_give_up : (key : Key) (e : Error) → MustBeRefused (must_refuse_of (db_state store meant d) (tree ∷ [])) e → GivesUpGet store meant d tree key e
   must_give_up key e m = record { told = go (must_refuse_of (db_state store meant d) (tree ∷ [])) e m.told }
     where
-      apart : {X : Type 0} {e : Error} (text : Rattle.std.proofs.Common.Bor Key) → ReportableBug text ≡ Closed → X
+      apart : {X : Type 0} (text : Rattle.std.proofs.Common.Bor Key) → ReportableBug text ≡ Closed → X
       apart text e = cc
 
       no_name : {X : Type 0} (text : Rattle.std.proofs.Common.Bor Key) (name : Key) → ReportableBug text ≡ CollectionNotFound name → X
@@ -138,6 +142,7 @@ module _ {P M : Type 0} (store : P → Store) (meant : M → Merge) (d : DbValue
       bug : (must : MustRefuse) (text : Rattle.std.proofs.Common.Bor Key) → tells must (ReportableBug text) → gives_up_get_as store meant d tree key (ReportableBug text)
       bug IsClosed text k = apart text k
       bug IsForeign text k = absurd k
+      bug HasNoOperator text k = absurd k
       bug (IsDropped name) text k = elim k [ inl a ↦ no_name text name a | inr a ↦ no_want text a ]
 
       go : (o : Option MustRefuse) (e : Error) → must_be_refused_as o e → gives_up_get_as store meant d tree key e
@@ -158,28 +163,37 @@ module _ {P M : Type 0} (store : P → Store) (meant : M → Merge) (d : DbValue
   pub reads_some : (key : Key) (value : Option Key) (there : Bool) → there ≡ is_some value → ReadsMap store meant d tree (λ map. value ≡ find key_cmp key map) → ReadsMap store meant d tree (λ map. there ≡ is_some (find key_cmp key map))
   reads_some key value there e r = reads_more _ _ (λ m k. e ∙ ap is_some k) r
 
-  pub reads_empty : (found : Option (Key × Key)) (empty : Bool) → empty ≡ is_none found → ReadsMap store meant d tree (λ map. IsSuccessor Unbounded map found) → ReadsMap store meant d tree (λ map. IsTrue empty ↔ (map ≡ []))
-  reads_empty found empty e r = reads_more _ _ (λ m k. subst (λ b. IsTrue b ↔ (m ≡ [])) (sym e) (go found m k)) r
+  pub reads_empty : (found : Option (Key × Key)) (empty : Bool) → is_some found ≡ not empty → ReadsMap store meant d tree (λ map. IsSuccessor Unbounded map found) → ReadsMap store meant d tree (λ map. IsTrue empty ↔ (map ≡ []))
+  reads_empty found empty e r = reads_more _ _ (λ m k. subst (λ b. IsTrue b ↔ (m ≡ [])) (none_of found empty e) (go found m k)) r
     where
+      none_of : (found : Option (Key × Key)) (b : Bool) → is_some found ≡ not b → is_none found ≡ b
+      none_of None true e = refl
+      none_of None false e = cc
+      none_of (Some x) true e = cc
+      none_of (Some x) false e = refl
+
       not_empty : (xs ys : Map) (x : Key × Key) → xs ++ x ∷ ys ≡ [] → ⊥
       not_empty [] ys x e = cc
       not_empty (y ∷ xs) ys x e = cc
 
       go : (found : Option (Key × Key)) (m : Map) → IsSuccessor Unbounded m found → IsTrue (is_none found) ↔ (m ≡ [])
-      go None [] k = (λ t. refl, λ i. tt)
+      go None [] k = (λ t. refl, λ i. refl)
       go None (x ∷ xs) k = absurd (apart k)
         where
           apart : true ≡ false → ⊥
           apart e = cc
-      go (Some x) m k = (λ t. absurd t, λ i. not_empty k.before k.after x (sym k.is ∙ i))
+      go (Some x) m k = (λ t. untrue t, λ i. absurd (not_empty k.before k.after x (sym k.is ∙ i)))
+        where
+          untrue : false ≡ true → m ≡ []
+          untrue t = cc
 
 -- the same of a database that is seen as this value
 module _ {P M : Type 0} (store : P → Store) (meant : M → Merge) (tree : Tree) (d seen : DbValue P M) (same : d ≡ seen) (tested : must_refuse_of (db_state store meant seen) (tree ∷ []) ≡ None) (root : ℕ) (there : (now (store seen.pages)).roots tree.name ≡ Some root) where
-  pub reads_in : IsDb (store d.pages) d.trees d.trees_given → (so : Map → Type 0) → OfContents (now (store d.pages)) root so → ReadsMap store meant seen tree so
-  reads_in db so near = reads store meant seen tree tested root there (subst (λ (z : DbValue P M). IsDb (store z.pages) z.trees z.trees_given) same db) so (subst (λ (z : DbValue P M). OfContents (now (store z.pages)) root so) same near)
+  pub reads_in : IsDb store d → (so : Map → Type 0) → OfContents (now (store d.pages)) root so → ReadsMap store meant seen tree so
+  reads_in db so near = reads store meant seen tree tested root there (subst (λ (z : DbValue P M). IsDb store z) same db) so (subst (λ (z : DbValue P M). OfContents (now (store z.pages)) root so) same near)
 
-  pub refuses_in : IsDb (store d.pages) d.trees d.trees_given → (of : ℕ → ℕ) (e : Error) → RefusesWalk of (store d.pages) root e → RefusesReading store meant seen tree of e
-  refuses_in db of e r = refuses store meant seen tree tested root there (subst (λ (z : DbValue P M). IsDb (store z.pages) z.trees z.trees_given) same db) of e (subst (λ (z : DbValue P M). RefusesWalk of (store z.pages) root e) same r)
+  pub refuses_in : IsDb store d → (of : ℕ → ℕ) (e : Error) → RefusesWalk of (store d.pages) root e → RefusesReading store meant seen tree of e
+  refuses_in db of e r = refuses store meant seen tree tested root there (subst (λ (z : DbValue P M). IsDb store z) same db) of e (subst (λ (z : DbValue P M). RefusesWalk of (store z.pages) root e) same r)
 
   pub begins_in : (lo hi : Bound Key) (pairs : Coming P) → pairs ≡ record { pages = d.pages; root = root; pairs = pairs_within lo hi (pairs_under (nodes_of (now (store d.pages))) root); ended = is_reversed lo hi } → Begins store meant seen tree lo hi pairs
   begins_in lo hi pairs is = begins store meant seen tree tested root there lo hi pairs
