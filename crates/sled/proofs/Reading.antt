@@ -1,5 +1,5 @@
 -- Reads of a tree's map.
-use Rattle.std.proofs.Common.{◌≡◌, ℕ, ◌+◌, ◌<◌, ◌≤◌, Bool, true, false, ◌↔◌, IsTrue, List, [], ◌∷◌, ◌++◌, length, Option, Some, None, option_map, is_some, is_none, sym, refl, ap, ◌∙◌, subst, inl, inr}
+use Rattle.std.proofs.Common.{◌≡◌, ℕ, ◌+◌, ◌<◌, ◌≤◌, Bool, true, false, not, ◌↔◌, IsTrue, List, [], ◌∷◌, ◌++◌, length, Option, Some, None, option_map, is_some, is_none, sym, refl, ap, ◌∙◌, subst, inl, inr, arith}
 use Rattle.std.specs.List.{list_any}
 use Rattle.std.specs.FinMap.Entries.{find}
 use Rattle.std.specs.declared.ops.Bound.{Bound}
@@ -18,6 +18,7 @@ use Rattle.tree_laws.specs.Contents.{pairs_under}
 use Rattle.tree_reads.specs.Walk.{RefusesWalk, refuses_walk_as, GivesUp, gives_up_as}
 use Rattle.tree_reads.specs.Leaves.{OfContents}
 use Rattle.tree_reads.specs.Ranges.{IsRoot, Coming, pairs_within, is_reversed}
+use Rattle.tree_reads.specs.declared.TheConstants.{MOST_PAGES}
 use Rattle.tree_reads.proofs.Ranging.{of_pairs}
 use Rattle.sled.specs.Values.{DbValue, numbers_of, named, db_state}
 use Rattle.sled.specs.Sound.{IsDb}
@@ -96,10 +97,13 @@ module _ {P M : Type 0} (store : P → Store) (meant : M → Merge) (d : DbValue
     pub gives_up : (key : Key) (e : Error) → GivesUp (now (store d.pages)) root (Included key) 0 e → GivesUpGet store meant d tree key e
     gives_up key e g = record { told = go e (g.told key refl) }
       where
+        at_zero : (n : ℕ) → MOST_PAGES < 0 + n → MOST_PAGES < n
+        at_zero n h = omega arith
+
         go : (e : Error) → gives_up_as (now (store d.pages)) root key 0 e → gives_up_get_as store meant d tree key e
         go NoMemory k = tt
         go (Io fault) k = tt
-        go (ReportableBug text) k = λ path c. k true path (subst (λ r. Rattle.tree_laws.specs.Paths.CleanFrom (nodes_of (now (store d.pages))) key r true path) (some_is (sym c.is_root ∙ there)) c.clean)
+        go (ReportableBug text) k = λ path c. at_zero (length path) (k true path (subst (λ r. Rattle.tree_laws.specs.Paths.CleanFrom (nodes_of (now (store d.pages))) key r true path) (some_is (sym c.is_root ∙ there)) c.clean))
         go (CollectionNotFound name) k = tt
         go (Unsupported text) k = tt
         go (Corruption fault) k = tt
@@ -126,7 +130,7 @@ module _ {P M : Type 0} (store : P → Store) (meant : M → Merge) (d : DbValue
   pub must_give_up : (key : Key) (e : Error) → MustBeRefused (must_refuse_of (db_state store meant d) (tree ∷ [])) e → GivesUpGet store meant d tree key e
   must_give_up key e m = record { told = go (must_refuse_of (db_state store meant d) (tree ∷ [])) e m.told }
     where
-      apart : {X : Type 0} {e : Error} (text : Rattle.std.proofs.Common.Bor Key) → ReportableBug text ≡ Closed → X
+      apart : {X : Type 0} (text : Rattle.std.proofs.Common.Bor Key) → ReportableBug text ≡ Closed → X
       apart text e = cc
 
       no_name : {X : Type 0} (text : Rattle.std.proofs.Common.Bor Key) (name : Key) → ReportableBug text ≡ CollectionNotFound name → X
@@ -158,20 +162,27 @@ module _ {P M : Type 0} (store : P → Store) (meant : M → Merge) (d : DbValue
   pub reads_some : (key : Key) (value : Option Key) (there : Bool) → there ≡ is_some value → ReadsMap store meant d tree (λ map. value ≡ find key_cmp key map) → ReadsMap store meant d tree (λ map. there ≡ is_some (find key_cmp key map))
   reads_some key value there e r = reads_more _ _ (λ m k. e ∙ ap is_some k) r
 
-  pub reads_empty : (found : Option (Key × Key)) (empty : Bool) → empty ≡ is_none found → ReadsMap store meant d tree (λ map. IsSuccessor Unbounded map found) → ReadsMap store meant d tree (λ map. IsTrue empty ↔ (map ≡ []))
-  reads_empty found empty e r = reads_more _ _ (λ m k. subst (λ b. IsTrue b ↔ (m ≡ [])) (sym e) (go found m k)) r
+  pub reads_empty : (found : Option (Key × Key)) (empty : Bool) → is_some found ≡ not empty → ReadsMap store meant d tree (λ map. IsSuccessor Unbounded map found) → ReadsMap store meant d tree (λ map. IsTrue empty ↔ (map ≡ []))
+  reads_empty found empty e r = reads_more _ _ (λ m k. subst (λ b. IsTrue b ↔ (m ≡ [])) (sym (double empty ∙ ap not (sym e))) (go found m k)) r
     where
+      double : (b : Bool) → b ≡ not (not b)
+      double true = refl
+      double false = refl
+
       not_empty : (xs ys : Map) (x : Key × Key) → xs ++ x ∷ ys ≡ [] → ⊥
       not_empty [] ys x e = cc
       not_empty (y ∷ xs) ys x e = cc
 
       go : (found : Option (Key × Key)) (m : Map) → IsSuccessor Unbounded m found → IsTrue (is_none found) ↔ (m ≡ [])
-      go None [] k = (λ t. refl, λ i. tt)
+      go None [] k = (λ t. refl, λ i. refl)
       go None (x ∷ xs) k = absurd (apart k)
         where
           apart : true ≡ false → ⊥
           apart e = cc
-      go (Some x) m k = (λ t. absurd t, λ i. not_empty k.before k.after x (sym k.is ∙ i))
+      go (Some x) m k = (λ t. untrue t, λ i. absurd (not_empty k.before k.after x (sym k.is ∙ i)))
+        where
+          untrue : false ≡ true → m ≡ []
+          untrue t = cc
 
 -- the same of a database that is seen as this value
 module _ {P M : Type 0} (store : P → Store) (meant : M → Merge) (tree : Tree) (d seen : DbValue P M) (same : d ≡ seen) (tested : must_refuse_of (db_state store meant seen) (tree ∷ []) ≡ None) (root : ℕ) (there : (now (store seen.pages)).roots tree.name ≡ Some root) where
