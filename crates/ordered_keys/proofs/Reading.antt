@@ -41,13 +41,6 @@ pushed_all text old mid new at e m le =
     let whole : take at text ≡ text = take_all at text le in
     e ∙ (ap (λ (z : Key). z ++ 0 ∷ 0 ∷ []) (m ∙ ap (λ (t : Key). old ++ flat_map spelled_byte t) whole) ∙ append_assoc old (flat_map spelled_byte text) (0 ∷ 0 ∷ []))
 
-byte_long : (b : ℕ) (others : Key) → length others < length (spelled_byte b ++ others)
-byte_long zero others = omega arith
-byte_long (suc b) others = omega arith
-
-pub read_less : (rest others : Key) (b : ℕ) → rest ≡ spelled_byte b ++ others → length others < length rest
-read_less rest others b is = rw is (byte_long b others)
-
 -- the end
 pub read_end : (text made rest others bytes : Key) (piece : Option ℕ) → flat_map spelled_byte text ++ rest ≡ bytes → rest ≡ spelled_piece piece ++ others → piece ≡ None → made ≡ text → bytes ≡ spelled_text made ++ others
 read_end text made rest others bytes piece all is none copied =
