@@ -1,9 +1,8 @@
 -- What is spelled alike is alike, since the order tells values apart.
-use Rattle.std.proofs.Common.{◌≡◌, ◌↔◌, ℕ, List, [], ◌∷◌, ◌++◌, refl, sym, ap, ◌∙◌, append_assoc}
+use Rattle.std.proofs.Common.{◌≡◌, ℕ, List, [], ◌∷◌, ◌++◌, refl, sym, ap, ◌∙◌, append_assoc}
 use Rattle.std.proofs.lemmas.Cmp.{nat_list_cmp_total, tied_itself}
 use Rattle.std.proofs.lemmas.List.Concat.{flat_map-append}
 use Rattle.std.proofs.lemmas.Map.Lookups.{exact_unsigned, exact_bytes}
-use Rattle.std.specs.List.{flat_map}
 use Rattle.std.specs.Ordering.{ordering_then, nat_cmp}
 use Rattle.std.specs.declared.cmp.Ordering.{Ordering}
 use Rattle.std.specs.declared.cmp.Ordering.TheVariants.{Less, Equal, Greater}
@@ -11,7 +10,7 @@ use Rattle.sled_pages.specs.Order.{Key, key_cmp}
 use Rattle.ordered_keys.specs.declared.part.Kind.{Kind}
 use Rattle.ordered_keys.specs.declared.part.Part.{Part}
 use Rattle.ordered_keys.specs.declared.part.Part.TheVariants.{Number, Text}
-use Rattle.ordered_keys.specs.Keys.{spelled_byte, spelled_part, spelled, part_cmp, IsOfKind, HasShape, BeginsKey, BeginsWith, IsOneToOne, KeepsPrefixes}
+use Rattle.ordered_keys.specs.Keys.{spelled_byte, spelled_part, spelled, part_cmp, IsOfKind, BeginsWith, IsOneToOne, KeepsPrefixes}
 use Rattle.ordered_keys.proofs.Bytes.{bytes_cmp, byte_then, end_before}
 use Rattle.ordered_keys.proofs.Order.{Fits, begins_fits, part_some, part_then}
 

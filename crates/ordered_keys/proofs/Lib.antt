@@ -2,3 +2,4 @@ pub mod Bytes
 pub mod Order
 pub mod Apart
 pub mod Reading
+pub mod Parts

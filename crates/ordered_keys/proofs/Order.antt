@@ -1,9 +1,8 @@
 -- The order of the bytes of keys is that of their parts.
-use Rattle.std.proofs.Common.{◌≡◌, ℕ, zero, suc, List, [], ◌∷◌, ◌++◌, refl, sym, ap, ◌∙◌}
+use Rattle.std.proofs.Common.{◌≡◌, ℕ, zero, suc, List, [], ◌∷◌, ◌++◌, refl, ap, ◌∙◌}
 use Rattle.std.specs.Int.{byte_at, bytes_high_first}
 use Rattle.std.specs.List.{flat_map}
 use Rattle.std.specs.Ordering.{ordering_then}
-use Rattle.std.specs.declared.cmp.Ordering.TheVariants.{Less, Equal, Greater}
 use Rattle.sled_pages.specs.Order.{Key, key_cmp}
 use Rattle.ordered_keys.specs.declared.part.Kind.{Kind}
 use Rattle.ordered_keys.specs.declared.part.Kind.TheVariants as kinds

@@ -1,7 +1,7 @@
 -- Reading numbers and texts.
-use Rattle.std.proofs.Common.{◌≡◌, ◌≢◌, ℕ, ◌+◌, ◌<◌, ◌≤◌, List, [], ◌∷◌, ◌++◌, take, drop, length, get_or, Option, Some, None, refl, sym, ap, ◌∙◌, append_assoc, arith, inl, inr, zero, suc}
+use Rattle.std.proofs.Common.{◌≡◌, ◌≢◌, ℕ, ◌+◌, ◌<◌, ◌≤◌, List, [], ◌∷◌, ◌++◌, take, drop, length, get_or, Option, Some, None, sym, ap, ◌∙◌, append_assoc, arith, inl, inr}
 use Rattle.std.proofs.lemmas.Bool.{cases_lt}
-use Rattle.std.proofs.lemmas.List.{take-append-drop, take_all, length-append, length-take, get_or-take, get_or_past, append-nil}
+use Rattle.std.proofs.lemmas.List.{take-append-drop, take_all, length-take, get_or-take, get_or_past, append-nil}
 use Rattle.std.proofs.lemmas.List.Concat.{flat_map-append}
 use Rattle.std.proofs.lemmas.Nat.{be_bytes_8}
 use Rattle.std.specs.Int.{w64, from_be_bytes}
@@ -40,13 +40,6 @@ unfolding spelled_text
 pushed_all text old mid new at e m le =
     let whole : take at text ≡ text = take_all at text le in
     e ∙ (ap (λ (z : Key). z ++ 0 ∷ 0 ∷ []) (m ∙ ap (λ (t : Key). old ++ flat_map spelled_byte t) whole) ∙ append_assoc old (flat_map spelled_byte text) (0 ∷ 0 ∷ []))
-
-byte_long : (b : ℕ) (others : Key) → length others < length (spelled_byte b ++ others)
-byte_long zero others = omega arith
-byte_long (suc b) others = omega arith
-
-pub read_less : (rest others : Key) (b : ℕ) → rest ≡ spelled_byte b ++ others → length others < length rest
-read_less rest others b is = rw is (byte_long b others)
 
 -- the end
 pub read_end : (text made rest others bytes : Key) (piece : Option ℕ) → flat_map spelled_byte text ++ rest ≡ bytes → rest ≡ spelled_piece piece ++ others → piece ≡ None → made ≡ text → bytes ≡ spelled_text made ++ others

@@ -69,3 +69,25 @@ pub fn read_part(alloc: Global, kind: Kind, bytes: &[u8]) -> Result<Option<(Part
         },
     }
 }
+
+/// The parts of a key of this shape. `Ok(None)` where the bytes are no key of the shape. Refused with `NoMemory` alone.
+pub fn parts_of(alloc: Global, shape: &[Kind], key: &[u8]) -> Result<Option<Vec<Part>>>
+    ensures some { IfOk result (λ found. IfSome found (λ parts. HasShape shape.now parts.items × (key.now ≡ spelled parts.items))) }
+    ensures none { IfOk result (λ found. IfNone found ((parts : List Part) → HasShape shape.now parts → key.now ≢ spelled parts)) }
+    ensures err { IfErr result (λ e. e ≡ NoMemory) }
+{
+    let mut parts = Vec::new(alloc);
+    let mut rest = key;
+    'kinds: for kind in shape {
+        let Some((part, others)) = read_part(alloc, *kind, rest)? else {
+            return Ok(None);
+        };
+        parts.push(part)?;
+        rest = others;
+    }
+    if rest.is_empty() {
+        Ok(Some(parts))
+    } else {
+        Ok(None)
+    }
+}

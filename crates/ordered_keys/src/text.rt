@@ -1,5 +1,5 @@
 //! Texts, which are byte strings of any length, spelled so that none begins another.
-ghost use Rattle.std.specs.Prelude.{◌≡◌, ◌≢◌, ℕ, ◌++◌, List, Option, take, length, OnOk, IfOk, IfErr, IfSome, IfNone};
+ghost use Rattle.std.specs.Prelude.{◌≡◌, ◌≢◌, ℕ, ◌++◌, Option, take, length, OnOk, IfOk, IfErr, IfSome, IfNone};
 ghost use Rattle.sled_pages.specs.declared.error.Error.TheVariants.{NoMemory};
 ghost use Rattle.sled_pages.specs.Order.{Key};
 ghost use Rattle.ordered_keys.specs.Keys.{spelled_byte, spelled_piece, spelled_text};
