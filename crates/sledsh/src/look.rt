@@ -108,25 +108,17 @@ fn tell_value(out: &mut Vec<u8>, value: Answer<Option<IVec>>) -> Result<()> {
     }
 }
 
-// Adds a pair behind a word.
-fn tell_pair(out: &mut Vec<u8>, name: &'static [u8], pair: (IVec, IVec)) -> Result<()> {
-    let told = tell(
-        out,
-        &[
-            Text(name),
-            Word(pair.0.as_ref()),
-            Text(b" "),
-            Word(pair.1.as_ref()),
-            Text(b"\n"),
-        ],
-    );
+// Adds a pair, and ends the line. A list of pieces has words of one owner alone.
+fn tell_pair(out: &mut Vec<u8>, pair: (IVec, IVec)) -> Result<()> {
+    let first = tell(out, &[Word(pair.0.as_ref()), Text(b" ")]);
+    let second = tell(out, &[Word(pair.1.as_ref()), Text(b"\n")]);
     drop(pair);
-    told
+    first.and(second)
 }
 
 fn tell_found(out: &mut Vec<u8>, found: Answer<Option<(IVec, IVec)>>) -> Result<()> {
     match found {
-        Ok(Some(pair)) => tell_pair(out, b"found ", pair),
+        Ok(Some(pair)) => tell(out, &[Text(b"found ")]).and(tell_pair(out, pair)),
         Ok(None) => tell(out, &[Text(b"found -\n")]),
         Err(e) => tell_refused(out, e),
     }
@@ -155,7 +147,11 @@ fn tell_pairs(out: &mut Vec<u8>, mut pairs: Iter<'_, Counting<'_>>, from: Side) 
             pairs.next()
         };
         match item {
-            Some(Ok(pair)) => told = told.and(tell_pair(out, b"at ", pair)),
+            Some(Ok(pair)) => {
+                told = told
+                    .and(tell(out, &[Text(b"at ")]))
+                    .and(tell_pair(out, pair));
+            },
             Some(Err(e)) => {
                 drop(pairs);
                 return told.and(tell_refused(out, e));
