@@ -6,7 +6,7 @@ use sled_lines::command::{self, parse};
 use sled_lines::input::Stopped;
 use sled_lines::print::Piece::Text;
 use sled_lines::print::push_pieces;
-use sled_lines::words::{first_word, read_number, read_value};
+use sled_lines::words::{first_word, read_number, read_value, read_word};
 use sled_pages::Result;
 use std::alloc::Global;
 
@@ -429,24 +429,56 @@ fn count_of(form: &Form, count: usize) -> &'static str {
     }
 }
 
-// What is said of a word that is not what a command takes in its place; nothing where it is.
-fn odd(alloc: Global, part: &[u8], word: &[u8]) -> Result<&'static str> {
-    match part {
-        b"K" | b"V" | b"DATABASE" | b"NAME" if word == b"-".as_slice() => Ok(NO_BYTES),
-        b"K" | b"V" | b"OLD" | b"NEW" | b"DATABASE" | b"NAME" => {
-            let value = read_value(alloc, word)?;
-            let said = if value.is_some() { "" } else { NO_BYTES };
+// What a word of a line stands for.
+#[derive(Clone, Copy)]
+enum Kind {
+    Bytes,
+    // A byte string or none.
+    Value,
+    Bound,
+    Number,
+}
+
+const KINDS: [(&str, Kind); 8] = [
+    ("K", Kind::Bytes),
+    ("V", Kind::Bytes),
+    ("DATABASE", Kind::Bytes),
+    ("NAME", Kind::Bytes),
+    ("OLD", Kind::Value),
+    ("NEW", Kind::Value),
+    ("LO", Kind::Bound),
+    ("HI", Kind::Bound),
+];
+
+// What the word stands for in this place of a command.
+fn kind_of(place: &[u8]) -> Kind {
+    for (name, kind) in &KINDS {
+        if name.as_bytes() == place {
+            return *kind;
+        }
+    }
+    Kind::Number
+}
+
+// What is said of a word that was read, or was not; nothing where it was.
+fn said_of<T: Drop>(read: Result<Option<T>>, otherwise: &'static str) -> Result<&'static str> {
+    match read {
+        Ok(value) => {
+            let said = if value.is_some() { "" } else { otherwise };
             drop(value);
             Ok(said)
         }
-        b"LO" | b"HI" => {
-            let bound = read_bound(alloc, word)?;
-            let said = if bound.is_some() { "" } else { NO_BOUND };
-            drop(bound);
-            Ok(said)
-        }
-        _ if read_number(word).is_some() => Ok(""),
-        _ => Ok(NO_NUMBER),
+        Err(error) => Err(error),
+    }
+}
+
+// What is said of a word that is not what a command takes in its place; nothing where it is.
+fn odd(alloc: Global, place: &[u8], word: &[u8]) -> Result<&'static str> {
+    match kind_of(place) {
+        Kind::Bytes => said_of(read_word(alloc, word), NO_BYTES),
+        Kind::Value => said_of(read_value(alloc, word), NO_BYTES),
+        Kind::Bound => said_of(read_bound(alloc, word), NO_BOUND),
+        Kind::Number => said_of(Ok(read_number(word)), NO_NUMBER),
     }
 }
 
