@@ -5,4 +5,5 @@ pub mod Export
 pub mod Calls
 pub mod Reads
 pub mod Flights
+pub mod Direct
 pub mod Flush

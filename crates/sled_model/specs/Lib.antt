@@ -3,5 +3,6 @@ pub mod Event
 pub mod Answer
 pub mod State
 pub mod Refusal
+pub mod Whole
 pub mod Steps
 pub mod Runs

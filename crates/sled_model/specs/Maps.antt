@@ -1,10 +1,19 @@
 -- The maps of a database.
-use Rattle.std.specs.Prelude.{List, Option}
+use Rattle.std.specs.Prelude.{◌≡◌, List, [], ◌∷◌, ◌++◌, Option, Some, None}
 use Rattle.sled_pages.specs.Order.{Key}
 
 -- a map from byte strings to byte strings: its pairs, by ascending keys
 abbrev pub Map : Type 0
 Map = List (Key × Key)
+
+-- the pair with the least key, and the pair with the greatest, if there is one
+abbrev pub IsLeast : Map → Option (Key × Key) → Type 0
+IsLeast map None = map ≡ []
+IsLeast map (Some pair) = (rest : Map) × (map ≡ pair ∷ rest)
+
+abbrev pub IsGreatest : Map → Option (Key × Key) → Type 0
+IsGreatest map None = map ≡ []
+IsGreatest map (Some pair) = (rest : Map) × (map ≡ rest ++ pair ∷ [])
 
 -- the map of each name, where there is a tree of that name
 abbrev pub Maps : Type 0

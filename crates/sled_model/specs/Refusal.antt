@@ -6,26 +6,32 @@ use Rattle.sled_pages.specs.Store.{Store}
 use Rattle.sled_pages.specs.declared.error.Error.{Error}
 use Rattle.sled_pages.specs.declared.error.Error.TheVariants.{CollectionNotFound, Unsupported, ReportableBug, Io, NoMemory, FullQueue, Closed}
 use Rattle.sled_pages.specs.declared.texts.TheConstants.{HANDLE_OF_ANOTHER_DATABASE, NO_MERGE_OPERATOR, NUMBERS_USED_UP, WALK_PASSED_TURNS}
+use Rattle.sled_model.specs.Maps.{Map, IsLeast, IsGreatest}
 use Rattle.sled_model.specs.Answer.{answer_of}
 use Rattle.sled_model.specs.State.{State, NamedTree, Flying, Queue, matches}
 use Rattle.sled_model.specs.declared.call.Call.{Call}
 use Rattle.sled_model.specs.declared.call.Call.TheVariants.{Get, Insert, Remove, CompareAndSwap}
 use Rattle.sled_model.specs.declared.call.Whole.{Whole}
-use Rattle.sled_model.specs.declared.call.Whole.TheVariants.{Flush}
+use Rattle.sled_model.specs.declared.call.Whole.TheVariants.{Flush, PopMin, PopMax, Clear}
 use Rattle.sled_model.specs.declared.event.Event.{Event}
 use Rattle.sled_model.specs.declared.tree.Tree.{Tree}
 
--- what was asked of the database: to begin a call, to go on with the call in a slot, or a whole call
+-- what was asked of the database: to begin a call, to go on with the call in a slot, to make a call at once, or a whole call
 pub data Asked : Type 0 where
   ToBegin : (tree : Tree) (call : Call) → Asked
   ToStep : (flying : Flying) → Asked
+  ToPoint : (tree : Tree) (call : Call) → Asked
   ToCall : (whole : Whole) → Asked
 
 -- the trees that it is asked of
 abbrev pub trees_asked : Asked → List Tree
 trees_asked (ToBegin tree call) = tree ∷ []
 trees_asked (ToStep flying) = flying.tree ∷ []
+trees_asked (ToPoint tree call) = tree ∷ []
 trees_asked (ToCall Flush) = []
+trees_asked (ToCall (PopMin tree)) = tree ∷ []
+trees_asked (ToCall (PopMax tree)) = tree ∷ []
+trees_asked (ToCall (Clear tree)) = tree ∷ []
 
 -- why a call must be refused: the database is closed, the tree is another database's, it was dropped, or it has no operator
 pub data MustRefuse : Type 0 where
@@ -72,6 +78,7 @@ has_operator (Some t) = is_some t.merge
 abbrev pub operator_test : State → Asked → Option MustRefuse
 operator_test s (ToBegin tree call) = if needs_operator call && not (has_operator (s.trees tree.name)) then (Some HasNoOperator) else None
 operator_test s (ToStep f) = if needs_operator f.call && not (has_operator (s.trees f.tree.name)) then (Some HasNoOperator) else None
+operator_test s (ToPoint tree call) = if needs_operator call && not (has_operator (s.trees tree.name)) then (Some HasNoOperator) else None
 operator_test s (ToCall whole) = None
 
 abbrev pub must_refuse : State → Asked → Option MustRefuse
@@ -94,12 +101,12 @@ turns_limit = 1000000
 abbrev pub queue_limit : ℕ
 queue_limit = 1024
 
--- the call in flight would bring this event by the map now, and the queue of some subscriber is full
-pub record MeetsFullQueue (s : State) (f : Flying) : Type 0 where
+-- the call would bring this event by the map now, and the queue of some subscriber is full
+pub record MeetsFullQueue (s : State) (t : Tree) (call : Call) : Type 0 where
   pub tree : NamedTree
-  pub there : s.trees f.tree.name ≡ Some tree
+  pub there : s.trees t.name ≡ Some tree
   pub event : Event
-  pub brings : (answer_of f.call tree.map).event ≡ Some event
+  pub brings : (answer_of call tree.map).event ≡ Some event
   pub subscriber : ℕ
   pub queue : Queue
   pub waits : s.queues subscriber ≡ Some queue
@@ -111,6 +118,14 @@ abbrev pub TellsTurns : Error → Type 0
 TellsTurns (ReportableBug text) = text.now ≡ WALK_PASSED_TURNS.now
 TellsTurns e = ⊥
 
+-- the removal of the pair at this end of the tree's map would meet a full queue
+pub record EndMeetsFullQueue (is_end : Map → Option (Key × Key) → Type 0) (s : State) (t : Tree) : Type 0 where
+  pub named : NamedTree
+  pub there : s.trees t.name ≡ Some named
+  pub pair : Key × Key
+  pub ends : is_end named.map (Some pair)
+  pub meets : MeetsFullQueue s t (Remove pair.0)
+
 -- The causes of a refusal that is none of those tests: slots are numbered up to the greatest u64; the call has no turns left; the
 -- store counted a fault, or some page is not readable; a queue is full. a is the store before, b the store after
 abbrev pub cause_of : State → Store → Store → Asked → Error → Type 0
@@ -118,8 +133,17 @@ cause_of s a b asked NoMemory = Unit {0}
 cause_of s a b (ToBegin tree call) (Unsupported text) = (text.now ≡ NUMBERS_USED_UP.now) × (s.slots_given ≡ 18446744073709551615)
 cause_of s a b (ToStep f) (Io fault) = (a.faults < b.faults) ⊎ ((pid : ℕ) × (a.is_readable pid ≡ false))
 cause_of s a b (ToStep f) (ReportableBug text) = (text.now ≡ WALK_PASSED_TURNS.now) × (f.turns ≡ turns_limit)
-cause_of s a b (ToStep f) FullQueue = MeetsFullQueue s f
+cause_of s a b (ToStep f) FullQueue = MeetsFullQueue s f.tree f.call
+cause_of s a b (ToPoint tree call) (Io fault) = (a.faults < b.faults) ⊎ ((pid : ℕ) × (a.is_readable pid ≡ false))
+cause_of s a b (ToPoint tree call) (ReportableBug text) = text.now ≡ WALK_PASSED_TURNS.now
+cause_of s a b (ToPoint tree call) FullQueue = MeetsFullQueue s tree call
 cause_of s a b (ToCall Flush) (Io fault) = a.faults < b.faults
+cause_of s a b (ToCall Flush) e = ⊥
+cause_of s a b (ToCall whole) (Io fault) = (a.faults < b.faults) ⊎ ((pid : ℕ) × (a.is_readable pid ≡ false))
+cause_of s a b (ToCall whole) (ReportableBug text) = text.now ≡ WALK_PASSED_TURNS.now
+cause_of s a b (ToCall (PopMin tree)) FullQueue = EndMeetsFullQueue IsLeast s tree
+cause_of s a b (ToCall (PopMax tree)) FullQueue = EndMeetsFullQueue IsGreatest s tree
+cause_of s a b (ToCall (Clear tree)) FullQueue = EndMeetsFullQueue IsLeast s tree
 cause_of s a b asked e = ⊥
 
 -- the call may be refused so: by the first of the tests that fails, or where none fails for one of the causes

@@ -71,10 +71,13 @@ abbrev pub delivered : ℕ → Option Event → (ℕ → Option Queue) → ℕ �
 delivered tree None queues n = queues n
 delivered tree (Some e) queues n = option_map (λ q. if matches tree e q then (record q { events = q.events ++ e ∷ [] }) else q) (queues n)
 
--- the state after a call in the slot was decided on its tree
-abbrev pub decided : State → ℕ → Key → NamedTree → Answer → State
-decided s slot name t a = record s {
+-- the state after a call was decided on the tree of this name
+abbrev pub decided_on : State → Key → NamedTree → Answer → State
+decided_on s name t a = record s {
   trees = put_name s.trees name (Some (record t { map = a.map }));
   queues = delivered t.number a.event s.queues;
-  slots = put_at s.slots slot None;
 }
+
+-- .. and the call's slot is gone
+abbrev pub decided : State → ℕ → Key → NamedTree → Answer → State
+decided s slot name t a = record (decided_on s name t a) { slots = put_at s.slots slot None }

@@ -3,16 +3,17 @@ use Rattle.std.specs.Prelude.{◌≡◌, ℕ, ◌+◌, ◌<◌, List, [], ◌∷
 use Rattle.sled_pages.specs.Update.{put_at}
 use Rattle.sled_pages.specs.Store.{Store}
 use Rattle.sled_pages.specs.declared.error.Error.{Error}
-use Rattle.sled_model.specs.Maps.{Maps}
+use Rattle.sled_model.specs.Maps.{Maps, IsLeast, IsGreatest}
 use Rattle.sled_model.specs.Answer.{answer_of}
 use Rattle.sled_model.specs.State.{State, NamedTree, Flying, maps_of, begun, decided}
 use Rattle.sled_model.specs.Refusal.{ToBegin, ToStep, ToCall, must_refuse, MayRefuse, TellsTurns, turns_limit}
 use Rattle.sled_model.specs.declared.call.Call.{Call}
 use Rattle.sled_model.specs.declared.call.Whole.{Whole}
-use Rattle.sled_model.specs.declared.call.Whole.TheVariants.{Flush}
+use Rattle.sled_model.specs.declared.call.Whole.TheVariants.{Flush, PopMin, PopMax, Clear}
+use Rattle.sled_model.specs.Whole.{Pops, Clears, StopsClearing}
 use Rattle.sled_model.specs.declared.tree.Tree.{Tree}
 use Rattle.sled_model.specs.declared.reply.Reply.{Reply}
-use Rattle.sled_model.specs.declared.reply.Reply.TheVariants.{Number}
+use Rattle.sled_model.specs.declared.reply.Reply.TheVariants.{Number, Done}
 use Rattle.sled_model.specs.declared.outcome.Step.{Step}
 use Rattle.sled_model.specs.declared.outcome.Step.TheVariants as step
 use Rattle.sled_model.specs.declared.outcome.Outcome.{Outcome}
@@ -79,14 +80,21 @@ pub data Kind : Type 0 where
 
 abbrev pub kind_of : Whole → Kind
 kind_of Flush = Flushing
+kind_of (PopMin tree) = Changing
+kind_of (PopMax tree) = Changing
+kind_of (Clear tree) = InParts
 
 -- a whole call is decided. A flush answers the store's number
 abbrev pub WholeDecides : Instant → Whole → Reply → State → List Maps → Type 0
 WholeDecides old Flush reply new maps = (must_refuse old.state (ToCall Flush) ≡ None) × (reply ≡ Number old.flush_number) × (new ≡ old.state) × (maps ≡ [])
+WholeDecides old (PopMin tree) reply new maps = Pops IsLeast old.state (PopMin tree) tree reply new maps
+WholeDecides old (PopMax tree) reply new maps = Pops IsGreatest old.state (PopMax tree) tree reply new maps
+WholeDecides old (Clear tree) reply new maps = (reply ≡ Done) × Clears old.state tree new maps
 
--- a whole call is refused, and nothing changes
+-- a whole call is refused, and nothing changes, but for the parts that a call in parts has done
 abbrev pub WholeRefuses : State → Store → Store → Whole → Error → State → List Maps → Type 0
-WholeRefuses old a b Flush e new maps = MayRefuse old a b (ToCall Flush) e × (new ≡ old) × (maps ≡ [])
+WholeRefuses old a b (Clear tree) e new maps = StopsClearing old a b tree e new maps
+WholeRefuses old a b whole e new maps = MayRefuse old a b (ToCall whole) e × (new ≡ old) × (maps ≡ [])
 
 -- One step: what was done, how it came out, the state after it, and the maps that it added: those after each call that
 -- it decided, in order. What no case names stays as it was, and no other case exists

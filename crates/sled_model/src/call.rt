@@ -5,6 +5,7 @@ ghost use Rattle.sled_model.specs.Answer.{key_of};
 ghost use Rattle.sled_model.specs.declared.call.Call.TheVariants.{Insert, CompareAndSwap};
 
 use crate::reply::clone_value;
+use crate::tree::Tree;
 use sled_pages::{IVec, Result};
 
 /// A call on one key of a tree. It takes effect at one step, its deciding step.
@@ -25,6 +26,12 @@ pub enum Call {
 pub enum Whole {
     /// Makes all that was decided durable. Replies with the store's number.
     Flush,
+    /// Takes the pair with the least key out of a tree, and replies with it, if there is one.
+    PopMin(Tree),
+    /// Takes the pair with the greatest key out of a tree, and replies with it, if there is one.
+    PopMax(Tree),
+    /// Takes all keys out of a tree, one after the other from the least up. Refused midway, those that are out stay out.
+    Clear(Tree),
 }
 
 impl Call {
@@ -100,6 +107,9 @@ impl Whole {
     {
         match self {
             Whole::Flush => Ok(Whole::Flush),
+            Whole::PopMin(tree) => Ok(Whole::PopMin(tree.clone()?)),
+            Whole::PopMax(tree) => Ok(Whole::PopMax(tree.clone()?)),
+            Whole::Clear(tree) => Ok(Whole::Clear(tree.clone()?)),
         }
     }
 }

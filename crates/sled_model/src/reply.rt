@@ -42,6 +42,10 @@ pub enum Reply {
     Swapped(std::result::Result<(), CompareAndSwapError>),
     /// A number, as of a flush.
     Number(u64),
+    /// The call has done what it was to do, and has nothing to tell.
+    Done,
+    /// The pair that was taken out, if there was one.
+    Pair(Option<(IVec, IVec)>),
 }
 
 // The same value, if there is one.

@@ -1,0 +1,67 @@
+-- What whole calls on one tree make of the state.
+use Rattle.std.specs.Prelude.{◌≡◌, ℕ, zero, suc, List, [], ◌∷◌, Option, Some, None}
+use Rattle.sled_pages.specs.Order.{Key}
+use Rattle.sled_pages.specs.Store.{Store}
+use Rattle.sled_pages.specs.declared.error.Error.{Error}
+use Rattle.sled_model.specs.Maps.{Map, Maps, IsLeast}
+use Rattle.sled_model.specs.Answer.{answer_of}
+use Rattle.sled_model.specs.State.{State, NamedTree, maps_of, decided_on}
+use Rattle.sled_model.specs.Refusal.{ToPoint, ToCall, must_refuse, MayRefuse}
+use Rattle.sled_model.specs.declared.call.Call.{Call}
+use Rattle.sled_model.specs.declared.call.Call.TheVariants.{Remove}
+use Rattle.sled_model.specs.declared.call.Whole.{Whole}
+use Rattle.sled_model.specs.declared.call.Whole.TheVariants.{Clear}
+use Rattle.sled_model.specs.declared.tree.Tree.{Tree}
+use Rattle.sled_model.specs.declared.reply.Reply.{Reply}
+use Rattle.sled_model.specs.declared.reply.Reply.TheVariants.{Pair}
+
+-- A call on a tree, made at once and in no slot, replies, changes the tree's map and fills the queues by the answer on the map now
+pub record DecidesPoint (old : State) (tree : Tree) (call : Call) (reply : Reply) (new : State) : Type 0 where
+  pub free : must_refuse old (ToPoint tree call) ≡ None
+  pub named : NamedTree
+  pub there : old.trees tree.name ≡ Some named
+  pub replies : reply ≡ (answer_of call named.map).reply
+  pub is : new ≡ decided_on old tree.name named (answer_of call named.map)
+
+-- it is refused, with its cause, and nothing changes
+pub record RefusesPoint (old : State) (a b : Store) (tree : Tree) (call : Call) (e : Error) (new : State) : Type 0 where
+  pub may : MayRefuse old a b (ToPoint tree call) e
+  pub is : new ≡ old
+
+-- the state after this pair of the tree was taken out, if there is one
+abbrev pub popped : State → Key → NamedTree → Option (Key × Key) → State
+popped s name t None = s
+popped s name t (Some pair) = decided_on s name t (answer_of (Remove pair.0) t.map)
+
+-- a pop takes out the pair at one end, with its event, and replies with it
+pub record Pops (is_end : Map → Option (Key × Key) → Type 0) (old : State) (whole : Whole) (tree : Tree) (reply : Reply) (new : State) (maps : List Maps) : Type 0 where
+  pub free : must_refuse old (ToCall whole) ≡ None
+  pub named : NamedTree
+  pub there : old.trees tree.name ≡ Some named
+  pub found : Option (Key × Key)
+  pub ends : is_end named.map found
+  pub replies : reply ≡ Pair found
+  pub is : new ≡ popped old tree.name named found
+  pub added : maps ≡ maps_of new ∷ []
+
+-- So many keys of a tree were removed, each the least of those that were left, each with its event, and these are the maps after each
+pub data RemovesLeast (tree : Tree) : State → ℕ → State → List Maps → Type 0 where
+  RemovesNone : {s : State} → RemovesLeast tree s zero s []
+  RemovesOne : {a b : State} {n : ℕ} {maps : List Maps} (named : NamedTree) (pair : Key × Key) (rest : Map) → a.trees tree.name ≡ Some named → named.map ≡ pair ∷ rest
+      → RemovesLeast tree (decided_on a tree.name named (answer_of (Remove pair.0) named.map)) n b maps
+      → RemovesLeast tree a (suc n) b (maps_of (decided_on a tree.name named (answer_of (Remove pair.0) named.map)) ∷ maps)
+
+-- a clear removes all keys of a tree, from the least up
+pub record Clears (old : State) (tree : Tree) (new : State) (maps : List Maps) : Type 0 where
+  pub free : must_refuse old (ToCall (Clear tree)) ≡ None
+  pub parts : ℕ
+  pub removes : RemovesLeast tree old parts new maps
+  pub named : NamedTree
+  pub there : new.trees tree.name ≡ Some named
+  pub none : named.map ≡ []
+
+-- refused midway, it has removed the first ones, and the next part was refused
+pub record StopsClearing (old : State) (a b : Store) (tree : Tree) (e : Error) (new : State) (maps : List Maps) : Type 0 where
+  pub parts : ℕ
+  pub removes : RemovesLeast tree old parts new maps
+  pub may : MayRefuse new a b (ToCall (Clear tree)) e
