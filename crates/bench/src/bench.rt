@@ -1,10 +1,11 @@
 //! The workloads.
 use crate::pairs::{Pairs, digest};
-use sled::Db;
+use sled::{Db, Iter};
 use sled_lines::input::Stopped;
 use sled_machine::Machine;
 use sled_model::{Call, MergeOperator, Outcome, Reply, Slot, Tree, Whole};
 use sled_pages::MemPages;
+use std::ops::Bound;
 
 type Result<T> = std::result::Result<T, Stopped>;
 
@@ -22,16 +23,28 @@ pub enum Workload {
     Removals,
     /// Gets of pairs that were loaded, which all begin before the first of them is ended.
     Slots,
+    /// Direct reads of pairs that were loaded.
+    Reads,
+    /// All pairs, from the least key up, by an iterator.
+    Scan,
+    /// Ranges of a hundred pairs, each from a key that was loaded on.
+    Ranges,
 }
 
-const WORKLOADS: [(&str, Workload); 6] = [
+const WORKLOADS: [(&str, Workload); 9] = [
     ("load", Workload::Load),
     ("gets", Workload::Gets),
     ("inserts", Workload::Inserts),
     ("mix", Workload::Mix),
     ("removals", Workload::Removals),
     ("slots", Workload::Slots),
+    ("reads", Workload::Reads),
+    ("scan", Workload::Scan),
+    ("ranges", Workload::Ranges),
 ];
+
+// How many pairs a range has at most.
+const RANGE: usize = 100;
 
 /// The workload of a name.
 pub fn named(name: &str) -> Result<Workload> {
@@ -81,8 +94,10 @@ impl<M: MergeOperator> Bench<M> {
             Workload::Load => self.pairs.count(),
             _ => self.calls,
         };
-        if let Workload::Slots = workload {
-            return Ok((calls, self.slots()?));
+        match workload {
+            Workload::Slots => return Ok((calls, self.slots()?)),
+            Workload::Scan => return self.scan(),
+            _ => {}
         }
         let mut sum = 0u64;
         for turn in 0..calls {
@@ -100,7 +115,9 @@ impl<M: MergeOperator> Bench<M> {
             Workload::Inserts => self.insert(new, turn),
             Workload::Removals => self.remove(turn),
             Workload::Mix => self.mixed(turn),
-            Workload::Gets | Workload::Slots => self.get(loaded),
+            Workload::Reads => self.read(loaded),
+            Workload::Ranges => self.range(loaded),
+            Workload::Gets | Workload::Slots | Workload::Scan => self.get(loaded),
         }
     }
 
@@ -146,6 +163,29 @@ impl<M: MergeOperator> Bench<M> {
         let digest = self.call(Call::Remove(key))?;
         self.changed()?;
         Ok(digest)
+    }
+
+    // A direct read of the value at a key.
+    fn read(&self, place: u64) -> Result<u64> {
+        let key = self.pairs.key(place)?;
+        let value = self.machine.db().get(&self.tree, key.as_ref())?;
+        drop(key);
+        Ok(digest(&value))
+    }
+
+    // The first pairs from a key on, by an iterator.
+    fn range(&self, place: u64) -> Result<u64> {
+        let key = self.pairs.key(place)?;
+        let lo = Bound::Included(key.as_ref());
+        let pairs = self.machine.db().range(&self.tree, lo, Bound::Unbounded)?;
+        let (_, sum) = taken(pairs, RANGE)?;
+        Ok(sum)
+    }
+
+    // All pairs, by an iterator: how many there are, and a checksum of them.
+    fn scan(&self) -> Result<(u64, u64)> {
+        let pairs = self.machine.db().iter(&self.tree)?;
+        taken(pairs, usize::MAX)
     }
 
     // Counts a change, and flushes where it is time.
@@ -199,6 +239,18 @@ impl<M: MergeOperator> Bench<M> {
         self.begin_all(&mut slots)?;
         self.end_all(slots.as_slice())
     }
+}
+
+// Takes so many pairs at most: how many there were, and a checksum of them.
+fn taken(pairs: Iter<'_, MemPages>, most: usize) -> Result<(u64, u64)> {
+    let mut count = 0u64;
+    let mut sum = 0u64;
+    for pair in pairs.take(most) {
+        let (key, value) = pair?;
+        count = count.wrapping_add(1);
+        sum = sum.rotate_left(1) ^ digest(&Some(key)).wrapping_add(digest(&Some(value)));
+    }
+    Ok((count, sum))
 }
 
 // What stands for an answer in a checksum.

@@ -1,12 +1,12 @@
 -- What the steps of a call in flight do to the maps.
-use Rattle.std.proofs.Common.{◌≡◌, ◌≢◌, ℕ, zero, suc, ◌+◌, Bool, true, false, cond, nat_eq, List, Option, Some, None, option_map, map, sym, refl, ap, ◌∙◌, subst, inl, inr, ◌⊎◌, arith}
+use Rattle.std.proofs.Common.{◌≡◌, ◌≢◌, ℕ, zero, suc, ◌+◌, Bool, true, false, cond, nat_eq, List, [], ◌∷◌, Option, Some, None, option_map, map, sym, refl, ap, ◌∙◌, subst, inl, inr, ◌⊎◌, arith}
 use Rattle.std.proofs.Math.Path.{fun_ext}
 use Rattle.std.proofs.lemmas.Bool.{eq-eqb, eqb-true}
 use Rattle.std.specs.Str.{bytes_eq}
 use Rattle.sled_pages.specs.Order.{Key}
 use Rattle.sled_pages.specs.Update.{put_at, put_name}
 use Rattle.sled_pages.specs.Facts.{same_name, put_here, put_elsewhere, put_name_here, put_name_elsewhere}
-use Rattle.sled_pages.specs.Store.{Store}
+use Rattle.sled_pages.specs.Store.{Store, now}
 use Rattle.sled_pages.specs.Crash.{states_left}
 use Rattle.tree_laws.specs.Contents.{trees_of}
 use Rattle.tree_laws.proofs.Crashing.{matches_same}
@@ -26,9 +26,13 @@ use Rattle.sled_model.specs.declared.outcome.Step.TheVariants as step
 use Rattle.sled.specs.Values.{db_state}
 use Rattle.sled_machine.specs.Values.{MachineValue, instant_of, slots_of}
 use Rattle.sled_machine.specs.Step.{MachineStep, Reaches}
-use Rattle.sled_machine.specs.Finish.{Finishes, steps_of, outcomes_of}
+use Rattle.sled_machine.specs.Finish.{Finishes, IsPrompt, steps_of, outcomes_of}
+use Rattle.sled.specs.Opens.{IsOnePage}
+use Rattle.tree_laws.specs.Paths.{IsClean}
+use Rattle.sled_model.specs.Refusal.{TellsTurns}
+use Rattle.sled_pages.specs.declared.error.Error.{Error}
 use Rattle.sled_machine.proofs.Runs.{model_run}
-use Rattle.examples.specs.Reads.{ReadsAs, PutsOne, found_in, maps_now, later}
+use Rattle.examples.specs.Reads.{ReadsAs, HasTurns, PutsOne, found_in, maps_now, later}
 use Rattle.examples.proofs.Keys.{insert_here, insert_there}
 
 none_some : {P A : Type 0} {a : A} → None ≡ Some a → P
@@ -272,3 +276,25 @@ module _ {P M : Type 0} (store : P → Store) (number : P → ℕ) (meant : M �
       go (outcome.Refused e) t = same t
       go outcome.Abandoned t = same t
       go outcome.NoSuchSlot t = same t
+
+  -- a get of a tree that is one page
+  pub got_promptly : (old begun_now new : MachineValue P M) (slot : ℕ) (tree : Tree) (key : Key) (o : Outcome)
+      → Reaches store number meant old (step.Begin tree (Get key)) (outcome.Begun slot) begun_now → Finishes store number meant begun_now slot o new → IsOnePage (now (store old.db.pages)) tree.name → HasTurns o
+  got_promptly old begun_now new slot tree key o b f one = go o prompt.unlimited
+    where
+      here : slots_at begun_now slot ≡ Some (begun tree (Get key))
+      here = ap (λ (z : State). z.slots slot) b.step.step.told.0.is ∙ put_here (slots_at old) slot (Some (begun tree (Get key)))
+
+      clean : IsClean (now (store begun_now.db.pages)) tree.name key (one.0 ∷ [])
+      clean = subst (λ (s : Store). IsClean (now s) tree.name key (one.0 ∷ [])) (sym b.does.told) (one.1 key)
+
+      prompt : IsPrompt f.moves o (one.0 ∷ [])
+      prompt = f.passes (begun tree (Get key)) (one.0 ∷ []) here refl clean (omega arith)
+
+      go : (o : Outcome) → ((e : Error) → o ≡ outcome.Refused e → TellsTurns e → ⊥) → HasTurns o
+      go (outcome.Refused e) u = u e refl
+      go (outcome.Decided reply) u = tt
+      go (outcome.Begun i) u = tt
+      go outcome.Moved u = tt
+      go outcome.Abandoned u = tt
+      go outcome.NoSuchSlot u = tt

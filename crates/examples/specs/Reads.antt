@@ -7,13 +7,19 @@ use Rattle.sled_model.specs.Maps.{Map, Maps, Merge}
 use Rattle.sled_model.specs.State.{maps_of}
 use Rattle.sled_model.specs.declared.reply.Reply.TheVariants.{Value}
 use Rattle.sled_model.specs.declared.outcome.Outcome.{Outcome}
-use Rattle.sled_model.specs.declared.outcome.Outcome.TheVariants.{Decided}
+use Rattle.sled_model.specs.declared.outcome.Outcome.TheVariants.{Decided, Refused}
+use Rattle.sled_model.specs.Refusal.{TellsTurns}
 use Rattle.sled.specs.Values.{DbValue, db_state}
 
 -- a call that was decided replied with this value
 abbrev pub ReadsAs : Option Key → Outcome → Type 0
 ReadsAs value (Decided reply) = reply ≡ Value value
 ReadsAs value o = Unit {0}
+
+-- the call was not refused for its turns
+abbrev pub HasTurns : Outcome → Type 0
+HasTurns (Refused e) = TellsTurns e → ⊥
+HasTurns o = Unit {0}
 
 -- which of two calls was decided last, after one more step of the one or the other
 abbrev pub later : Outcome → Bool → Option Bool → Option Bool

@@ -7,7 +7,8 @@ ghost use Rattle.tree_laws.specs.Contents.{trees_of};
 ghost use Rattle.tree_laws.specs.Crashes.{IsWhole};
 ghost use Rattle.sled_model.specs.declared.call.Call.TheVariants as call;
 ghost use Rattle.sled.specs.Values.{default_name};
-ghost use Rattle.examples.specs.Reads.{ReadsAs, PutsOne, maps_now, later, found_in};
+ghost use Rattle.sled.specs.Opens.{IsOnePage};
+ghost use Rattle.examples.specs.Reads.{ReadsAs, HasTurns, PutsOne, maps_now, later, found_in};
 
 use sled::{Db, crash_pages, empty_pages};
 use sled_machine::Machine;
@@ -109,7 +110,7 @@ pub fn race<P: Pages, M: MergeOperator>(
     Ok(last)
 }
 
-/// Gets a key of a tree: how the get came out.
+/// Gets a key of a tree: how the get came out. It has turns enough where the tree is one page.
 pub fn get<P: Pages, M: MergeOperator>(
     machine: &mut Machine<P, M>,
     tree: &Tree,
@@ -117,6 +118,7 @@ pub fn get<P: Pages, M: MergeOperator>(
 ) -> Result<Outcome>
     ensures reads { IfOk result (ReadsAs (found_in (maps_now P.store M.meant machine.old.db tree.now.name) key.now)) }
     ensures same { IfOk result (λ _. maps_now P.store M.meant machine.new.db ≡ maps_now P.store M.meant machine.old.db) }
+    ensures prompt { IfOk result (λ got. IsOnePage (now (P.store machine.old.db.pages)) tree.now.name → HasTurns got) }
 {
     let slot = machine.begin(tree, Call::Get(key.clone()?))?;
     Ok(machine.finish(slot))
@@ -127,10 +129,28 @@ fn get_in_default<P: Pages, M: MergeOperator>(
     machine: &mut Machine<P, M>,
     key: &IVec,
 ) -> Result<Outcome>
-    ensures { IfOk result (ReadsAs (found_in (maps_now P.store M.meant machine.old.db default_name) key.now)) }
+    ensures reads { IfOk result (ReadsAs (found_in (maps_now P.store M.meant machine.old.db default_name) key.now)) }
+    ensures prompt { IfOk result (λ got. IsOnePage (now (P.store machine.old.db.pages)) default_name → HasTurns got) }
 {
     let tree = machine.db().default_tree()?;
     get(machine, &tree, key)
+}
+
+/// Gets a key of a new database of this name over an empty store in memory. Its default tree is one page, so the get has turns
+/// enough.
+pub fn get_in_new(alloc: Global, name: &[u8], key: &IVec) -> Result<Outcome>
+    ensures { IfOk result HasTurns }
+{
+    let mut machine = match Db::open(alloc, empty_pages(alloc), name) {
+        Ok(db) => Machine::new(db),
+        Err((pages, e)) => {
+            drop(pages);
+            return Err(e);
+        }
+    };
+    let got = get_in_default(&mut machine, key);
+    drop(machine);
+    got
 }
 
 /// Ends a machine, opens its pages again under a name, and ends that database too: the pages. The calls in flight are given

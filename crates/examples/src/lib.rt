@@ -6,6 +6,6 @@ mod callers;
 mod recovery;
 
 pub use callers::{
-    crash, get, insert_then_get, insert_then_get_in_new, race, reopen, reopen_then_get,
+    crash, get, get_in_new, insert_then_get, insert_then_get_in_new, race, reopen, reopen_then_get,
 };
 pub use recovery::survive;

@@ -6,7 +6,8 @@ use Rattle.std.specs.Ordering.{eq_by_cmp}
 use Rattle.std.specs.declared.cmp.Ordering.{Ordering}
 use Rattle.std.proofs.lemmas.Bool.Decides.{nat_tests}
 use Rattle.std.specs.Str.{bytes_eq}
-use Rattle.sled_pages.specs.Order.{Key, key_cmp}
+use Rattle.sled_pages.specs.Order.{Key, key_cmp, UpTo}
+use Rattle.sled_pages.specs.Node.{count}
 use Rattle.sled_pages.specs.Facts.{same_name, put_elsewhere, put_here, now_allocates, now_acted, fresh_page}
 use Rattle.sled_pages.specs.Crash.{states_left}
 use Rattle.sled_pages.specs.State.{State, RootBecomes, PageBecomes, nodes_of, after}
@@ -31,7 +32,8 @@ use Rattle.tree_laws.proofs.Fuel.{contents_law}
 use Rattle.sled.specs.declared.TheConstants.{DEFAULT_TREE}
 use Rattle.sled.specs.Values.{DbValue, default_name, numbers_of, given_to, moment_of_db}
 use Rattle.sled.specs.Sound.{IsDb}
-use Rattle.sled.specs.Opens.{or_empty, with_tree, planted, numbered, CanBeOpened, RefusesTree, HasTree, AreNumbered, Opens}
+use Rattle.sled.specs.Opens.{or_empty, with_tree, planted, numbered, IsOnePage, CanBeOpened, RefusesTree, HasTree, AreNumbered, Opens}
+use Rattle.tree_laws.specs.Paths.{IsClean}
 
 none_some : {P X : Type 0} {x : X} → None ≡ Some x → P
 none_some e = cc
@@ -41,6 +43,27 @@ some_is e = cc
 
 false_true : {P : Type 0} → false ≡ true → P
 false_true e = cc
+
+-- no key is below the empty one
+up_to_all : (key : Key) → UpTo [] key
+unfolding key_cmp
+up_to_all [] = refl
+up_to_all (b ∷ bs) = refl
+
+-- a root that is a leaf, open and not long, is a clean path of every key
+leaf_is_clean : (s : State) (name : Key) (p : ℕ) (n : Node) (es : List (Key × Key)) → s.roots name ≡ Some p → nodes_of s p ≡ Some n → n.lo ≡ [] → n.hi ≡ [] → n.merging ≡ false → n.merging_child ≡ None → n.content ≡ kind.Leaf es → length es ≤ 16
+    → (key : Key) → IsClean s name key (p ∷ [])
+leaf_is_clean s name p n es root live lo hi awake free leaf few key = record {
+  root = p;
+  is_root = root;
+  clean = (refl, n, record {
+    live = live;
+    covers = (subst (λ l. UpTo l key) (sym lo) (up_to_all key), inl hi);
+    is_open = record { awake = awake; free = free };
+    few = subst (λ c. count c ≤ 16) (sym leaf) few;
+    many = λ m. refl;
+  }, inl (es, leaf, refl));
+}
 
 -- a new page without a home
 
@@ -175,6 +198,7 @@ module _ (name : Key) where
               actions = more (length (planted name (trees_of (now a)))) (ap length none);
             };
             maps = sym (with_present (trees_of (now a)) _ m);
+            fresh = λ absent. none_some (sym absent ∙ m);
             faults = refl;
             again = again_same a well calm;
           }
@@ -254,6 +278,7 @@ module _ (name : Key) where
         record {
           grows = record { extends = all; actions = count };
           maps = maps;
+          fresh = λ absent. (pid, λ key. leaf_is_clean (now c) name pid node [] (ap (λ (s : State). s.roots name) at ∙ ap (λ (is_it : Bool). cond is_it (Some pid) ((now b).roots name)) (Rattle.sled_pages.specs.Facts.name_itself name)) (ap (λ (s : State). nodes_of s pid) at ∙ alone.live) alone.lo alone.hi alone.merging alone.merging_child alone.content (omega arith) key);
           faults = ap (λ (s : Store). s.faults) e ∙ made_faults;
           again = record {
             grows = inr (all, maps);
@@ -416,6 +441,7 @@ opens store a s called d h all e given ids operators queues subscribers name = r
   flushes = subst (λ (z : Store). Flushes s z) (sym e) (flushes_same s);
   left = subst (λ (z : Store). states_left z ≡ now z ∷ []) (sym e) (flushes_left (flushes_same s) h.again.calm);
   maps = ap (λ (z : Store). trees_of (now z)) e ∙ h.maps;
+  fresh = λ none. subst (λ (z : Store). IsOnePage (now z) default_name) (sym e) (h.fresh none);
   names = names_in all.roots;
   numbers = all.is;
   ascends = ascends s all;

@@ -11,6 +11,7 @@ use Rattle.sled_pages.specs.declared.error.Error.{Error}
 use Rattle.sled_model.specs.Maps.{Map, Maps}
 use Rattle.tree_laws.specs.Contents.{trees_of}
 use Rattle.tree_laws.specs.Crashes.{IsWhole, Extends, Flushes}
+use Rattle.tree_laws.specs.Paths.{IsClean}
 use Rattle.sled.specs.Values.{DbValue, default_name, numbers_of}
 
 abbrev pub or_empty : Option Map → Option Map
@@ -63,10 +64,15 @@ pub record RefusesTree (name : Key) (old : Store) (e : Error) (new : Store) : Ty
 abbrev pub RefusesOpen : Store → Error → Store → Type 0
 RefusesOpen = RefusesTree default_name
 
+-- the tree is one page, and nothing is to be repaired on the way to any key
+abbrev pub IsOnePage : State → Key → Type 0
+IsOnePage s name = (page : ℕ) × ((key : Key) → IsClean s name key (page ∷ []))
+
 -- there is a tree of this name now, and no fault was met
 pub record HasTree (name : Key) (old new : Store) : Type 0 where
   pub grows : GrowsByTree name old new
   pub maps : trees_of (now new) ≡ with_tree name (trees_of (now old))
+  pub fresh : trees_of (now old) name ≡ None → IsOnePage (now new) name
   pub faults : new.faults ≡ old.faults
   pub again : CanBeOpened name old new
 
@@ -86,6 +92,8 @@ pub record Opens {P M : Type 0} (store : P → Store) (before : Store) (called :
   pub left : states_left (store d.pages) ≡ now (store d.pages) ∷ []
   -- every tree has its map of before
   pub maps : trees_of (now (store d.pages)) ≡ with_default (trees_of (now before))
+  -- a default tree that was made is one page
+  pub fresh : trees_of (now before) default_name ≡ None → IsOnePage (now (store d.pages)) default_name
   -- the trees are numbered from 1 in the order of their names
   pub names : List Key
   pub numbers : d.trees ≡ numbered 0 names

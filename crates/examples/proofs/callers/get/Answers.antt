@@ -1,6 +1,6 @@
 use Rattle.std.proofs.Common.{subst}
 use Rattle.examples.specs.Reads.{ReadsAs, found_in, maps_now}
-use Rattle.examples.proofs.Calls.{got}
+use Rattle.examples.proofs.Calls.{got, got_promptly}
 use Rattle.examples.proofs.callers.get.Goals as goal
 
 pub returns-clause-reads : goal.returns-clause-reads
@@ -10,3 +10,6 @@ returns-clause-reads g c =
 
 pub returns-clause-same : goal.returns-clause-same
 returns-clause-same g c = (got g.P.Pages.store g.P.Pages.flush_number g.M.MergeOperator.meant _ _ _ _ _ _ _ c.in_ok-slot.ensures.ok c.finish.ensures).1
+
+pub returns-clause-prompt : goal.returns-clause-prompt
+returns-clause-prompt g c = got_promptly g.P.Pages.store g.P.Pages.flush_number g.M.MergeOperator.meant _ _ _ _ _ _ _ c.in_ok-slot.ensures.ok c.finish.ensures
