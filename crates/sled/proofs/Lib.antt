@@ -7,3 +7,4 @@ pub mod Flushing
 pub mod Opening
 pub mod Reopening
 pub mod Reading
+pub mod Scanning
