@@ -407,6 +407,12 @@ def is_up_to(hi, key):
     return hi is None or key < hi[1] or hi == (True, key)
 
 
+def above(prefix):
+    """The upper bound of the keys that begin with a prefix."""
+    left = prefix.rstrip(b'\xff')
+    return (False, left[:-1] + bytes([left[-1] + 1])) if left else None
+
+
 def look(store, target):
     """The leaf in which a key just within an upper bound lies. It goes right, or down by the last pointer within the bound, but
     to no merging child."""
@@ -474,12 +480,12 @@ FORMS = """insert K V; get K; remove K; cas K OLD NEW; begin insert K V; begin g
 step N; finish N; abandon N; turns N; flush; crash N; dump; new; new refuse N ..; reopen; reopen refuse N ..
 reopen unreadable PID ..; reopen mark N; recover; recover refuse N ..; recovered; pages; crowd SEED CALLS; run STEP, ..
 reads; load N MOST ALL; find N PAGES; overtake N COUNT; handle DATABASE NAME N; help; quit
-has K; read K; lt K; gt K; first; last; len; empty; range LO HI; range-back LO HI; range-ends LO HI
+has K; read K; lt K; gt K; first; last; len; empty; range LO HI; range-back LO HI; range-ends LO HI; prefix P; prefix-back P
 keys LO HI; keys-back LO HI; values LO HI; values-back LO HI"""
 FORMS = [form.split(' ') for form in re.split('; |\n', FORMS)]
 POINT = ('insert', 'get', 'remove', 'cas')
-LOOKS = ('has', 'read', 'lt', 'gt', 'first', 'last', 'len', 'empty', 'range', 'keys', 'values')
-READERS = {'K': value_of, 'V': value_of, 'DATABASE': value_of, 'NAME': value_of, 'OLD': optional, 'NEW': optional, 'LO': bound_of, 'HI': bound_of}
+LOOKS = ('has', 'read', 'lt', 'gt', 'first', 'last', 'len', 'empty', 'range', 'prefix', 'keys', 'values')
+READERS = {'K': value_of, 'V': value_of, 'P': value_of, 'DATABASE': value_of, 'NAME': value_of, 'OLD': optional, 'NEW': optional, 'LO': bound_of, 'HI': bound_of}
 
 
 def fit(form, words):
@@ -643,7 +649,8 @@ class Shell:
                 count += len(leaf.entries)
             return [f'number {count}']
         what, _, way = name.partition('-')
-        pairs, printed = Range(store, *words), []
+        bounds = ((True, words[0]), above(words[0])) if what == 'prefix' else words
+        pairs, printed = Range(store, *bounds), []
         try:
             while (pair := pairs.take(way == 'back' or way == 'ends' and len(printed) % 2 == 1)) is not None:
                 shown = {'keys': pair[:1], 'values': pair[1:]}.get(what, pair)

@@ -64,9 +64,12 @@ class Plain:
         """What a read prints that takes no slot."""
         pairs = sorted(self.pairs.items())
         what, _, way = name.partition('-')
-        if what in ('range', 'keys', 'values'):
-            lo, hi = words
-            pairs = [p for p in pairs if is_from(lo, p[0]) and is_up_to(hi, p[0])]
+        if what in ('range', 'prefix', 'keys', 'values'):
+            if what == 'prefix':
+                pairs = [p for p in pairs if p[0].startswith(words[0])]
+            else:
+                lo, hi = words
+                pairs = [p for p in pairs if is_from(lo, p[0]) and is_up_to(hi, p[0])]
             if way == 'back':
                 pairs = pairs[::-1]
             if way == 'ends':

@@ -1,6 +1,8 @@
 -- What reads answer, and why they are refused.
-use Rattle.std.specs.Prelude.{◌≡◌, ℕ, ◌<◌, ◌≤◌, true, false, List, [], ◌∷◌, Option, Some, None, length}
+use Rattle.std.specs.Prelude.{◌≡◌, ℕ, ◌<◌, ◌≤◌, false, List, [], ◌∷◌, Option, Some, None, length}
+use Rattle.std.specs.List.{AllByRecursion}
 use Rattle.std.specs.declared.ops.Bound.{Bound}
+use Rattle.std.specs.declared.ops.Bound.TheVariants.{Included}
 use Rattle.sled_pages.specs.Order.{Key}
 use Rattle.sled_pages.specs.Store.{Store, now}
 use Rattle.sled_pages.specs.declared.error.Error.{Error}
@@ -11,6 +13,7 @@ use Rattle.sled_model.specs.Refusal.{MustRefuse, must_refuse_of, tells}
 use Rattle.sled_model.specs.declared.tree.Tree.{Tree}
 use Rattle.tree_laws.specs.Paths.{IsClean, tree_pages}
 use Rattle.tree_reads.specs.Ranges.{Coming, pairs_within, is_reversed}
+use Rattle.tree_reads.specs.Prefixes.{IsBytes, raised, pairs_beginning}
 use Rattle.tree_reads.specs.declared.TheConstants.{MOST_PAGES}
 use Rattle.sled.specs.Values.{DbValue, db_state}
 
@@ -27,6 +30,14 @@ module _ {P M : Type 0} (store : P → Store) (meant : M → Merge) (d : DbValue
     pub over : pairs.pages ≡ d.pages
     pub all : ReadsMap (λ map. pairs.pairs ≡ pairs_within lo hi map)
     pub ended : pairs.ended ≡ is_reversed lo hi
+
+  -- The iterator begins with the pairs of the tree's map from a prefix on and below what it is raised to, over the pages as they are.
+  -- Where the keys of these are byte strings, as all keys are that it can give, they are the pairs whose keys begin with the prefix
+  pub record BeginsWith (prefix : Key) (pairs : Coming P) : Type 0 where
+    pub over : pairs.pages ≡ d.pages
+    pub all : ReadsMap (λ map. pairs.pairs ≡ pairs_within (Included prefix) (raised prefix) map)
+    pub beginning : AllByRecursion (λ e. IsBytes e.0) pairs.pairs → ReadsMap (λ map. pairs.pairs ≡ pairs_beginning prefix map)
+    pub ended : pairs.ended ≡ false
 
   -- want of memory, a page that is not readable, or as many pages looked at as may be: the tree has so many that this function of
   -- their number comes to the limit

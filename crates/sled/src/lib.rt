@@ -28,7 +28,7 @@ pub use sled_pages::{
     Version, View,
 };
 pub use sled_tree::{Flight, Job, Stage, Went};
-pub use tree_reads::{Iter, Keys, Values};
+pub use tree_reads::{Iter, Keys, Values, law_bytes, law_prefix};
 
 /// The name of the default tree, which every database has.
 pub const DEFAULT_TREE: &str = "__sled__default";

@@ -10,14 +10,14 @@ ghost use Rattle.sled_model.specs.Refusal.{must_refuse_of};
 ghost use Rattle.tree_reads.specs.Walk.{once, for_each};
 ghost use Rattle.tree_reads.specs.Ranges.{IsRoot};
 ghost use Rattle.sled.specs.Calls.{MustBeRefused};
-ghost use Rattle.sled.specs.Reads.{ReadsMap, Begins, RefusesReading, RefusesRange, GivesUpGet};
+ghost use Rattle.sled.specs.Reads.{ReadsMap, Begins, BeginsWith, RefusesReading, RefusesRange, GivesUpGet};
 
 use crate::db::Db;
 use sled_model::{MergeOperator, Tree};
 use sled_pages::{Error, IVec, Pages, Pid, Result};
 use std::alloc::Global;
 use std::ops::Bound;
-use tree_reads::{Iter, count_pairs, first_from, last_up_to, pairs_of, value_at};
+use tree_reads::{Iter, above_prefix, count_pairs, first_from, last_up_to, pairs_of, value_at};
 
 // A bound of one's own. Refused with `NoMemory` alone.
 fn owned(alloc: Global, bound: Bound<&[u8]>) -> Result<Bound<IVec>>
@@ -206,6 +206,32 @@ impl<P: Pages, M: MergeOperator> Db<P, M> {
             Err(e) => return Err(e),
         };
         let hi = match owned(self.alloc, hi) {
+            Ok(hi) => hi,
+            Err(e) => {
+                drop(lo);
+                return Err(e);
+            }
+        };
+        Ok(pairs_of(self.alloc, &self.pages, root, lo, hi))
+    }
+
+    /// The pairs whose keys begin with a prefix, from both ends. It reads no page; the iterator does.
+    ///
+    /// They lie from the prefix on and below the prefix without its last bytes 255 and with the last byte that is left raised by
+    /// one; where nothing is left they have no upper bound.
+    pub fn scan_prefix(&self, tree: &Tree, prefix: &[u8]) -> Result<Iter<'_, P>>
+        ensures ok { IfOk result (BeginsWith P.store M.meant self.now tree.now prefix.now) }
+        ensures err { IfErr result (RefusesRange P.store M.meant self.now tree.now) }
+    {
+        let root = match self.root_of(tree) {
+            Ok(root) => root,
+            Err(e) => return Err(e),
+        };
+        let lo = match IVec::from_slice(self.alloc, prefix) {
+            Ok(lo) => Bound::Included(lo),
+            Err(e) => return Err(e),
+        };
+        let hi = match above_prefix(self.alloc, prefix) {
             Ok(hi) => hi,
             Err(e) => {
                 drop(lo);

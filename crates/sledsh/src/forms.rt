@@ -41,9 +41,9 @@ pub enum Verb {
 // A command's own words, what it takes, and what it does.
 type Form = (&'static str, &'static str, Verb, &'static str);
 
-// What a command takes has words of its own: K, V, OLD, NEW, DATABASE and NAME are byte strings, LO and HI bounds, STEP a step of a
+// What a command takes has words of its own: K, V, P, OLD, NEW, DATABASE and NAME are byte strings, LO and HI bounds, STEP a step of a
 // call in flight, and the others numbers; `..` stands for more of the word before it.
-const FORMS: [Form; 49] = [
+const FORMS: [Form; 51] = [
     (
         "insert",
         "K V",
@@ -268,6 +268,18 @@ const FORMS: [Form; 49] = [
         "prints them from both ends in turn",
     ),
     (
+        "prefix",
+        "P",
+        Verb::Look(Look::Prefix(Side::Front)),
+        "prints the pairs whose keys begin with P",
+    ),
+    (
+        "prefix-back",
+        "P",
+        Verb::Look(Look::Prefix(Side::Back)),
+        "prints them from the back",
+    ),
+    (
         "keys",
         "LO HI",
         Verb::Look(Look::Keys(Side::Front)),
@@ -439,9 +451,10 @@ enum Kind {
     Number,
 }
 
-const KINDS: [(&str, Kind); 8] = [
+const KINDS: [(&str, Kind); 9] = [
     ("K", Kind::Bytes),
     ("V", Kind::Bytes),
+    ("P", Kind::Bytes),
     ("DATABASE", Kind::Bytes),
     ("NAME", Kind::Bytes),
     ("OLD", Kind::Value),

@@ -38,6 +38,7 @@ pub enum Look {
     Pairs(Side),
     Keys(Side),
     Values(Side),
+    Prefix(Side),
 }
 
 // A key, if the word is one.
@@ -226,7 +227,7 @@ fn tell_range(out: &mut Vec<u8>, pairs: Answer<Iter<'_, Counting<'_>>>, look: Lo
     }
 }
 
-// Adds what a read of one key answers.
+// Adds what a read of one key or prefix answers.
 fn look_at(
     db: &Db<Counting<'_>>,
     tree: &Tree,
@@ -238,6 +239,7 @@ fn look_at(
         Look::Has => tell_is(out, db.contains_key(tree, key)),
         Look::Below => tell_found(out, db.get_lt(tree, key)),
         Look::Above => tell_found(out, db.get_gt(tree, key)),
+        Look::Prefix(from) => tell_range(out, db.scan_prefix(tree, key), Look::Pairs(from)),
         _ => tell_value(out, db.get(tree, key)),
     }
 }
@@ -279,7 +281,7 @@ pub fn tell_look(
         Look::Last => tell_found(out, db.last(tree)),
         Look::Len => tell_count(out, db.len(tree)),
         Look::Empty => tell_is(out, db.is_empty(tree)),
-        Look::Has | Look::Read | Look::Below | Look::Above => {
+        Look::Has | Look::Read | Look::Below | Look::Above | Look::Prefix(_) => {
             let key = key_of(alloc, words.0)?;
             let told = look_at(db, tree, look, key.as_ref(), out);
             drop(key);

@@ -5,3 +5,4 @@ pub mod Backing
 pub mod Counting
 pub mod Ranging
 pub mod Iterating
+pub mod Prefixes

@@ -3,18 +3,21 @@
 //! A walk goes from the root to the leaf under its target: right along `next`, and down by pointers, but never by that to a
 //! merging child, whose pairs the page before it leads to (`specs/Walk`). Searches go on from leaf to leaf (`specs/Leaves`).
 //! What is found is told of the contents at every forest that shows the pages well formed. An iterator is its two bounds: the
-//! pairs still to come are a function of the pages and the bounds (`specs/Ranges`), and no list is kept.
+//! pairs still to come are a function of the pages and the bounds (`specs/Ranges`), and no list is kept. The keys that begin with a
+//! prefix are a range too (`specs/Prefixes`).
 #![tactic(auto)]
 
 mod count;
 mod iter;
 mod nearest;
+mod prefix;
 mod reads;
 mod walk;
 
 pub use count::count_pairs;
 pub use iter::{Iter, Keys, Values, pairs_of};
 pub use nearest::{first_from, last_up_to, value_at};
+pub use prefix::{above_prefix, law_bytes, law_prefix};
 pub use reads::Reads;
 pub use walk::{is_up_to, leaf_at};
 
