@@ -2,7 +2,6 @@
 use Rattle.std.proofs.Common.{◌≡◌, ◌≢◌, ℕ, zero, suc, ◌+◌, ◌<◌, ◌≤◌, ◌^◌, Bool, true, false, List, [], ◌∷◌, ◌++◌, length, length-append, Option, Some, None, MatchOption, option_map, sym, refl, ap, ◌∙◌, subst, inl, inr, append_assoc, nat_eq, ◌||◌, arith}
 use Rattle.std.specs.List.{list_any}
 use Rattle.std.specs.declared.ops.Bound.{Bound}
-use Rattle.std.specs.declared.ops.Bound.TheVariants.{Included}
 use Rattle.sled_pages.specs.Among.{IsPointer, is_up_to}
 use Rattle.sled_pages.specs.In.{In}
 use Rattle.sled_pages.specs.Node.{pointers}
@@ -268,9 +267,9 @@ clean_length {nodes} {roots} {w} f t aim (q ∷ rest) h p first i k = elim k.3 [
 ]
 
 pub clean_law : CleanLaw
-clean_law s w f t key path k =
+clean_law s w f t aim path k =
     let r = root_in f t k.root k.is_root in
-    (r.0, k.root, k.is_root, r.2, clean_length f t (Included key) path r.0 k.root true r.2 k.clean)
+    (r.0, k.root, k.is_root, r.2, clean_length f t aim path r.0 k.root true r.2 k.clean)
 
 -- the laws
 

@@ -42,11 +42,11 @@ covers_left = (refl, inr refl)
 few : (0 ≤ 16) × (2 ≤ 16) × (3 ≤ 16) × (8 ≤ 16) × (16 ≤ 16)
 few = (omega arith, omega arith, omega arith, omega arith, omega arith)
 
-clean_at : (s : State) (t : Tree) (k : Key) (path : List ℕ) (r : ℕ) → s.roots t ≡ Some r → IsClean s t k path → CleanFrom (nodes_of s) (Included k) r true path
+clean_at : (s : State) (t : Tree) (k : Key) (path : List ℕ) (r : ℕ) → s.roots t ≡ Some r → IsClean s t (Included k) path → CleanFrom (nodes_of s) (Included k) r true path
 clean_at s t k path r e c = subst (λ p. CleanFrom (nodes_of s) (Included k) p true path) (some_is c.root r (sym c.is_root ∙ e)) c.clean
 
 -- the first step of a clean path of an image
-first_step : (pages : Pages) (r : ℕ) (k : Key) (path : List ℕ) (n : Node) → nodes_of (image pages (root r)) r ≡ Some n → IsClean (image pages (root r)) one_tree k path → CleanStep (nodes_of (image pages (root r))) (Included k) path r true n
+first_step : (pages : Pages) (r : ℕ) (k : Key) (path : List ℕ) (n : Node) → nodes_of (image pages (root r)) r ≡ Some n → IsClean (image pages (root r)) one_tree (Included k) path → CleanStep (nodes_of (image pages (root r))) (Included k) path r true n
 first_step pages r k path n live c = clean_step_law _ (Included k) path r true n (clean_at (image pages (root r)) one_tree k path r refl c) live
 
 true_false : {P : Type 0} → true ≡ false → P

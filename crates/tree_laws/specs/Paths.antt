@@ -1,7 +1,6 @@
 -- Ways down a tree that repair nothing, and how many pages a tree has.
 use Rattle.std.specs.Prelude.{◌≡◌, ℕ, ◌+◌, ◌≤◌, ◌⊎◌, Bool, true, List, [], ◌∷◌, ◌++◌, Option, Some, None, length}
 use Rattle.std.specs.declared.ops.Bound.{Bound}
-use Rattle.std.specs.declared.ops.Bound.TheVariants.{Included}
 use Rattle.sled_pages.specs.Order.{Key}
 use Rattle.sled_pages.specs.Among.{IsPointer}
 use Rattle.sled_pages.specs.Node.{count}
@@ -27,11 +26,11 @@ CleanFrom nodes aim p first (q ∷ rest) = (q ≡ p) × (n : Node) × IsPassed n
     × (((es : List (Key × Key)) × (n.content ≡ Leaf es) × (rest ≡ []))
     ⊎ ((es : List (Key × ℕ)) × (n.content ≡ Index es) × (c : ℕ) × (b : Bool) × IsPointer aim es c b × CleanFrom nodes aim c b rest))
 
--- a clean path of the key: one page of each level, from the root on
-pub record IsClean (s : State) (t : Tree) (key : Key) (path : List ℕ) : Type 0 where
+-- a clean path to the aim: one page of each level, from the root on
+pub record IsClean (s : State) (t : Tree) (aim : Bound Key) (path : List ℕ) : Type 0 where
   pub root : ℕ
   pub is_root : s.roots t ≡ Some root
-  pub clean : CleanFrom (nodes_of s) (Included key) root true path
+  pub clean : CleanFrom (nodes_of s) aim root true path
 
 -- how many pages there are from this one on along `next`, and then on all levels below, at most so many of each
 abbrev pub length_along : ℕ → Nodes → Option ℕ → ℕ

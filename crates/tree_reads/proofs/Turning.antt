@@ -16,7 +16,7 @@ use Rattle.sled_pages.specs.declared.node.Data.{Data}
 use Rattle.sled_pages.specs.declared.node.Data.TheVariants.{Leaf, Index}
 use Rattle.tree_laws.specs.Forest.{Tree, Forest, place, WellFormed, Holds}
 use Rattle.tree_laws.specs.Paths.{IsPassed, IsAhead}
-use Rattle.tree_laws.proofs.Order.{upto-below, below_upto-trans, below-trans, below_not_upto}
+use Rattle.tree_laws.proofs.Order.{upto-below, below_upto-trans, below-trans}
 use Rattle.tree_laws.proofs.Runs.{In-right}
 use Rattle.tree_laws.proofs.Replace.{some_is}
 use Rattle.tree_laws.proofs.Cover.{holds_at}
