@@ -25,6 +25,8 @@ use Rattle.tree_laws.specs.Crashes.{IsWhole, IsCrashWhole, Extends, Adds}
 use Rattle.tree_laws.specs.Moment.{Moment, nodes_at, IsMoment, Acts}
 use Rattle.tree_laws.proofs.Crashing.{adds_extends, adds_unseen, extends_same, extends_again, whole_law}
 use Rattle.tree_laws.proofs.Reading.{one_law}
+use Rattle.sled_tree.specs.Course.{Course, course, course_of, IsAimed}
+use Rattle.sled_tree.specs.declared.flight.Aim.{Aim}
 use Rattle.sled_tree.specs.declared.flight.Job.{Job}
 use Rattle.sled_tree.specs.declared.flight.Flight.{Flight}
 use Rattle.sled_tree.specs.declared.flight.Next.TheVariants as next
@@ -262,8 +264,8 @@ module _ {P M : Type 0} (store : P → Store) (meant : M → Merge) (old : DbVal
       whole v a (inr o) = whole_law o.action (store old.pages) (store q) (once_adds o) db.safe (λ calm. well v a)
 
       -- the call goes on
-      module _ (few : f.turns < turns_limit) (g : Flight) (job : g.job ≡ f.job) (turns : g.turns ≡ f.turns + 1) (moves : Moves f.job (store old.pages) f.stage (next.Go g.stage) (store q)) (further : GoesFurther (now (store old.pages)) f Moved (now (store q)) g) (follows : FollowsOn (store old.pages) f Moved (store q) g) where
-        moved : (v : Forest) × Acts (owned f.stage) (owned g.stage) at db.forest after v × (Knows after v f.job g.stage × Same at db.forest after v) × LeavesNone (owned f.stage) (owned g.stage) (now (store old.pages)) (now (store q)) v
+      module _ (few : f.turns < turns_limit) (g : Flight) (job : g.job ≡ f.job) (aim : g.aim ≡ f.aim) (turns : g.turns ≡ f.turns + 1) (moves : Moves (course_of f) (store old.pages) f.stage (next.Go g.stage) (store q)) (further : GoesFurther (now (store old.pages)) f Moved (now (store q)) g) (follows : FollowsOn (store old.pages) f Moved (store q) g) where
+        moved : (v : Forest) × Acts (owned f.stage) (owned g.stage) at db.forest after v × (Knows after v (course_of f) g.stage × Same at db.forest after v) × LeavesNone (owned f.stage) (owned g.stage) (now (store old.pages)) (now (store q)) v
         moved = moves.told (numbers_of old.trees) (given_to old.trees_given) db.forest db.is named_now (known.told db.forest db.is)
 
         moved_touches : Touches (store old.pages) (store q)
@@ -283,11 +285,15 @@ module _ {P M : Type 0} (store : P → Store) (meant : M → Merge) (old : DbVal
 
         moved_known : IsKnown after g
         moved_known = record {
-          told = λ u is. subst (λ (j : Job). Knows after u j g.stage) (sym job) (subst (λ (z : Forest). Knows after z f.job g.stage) (one_law (nodes_at after) after.state.roots moved.0 u moved.1.is.formed is.formed) moved.2.0);
+          told = λ u is. on_course (λ j. Knows after u j g.stage) (subst (λ (z : Forest). Knows after z (course_of f) g.stage) (one_law (nodes_at after) after.state.roots moved.0 u moved.1.is.formed is.formed) moved.2.0);
+          aimed = on_course (λ j. IsAimed j) known.aimed;
           few = more f.turns g.turns few turns;
           begins = λ none. absurd (some f.turns g.turns turns none);
         }
           where
+            on_course : (P : Course → Type 0) → P (course_of f) → P (course_of g)
+            on_course P p = subst (λ (a : Aim). P (course g.job a)) (sym aim) (subst (λ (j : Job). P (course j f.aim)) (sym job) p)
+
             some : (a b : ℕ) → b ≡ a + 1 → b ≡ 0 → ⊥
             some a b e none = omega arith
 
@@ -328,7 +334,7 @@ module _ {P M : Type 0} (store : P → Store) (meant : M → Merge) (old : DbVal
             apart r e = cc
 
       -- the call is refused by the store
-      module _ (few : f.turns < turns_limit) (g : Flight) (e : Error) (moves : Moves f.job (store old.pages) f.stage (next.Refused e) (store q)) (follows : FollowsOn (store old.pages) f (Refused e) (store q) g) where
+      module _ (few : f.turns < turns_limit) (g : Flight) (e : Error) (moves : Moves (course_of f) (store old.pages) f.stage (next.Refused e) (store q)) (follows : FollowsOn (store old.pages) f (Refused e) (store q) g) where
         refused : (v : Forest) × Acts (owned f.stage) [] at db.forest after v × Same at db.forest after v × Unit {0}
         refused = moves.told (numbers_of old.trees) (given_to old.trees_given) db.forest db.is named_now (known.told db.forest db.is)
 
@@ -380,8 +386,8 @@ module _ {P M : Type 0} (store : P → Store) (meant : M → Merge) (old : DbVal
             below n h e = omega arith
 
       -- the call is decided
-      module _ (few : f.turns < turns_limit) (g : Flight) (reply : Reply) (moves : Moves f.job (store old.pages) f.stage (next.Decided reply) (store q)) (follows : FollowsOn (store old.pages) f (Decided reply) (store q) g) where
-        done : (v : Forest) × Acts (owned f.stage) [] at db.forest after v × Decides f.job reply (store old.pages) (store q) at db.forest after v × LeavesNone (owned f.stage) [] (now (store old.pages)) (now (store q)) v
+      module _ (few : f.turns < turns_limit) (g : Flight) (reply : Reply) (moves : Moves (course_of f) (store old.pages) f.stage (next.Decided reply) (store q)) (follows : FollowsOn (store old.pages) f (Decided reply) (store q) g) where
+        done : (v : Forest) × Acts (owned f.stage) [] at db.forest after v × Decides (course_of f) reply (store old.pages) (store q) at db.forest after v × LeavesNone (owned f.stage) [] (now (store old.pages)) (now (store q)) v
         done = moves.told (numbers_of old.trees) (given_to old.trees_given) db.forest db.is named_now (known.told db.forest db.is)
 
         done_touches : Touches (store old.pages) (store q)
@@ -481,12 +487,12 @@ module _ {P M : Type 0} (store : P → Store) (meant : M → Merge) (old : DbVal
 
       -- one step of the call, whatever comes of it
       pub flies_on : (few : f.turns < turns_limit) (went : Went) (g : Flight) → Advances (store old.pages) f went (store q) g → GoesFurther (now (store old.pages)) f went (now (store q)) g → FollowsOn (store old.pages) f went (store q) g → Flies store meant old f went new g
-      flies_on few Moved g a further follows = flies_moved few g a.told.0 a.told.1 a.told.2 further follows
+      flies_on few Moved g a further follows = flies_moved few g a.told.0 a.told.1 a.told.2 a.told.3 further follows
       flies_on few (Decided reply) g a further follows = flies_decided few g reply a.told follows
       flies_on few (Refused e) g a further follows = flies_refused few g e a.told follows
 
       pub db_on : (few : f.turns < turns_limit) (went : Went) (g : Flight) → Advances (store old.pages) f went (store q) g → GoesFurther (now (store old.pages)) f went (now (store q)) g → FollowsOn (store old.pages) f went (store q) g → IsDb store (record old { pages = q })
-      db_on few Moved g a further follows = moved_db few g a.told.0 a.told.1 a.told.2 further follows
+      db_on few Moved g a further follows = moved_db few g a.told.0 a.told.1 a.told.2 a.told.3 further follows
       db_on few (Decided reply) g a further follows = decided_db few g reply a.told follows
       db_on few (Refused e) g a further follows = refused_db few g e a.told follows
 
@@ -579,7 +585,7 @@ module _ {P M : Type 0} (store : P → Store) (meant : M → Merge) (old new : D
 
 -- over a clean path a call goes on at most once a page
 module _ {P M : Type 0} (store : P → Store) (meant : M → Merge) where
-  prompt : (n : ℕ) (old new : DbValue P M) (f g : Flight) (went : Went) → FliesTimes store meant n old f went new g → (path : List ℕ) → IsOnPath (now (store old.pages)) f.job f.stage path → f.turns + length path < turns_limit → IsPrompt n went path
+  prompt : (n : ℕ) (old new : DbValue P M) (f g : Flight) (went : Went) → FliesTimes store meant n old f went new g → (path : List ℕ) → IsOnPath (now (store old.pages)) (course_of f) f.stage path → f.turns + length path < turns_limit → IsPrompt n went path
   prompt zero old new f g went (Ends flies off) path on few = record { few = omega arith; unlimited = ends_with_turns store meant old new f g went flies (omega arith) }
   prompt (suc n) old new f g went (GoesOn {mid = mid} {h = h} flies db rest) path on few =
       let p = flies.passes.told path on in

@@ -103,7 +103,7 @@ module _ {P M : Type 0} (store : P → Store) (meant : M → Merge) (d : DbValue
         go : (e : Error) → gives_up_as (now (store d.pages)) root key 0 e → gives_up_get_as store meant d tree key e
         go NoMemory k = tt
         go (Io fault) k = tt
-        go (ReportableBug text) k = λ path c. at_zero (length path) (k true path (subst (λ r. Rattle.tree_laws.specs.Paths.CleanFrom (nodes_of (now (store d.pages))) key r true path) (some_is (sym c.is_root ∙ there)) c.clean))
+        go (ReportableBug text) k = λ path c. at_zero (length path) (k true path (subst (λ r. Rattle.tree_laws.specs.Paths.CleanFrom (nodes_of (now (store d.pages))) (Included key) r true path) (some_is (sym c.is_root ∙ there)) c.clean))
         go (CollectionNotFound name) k = tt
         go (Unsupported text) k = tt
         go (Corruption fault) k = tt

@@ -24,6 +24,7 @@ use Rattle.sled_tree.specs.Known.{IsKnown, AreApart}
 use Rattle.sled_tree.specs.Moves.{ActsOnce, ActsAtMostOnce, leaves_as}
 use Rattle.sled_tree.specs.Follows.{FollowsOn}
 use Rattle.sled_tree.specs.Passing.{IsOnPath, GoesFurther}
+use Rattle.sled_tree.specs.Course.{course_of}
 use Rattle.sled_tree.specs.declared.flight.Flight.{Flight}
 use Rattle.sled_tree.specs.declared.flight.Next.{Next}
 use Rattle.sled_tree.specs.declared.flight.Next.TheVariants as next
@@ -154,4 +155,4 @@ pub record IsPrompt (moves : ℕ) (went : Went) (path : List ℕ) : Type 0 where
 pub record FliesToEnd {P M : Type 0} (store : P → Store) (meant : M → Merge) (old : DbValue P M) (f : Flight) (went : Went) (new : DbValue P M) (g : Flight) : Type 0 where
   pub moves : ℕ
   pub flies : FliesTimes store meant moves old f went new g
-  pub passes : (path : List ℕ) → IsOnPath (now (store old.pages)) f.job f.stage path → f.turns + length path < turns_limit → IsPrompt moves went path
+  pub passes : (path : List ℕ) → IsOnPath (now (store old.pages)) (course_of f) f.stage path → f.turns + length path < turns_limit → IsPrompt moves went path

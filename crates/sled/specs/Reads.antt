@@ -64,7 +64,7 @@ module _ {P M : Type 0} (store : P → Store) (meant : M → Merge) (d : DbValue
     pub told : refuses_range_as (must_refuse_of (db_state store meant d) (tree ∷ [])) e
 
   abbrev pub gives_up_get_as : Key → Error → Type 0
-  gives_up_get_as key (ReportableBug text) = (path : List ℕ) → IsClean (now (store d.pages)) tree.name key path → MOST_PAGES < length path
+  gives_up_get_as key (ReportableBug text) = (path : List ℕ) → IsClean (now (store d.pages)) tree.name (Included key) path → MOST_PAGES < length path
   gives_up_get_as key e = Unit {0}
 
   -- over a clean path to the key a read is given up only where the path has more pages than may be looked at

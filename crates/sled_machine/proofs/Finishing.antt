@@ -1,6 +1,7 @@
 -- Steps of one call until it ends.
 use Rattle.std.proofs.Common.{◌≡◌, ◌≢◌, ℕ, zero, suc, ◌+◌, ◌<◌, true, false, cond, nat_eq, List, [], ◌∷◌, ◌++◌, length, Some, None, option_map, inr, sym, refl, ap, ◌∙◌, subst, arith}
 use Rattle.std.proofs.lemmas.Bool.{eq-eqb, ne_eqb, eqb-true}
+use Rattle.std.specs.declared.ops.Bound.TheVariants.{Included}
 use Rattle.sled_pages.specs.Update.{put_at}
 use Rattle.sled_pages.specs.Store.{Store, now}
 use Rattle.sled_pages.specs.declared.error.Error.{Error}
@@ -16,7 +17,10 @@ use Rattle.sled_model.specs.declared.outcome.Step.TheVariants as step
 use Rattle.tree_laws.specs.Paths.{IsClean}
 use Rattle.sled_tree.specs.Known.{IsKnown}
 use Rattle.sled_tree.specs.Passing.{IsOnPath}
+use Rattle.sled_tree.specs.Course.{course_of}
+use Rattle.sled_tree.specs.declared.flight.Aim.TheVariants.{OwnKey}
 use Rattle.sled_tree.specs.declared.flight.Flight.{Flight}
+use Rattle.sled_tree.proofs.Known.{known_new as known_begun}
 use Rattle.tree_laws.specs.declared.flight.Stage.TheVariants.{Root}
 use Rattle.sled_tree.specs.declared.flight.Went.{Went}
 use Rattle.sled_tree.specs.declared.flight.Went.TheVariants.{Moved, Decided, Refused}
@@ -128,9 +132,10 @@ module _ {P M : Type 0} (store : P → Store) (number : P → ℕ) (meant : M �
           passes = λ flying path here none clean few.
               let same : flying_of f ≡ flying = some_is (sym (ap (option_map flying_of) there) ∙ here) in
               let unused : f.turns ≡ 0 = ap (λ (z : Flying). z.turns) same ∙ none in
-              let start : IsOnPath (now (store v.db.pages)) f.job f.stage path =
-              subst (λ z. IsOnPath (now (store v.db.pages)) f.job z path) (sym ((im.known slot f there).begins unused))
-              (subst (λ (z : Flying). IsClean (now (store v.db.pages)) z.tree.name (key_of z.call) path) (sym same) clean) in
+              let start : IsOnPath (now (store v.db.pages)) (course_of f) f.stage path =
+              subst (λ z. IsOnPath (now (store v.db.pages)) (course_of f) z path) (sym ((im.known slot f there).begins unused))
+              (subst (λ aim. IsClean (now (store v.db.pages)) f.job.tree.name aim path) (sym (im.known slot f there).aimed)
+              (subst (λ (z : Flying). IsClean (now (store v.db.pages)) z.tree.name (Included (key_of z.call)) path) (sym same) clean)) in
               let p = flies.passes path start (below f.turns (length path) unused few) in record {
                 few = p.few;
                 unlimited = tells_turns went p.unlimited;
@@ -155,7 +160,7 @@ module _ {P M : Type 0} (store : P → Store) (number : P → ℕ) (meant : M �
 
 -- a call that begins and ends at once
 module _ {P M : Type 0} (store : P → Store) (number : P → ℕ) (meant : M → Merge) (v : MachineValue P M) (im : IsMachine (moment_of_db store v.db) v.flights v.slots_given) where
-  module _ (tree : Tree) (call : Call) (must : must_refuse_of (db_state store meant v.db) (tree ∷ []) ≡ None) (f : Flight) (is : f ≡ record { job = record { tree = tree; call = call }; stage = Root; turns = 0 }) where
+  module _ (tree : Tree) (call : Call) (must : must_refuse_of (db_state store meant v.db) (tree ∷ []) ≡ None) (f : Flight) (is : f ≡ record { job = record { tree = tree; call = call }; aim = OwnKey; stage = Root; turns = 0 }) where
     completed : (slot : ℕ) → slot ≡ v.slots_given + 1 → (e : DbValue P M) (g : Flight) (went : Went) → FliesToEnd store meant v.db f went e g
         → Completes store number meant v tree call (outcome_of went) (record v { db = e; slots_given = slot }) × IsMachine (moment_of_db store e) v.flights slot
     completed slot next e g went flies =
@@ -180,15 +185,15 @@ module _ {P M : Type 0} (store : P → Store) (number : P → ℕ) (meant : M �
         (subst (λ s. Finishes store number meant old s (outcome_of went) (record inside { db = db; flights = gs })) same
         (subst (λ z. Finishes store number meant z n (outcome_of went) (record inside { db = db; flights = gs })) e (finished_all store number meant inside im n db gs f g went there flies gone).0))
 
-  module _ (tree copy : Tree) (call : Call) (c : copy ≡ tree) (must : must_refuse_of (db_state store meant old.db) (tree ∷ []) ≡ None) (f : Flight) (is : f ≡ record { job = record { tree = copy; call = call }; stage = Root; turns = 0 }) where
-    begun_is : f ≡ record { job = record { tree = tree; call = call }; stage = Root; turns = 0 }
-    begun_is = is ∙ ap (λ t. record { job = record { tree = t; call = call }; stage = Root; turns = 0 }) c
+  module _ (tree copy : Tree) (call : Call) (c : copy ≡ tree) (must : must_refuse_of (db_state store meant old.db) (tree ∷ []) ≡ None) (f : Flight) (is : f ≡ record { job = record { tree = copy; call = call }; aim = OwnKey; stage = Root; turns = 0 }) where
+    begun_is : f ≡ record { job = record { tree = tree; call = call }; aim = OwnKey; stage = Root; turns = 0 }
+    begun_is = is ∙ ap (λ t. record { job = record { tree = t; call = call }; aim = OwnKey; stage = Root; turns = 0 }) c
 
     tested : must_refuse_of (db_state store meant inside.db) (tree ∷ []) ≡ None
     tested = subst (λ (z : MachineValue P M). must_refuse_of (db_state store meant z.db) (tree ∷ []) ≡ None) (sym e) must
 
     pub known_new : IsKnown (moment_of_db store inside.db) f
-    known_new = subst (λ z. IsKnown (moment_of_db store inside.db) z) (sym begun_is) (record { told = λ w m. (tt, tt); few = omega arith; begins = λ none. refl })
+    known_new = subst (λ z. IsKnown (moment_of_db store inside.db) z) (sym begun_is) (known_begun (moment_of_db store inside.db) tree call)
 
     pub tested_new : must_refuse_of (db_state store meant inside.db) (f.job.tree ∷ []) ≡ None
     tested_new = ap (λ (z : Flight). must_refuse_of (db_state store meant inside.db) (z.job.tree ∷ [])) begun_is ∙ tested

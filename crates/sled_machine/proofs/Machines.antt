@@ -24,7 +24,10 @@ use Rattle.tree_laws.specs.Crashes.{Matches}
 use Rattle.tree_laws.specs.Moment.{Moment}
 use Rattle.tree_laws.specs.Contents.{trees_of}
 use Rattle.tree_laws.proofs.Crashing.{matches_same}
+use Rattle.sled_tree.specs.Course.{course_of}
+use Rattle.sled_tree.specs.declared.flight.Aim.TheVariants.{OwnKey}
 use Rattle.sled_tree.specs.declared.flight.Flight.{Flight}
+use Rattle.sled_tree.proofs.Known.{known_new}
 use Rattle.tree_laws.specs.declared.flight.Stage.TheVariants.{Root}
 use Rattle.sled_tree.specs.declared.flight.Went.{Went}
 use Rattle.sled_tree.specs.declared.flight.Went.TheVariants.{Moved, Decided, Refused}
@@ -205,7 +208,7 @@ module _ {P M : Type 0} (store : P → Store) (number : P → ℕ) (meant : M �
     further : (f next : Flight) → kept_at v.flights slot ≡ Some f → Flies store meant v.db f Moved db next → ((q : ℕ) → kept_at gs q ≡ put_at (kept_at v.flights) slot (Some next) q) → passes_as store v (step.Step slot) outcome.Moved (record v { db = db; flights = gs })
     further f next there flies e path k =
         let same : k.flight ≡ f = some_is (sym k.here ∙ there) in
-        let p = flies.passes.told path (subst (λ (z : Flight). IsOnPath (now (store v.db.pages)) z.job z.stage path) same k.clean) in
+        let p = flies.passes.told path (subst (λ (z : Flight). IsOnPath (now (store v.db.pages)) (course_of z) z.stage path) same k.clean) in
         (p.0, p.1, record { flight = next; here = e slot ∙ put_here (kept_at v.flights) slot (Some next); clean = p.2 })
 
     -- what the call owned and what it owns, by its slot
@@ -278,7 +281,7 @@ module _ {P M : Type 0} (store : P → Store) (number : P → ℕ) (meant : M �
     pub begin_caused : (e : Error) → cause_of (state_of store meant v.db (slots_of v.flights) v.slots_given) (store v.db.pages) (store v.db.pages) (ToBegin tree call) e → Reaches store number meant v (step.Begin tree call) (outcome.Refused e) v
     begin_caused e cause = begin_refused tree call e (record { told = subst (λ o. may_refuse_as o (state_of store meant v.db (slots_of v.flights) v.slots_given) (store v.db.pages) (store v.db.pages) (ToBegin tree call) e) (sym (must_begin (state_of store meant v.db (slots_of v.flights) v.slots_given) tree call ∙ must)) cause })
 
-    module _ (f : Flight) (is : f ≡ record { job = record { tree = tree; call = call }; stage = Root; turns = 0 }) (slot : ℕ) (next : slot ≡ v.slots_given + 1) (gs : List (ℕ × Flight)) (e : gs ≡ v.flights ++ (slot, f) ∷ []) where
+    module _ (f : Flight) (is : f ≡ record { job = record { tree = tree; call = call }; aim = OwnKey; stage = Root; turns = 0 }) (slot : ℕ) (next : slot ≡ v.slots_given + 1) (gs : List (ℕ × Flight)) (e : gs ≡ v.flights ++ (slot, f) ∷ []) where
       pub free_slot : kept_at v.flights slot ≡ None
       free_slot = go (kept_at v.flights slot) refl
         where
@@ -319,7 +322,7 @@ module _ {P M : Type 0} (store : P → Store) (number : P → ℕ) (meant : M �
               | inr o ↦ let z = im.given j h o.1 in omega arith
             ];
             known = λ j h k. elim (cases j h k) [
-              | inl s ↦ subst (λ z. IsKnown (moment_of_db store v.db) z) (sym (s.1 ∙ is)) (record { told = λ w m. (tt, tt); few = omega arith; begins = λ none. refl })
+              | inl s ↦ subst (λ z. IsKnown (moment_of_db store v.db) z) (sym (s.1 ∙ is)) (known_new (moment_of_db store v.db) tree call)
               | inr o ↦ im.known j h o.1
             ];
             apart = λ j k h g a b off. elim (cases j h a) [
@@ -414,14 +417,14 @@ module _ {P M : Type 0} (store : P → Store) (number : P → ℕ) (meant : M �
   tested_inside tree must = subst (λ (z : MachineValue P M). must_refuse_of (db_state store meant z.db) (tree ∷ []) ≡ None) (sym e) must
 
   -- .. where the list has room, and so may be another one
-  pub begun_as : (tree copy : Tree) (call : Call) → copy ≡ tree → must_refuse_of (db_state store meant old.db) (tree ∷ []) ≡ None → (f : Flight) → f ≡ record { job = record { tree = copy; call = call }; stage = Root; turns = 0 }
+  pub begun_as : (tree copy : Tree) (call : Call) → copy ≡ tree → must_refuse_of (db_state store meant old.db) (tree ∷ []) ≡ None → (f : Flight) → f ≡ record { job = record { tree = copy; call = call }; aim = OwnKey; stage = Root; turns = 0 }
       → (slot : ℕ) → slot ≡ inside.slots_given + 1 → (gs : List (ℕ × Flight)) → gs ≡ inside.flights ++ (slot, f) ∷ [] → Reaches store number meant old (step.Begin tree call) (outcome.Begun slot) (record inside { flights = gs; slots_given = slot })
   begun_as tree copy call c must f is slot next gs g = subst (λ z. Reaches store number meant z (step.Begin tree call) (outcome.Begun slot) (record inside { flights = gs; slots_given = slot })) e
-      (begun_call store number meant inside im tree call (tested_inside tree must) f (is ∙ ap (λ t. record { job = record { tree = t; call = call }; stage = Root; turns = 0 }) c) slot next gs g)
+      (begun_call store number meant inside im tree call (tested_inside tree must) f (is ∙ ap (λ t. record { job = record { tree = t; call = call }; aim = OwnKey; stage = Root; turns = 0 }) c) slot next gs g)
 
-  pub begun_machine_as : (tree copy : Tree) (call : Call) → copy ≡ tree → must_refuse_of (db_state store meant old.db) (tree ∷ []) ≡ None → (f : Flight) → f ≡ record { job = record { tree = copy; call = call }; stage = Root; turns = 0 }
+  pub begun_machine_as : (tree copy : Tree) (call : Call) → copy ≡ tree → must_refuse_of (db_state store meant old.db) (tree ∷ []) ≡ None → (f : Flight) → f ≡ record { job = record { tree = copy; call = call }; aim = OwnKey; stage = Root; turns = 0 }
       → (slot : ℕ) → slot ≡ inside.slots_given + 1 → (gs : List (ℕ × Flight)) → gs ≡ inside.flights ++ (slot, f) ∷ [] → IsMachine (moment_of_db store inside.db) gs slot
-  begun_machine_as tree copy call c must f is slot next gs g = begun_machine store number meant inside im tree call (tested_inside tree must) f (is ∙ ap (λ t. record { job = record { tree = t; call = call }; stage = Root; turns = 0 }) c) slot next gs g
+  begun_machine_as tree copy call c must f is slot next gs g = begun_machine store number meant inside im tree call (tested_inside tree must) f (is ∙ ap (λ t. record { job = record { tree = t; call = call }; aim = OwnKey; stage = Root; turns = 0 }) c) slot next gs g
 
   pub flushed_as : (db : DbValue P M) (n : ℕ) → FlushesDb store number meant inside.db n db → Reaches store number meant old (step.Whole Flush) (outcome.Decided (Number n)) (record inside { db = db })
   flushed_as db n f = subst (λ z. Reaches store number meant z (step.Whole Flush) (outcome.Decided (Number n)) (record inside { db = db })) e (flushed_all store number meant inside im db n f)

@@ -1,5 +1,6 @@
 -- Calls to their end.
 use Rattle.std.specs.Prelude.{◌≡◌, ◌≢◌, ℕ, zero, suc, ◌<◌, ◌≤◌, ◌⊎◌, List, [], ◌∷◌, length, Some}
+use Rattle.std.specs.declared.ops.Bound.TheVariants.{Included}
 use Rattle.sled_pages.specs.Store.{Store, now}
 use Rattle.sled_pages.specs.declared.error.Error.{Error}
 use Rattle.sled_model.specs.Maps.{Merge}
@@ -39,7 +40,7 @@ pub record Finishes {P M : Type 0} (store : P → Store) (flush_number : P → �
   pub each : ReachesAll store flush_number meant old (steps_of slot moves) (outcomes_of moves o) new
   -- over a clean path of fewer levels than it may have turns, a call that had none goes on at most once a level
   pub passes : (flying : Flying) (path : List ℕ) → slots_of old.flights slot ≡ Some flying → flying.turns ≡ 0
-      → IsClean (now (store old.db.pages)) flying.tree.name (key_of flying.call) path → length path < turns_limit → IsPrompt moves o path
+      → IsClean (now (store old.db.pages)) flying.tree.name (Included (key_of flying.call)) path → length path < turns_limit → IsPrompt moves o path
 
 -- a call that does not begin
 pub record RefusesToBegin {P M : Type 0} (store : P → Store) (flush_number : P → ℕ) (meant : M → Merge) (old : MachineValue P M) (tree : Tree) (call : Call) (o : Outcome) (new : MachineValue P M) : Type 0 where

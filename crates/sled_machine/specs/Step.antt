@@ -18,6 +18,8 @@ use Rattle.tree_laws.specs.Stages.{owned}
 use Rattle.sled_tree.specs.Follows.{FollowsOn}
 use Rattle.sled_tree.specs.Moves.{ActsOnce, ActsAtMostOnce, LeavesNone}
 use Rattle.sled_tree.specs.Passing.{IsOnPath}
+use Rattle.sled_tree.specs.Course.{course_of}
+use Rattle.sled_tree.specs.declared.flight.Aim.TheVariants.{OwnKey}
 use Rattle.sled_tree.specs.declared.flight.Flight.{Flight}
 use Rattle.tree_laws.specs.declared.flight.Stage.TheVariants.{Root}
 use Rattle.sled_tree.specs.declared.flight.Went.{Went}
@@ -87,7 +89,7 @@ pub record MachineFollows {P M : Type 0} (store : P → Store) (meant : M → Me
 pub record IsAhead {P M : Type 0} (store : P → Store) (m : MachineValue P M) (slot : ℕ) (path : List ℕ) : Type 0 where
   pub flight : Flight
   pub here : kept_at m.flights slot ≡ Some flight
-  pub clean : IsOnPath (now (store m.db.pages)) flight.job flight.stage path
+  pub clean : IsOnPath (now (store m.db.pages)) (course_of flight) flight.stage path
 
 -- a step of a slot that goes on along a clean path has a page less ahead of it
 abbrev pub passes_as : {P M : Type 0} → (P → Store) → MachineValue P M → Step → Outcome → MachineValue P M → Type 0
@@ -106,7 +108,7 @@ slot_of s o = None
 
 -- a call that begins has yet to read its tree's root
 abbrev pub starts_as : {P M : Type 0} → Step → Outcome → MachineValue P M → Type 0
-starts_as (step.Begin tree call) (Begun slot) new = kept_at new.flights slot ≡ Some (record { job = record { tree = tree; call = call }; stage = Root; turns = 0 })
+starts_as (step.Begin tree call) (Begun slot) new = kept_at new.flights slot ≡ Some (record { job = record { tree = tree; call = call }; aim = OwnKey; stage = Root; turns = 0 })
 starts_as s o new = Unit {0}
 
 -- a call that begins stands in its slot; and the calls in all other slots are as they were, with what they know of the pages and what

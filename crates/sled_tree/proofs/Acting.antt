@@ -17,7 +17,7 @@ use Rattle.tree_laws.specs.Moment.{Moment, moment_of, nodes_at, IsMoment, Acts, 
 use Rattle.tree_laws.specs.Laws.{IsCurrent, Written, replaced}
 use Rattle.tree_laws.proofs.Known.{answers, set_written, del_written, set_few, store_replaced}
 use Rattle.sled_tree.specs.declared.act.Change.{Change}
-use Rattle.sled_tree.specs.declared.flight.Job.{Job}
+use Rattle.sled_tree.specs.Course.{Course}
 use Rattle.tree_laws.specs.declared.flight.Stage.TheVariants.{Act}
 use Rattle.sled_tree.specs.declared.flight.Next.TheVariants as next
 use Rattle.sled_tree.specs.Change.{IsChangeOf, link_of, decision_at}
@@ -41,7 +41,7 @@ module _ {m : Moment} {w : Forest} (is : IsMoment m w) (t : Tree) (number : ℕ)
       (let d = del_written is t number key look node k c version unused in (written d tt, d.here, d.others))
 
 -- the call's change is linked
-pub act_moves : (j : Job) (old new : Store) (view : View) (change : Change) (given : ℕ) → IsChangeOf j.call view.node.content (Some change) → Changes (applied change.link) view.pid view.version old new (Ok given) → Moves j old (Act view) (next.Decided change.reply) new
+pub act_moves : (j : Course) (old new : Store) (view : View) (change : Change) (given : ℕ) → IsChangeOf j.call view.node.content (Some change) → Changes (applied change.link) view.pid view.version old new (Ok given) → Moves j old (Act view) (next.Decided change.reply) new
 act_moves j old new view change given is c = record {
   touches = inr (once_acts c.told.2);
   told = λ numbers gave w at named a.
@@ -51,9 +51,10 @@ act_moves j old new view change given is c = record {
       let all : List (Key × Key) = contents (nodes_at m) w t in
       let current : IsCurrent m t j.tree.number view c.told.0 = record { named = named; page = c.told.1 } in
       let e : Effect = (decision_at j.call view.node.content).effect in
-      let did = wrote at t j.tree.number key view c.told.0 a.0.0 a.0.1 current given c.told.2.fresh e change.link is.0 in
+      let acts : IsActing m w t j.tree.number (Included key) view = subst (λ aim. IsActing m w t j.tree.number aim view) a.2 a.0.0 in
+      let did = wrote at t j.tree.number key view c.told.0 acts a.0.1 current given c.told.2.fresh e change.link is.0 in
       let after : moment_of new numbers gave ≡ replaced m view.pid (record { version = given; node = applied change.link c.told.0 }) = store_replaced numbers gave c.told.2 in
-      let same : decision_of j.call (find key_cmp key all) ≡ decision_at j.call view.node.content = ap (decision_of j.call) (answers at t j.tree.number key view c.told.0 a.0.0 current) in (
+      let same : decision_of j.call (find key_cmp key all) ≡ decision_at j.call view.node.content = ap (decision_of j.call) (answers at t j.tree.number key view c.told.0 acts current) in (
         w,
         subst (λ (z : Moment). Acts [] [] m w z w) (sym after) (did.0),
         subst (λ (z : Moment). Decides j change.reply old new m w z w) (sym after) (record {

@@ -1,11 +1,11 @@
 -- What comes after a page was read on the way to the leaf.
 use Rattle.std.proofs.Common.{◌≡◌, ◌≢◌, ℕ, ◌≤◌, not, true, false, Bool, List, [], Option, Some, None, sym, refl, ap, ◌∙◌, subst, inl, arith}
 use Rattle.std.specs.FinMap.Entries.{find}
-use Rattle.std.specs.declared.ops.Bound.TheVariants.{Included}
-use Rattle.sled_pages.specs.Order.{Key, key_cmp, UpTo}
+use Rattle.std.specs.declared.ops.Bound.{Bound}
+use Rattle.sled_pages.specs.Order.{Key, key_cmp}
 use Rattle.sled_pages.specs.In.{In}
 use Rattle.sled_pages.specs.Among.{IsBefore, IsPointerBefore, IsPointer}
-use Rattle.sled_pages.specs.Node.{Covers, pointers, count, value_at}
+use Rattle.sled_pages.specs.Node.{pointers, count, value_at}
 use Rattle.sled_pages.specs.Store.{Store, now, view_of}
 use Rattle.sled_pages.specs.declared.node.Data.{Data}
 use Rattle.sled_pages.specs.declared.node.Data.TheVariants.{Leaf, Index}
@@ -16,14 +16,14 @@ use Rattle.sled_model.specs.declared.decision.Decision.{Decision}
 use Rattle.sled_model.specs.declared.decision.Effect.TheVariants as effect
 use Rattle.sled_model.specs.declared.reply.Reply.{Reply}
 use Rattle.tree_laws.specs.Forest.{Tree, Forest, contents}
-use Rattle.tree_laws.specs.Moment.{Moment, moment_of, nodes_at, IsMoment}
+use Rattle.tree_laws.specs.Moment.{Moment, moment_of, nodes_at, IsMoment, LiesUnder}
 use Rattle.tree_laws.specs.StageLaws.{Follows}
 use Rattle.tree_laws.proofs.Staged.{here_law, root_here_law, cursor_here_law}
 use Rattle.tree_laws.proofs.Merges.{stood_merges_law}
-use Rattle.tree_laws.proofs.Order.{covers_under}
+use Rattle.tree_laws.proofs.Order.{under_covers}
 use Rattle.tree_laws.specs.Stages.{parent_of, by_pointer, IsStage, owned}
 use Rattle.tree_laws.proofs.Looking.{last_in}
-use Rattle.sled_tree.specs.declared.flight.Job.{Job}
+use Rattle.sled_tree.specs.Course.{Course}
 use Rattle.tree_laws.specs.declared.flight.Stage.{Stage}
 use Rattle.tree_laws.specs.declared.flight.Stage.TheVariants as stage
 use Rattle.tree_laws.specs.declared.flight.Posting.TheVariants as posting
@@ -35,7 +35,7 @@ use Rattle.tree_laws.specs.declared.flight.Reached.TheVariants as reached
 use Rattle.sled_tree.specs.Change.{IsLeaf, IsIndex, decision_at}
 use Rattle.sled_tree.specs.Stages.{Knows, changes_at}
 use Rattle.sled_tree.specs.Moves.{Moves, Arrives, IsRead, owned_next}
-use Rattle.sled_tree.specs.Follows.{ResumesMerge, BeginsMerge, resumed, begun, posting_of, OrNoMemory, onward}
+use Rattle.sled_tree.specs.Follows.{ResumesMerge, BeginsMerge, resumed, begun, posting_of, OrNoMemory, onward, EndsWithin}
 use Rattle.sled_tree.proofs.Facts.{same_here, rests, viewed, live_view, leaves_read}
 use Rattle.sled_tree.proofs.Basics.{none_some}
 
@@ -51,21 +51,21 @@ index_is (Index es) l = (es, refl)
 pub came : (call : Call) (content : Data) (k : Key) (value : Option Key) (d : Decision) → value ≡ value_at content k → k ≡ key_of call → d ≡ decision_of call value → decision_at call content ≡ d
 came call content k value d v e q = sym (q ∙ ap (decision_of call) (v ∙ ap (value_at content) e))
 
--- the last pointer at or below the call's key
-pub at_bound : (k key : Key) (es : List (Key × ℕ)) (c : ℕ) (first : Bool) → k ≡ key → IsPointer (Included k) es c first → IsPointer (Included key) es c first
-at_bound k key es c first e p = subst (λ z. IsPointer (Included z) es c first) e p
+-- the last pointer within the call's aim
+pub at_bound : (bound aim : Bound Key) (es : List (Key × ℕ)) (c : ℕ) (first : Bool) → bound ≡ aim → IsPointer bound es c first → IsPointer aim es c first
+at_bound bound aim es c first e p = subst (λ z. IsPointer z es c first) e p
 
-module _ (j : Job) (view : View) (by : Reached) where
+module _ (j : Course) (view : View) (by : Reached) where
   -- the call goes on from a stage whose facts the read shows
-  pub goes : (a : Stage) → owned a ≡ [] → changes_at j a → ((m : Moment) (w : Forest) → IsMoment m w → m.numbers j.tree.name ≡ Some j.tree.number → IsRead m w j view by → IsStage m w j.tree.name j.tree.number (Included (key_of j.call)) a) → Arrives j view by (Go a)
+  pub goes : (a : Stage) → owned a ≡ [] → changes_at j a → ((m : Moment) (w : Forest) → IsMoment m w → m.numbers j.tree.name ≡ Some j.tree.number → IsRead m w j view by → IsStage m w j.tree.name j.tree.number j.aim a) → Arrives j view by (Go a)
   goes a none changes known = record {
     touches = λ s. inl refl;
-    told = λ s numbers given w is named here. (none, ((known (moment_of s numbers given) w is named here, changes), same_here (moment_of s numbers given) w));
+    told = λ s numbers given w is named here. (none, ((known (moment_of s numbers given) w is named here, changes, here.1), same_here (moment_of s numbers given) w));
   }
 
   module _ (awake : view.node.merging ≡ false) (free : view.node.merging_child ≡ None) where
-    follows : (m : Moment) (w : Forest) → IsMoment m w → IsRead m w j view by → Follows m w j.tree.name j.tree.number (Included (key_of j.call)) view by
-    follows m w is r = here_law m w is j.tree.name j.tree.number (Included (key_of j.call)) view by r (record { awake = awake; free = free })
+    follows : (m : Moment) (w : Forest) → IsMoment m w → IsRead m w j view by → Follows m w j.tree.name j.tree.number j.aim view by
+    follows m w is r = here_law m w is j.tree.name j.tree.number j.aim view by r.0 (record { awake = awake; free = free })
 
     pub splits_below : (p : View) → parent_of by ≡ Some p → Arrives j view by (Go (stage.Split (record { page = view; posting = posting.Parent p })))
     splits_below p e = goes _ refl tt (λ m w is named r. (follows m w is r).splits_below p e)
@@ -76,20 +76,20 @@ module _ (j : Job) (view : View) (by : Reached) where
     pub hoists : (q : ℕ) → parent_of by ≡ None → view.node.hi ≢ [] → view.node.next ≡ Some q → Arrives j view by (Go (stage.Hoist (record { left = view.pid; at = view.node.hi; right = q })))
     hoists q e bounded next = goes _ refl tt (λ m w is named r. (follows m w is r).hoists q e bounded next)
 
-    pub goes_on : (p : View) (q : ℕ) → parent_of by ≡ Some p → view.node.hi ≢ [] → UpTo view.node.hi (key_of j.call) → view.node.next ≡ Some q → Arrives j view by (Go (stage.Walk (record { cursor = q; reached = reached.Next p })))
-    goes_on p q e bounded behind next = goes _ refl tt (λ m w is named r. (follows m w is r).goes_on p q e bounded (ap not behind) next)
+    pub goes_on : (p : View) (q : ℕ) → parent_of by ≡ Some p → EndsWithin view.node j.aim → view.node.next ≡ Some q → Arrives j view by (Go (stage.Walk (record { cursor = q; reached = reached.Next p })))
+    goes_on p q e behind next = goes _ refl tt (λ m w is named r. (follows m w is r).goes_on p q e behind.0 behind.1 next)
 
-    -- it covers the key and has room
-    module _ (covers : Covers view.node (key_of j.call)) (few : count view.node.content ≤ 16) where
-      pub descends : (c : ℕ) (first : Bool) → IsIndex view.node.content → IsPointer (Included (key_of j.call)) (pointers view.node.content) c first → Arrives j view by (Go (stage.Walk (record { cursor = c; reached = by_pointer view first })))
+    -- it lies under the aim and has room
+    module _ (under : LiesUnder j.aim view.node) (few : count view.node.content ≤ 16) where
+      pub descends : (c : ℕ) (first : Bool) → IsIndex view.node.content → IsPointer j.aim (pointers view.node.content) c first → Arrives j view by (Go (stage.Walk (record { cursor = c; reached = by_pointer view first })))
       descends c first index k = goes _ refl tt (λ m w is named r.
           let b = index_is view.node.content index in
-          let p : IsPointer (Included (key_of j.call)) b.0 c first = subst (λ d. IsPointer (Included (key_of j.call)) (pointers d) c first) b.1 k in
-          (follows m w is r).descends b.0 p.key c first b.1 (covers_under (key_of j.call) view.node covers) (record { few = few }) (last_in p).0 (last_in p).1)
+          let p : IsPointer j.aim b.0 c first = subst (λ d. IsPointer j.aim (pointers d) c first) b.1 k in
+          (follows m w is r).descends b.0 p.key c first b.1 under (record { few = few }) (last_in p).0 (last_in p).1)
 
       module _ (leaf : IsLeaf view.node.content) where
         pub acts : (decision_at j.call view.node.content).effect ≢ effect.Nothing → Arrives j view by (Go (stage.Act view))
-        acts changes = goes _ refl changes (λ m w is named r. let b = leaf_is view.node.content leaf in ((follows m w is r).acts b.0 b.1 (covers_under (key_of j.call) view.node covers), record { few = few }))
+        acts changes = goes _ refl changes (λ m w is named r. let b = leaf_is view.node.content leaf in ((follows m w is r).acts b.0 b.1 under, record { few = few }))
 
         pub answers : (reply : Reply) → decision_at j.call view.node.content ≡ record { effect = effect.Nothing; reply = reply } → Arrives j view by (Decided reply)
         answers reply e = record {
@@ -98,7 +98,7 @@ module _ (j : Job) (view : View) (by : Reached) where
               let m : Moment = moment_of s numbers given in
               let b = leaf_is view.node.content leaf in
               let all : List (Key × Key) = contents (nodes_at m) w j.tree.name in
-              let d : decision_of j.call (find key_cmp (key_of j.call) all) ≡ record { effect = effect.Nothing; reply = reply } = ap (decision_of j.call) ((follows m w is r).answers b.0 (key_of j.call) b.1 covers) ∙ e in (
+              let d : decision_of j.call (find key_cmp (key_of j.call) all) ≡ record { effect = effect.Nothing; reply = reply } = ap (decision_of j.call) ((follows m w is r).answers b.0 (key_of j.call) b.1 (under_covers (key_of j.call) view.node (subst (λ aim. LiesUnder aim view.node) r.1 under))) ∙ e in (
                 refl,
                 record {
                   replies = sym (ap (λ (z : Decision). z.reply) d);
@@ -111,11 +111,11 @@ module _ (j : Job) (view : View) (by : Reached) where
         }
 
 -- it was reached by `next`: it is to be posted
-pub posts : (j : Job) (view parent : View) → view.node.merging ≡ false → view.node.merging_child ≡ None → Arrives j view (reached.Next parent) (Go (stage.Post (record { parent = parent; at = view.node.lo; pid = view.pid })))
+pub posts : (j : Course) (view parent : View) → view.node.merging ≡ false → view.node.merging_child ≡ None → Arrives j view (reached.Next parent) (Go (stage.Post (record { parent = parent; at = view.node.lo; pid = view.pid })))
 posts j view parent awake free = goes j view (reached.Next parent) _ refl tt (λ m w is named r. (follows j view (reached.Next parent) awake free m w is r).posts parent refl)
 
 -- it was reached by a later pointer, and has few entries: a merge begins
-pub merges : (j : Job) (view parent : View) (next : Next) → view.node.merging ≡ false → view.node.merging_child ≡ None → count view.node.content ≤ 3 → BeginsMerge parent view.pid next → Arrives j view (reached.LaterPointer parent) next
+pub merges : (j : Course) (view parent : View) (next : Next) → view.node.merging ≡ false → view.node.merging_child ≡ None → count view.node.content ≤ 3 → BeginsMerge parent view.pid next → Arrives j view (reached.LaterPointer parent) next
 merges j view parent next awake free few b = subst (Arrives j view (reached.LaterPointer parent)) (sym b.is) (go b.before b.is_before)
   where
     more : (n : ℕ) → n ≤ 3 → n ≤ 17
@@ -126,15 +126,15 @@ merges j view parent next awake free few b = subst (Arrives j view (reached.Late
     go (Some before) b = goes j view (reached.LaterPointer parent) _ refl tt (λ m w is named r. (follows j view (reached.LaterPointer parent) awake free m w is r).intends parent before refl (more (count view.node.content) few) b)
 
 -- where the page has a merging child, that merge goes on
-pub helps : (j : Job) (view : View) (by : Reached) (child : ℕ) (next : Next) → view.node.merging ≡ false → view.node.merging_child ≡ Some child → ResumesMerge view child next → Arrives j view by next
+pub helps : (j : Course) (view : View) (by : Reached) (child : ℕ) (next : Next) → view.node.merging ≡ false → view.node.merging_child ≡ Some child → ResumesMerge view child next → Arrives j view by next
 helps j view by child next awake is_child h = subst (Arrives j view by) (sym h.is) (go h.before h.is_before)
   where
     go : (before : Option ℕ) → IsPointerBefore child (pointers view.node.content) before → Arrives j view by (resumed view child before)
     go None none = goes j view by stage.Root refl tt (λ m w is named r. tt)
-    go (Some before) b = goes j view by _ refl tt (λ m w is named r. stood_merges_law m w j.tree.name j.tree.number r.height view view.node.lo is named r.stood r.live awake child before is_child b)
+    go (Some before) b = goes j view by _ refl tt (λ m w is named r. stood_merges_law m w j.tree.name j.tree.number r.0.height view view.node.lo is named r.0.stood r.0.live awake child before is_child b)
 
 -- what a read comes to, as a step
-pub arrives_moves : (j : Job) (s : Store) (view : View) (by : Reached) (next : Next) (a : Stage) → owned a ≡ [] → Arrives j view by next
+pub arrives_moves : (j : Course) (s : Store) (view : View) (by : Reached) (next : Next) (a : Stage) → owned a ≡ [] → Arrives j view by next
     → ((numbers : Tree → Option ℕ) (given : ℕ → Bool) (w : Forest) → IsMoment (moment_of s numbers given) w → numbers j.tree.name ≡ Some j.tree.number → Knows (moment_of s numbers given) w j a → IsRead (moment_of s numbers given) w j view by)
     → Moves j s a next s
 arrives_moves j s view by next a none t known = record {
@@ -143,14 +143,14 @@ arrives_moves j s view by next a none t known = record {
 }
 
 -- the root was read,
-pub root_read : (j : Job) (s : Store) (name : Key) (found : Option ℕ) (root : ℕ) (view : View) (next : Next) → name ≡ j.tree.name → found ≡ (now s).roots name → found ≡ Some root → Some view ≡ view_of root ((now s).pages root) → Arrives j view reached.Root next → Moves j s stage.Root next s
+pub root_read : (j : Course) (s : Store) (name : Key) (found : Option ℕ) (root : ℕ) (view : View) (next : Next) → name ≡ j.tree.name → found ≡ (now s).roots name → found ≡ Some root → Some view ≡ view_of root ((now s).pages root) → Arrives j view reached.Root next → Moves j s stage.Root next s
 root_read j s name found root view next called is_found is_some read t = arrives_moves j s view reached.Root next stage.Root refl t
-    (λ numbers given w is named k. root_here_law (moment_of s numbers given) w is j.tree.name j.tree.number (Included (key_of j.call)) view named (ap (now s).roots (sym called) ∙ sym is_found ∙ is_some ∙ ap Some (sym (viewed root ((now s).pages root) view read).0)) (live_view s root view read))
+    (λ numbers given w is named k. (root_here_law (moment_of s numbers given) w is j.tree.name j.tree.number j.aim view named (ap (now s).roots (sym called) ∙ sym is_found ∙ is_some ∙ ap Some (sym (viewed root ((now s).pages root) view read).0)) (live_view s root view read), k.2))
 
 -- or the cursor of a walk
-pub cursor_read : (j : Job) (s : Store) (a : Walk) (view : View) (next : Next) → Some view ≡ view_of a.cursor ((now s).pages a.cursor) → Arrives j view a.reached next → Moves j s (stage.Walk a) next s
+pub cursor_read : (j : Course) (s : Store) (a : Walk) (view : View) (next : Next) → Some view ≡ view_of a.cursor ((now s).pages a.cursor) → Arrives j view a.reached next → Moves j s (stage.Walk a) next s
 cursor_read j s a view next read t = arrives_moves j s view a.reached next (stage.Walk a) refl t
-    (λ numbers given w is named k. cursor_here_law (moment_of s numbers given) w is j.tree.name j.tree.number (Included (key_of j.call)) a view named k.0 (viewed a.cursor ((now s).pages a.cursor) view read).0 (live_view s a.cursor view read))
+    (λ numbers given w is named k. (cursor_here_law (moment_of s numbers given) w is j.tree.name j.tree.number j.aim a view named k.0 (viewed a.cursor ((now s).pages a.cursor) view read).0 (live_view s a.cursor view read), k.2))
 
 -- what comes of a page by its parent
 pub posted_as : (view parent : View) (o : Option View) → o ≡ Some parent → Go (stage.Split (record { page = view; posting = posting.Parent parent })) ≡ Go (stage.Split (record { page = view; posting = posting_of o }))

@@ -15,7 +15,7 @@ use Rattle.sled_model.specs.declared.decision.Effect.TheVariants as effect
 use Rattle.sled_model.specs.declared.reply.Reply.{Reply}
 use Rattle.sled_tree.specs.Change.{decision_at, link_of}
 use Rattle.tree_laws.specs.declared.flight.Crown.{Crown}
-use Rattle.sled_tree.specs.declared.flight.Job.{Job}
+use Rattle.sled_tree.specs.Course.{Course}
 use Rattle.tree_laws.specs.declared.flight.Merge.{Merge}
 use Rattle.sled_tree.specs.declared.flight.Next.{Next}
 use Rattle.sled_tree.specs.declared.flight.Next.TheVariants as next
@@ -88,7 +88,7 @@ module _ {X : Type 0} (kind : Next → Option X) (x : X) (n : Next) (is : kind n
       sought_again_none a (Some p) = goes _ (λ v e. cc)
 
       -- so it comes of a read, or of the call's change
-      pub reads_or_acts : (j : Job) (old new : Store) (a : Stage) → follows_as j old a n new → (IsReading a × (new ≡ old)) ⊎ ((v : View) × (a ≡ stage.Act v))
+      pub reads_or_acts : (j : Course) (old new : Store) (a : Stage) → follows_as j old a n new → (IsReading a × (new ≡ old)) ⊎ ((v : View) × (a ≡ stage.Act v))
       reads_or_acts j old new stage.Root f = inl (tt, f.0)
       reads_or_acts j old new (stage.Walk a) f = inl (tt, f.0)
       reads_or_acts j old new (stage.Act v) f = inr (v, refl)
@@ -106,7 +106,7 @@ module _ {X : Type 0} (kind : Next → Option X) (x : X) (n : Next) (is : kind n
       reads_or_acts j old new (stage.Confirm a) f = or_refused f (taken (λ given. goes _ (λ v e. cc)) (λ present. root))
 
 -- a call that is decided elsewhere than by its change is decided at a read, which leaves the store as it is
-pub decided_law : (j : Job) (old new : Store) (a : Stage) (reply : Reply) → Follows j old a (next.Decided reply) new → (IsReading a × (new ≡ old)) ⊎ ((v : View) × (a ≡ stage.Act v))
+pub decided_law : (j : Course) (old new : Store) (a : Stage) (reply : Reply) → Follows j old a (next.Decided reply) new → (IsReading a × (new ≡ old)) ⊎ ((v : View) × (a ≡ stage.Act v))
 decided_law j old new a reply f = reads_or_acts deciding reply (next.Decided reply) refl (λ e. refl) (λ b plain. refl) j old new a f.is
 
 module _ (v : View) (n : Next) (is : n ≡ next.Go (stage.Act v)) where
@@ -142,29 +142,29 @@ module _ (v : View) (n : Next) (is : n ≡ next.Go (stage.Act v)) where
   leaf_at u (effect.Set value) reply e = some_is (sym (ap acting e) ∙ ap acting is)
   leaf_at u effect.Remove reply e = some_is (sym (ap acting e) ∙ ap acting is)
 
-  content_at : (j : Job) (u : View) (d : Data) → follows_content d j u n → u ≡ v
+  content_at : (j : Course) (u : View) (d : Data) → follows_content d j u n → u ≡ v
   content_at j u (Index es) d = down_off u d.found d.is
   content_at j u (Leaf es) (inl e) = leaf_at u _ _ e
   content_at j u (Leaf es) (inr e) = off _ e refl
 
-  here_at : (j : Job) (u : View) (by : Reached) → follows_here j u by n → u ≡ v
+  here_at : (j : Course) (u : View) (by : Reached) → follows_here j u by n → u ≡ v
   here_at j u reached.Root f = content_at j u u.node.content f
   here_at j u (reached.FirstPointer parent) f = content_at j u u.node.content f
   here_at j u (reached.LaterPointer parent) (inl (c, f)) = begun_off parent u.pid f.before f.is
   here_at j u (reached.LaterPointer parent) (inr (c, f)) = content_at j u u.node.content f
   here_at j u (reached.Next parent) f = pointed_off u parent f
 
-  open_at : (j : Job) (u : View) (by : Reached) → follows_open j u by n → u ≡ v
+  open_at : (j : Course) (u : View) (by : Reached) → follows_open j u by n → u ≡ v
   open_at j u by (inl (c, e)) = off _ e refl
   open_at j u by (inr (c, inl (d, f))) = onward_off u u.node.next (parent_of by) f
   open_at j u by (inr (c, inr (d, inl (k, f)))) = here_at j u by f
   open_at j u by (inr (c, inr (d, inr (k, e)))) = off _ e refl
 
-  awake_at : (j : Job) (u : View) (by : Reached) (child : Option ℕ) → follows_awake child j u by n → u ≡ v
+  awake_at : (j : Course) (u : View) (by : Reached) (child : Option ℕ) → follows_awake child j u by n → u ≡ v
   awake_at j u by None f = open_at j u by f
   awake_at j u by (Some child) r = resumed_off u child r.before r.is
 
-  read_at : (j : Job) (u : View) (by : Reached) → follows_read j u by n → u ≡ v
+  read_at : (j : Course) (u : View) (by : Reached) → follows_read j u by n → u ≡ v
   read_at j u by (inl (c, e)) = off _ e refl
   read_at j u by (inr (c, f)) = awake_at j u by u.node.merging_child f
 
@@ -208,12 +208,12 @@ module _ (v : View) (n : Next) (is : n ≡ next.Go (stage.Act v)) where
       go None live e = off _ e refl
       go (Some g) live f = subst (λ (u : View). IsUnchanged (now s) u) (at _ f) live
 
-  root_at : (j : Job) (s : Store) (root : Option ℕ) → follows_root j s root n → IsUnchanged (now s) v
+  root_at : (j : Course) (s : Store) (root : Option ℕ) → follows_root j s root n → IsUnchanged (now s) v
   root_at j s None e = off _ e refl
   root_at j s (Some root) f = page_at s root _ (λ u. read_at j u _) f
 
   -- the change of the call leads to no change,
-  act_off : {P : Type 0} (j : Job) (old new : Store) (u : View) → follows_act j old new u n → P
+  act_off : {P : Type 0} (j : Course) (old new : Store) (u : View) → follows_act j old new u n → P
   act_off {P} j old new u f = go (link_of (decision_at j.call u.node.content).effect (key_of j.call)) f
     where
       go : (link : Option Link) → MatchOption link ((new ≡ old) × (n ≡ next.Go stage.Root)) (λ l. Takes (applied l) u.pid u.version old new n (λ _. next.Decided (decision_at j.call u.node.content).reply) (λ _. next.Go stage.Root)) → P
@@ -222,7 +222,7 @@ module _ (v : View) (n : Next) (is : n ≡ next.Go (stage.Act v)) where
       go (Some l) (inr k) = off _ k.2 refl
 
   -- and what leads to one is a read of the leaf
-  unchanged_at : (j : Job) (old new : Store) (a : Stage) → follows_as j old a n new → (IsReading a × (new ≡ old)) ⊎ ((u : View) × (a ≡ stage.Act u)) → (new ≡ old) × IsUnchanged (now new) v
+  unchanged_at : (j : Course) (old new : Store) (a : Stage) → follows_as j old a n new → (IsReading a × (new ≡ old)) ⊎ ((u : View) × (a ≡ stage.Act u)) → (new ≡ old) × IsUnchanged (now new) v
   unchanged_at j old new a f (inr b) = elim (subst (λ s. follows_as j old s n new) b.1 f) [
     | inl c ↦ act_off j old new b.0 c
     | inr r ↦ off _ r.1 refl
@@ -234,7 +234,7 @@ module _ (v : View) (n : Next) (is : n ≡ next.Go (stage.Act v)) where
   unchanged_at j old new other f (inl r) = absurd r.0
 
 -- a call that comes to its change comes to it by the read of the leaf, which stands as it was read
-pub change_law : (j : Job) (old new : Store) (a : Stage) (v : View) → Follows j old a (next.Go (stage.Act v)) new → (new ≡ old) × IsUnchanged (now new) v
+pub change_law : (j : Course) (old new : Store) (a : Stage) (v : View) → Follows j old a (next.Go (stage.Act v)) new → (new ≡ old) × IsUnchanged (now new) v
 change_law j old new a v f = unchanged_at v (next.Go (stage.Act v)) refl j old new a f.is (reads_or_acts acting v (next.Go (stage.Act v)) refl (λ e. refl) plainly j old new a f.is)
   where
     plainly : (b : Stage) → ((u : View) → b ≡ stage.Act u → ⊥) → acting (next.Go b) ≡ None

@@ -1,28 +1,26 @@
 -- Steps at pages where nothing is to be repaired.
 use native.Mathlib.Omega.{arith}
 use Rattle.std.proofs.Common.{◌≡◌, ◌≢◌, ◌↔◌, IsTrue, ℕ, ◌+◌, ◌<◌, ◌≤◌, true, false, Bool, Option, Some, None, Result, Ok, Err, IfOk, IfErr, OnOk, MatchOption, refl, sym, ap, ◌∙◌, subst, inl, inr}
-use Rattle.std.specs.declared.ops.Bound.TheVariants.{Included}
 use Rattle.sled_pages.specs.Order.{Key}
 use Rattle.sled_pages.specs.Among.{IsPointer}
-use Rattle.sled_pages.specs.Node.{Covers, count, pointers}
+use Rattle.sled_pages.specs.Node.{count, pointers}
 use Rattle.sled_pages.specs.Store.{Store, now, view_of, RefusedRead}
 use Rattle.sled_pages.specs.declared.error.Error.{Error}
 use Rattle.sled_pages.specs.declared.error.Error.TheVariants.{NoMemory}
 use Rattle.sled_pages.specs.declared.node.Data.{Data}
 use Rattle.sled_pages.specs.declared.node.Data.TheVariants.{Leaf, Index}
 use Rattle.sled_pages.specs.declared.page.View.{View}
-use Rattle.sled_model.specs.Answer.{key_of}
 use Rattle.sled_model.specs.declared.decision.Effect.{Effect}
 use Rattle.sled_model.specs.declared.decision.Effect.TheVariants.{Nothing, Set, Remove}
 use Rattle.sled_model.specs.declared.reply.Reply.{Reply}
 use Rattle.sled_tree.specs.Change.{IsLeaf, IsIndex, decision_at}
 use Rattle.sled_tree.specs.Descent.{way_of, met_as, IsPlain, IsClean, Meets, Leads, Descends, Settles}
-use Rattle.sled_tree.specs.Follows.{follows_here, Follows, FollowsPage, EndsBefore, by_effect, done_at, follows_read, follows_root, follows_leaf, follows_content}
+use Rattle.sled_tree.specs.Follows.{follows_here, Follows, FollowsPage, by_effect, done_at, follows_read, follows_root, follows_leaf, follows_content}
 use Rattle.sled_tree.specs.Moves.{Arrives}
 use Rattle.sled_tree.specs.Passing.{PassesOn}
 use Rattle.sled_tree.specs.declared.descent.Descent.TheVariants as descent
 use Rattle.sled_tree.specs.declared.flight.Flight.{Flight}
-use Rattle.sled_tree.specs.declared.flight.Job.{Job}
+use Rattle.sled_tree.specs.Course.{Course, course_of}
 use Rattle.sled_tree.specs.declared.flight.Next.{Next}
 use Rattle.sled_tree.specs.declared.flight.Next.TheVariants.{Go, Decided, Refused}
 use Rattle.tree_laws.specs.declared.flight.Stage.{Stage}
@@ -37,8 +35,7 @@ use Rattle.sled_tree.proofs.Facts.{unable, unread, restarts, untrue}
 use Rattle.std.proofs.lemmas.Bool.Decides.{leb_tells}
 use Rattle.sled_tree.proofs.Arriving.{root_read, cursor_read, descends, acts, answers}
 use Rattle.sled_tree.proofs.Following.{opened}
-use Rattle.tree_laws.proofs.Order.{below_not_upto}
-use Rattle.sled_tree.proofs.Passing.{root_gone, cursor_gone, root_passes, cursor_passes, down_passes, leaf_passes}
+use Rattle.sled_tree.proofs.Passing.{not_behind, root_gone, cursor_gone, root_passes, cursor_passes, down_passes, leaf_passes}
 
 -- a page that was read says what comes
 page_follows : (s : Store) (pid : ℕ) (found : View → Next → Type 0) (view : View) (next : Next) → s.is_readable pid ≡ true → Some view ≡ view_of pid ((now s).pages pid) → found view next → FollowsPage s pid found next
@@ -48,12 +45,8 @@ page_follows s pid found view next readable read f = record { is = inl (readable
 gone_follows : (s : Store) (pid : ℕ) (found : View → Next → Type 0) → s.is_readable pid ≡ true → None ≡ view_of pid ((now s).pages pid) → FollowsPage s pid found (Go stage.Root)
 gone_follows s pid found readable read = record { is = inl (readable, subst (λ o. MatchOption o (Go stage.Root ≡ Go stage.Root) (λ v. found v (Go stage.Root))) read refl) }
 
--- a page that has the key does not end before it
-not_behind : (j : Job) (view : View) → Covers view.node (key_of j.call) → EndsBefore view.node (key_of j.call) → ⊥
-not_behind j view covers beyond = elim covers.1 [ inl endless ↦ beyond.0 endless | inr below ↦ below_not_upto (key_of j.call) view.node.hi below beyond.1 ]
-
 -- what comes of a page where nothing is to be repaired is what comes of its content
-plain_follows : (j : Job) (view : View) (by : Reached) (next : Next) → IsPlain by (count view.node.content) → follows_content view.node.content j view next → follows_here j view by next
+plain_follows : (j : Course) (view : View) (by : Reached) (next : Next) → IsPlain by (count view.node.content) → follows_content view.node.content j view next → follows_here j view by next
 plain_follows j view reached.Root next plain f = f
 plain_follows j view (reached.FirstPointer parent) next plain f = f
 plain_follows j view (reached.LaterPointer parent) next plain f = inr ((λ merges. not_few plain merges.1), f)
@@ -62,21 +55,21 @@ plain_follows j view (reached.LaterPointer parent) next plain f = inr ((λ merge
     not_few many few = omega (arith, many, few)
 plain_follows j view (reached.Next parent) next plain f = absurd plain
 
-clean_follows : (j : Job) (view : View) (by : Reached) (next : Next) → IsClean j by view → follows_content view.node.content j view next → follows_read j view by next
+clean_follows : (j : Course) (view : View) (by : Reached) (next : Next) → IsClean j by view → follows_content view.node.content j view next → follows_read j view by next
 clean_follows j view by next clean f = opened j view by next clean.awake clean.free (inr (
   (λ long. absurd (not_long clean.few long)),
-  inr (not_behind j view clean.covers, inl (clean.covers, plain_follows j view by next clean.plain f)),
+  inr (not_behind view.node j.aim clean.under, inl (clean.under, plain_follows j view by next clean.plain f)),
 ))
   where
     not_long : count view.node.content ≤ 16 → 16 < count view.node.content → ⊥
     not_long few long = omega (arith, few, long)
 
 -- at a leaf
-leaf_follows : (j : Job) (view : View) (next : Next) (d : Data) → IsLeaf d → follows_leaf j view next → follows_content d j view next
+leaf_follows : (j : Course) (view : View) (next : Next) (d : Data) → IsLeaf d → follows_leaf j view next → follows_content d j view next
 leaf_follows j view next (Leaf es) is f = f
 leaf_follows j view next (Index es) is f = absurd is
 
-index_follows : (j : Job) (view : View) (c : ℕ) (first : Bool) (d : Data) → IsIndex d → IsPointer (Included (key_of j.call)) (pointers view.node.content) c first → follows_content d j view (Go (stage.Walk (record { cursor = c; reached = by_pointer view first })))
+index_follows : (j : Course) (view : View) (c : ℕ) (first : Bool) (d : Data) → IsIndex d → IsPointer j.aim (pointers view.node.content) c first → follows_content d j view (Go (stage.Walk (record { cursor = c; reached = by_pointer view first })))
 index_follows j view c first (Leaf es) is k = absurd is
 index_follows j view c first (Index es) is k = record { found = Some (c, first); is_last = k; is = refl }
 
@@ -107,7 +100,7 @@ record IsAnswer (s : Store) (pid : ℕ) (found : Result (Option View) Error) : T
   readable : OnOk found (s.is_readable pid ≡ true)
   err : IfErr found (λ e. RefusedRead pid s e)
 
-module _ (j : Job) (s : Store) where
+module _ (j : Course) (s : Store) where
   -- the root of a tree,
   module _ (name : Key) (root : Option ℕ) (pid : ℕ) (called : name ≡ j.tree.name) (is_root : root ≡ (now s).roots name) (is_some : root ≡ Some pid) where
     at_root : (next : Next) → FollowsPage s pid (λ v. follows_read j v reached.Root) next → Follows j s stage.Root next s
@@ -157,11 +150,11 @@ module _ (j : Job) (s : Store) where
 
   module _ (a : Stage) (view : View) (m : Meets s j a view) where
     -- an index leads down,
-    pub leads : (c : ℕ) (first : Bool) → IsClean j (way_of a) view → IsIndex view.node.content → IsPointer (Included (key_of j.call)) (pointers view.node.content) c first
+    pub leads : (c : ℕ) (first : Bool) → IsClean j (way_of a) view → IsIndex view.node.content → IsPointer j.aim (pointers view.node.content) c first
         → Descends s j a descent.Further (stage.Walk (record { cursor = c; reached = by_pointer view first }))
     leads c first clean index k = record {
       told = record {
-        moves = m.moves _ (descends j view (way_of a) clean.awake clean.free clean.covers clean.few c first index k);
+        moves = m.moves _ (descends j view (way_of a) clean.awake clean.free clean.under clean.few c first index k);
         passes = m.passes _ (down_passes j view (way_of a) c first index k);
         follows = m.follows _ (clean_follows j view (way_of a) _ clean (index_follows j view c first _ index k));
       };
@@ -173,31 +166,31 @@ module _ (j : Job) (s : Store) where
 
 -- a step that was made is one of the call
 module _ (s : Store) (f : Flight) where
-  pub settles_go : (b : Stage) → Leads s f.job f.stage (Go b) → Settles s f went.Moved (record { job = f.job; stage = b; turns = f.turns + 1 })
-  settles_go b l = record { advances = record { told = (refl, refl, l.moves) }; passes = record { told = λ path k. l.passes.told path k }; follows = record { is = l.follows } }
+  pub settles_go : (b : Stage) → Leads s (course_of f) f.stage (Go b) → Settles s f went.Moved (record { job = f.job; aim = f.aim; stage = b; turns = f.turns + 1 })
+  settles_go b l = record { advances = record { told = (refl, refl, refl, l.moves) }; passes = record { told = λ path k. l.passes.told path k }; follows = record { is = l.follows } }
 
-  pub settles_decided : (b : Stage) (reply : Reply) → Leads s f.job f.stage (Decided reply) → Settles s f (went.Decided reply) (record { job = f.job; stage = b; turns = f.turns })
+  pub settles_decided : (b : Stage) (reply : Reply) → Leads s (course_of f) f.stage (Decided reply) → Settles s f (went.Decided reply) (record { job = f.job; aim = f.aim; stage = b; turns = f.turns })
   settles_decided b reply l = record { advances = record { told = l.moves }; passes = record { told = tt }; follows = record { is = l.follows } }
 
-  pub settles_refused : (b : Stage) (e : Error) → Leads s f.job f.stage (Refused e) → Settles s f (went.Refused e) (record { job = f.job; stage = b; turns = f.turns })
+  pub settles_refused : (b : Stage) (e : Error) → Leads s (course_of f) f.stage (Refused e) → Settles s f (went.Refused e) (record { job = f.job; aim = f.aim; stage = b; turns = f.turns })
   settles_refused b e l = record { advances = record { told = l.moves }; passes = record { told = tt }; follows = record { is = l.follows } }
 
   -- at the leaf the call goes on to its change,
-  module _ (view : View) (leaf : IsLeaf view.node.content) (clean : IsClean f.job (way_of f.stage) view) (m : Meets s f.job f.stage view) where
-    at_leaf_follows : (next : Next) → follows_leaf f.job view next → Follows f.job s f.stage next s
-    at_leaf_follows next t = m.follows next (clean_follows f.job view (way_of f.stage) next clean (leaf_follows f.job view next _ leaf t))
+  module _ (view : View) (leaf : IsLeaf view.node.content) (clean : IsClean (course_of f) (way_of f.stage) view) (m : Meets s (course_of f) f.stage view) where
+    at_leaf_follows : (next : Next) → follows_leaf (course_of f) view next → Follows (course_of f) s f.stage next s
+    at_leaf_follows next t = m.follows next (clean_follows (course_of f) view (way_of f.stage) next clean (leaf_follows (course_of f) view next _ leaf t))
 
-    pub comes_to_act : (decision_at f.job.call view.node.content).effect ≢ Nothing → Settles s f went.Moved (record { job = f.job; stage = stage.Act view; turns = f.turns + 1 })
+    pub comes_to_act : (decision_at f.job.call view.node.content).effect ≢ Nothing → Settles s f went.Moved (record { job = f.job; aim = f.aim; stage = stage.Act view; turns = f.turns + 1 })
     comes_to_act changes = settles_go (stage.Act view) (record {
-      moves = m.moves _ (acts f.job view (way_of f.stage) clean.awake clean.free clean.covers clean.few leaf changes);
-      passes = m.passes _ (leaf_passes f.job view (way_of f.stage) leaf changes);
+      moves = m.moves _ (acts (course_of f) view (way_of f.stage) clean.awake clean.free clean.under clean.few leaf changes);
+      passes = m.passes _ (leaf_passes (course_of f) view (way_of f.stage) leaf changes);
       follows = at_leaf_follows _ (inl (sym (acts_on _ view _ changes)));
     })
 
     -- or is decided,
     pub comes_to_reply : (reply : Reply) → decision_at f.job.call view.node.content ≡ record { effect = Nothing; reply = reply } → Settles s f (went.Decided reply) f
     comes_to_reply reply e = record {
-      advances = record { told = m.moves _ (answers f.job view (way_of f.stage) clean.awake clean.free clean.covers clean.few leaf reply e) };
+      advances = record { told = m.moves _ (answers (course_of f) view (way_of f.stage) clean.awake clean.free clean.under clean.few leaf reply e) };
       passes = record { told = tt };
       follows = record { is = at_leaf_follows _ (inl (sym (ap (done_at view) e))) };
     }
@@ -205,7 +198,7 @@ module _ (s : Store) (f : Flight) where
     -- or there is no memory
     pub comes_to_nothing : (e : Error) → e ≡ NoMemory → Settles s f (went.Refused e) f
     comes_to_nothing e none = record {
-      advances = record { told = unable f.job s f.stage e none };
+      advances = record { told = unable (course_of f) s f.stage e none };
       passes = record { told = tt };
       follows = record { is = at_leaf_follows _ (inr (ap Refused none)) };
     }

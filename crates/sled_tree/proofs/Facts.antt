@@ -4,7 +4,6 @@ use Rattle.std.specs.Ordering.{is_gt, ordering_reverse}
 use Rattle.std.specs.declared.cmp.Ordering.{Ordering}
 use Rattle.std.proofs.lemmas.Bool.Decides.{leb_tells}
 use Rattle.sled_pages.specs.Order.{Key, key_cmp, Below, UpTo}
-use Rattle.std.specs.declared.ops.Bound.TheVariants.{Included}
 use Rattle.sled_pages.specs.In.{In}
 use Rattle.sled_pages.specs.Node.{count}
 use Rattle.sled_pages.specs.Update.{put_at}
@@ -16,7 +15,6 @@ use Rattle.sled_pages.specs.declared.error.Error.TheVariants as error
 use Rattle.sled_pages.specs.declared.node.Node.{Node}
 use Rattle.sled_pages.specs.declared.page.Page.{Page}
 use Rattle.sled_pages.specs.declared.page.View.{View}
-use Rattle.sled_model.specs.Answer.{key_of}
 use Rattle.tree_laws.specs.Forest.{Tree, Forest, Place, place}
 use Rattle.tree_laws.specs.Laws.{replaced, allocated, freed, hoisted}
 use Rattle.tree_laws.specs.Moment.{Moment, moment_of, nodes_at, IsMoment, Acts, Grows}
@@ -25,7 +23,7 @@ use Rattle.tree_laws.proofs.Known.{goes_same, root_in}
 use Rattle.tree_laws.proofs.Replace.{same_number}
 use Rattle.tree_laws.proofs.Update.{put_here, put_there, name_here}
 use Rattle.tree_laws.proofs.Order.{key_total}
-use Rattle.sled_tree.specs.declared.flight.Job.{Job}
+use Rattle.sled_tree.specs.Course.{Course, course_of}
 use Rattle.tree_laws.specs.declared.flight.Stage.{Stage}
 use Rattle.tree_laws.specs.declared.flight.Stage.TheVariants as stage
 use Rattle.sled_tree.specs.declared.flight.Next.{Next}
@@ -130,18 +128,18 @@ leaves_freed m p v = record {
 }
 
 -- what comes of an action that does nothing
-pub stays : (j : Job) (s : Store) (a b : Stage) → ((q : ℕ) → In q (owned b) → In q (owned a)) → ((q : ℕ) → In q (owned a) → In q (owned b)) → changes_at j b
-    → ((m : Moment) (w : Forest) → IsMoment m w → m.numbers j.tree.name ≡ Some j.tree.number → IsStage m w j.tree.name j.tree.number (Included (key_of j.call)) a → IsStage m w j.tree.name j.tree.number (Included (key_of j.call)) b)
+pub stays : (j : Course) (s : Store) (a b : Stage) → ((q : ℕ) → In q (owned b) → In q (owned a)) → ((q : ℕ) → In q (owned a) → In q (owned b)) → changes_at j b
+    → ((m : Moment) (w : Forest) → IsMoment m w → m.numbers j.tree.name ≡ Some j.tree.number → IsStage m w j.tree.name j.tree.number j.aim a → IsStage m w j.tree.name j.tree.number j.aim b)
     → Moves j s a (next.Go b) s
 stays j s a b from to plain known = record {
   touches = inl refl;
   told = λ numbers given w is named k.
       let m : Moment = moment_of s numbers given in
-      (w, rests (owned a) (owned b) m w is from, ((known m w is named k.0, plain), same_here m w), leaves_same (owned a) (owned b) (now s) w to);
+      (w, rests (owned a) (owned b) m w is from, ((known m w is named k.0, plain, k.2), same_here m w), leaves_same (owned a) (owned b) (now s) w to);
 }
 
 -- the call begins again, where it owns no page
-pub restarts : (j : Job) (s : Store) (a : Stage) → ((q : ℕ) → In q (owned a) → ⊥) → Moves j s a (next.Go stage.Root) s
+pub restarts : (j : Course) (s : Store) (a : Stage) → ((q : ℕ) → In q (owned a) → ⊥) → Moves j s a (next.Go stage.Root) s
 restarts j s a none = stays j s a stage.Root (λ q i. absurd i) none tt (λ m w is named k. tt)
 
 -- a store that counted a fault shows the same moment
@@ -156,7 +154,7 @@ same_moment old new numbers given (error.Corruption fault) t = absurd t
 same_moment old new numbers given error.FullQueue t = absurd t
 same_moment old new numbers given error.Closed t = absurd t
 
-refuses : (j : Job) (old new : Store) (a : Stage) (e : Error) → refuses_as e old new → Moves j old a (next.Refused e) new
+refuses : (j : Course) (old new : Store) (a : Stage) (e : Error) → refuses_as e old new → Moves j old a (next.Refused e) new
 refuses j old new a e t = record {
   touches = t;
   told = λ numbers given w is named k.
@@ -169,7 +167,7 @@ refuses j old new a e t = record {
 }
 
 -- a call of the store is refused,
-pub refused : (j : Job) (old new : Store) (a : Stage) (e : Error) → Refused e old new → Moves j old a (next.Refused e) new
+pub refused : (j : Course) (old new : Store) (a : Stage) (e : Error) → Refused e old new → Moves j old a (next.Refused e) new
 refused j old new a e r = refuses j old new a e (go e r.told)
   where
     go : (e : Error) → Rattle.sled_pages.specs.Store.refused_as e old new → refuses_as e old new
@@ -183,7 +181,7 @@ refused j old new a e r = refuses j old new a e (go e r.told)
     go error.Closed t = absurd t
 
 -- a read is,
-pub unread : (j : Job) (s : Store) (a : Stage) (pid : ℕ) (e : Error) → RefusedRead pid s e → Moves j s a (next.Refused e) s
+pub unread : (j : Course) (s : Store) (a : Stage) (pid : ℕ) (e : Error) → RefusedRead pid s e → Moves j s a (next.Refused e) s
 unread j s a pid e r = refuses j s s a e (go e r.told)
   where
     go : (e : Error) → Rattle.sled_pages.specs.Store.refused_read_as pid s e → refuses_as e s s
@@ -197,20 +195,20 @@ unread j s a pid e r = refuses j s s a e (go e r.told)
     go error.Closed t = absurd t
 
 -- or there is no memory
-pub unable : (j : Job) (s : Store) (a : Stage) (e : Error) → e ≡ error.NoMemory → Moves j s a (next.Refused e) s
+pub unable : (j : Course) (s : Store) (a : Stage) (e : Error) → e ≡ error.NoMemory → Moves j s a (next.Refused e) s
 unable j s a e none = subst (λ z. Moves j s a (next.Refused z) s) (sym none) (refuses j s s a error.NoMemory refl)
 
 -- a changing action after which the call goes on
-pub moves_on : (j : Job) (old new : Store) (a b : Stage) → ActsOnce old new → changes_at j b
-    → ((numbers : Tree → Option ℕ) (given : ℕ → Bool) (w : Forest) → IsMoment (moment_of old numbers given) w → numbers j.tree.name ≡ Some j.tree.number → IsStage (moment_of old numbers given) w j.tree.name j.tree.number (Included (key_of j.call)) a
-    → (m : Moment) × (moment_of new numbers given ≡ m) × (v : Forest) × StageAction (moment_of old numbers given) w m v j.tree.name j.tree.number (Included (key_of j.call)) a b × LeavesNone (owned a) (owned b) (now old) m.state v)
+pub moves_on : (j : Course) (old new : Store) (a b : Stage) → ActsOnce old new → changes_at j b
+    → ((numbers : Tree → Option ℕ) (given : ℕ → Bool) (w : Forest) → IsMoment (moment_of old numbers given) w → numbers j.tree.name ≡ Some j.tree.number → IsStage (moment_of old numbers given) w j.tree.name j.tree.number j.aim a
+    → (m : Moment) × (moment_of new numbers given ≡ m) × (v : Forest) × StageAction (moment_of old numbers given) w m v j.tree.name j.tree.number j.aim a b × LeavesNone (owned a) (owned b) (now old) m.state v)
     → Moves j old a (next.Go b) new
 moves_on j old new a b once plain known = record {
   touches = inr once;
   told = λ numbers given w is named k.
       let n = known numbers given w is named k.0 in
       let mo : Moment = moment_of old numbers given in
-      subst (λ (z : Moment). (v : Forest) × Acts (owned a) (owned b) mo w z v × (Knows z v j b × Same mo w z v) × LeavesNone (owned a) (owned b) mo.state z.state v) (sym n.1) (n.2, n.3.acts, ((n.3.knows, plain), record { same = n.3.same }), n.4);
+      subst (λ (z : Moment). (v : Forest) × Acts (owned a) (owned b) mo w z v × (Knows z v j b × Same mo w z v) × LeavesNone (owned a) (owned b) mo.state z.state v) (sym n.1) (n.2, n.3.acts, ((n.3.knows, plain, k.2), record { same = n.3.same }), n.4);
 }
 
 -- what was given stays given when one more is
@@ -256,7 +254,7 @@ long_enough b c told is = more c (told.0 is).0
     more c h = omega arith
 
 -- the page had changed, and the call begins again
-pub stale : (j : Job) (old new : Store) (a : Stage) {change : Node → Node} {pid version : ℕ} {present : Option ℕ} → ((q : ℕ) → In q (owned a) → ⊥) → Changes change pid version old new (Err present) → Moves j old a (next.Go stage.Root) new
+pub stale : (j : Course) (old new : Store) (a : Stage) {change : Node → Node} {pid version : ℕ} {present : Option ℕ} → ((q : ℕ) → In q (owned a) → ⊥) → Changes change pid version old new (Err present) → Moves j old a (next.Go stage.Root) new
 stale j old new a none c = subst (λ (s : Store). Moves j old a (next.Go stage.Root) s) (sym c.told.0) (restarts j old a none)
 
 -- what a test that failed tells
@@ -284,5 +282,5 @@ pub live_view : (s : Store) (pid : ℕ) (v : View) → Some v ≡ view_of pid ((
 live_view s pid v e = let k = viewed pid ((now s).pages pid) v e in ap (now s).pages k.0 ∙ k.1
 
 -- a step after which the call goes on
-pub goes_on : (old new : Store) (f : Flight) (taken stage : Stage) (n : Next) → taken ≡ f.stage → n ≡ next.Go stage → Moves f.job old taken n new → Advances old f Moved new (record { job = f.job; stage = stage; turns = f.turns + 1 })
-goes_on old new f taken stage n e is m = record { told = (refl, refl, subst (λ z. Moves f.job old z (next.Go stage) new) e (subst (λ z. Moves f.job old taken z new) is m)) }
+pub goes_on : (old new : Store) (f : Flight) (taken stage : Stage) (n : Next) → taken ≡ f.stage → n ≡ next.Go stage → Moves (course_of f) old taken n new → Advances old f Moved new (record { job = f.job; aim = f.aim; stage = stage; turns = f.turns + 1 })
+goes_on old new f taken stage n e is m = record { told = (refl, refl, refl, subst (λ z. Moves (course_of f) old z (next.Go stage) new) e (subst (λ z. Moves (course_of f) old taken z new) is m)) }

@@ -1,6 +1,5 @@
 -- The steps of a merge.
 use Rattle.std.proofs.Common.{◌≡◌, ◌≢◌, ℕ, ◌≤◌, ◌⊎◌, true, false, List, [], ◌∷◌, Option, Some, None, Ok, Err, sym, refl, ap, ◌∙◌, subst, inl}
-use Rattle.std.specs.declared.ops.Bound.TheVariants.{Included}
 use Rattle.sled_pages.specs.Order.{Key, Below, UpTo}
 use Rattle.sled_pages.specs.In.{In}
 use Rattle.sled_pages.specs.Halves.{received}
@@ -12,7 +11,6 @@ use Rattle.sled_pages.specs.declared.node.Data.TheVariants.{Index}
 use Rattle.sled_pages.specs.declared.link.Link.TheVariants.{ParentMergeIntention, ParentMergeConfirm, ChildMergeCap}
 use Rattle.sled_pages.specs.declared.page.Page.{Page}
 use Rattle.sled_pages.specs.declared.page.View.{View}
-use Rattle.sled_model.specs.Answer.{key_of}
 use Rattle.tree_laws.specs.Forest.{Forest, place}
 use Rattle.tree_laws.specs.Moment.{Moment, moment_of, IsMoment, IsFew, Stood}
 use Rattle.tree_laws.specs.Laws.{replaced}
@@ -22,7 +20,7 @@ use Rattle.tree_laws.proofs.Known.{store_replaced}
 use Rattle.tree_laws.proofs.Merges.{stood_merges_law, intend_action, cap_action, seek_law, receive_action, receive_late, confirm_action}
 use Rattle.tree_laws.proofs.Merges as law
 use Rattle.tree_laws.proofs.Staged.{cap_late}
-use Rattle.sled_tree.specs.declared.flight.Job.{Job}
+use Rattle.sled_tree.specs.Course.{Course}
 use Rattle.tree_laws.specs.declared.flight.Merge.{Merge}
 use Rattle.tree_laws.specs.declared.flight.Cap.{Cap}
 use Rattle.tree_laws.specs.declared.flight.Seek.{Seek}
@@ -40,14 +38,14 @@ use Rattle.sled_tree.proofs.Facts.{moves_on, once_acts, stays, rests, same_here,
 use Rattle.sled_tree.proofs.Basics.{some_is}
 
 -- the parent takes the page for its merging child
-pub intends : (j : Job) (old new : Store) (a : Merge) (version : ℕ) → Changes (applied (ParentMergeIntention a.child)) a.parent.pid a.parent.version old new (Ok version)
+pub intends : (j : Course) (old new : Store) (a : Merge) (version : ℕ) → Changes (applied (ParentMergeIntention a.child)) a.parent.pid a.parent.version old new (Ok version)
     → Moves j old (stage.Intend a) (next.Go (stage.Child (record { parent = record { pid = a.parent.pid; version = version; node = record (a.parent.node) { merging_child = Some a.child } }; child = a.child; before = a.before }))) new
 intends j old new a version c = moves_on j old new _ _ (once_acts c.told.2) tt (λ numbers gave w is named k.
     let m : Moment = moment_of old numbers gave in
     let g : Page = record { version = a.parent.version; node = c.told.0 } in
     let n : Page = record { version = version; node = applied (ParentMergeIntention a.child) a.parent.node } in
     let node : c.told.0 ≡ a.parent.node = k.above.seen.view.speaks g c.told.1 refl in
-    let did = intend_action m w j.tree.name j.tree.number (Included (key_of j.call)) a version c.told.0 is (record { named = named; page = c.told.1 }) c.told.2.fresh k in (
+    let did = intend_action m w j.tree.name j.tree.number j.aim a version c.told.0 is (record { named = named; page = c.told.1 }) c.told.2.fresh k in (
       replaced m a.parent.pid n,
       store_replaced numbers gave c.told.2 ∙ ap (λ (z : Node). replaced m a.parent.pid (record { version = version; node = applied (ParentMergeIntention a.child) z })) node,
       did.0,
@@ -56,7 +54,7 @@ intends j old new a version c = moves_on j old new _ _ (once_acts c.told.2) tt (
     ))
 
 -- what a read of the merging child comes to, as a step
-pub child_read : (j : Job) (s : Store) (a : Merge) (view : View) (n : Next) → Some view ≡ view_of a.child ((now s).pages a.child) → ReadsChild j a view n → Moves j s (stage.Child a) n s
+pub child_read : (j : Course) (s : Store) (a : Merge) (view : View) (n : Next) → Some view ≡ view_of a.child ((now s).pages a.child) → ReadsChild j a view n → Moves j s (stage.Child a) n s
 child_read j s a view n read t = record {
   touches = t.touches s;
   told = λ numbers gave w is named k.
@@ -65,24 +63,24 @@ child_read j s a view n read t = record {
 }
 
 -- what comes after the child, or the search's cursor, was read and leads to a stage
-module _ (j : Job) (view : View) where
+module _ (j : Course) (view : View) where
   child_goes : (a : Merge) (b : Stage) → owned b ≡ [] → changes_at j b
-      → ((m : Moment) (w : Forest) → IsMoment m w → m.numbers j.tree.name ≡ Some j.tree.number → view.pid ≡ a.child → IsLive m view → IsStage m w j.tree.name j.tree.number (Included (key_of j.call)) (stage.Child a) → IsStage m w j.tree.name j.tree.number (Included (key_of j.call)) b) → ReadsChild j a view (next.Go b)
+      → ((m : Moment) (w : Forest) → IsMoment m w → m.numbers j.tree.name ≡ Some j.tree.number → view.pid ≡ a.child → IsLive m view → IsStage m w j.tree.name j.tree.number j.aim (stage.Child a) → IsStage m w j.tree.name j.tree.number j.aim b) → ReadsChild j a view (next.Go b)
   child_goes a b none plain known = record {
     touches = λ s. inl refl;
-    told = λ s numbers gave w is named here live k. (none, ((known (moment_of s numbers gave) w is named here live k.0, plain), same_here (moment_of s numbers gave) w));
+    told = λ s numbers gave w is named here live k. (none, ((known (moment_of s numbers gave) w is named here live k.0, plain, k.2), same_here (moment_of s numbers gave) w));
   }
 
   cursor_goes : (a : Seek) (b : Stage) → owned b ≡ [] → changes_at j b
-      → ((m : Moment) (w : Forest) → IsMoment m w → m.numbers j.tree.name ≡ Some j.tree.number → view.pid ≡ a.cursor → IsLive m view → IsStage m w j.tree.name j.tree.number (Included (key_of j.call)) (stage.Seek a) → IsStage m w j.tree.name j.tree.number (Included (key_of j.call)) b) → Looks j a view (next.Go b)
+      → ((m : Moment) (w : Forest) → IsMoment m w → m.numbers j.tree.name ≡ Some j.tree.number → view.pid ≡ a.cursor → IsLive m view → IsStage m w j.tree.name j.tree.number j.aim (stage.Seek a) → IsStage m w j.tree.name j.tree.number j.aim b) → Looks j a view (next.Go b)
   cursor_goes a b none plain known = record {
     touches = λ s. inl refl;
-    told = λ s numbers gave w is named here live k. (none, ((known (moment_of s numbers gave) w is named here live k.0, plain), same_here (moment_of s numbers gave) w));
+    told = λ s numbers gave w is named here live k. (none, ((known (moment_of s numbers gave) w is named here live k.0, plain, k.2), same_here (moment_of s numbers gave) w));
   }
 
 -- a page with a merging child was read, whose own merge goes on first
 module _ (view : View) (child : ℕ) (awake : view.node.merging ≡ false) (is_child : view.node.merging_child ≡ Some child) where
-  pub child_helps : (j : Job) (a : Merge) (n : Next) → ResumesMerge view child n → ReadsChild j a view n
+  pub child_helps : (j : Course) (a : Merge) (n : Next) → ResumesMerge view child n → ReadsChild j a view n
   child_helps j a n h = subst (ReadsChild j a view) (sym h.is) (go h.before h.is_before)
     where
       go : (before : Option ℕ) → IsPointerBefore child (pointers view.node.content) before → ReadsChild j a view (resumed view child before)
@@ -90,7 +88,7 @@ module _ (view : View) (child : ℕ) (awake : view.node.merging ≡ false) (is_c
       go (Some before) b = child_goes j view a _ refl tt (λ m w is named here live k.
           stood_merges_law m w j.tree.name j.tree.number k.height view k.merging.lo is named (subst (λ p. Stood m w (place j.tree.name k.height) j.tree.number k.merging.lo p) (sym here) k.merging.c_stood) live awake child before is_child b)
 
-  pub cursor_helps : (j : Job) (a : Seek) (n : Next) → ResumesMerge view child n → Looks j a view n
+  pub cursor_helps : (j : Course) (a : Seek) (n : Next) → ResumesMerge view child n → Looks j a view n
   cursor_helps j a n h = subst (Looks j a view) (sym h.is) (go h.before h.is_before)
     where
       go : (before : Option ℕ) → IsPointerBefore child (pointers view.node.content) before → Looks j a view (resumed view child before)
@@ -99,22 +97,22 @@ module _ (view : View) (child : ℕ) (awake : view.node.merging ≡ false) (is_c
           stood_merges_law m w j.tree.name j.tree.number k.height view k.lo is named (subst (λ p. Stood m w (place j.tree.name k.height) j.tree.number k.lo p) (sym here) k.stood) live awake child before is_child b)
 
 -- the child is merging already, or open
-module _ (j : Job) (a : Merge) (view : View) where
+module _ (j : Course) (a : Merge) (view : View) where
   pub child_seeks : view.node.merging ≡ true → ReadsChild j a view (next.Go (stage.Seek (record { merge = a; version = view.version; node = view.node; cursor = a.before })))
-  child_seeks capped = child_goes j view a _ refl tt (λ m w is named here live k. law.child_seeks m w j.tree.name j.tree.number (Included (key_of j.call)) a view.version view.node named (ap m.state.pages (sym here) ∙ live) capped k)
+  child_seeks capped = child_goes j view a _ refl tt (λ m w is named here live k. law.child_seeks m w j.tree.name j.tree.number j.aim a view.version view.node named (ap m.state.pages (sym here) ∙ live) capped k)
 
   pub child_caps : view.node.merging ≡ false → view.node.merging_child ≡ None → ReadsChild j a view (next.Go (stage.Cap (record { merge = a; version = view.version; node = view.node })))
-  child_caps awake free = child_goes j view a _ refl tt (λ m w is named here live k. law.child_caps m w j.tree.name j.tree.number (Included (key_of j.call)) a view.version view.node is named (ap m.state.pages (sym here) ∙ live) (record { awake = awake; free = free }) k)
+  child_caps awake free = child_goes j view a _ refl tt (λ m w is named here live k. law.child_caps m w j.tree.name j.tree.number j.aim a view.version view.node is named (ap m.state.pages (sym here) ∙ live) (record { awake = awake; free = free }) k)
 
 -- the child is capped, or was changed, or is gone
-pub caps : (j : Job) (old new : Store) (a : Cap) (version : ℕ) → Changes (applied ChildMergeCap) a.merge.child a.version old new (Ok version)
+pub caps : (j : Course) (old new : Store) (a : Cap) (version : ℕ) → Changes (applied ChildMergeCap) a.merge.child a.version old new (Ok version)
     → Moves j old (stage.Cap a) (next.Go (stage.Seek (record { merge = a.merge; version = version; node = record (a.node) { merging = true }; cursor = a.merge.before }))) new
 caps j old new a version c = moves_on j old new _ _ (once_acts c.told.2) tt (λ numbers gave w is named k.
     let m : Moment = moment_of old numbers gave in
     let g : Page = record { version = a.version; node = c.told.0 } in
     let n : Page = record { version = version; node = applied ChildMergeCap a.node } in
     let node : c.told.0 ≡ a.node = k.view.speaks g c.told.1 refl in
-    let did = cap_action m w j.tree.name j.tree.number (Included (key_of j.call)) a version c.told.0 is (record { named = named; page = c.told.1 }) c.told.2.fresh k in (
+    let did = cap_action m w j.tree.name j.tree.number j.aim a version c.told.0 is (record { named = named; page = c.told.1 }) c.told.2.fresh k in (
       replaced m a.merge.child n,
       store_replaced numbers gave c.told.2 ∙ ap (λ (z : Node). replaced m a.merge.child (record { version = version; node = applied ChildMergeCap z })) node,
       did.0,
@@ -122,12 +120,12 @@ caps j old new a version c = moves_on j old new _ _ (once_acts c.told.2) tt (λ 
       leaves_replaced [] [] m a.merge.child g n did.0 c.told.1 (rid_of_none [] g a.node node k.is_open.free) (λ q i. absurd i),
     ))
 
-pub cap_stale : (j : Job) (old new : Store) (a : Cap) (present : Option ℕ) → Changes (applied ChildMergeCap) a.merge.child a.version old new (Err present) → Moves j old (stage.Cap a) (next.Go (stage.Child a.merge)) new
+pub cap_stale : (j : Course) (old new : Store) (a : Cap) (present : Option ℕ) → Changes (applied ChildMergeCap) a.merge.child a.version old new (Err present) → Moves j old (stage.Cap a) (next.Go (stage.Child a.merge)) new
 cap_stale j old new a present c = subst (λ (s : Store). Moves j old (stage.Cap a) (next.Go (stage.Child a.merge)) s) (sym c.told.0)
-    (stays j old (stage.Cap a) (stage.Child a.merge) (λ q i. i) (λ q i. i) tt (λ m w is named k. cap_late m w j.tree.name j.tree.number (Included (key_of j.call)) a k))
+    (stays j old (stage.Cap a) (stage.Child a.merge) (λ q i. i) (λ q i. i) tt (λ m w is named k. cap_late m w j.tree.name j.tree.number j.aim a k))
 
 -- what a read of the search's cursor comes to, as a step
-pub cursor_looks : (j : Job) (s : Store) (a : Seek) (view : View) (n : Next) → Some view ≡ view_of a.cursor ((now s).pages a.cursor) → Looks j a view n → Moves j s (stage.Seek a) n s
+pub cursor_looks : (j : Course) (s : Store) (a : Seek) (view : View) (n : Next) → Some view ≡ view_of a.cursor ((now s).pages a.cursor) → Looks j a view n → Moves j s (stage.Seek a) n s
 cursor_looks j s a view n read t = record {
   touches = t.touches s;
   told = λ numbers gave w is named k.
@@ -135,14 +133,14 @@ cursor_looks j s a view n read t = record {
       (w, rests [] (owned_next n) (moment_of s numbers gave) w is (λ q i. subst (In q) r.0 i), r.1, leaves_read [] n (now s) w refl);
 }
 
-module _ (j : Job) (a : Seek) (view : View) where
+module _ (j : Course) (a : Seek) (view : View) where
   -- the search begins again
   pub looks_again : Looks j a view (next.Go stage.Root)
   looks_again = cursor_goes j view a stage.Root refl tt (λ m w is named here live k. tt)
 
   module _ (awake : view.node.merging ≡ false) (free : view.node.merging_child ≡ None) where
-    looks : (b : Stage) → owned b ≡ [] → changes_at j b → ((m : Moment) (w : Forest) → Finds m w j.tree.name j.tree.number (Included (key_of j.call)) a view → IsStage m w j.tree.name j.tree.number (Included (key_of j.call)) b) → Looks j a view (next.Go b)
-    looks b none plain known = cursor_goes j view a b none plain (λ m w is named here live k. known m w (seek_law m w j.tree.name j.tree.number (Included (key_of j.call)) a view is named here live (record { awake = awake; free = free }) k))
+    looks : (b : Stage) → owned b ≡ [] → changes_at j b → ((m : Moment) (w : Forest) → Finds m w j.tree.name j.tree.number j.aim a view → IsStage m w j.tree.name j.tree.number j.aim b) → Looks j a view (next.Go b)
+    looks b none plain known = cursor_goes j view a b none plain (λ m w is named here live k. known m w (seek_law m w j.tree.name j.tree.number j.aim a view is named here live (record { awake = awake; free = free }) k))
 
     pub looks_further : (q : ℕ) → view.node.hi ≢ [] → Below view.node.hi a.node.lo → view.node.next ≡ Some q → Looks j a view (next.Go (stage.Seek (record { merge = a.merge; version = a.version; node = a.node; cursor = q })))
     looks_further q bounded before next = looks _ refl tt (λ m w f. f.further q bounded before next)
@@ -157,13 +155,13 @@ module _ (j : Job) (a : Seek) (view : View) where
     looks_splits = looks _ refl tt (λ m w f. f.splits)
 
 -- the page before the child receives it, or had changed, or is gone
-pub receives : (j : Job) (old new : Store) (a : Receive) (both : Node) (version : ℕ) → both ≡ received a.left.node a.node → Changes (λ _. both) a.left.pid a.left.version old new (Ok version)
+pub receives : (j : Course) (old new : Store) (a : Receive) (both : Node) (version : ℕ) → both ≡ received a.left.node a.node → Changes (λ _. both) a.left.pid a.left.version old new (Ok version)
     → Moves j old (stage.Receive a) (next.Go (stage.Confirm (record { parent = a.merge.parent; child = a.merge.child; version = a.version }))) new
 receives j old new a both version e c = moves_on j old new _ _ (once_acts c.told.2) tt (λ numbers gave w is named k.
     let m : Moment = moment_of old numbers gave in
     let g : Page = record { version = a.left.version; node = c.told.0 } in
     let n : Page = record { version = version; node = received a.left.node a.node } in
-    let did = receive_action m w j.tree.name j.tree.number (Included (key_of j.call)) a version c.told.0 is (record { named = named; page = c.told.1 }) c.told.2.fresh k in (
+    let did = receive_action m w j.tree.name j.tree.number j.aim a version c.told.0 is (record { named = named; page = c.told.1 }) c.told.2.fresh k in (
       replaced m a.left.pid n,
       store_replaced numbers gave c.told.2 ∙ ap (λ (z : Node). replaced m a.left.pid (record { version = version; node = z })) e,
       did.0,
@@ -171,20 +169,20 @@ receives j old new a both version e c = moves_on j old new _ _ (once_acts c.told
       leaves_replaced [] [] m a.left.pid g n did.0 c.told.1 (rid_of_none [] g a.left.node (k.seen.view.speaks g c.told.1 refl) k.seen.is_open.free) (λ q i. absurd i),
     ))
 
-pub receive_stale : (j : Job) (old new : Store) (a : Receive) (both : Node) (present : Option ℕ) → Changes (λ _. both) a.left.pid a.left.version old new (Err present)
+pub receive_stale : (j : Course) (old new : Store) (a : Receive) (both : Node) (present : Option ℕ) → Changes (λ _. both) a.left.pid a.left.version old new (Err present)
     → Moves j old (stage.Receive a) (next.Go (stage.Seek (record { merge = a.merge; version = a.version; node = a.node; cursor = a.left.pid }))) new
 receive_stale j old new a both present c = subst (λ (s : Store). Moves j old (stage.Receive a) (next.Go (stage.Seek (record { merge = a.merge; version = a.version; node = a.node; cursor = a.left.pid }))) s) (sym c.told.0)
-    (stays j old (stage.Receive a) (stage.Seek (record { merge = a.merge; version = a.version; node = a.node; cursor = a.left.pid })) (λ q i. i) (λ q i. i) tt (λ m w is named k. receive_late m w j.tree.name j.tree.number (Included (key_of j.call)) a k))
+    (stays j old (stage.Receive a) (stage.Seek (record { merge = a.merge; version = a.version; node = a.node; cursor = a.left.pid })) (λ q i. i) (λ q i. i) tt (λ m w is named k. receive_late m w j.tree.name j.tree.number j.aim a k))
 
 -- the pointer to the child goes
-pub confirms : (j : Job) (old new : Store) (a : Confirm) (version : ℕ) → Changes (applied ParentMergeConfirm) a.parent.pid a.parent.version old new (Ok version)
+pub confirms : (j : Course) (old new : Store) (a : Confirm) (version : ℕ) → Changes (applied ParentMergeConfirm) a.parent.pid a.parent.version old new (Ok version)
     → Moves j old (stage.Confirm a) (next.Go (stage.Free (record { pid = a.child; version = a.version }))) new
 confirms j old new a version c = moves_on j old new _ _ (once_acts c.told.2) tt (λ numbers gave w is named k.
     let m : Moment = moment_of old numbers gave in
     let g : Page = record { version = a.parent.version; node = c.told.0 } in
     let n : Page = record { version = version; node = applied ParentMergeConfirm a.parent.node } in
     let node : c.told.0 ≡ a.parent.node = k.merger.view.speaks g c.told.1 refl in
-    let did = confirm_action m w j.tree.name j.tree.number (Included (key_of j.call)) a version c.told.0 is (record { named = named; page = c.told.1 }) c.told.2.fresh k in (
+    let did = confirm_action m w j.tree.name j.tree.number j.aim a version c.told.0 is (record { named = named; page = c.told.1 }) c.told.2.fresh k in (
       replaced m a.parent.pid n,
       store_replaced numbers gave c.told.2 ∙ ap (λ (z : Node). replaced m a.parent.pid (record { version = version; node = applied ParentMergeConfirm z })) node,
       did.0,

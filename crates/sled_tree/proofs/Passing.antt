@@ -1,27 +1,27 @@
 -- Steps on clean paths.
 use Rattle.std.proofs.Common.{◌≡◌, ◌≢◌, ℕ, length, ◌+◌, ◌<◌, ◌≤◌, ◌↔◌, IsTrue, true, false, Bool, ◌||◌, List, [], ◌∷◌, Option, Some, None, Err, option_map, sym, refl, ap, ◌∙◌, subst, inl, inr, arith}
 use Rattle.std.specs.List.{list_any}
-use Rattle.std.specs.declared.ops.Bound.TheVariants.{Included}
+use Rattle.std.specs.declared.ops.Bound.{Bound}
 use Rattle.std.proofs.lemmas.List.Folds.{list_any-append}
-use Rattle.sled_pages.specs.Order.{Key, UpTo}
+use Rattle.sled_pages.specs.Order.{Key}
 use Rattle.sled_pages.specs.Among.{IsLast, IsPointer, IsPointerFor}
-use Rattle.sled_pages.specs.Node.{Covers, count, pointers}
+use Rattle.sled_pages.specs.Node.{count, pointers}
 use Rattle.sled_pages.specs.State.{State, Nodes, nodes_of}
 use Rattle.sled_pages.specs.Store.{Store, now, view_of, Changes}
 use Rattle.sled_pages.specs.declared.node.Node.{Node}
 use Rattle.sled_pages.specs.declared.node.Data.TheVariants.{Leaf, Index}
 use Rattle.sled_pages.specs.declared.page.Page.{Page}
 use Rattle.sled_pages.specs.declared.page.View.{View}
-use Rattle.sled_model.specs.Answer.{key_of}
 use Rattle.sled_model.specs.declared.decision.Effect.TheVariants.{Nothing}
+use Rattle.tree_laws.specs.Moment.{LiesUnder}
 use Rattle.tree_laws.specs.Paths.{CleanFrom, IsPassed}
 use Rattle.tree_laws.specs.PathLaws.{CleanStep}
 use Rattle.tree_laws.proofs.Looking.{clean_step_law}
-use Rattle.tree_laws.proofs.Order.{below_not_upto}
 use Rattle.sled_tree.specs.Change.{IsLeaf, IsIndex, decision_at}
+use Rattle.sled_tree.specs.Follows.{EndsWithin}
 use Rattle.sled_tree.specs.Passing.{IsUnchanged, IsAheadOf, IsOnPath, Passes, PassesOn, GoesFurther}
 use Rattle.sled_tree.specs.declared.flight.Flight.{Flight}
-use Rattle.sled_tree.specs.declared.flight.Job.{Job}
+use Rattle.sled_tree.specs.Course.{Course, course_of}
 use Rattle.sled_tree.specs.declared.flight.Next.{Next}
 use Rattle.sled_tree.specs.declared.flight.Next.TheVariants as next
 use Rattle.tree_laws.specs.declared.flight.Stage.{Stage}
@@ -36,29 +36,29 @@ use Rattle.sled_tree.proofs.Facts.{viewed, untrue}
 use Rattle.sled_tree.proofs.Arriving.{leaf_is, index_is}
 
 -- a stage that no clean path leads to
-pub passes_never : (j : Job) (old new : State) (a : Stage) (n : Next) → ((path : List ℕ) → IsOnPath old j a path → ⊥) → Passes j old a n new
+pub passes_never : (j : Course) (old new : State) (a : Stage) (n : Next) → ((path : List ℕ) → IsOnPath old j a path → ⊥) → Passes j old a n new
 passes_never j old new a n off = record { told = λ path k. absurd (off path k) }
 
-pub passes_nowhere : (j : Job) (old new : State) (taken a : Stage) (n : Next) → taken ≡ a → ((path : List ℕ) → IsOnPath old j a path → ⊥) → Passes j old taken n new
+pub passes_nowhere : (j : Course) (old new : State) (taken a : Stage) (n : Next) → taken ≡ a → ((path : List ℕ) → IsOnPath old j a path → ⊥) → Passes j old taken n new
 passes_nowhere j old new taken a n is off = passes_never j old new taken n (λ path k. off path (subst (λ z. IsOnPath old j z path) is k))
 
 -- the page of the path is there
-live_at : (s : State) (key : Key) (p : ℕ) (first : Bool) (path : List ℕ) → CleanFrom (nodes_of s) key p first path → s.pages p ≡ None → ⊥
-live_at s key p first [] k gone = k
-live_at s key p first (q ∷ rest) (e, n, passed, more) gone = none_some (ap (option_map (λ (g : Page). g.node)) (sym gone) ∙ passed.live)
+live_at : (s : State) (aim : Bound Key) (p : ℕ) (first : Bool) (path : List ℕ) → CleanFrom (nodes_of s) aim p first path → s.pages p ≡ None → ⊥
+live_at s aim p first [] k gone = k
+live_at s aim p first (q ∷ rest) (e, n, passed, more) gone = none_some (ap (option_map (λ (g : Page). g.node)) (sym gone) ∙ passed.live)
 
 gone_at : (pid : ℕ) (o : Option Page) → None ≡ view_of pid o → o ≡ None
 gone_at pid None e = refl
 gone_at pid (Some g) e = none_some e
 
 -- what is ahead of a walk is clean from its page on
-clean_ahead : (nodes : Nodes) (key : Key) (p : ℕ) (by : Reached) (path : List ℕ) → IsAheadOf nodes key p by path → (first : Bool) × CleanFrom nodes key p first path
-clean_ahead nodes key p reached.Root path k = (true, k)
-clean_ahead nodes key p (reached.FirstPointer parent) path k = (true, k)
-clean_ahead nodes key p (reached.LaterPointer parent) path k = (false, k)
-clean_ahead nodes key p (reached.Next parent) path k = absurd k
+clean_ahead : (nodes : Nodes) (aim : Bound Key) (p : ℕ) (by : Reached) (path : List ℕ) → IsAheadOf nodes aim p by path → (first : Bool) × CleanFrom nodes aim p first path
+clean_ahead nodes aim p reached.Root path k = (true, k)
+clean_ahead nodes aim p (reached.FirstPointer parent) path k = (true, k)
+clean_ahead nodes aim p (reached.LaterPointer parent) path k = (false, k)
+clean_ahead nodes aim p (reached.Next parent) path k = absurd k
 
-module _ (j : Job) (s : State) where
+module _ (j : Course) (s : State) where
   -- the tree has no root,
   pub no_root : (name : Key) (found : Option ℕ) (n : Next) → name ≡ j.tree.name → found ≡ s.roots name → found ≡ None → Passes j s stage.Root n s
   no_root name found n called is_found none = passes_never j s s stage.Root n (λ path k. none_some (sym none ∙ is_found ∙ ap s.roots called ∙ k.is_root))
@@ -66,7 +66,7 @@ module _ (j : Job) (s : State) where
   -- the root is gone,
   pub root_gone : (name : Key) (found : Option ℕ) (root : ℕ) (n : Next) → name ≡ j.tree.name → found ≡ s.roots name → found ≡ Some root → None ≡ view_of root (s.pages root) → Passes j s stage.Root n s
   root_gone name found root n called is_found is_some read = passes_never j s s stage.Root n
-      (λ path k. live_at s (key_of j.call) k.root true path k.clean (subst (λ r. s.pages r ≡ None) (some_is (sym is_some ∙ is_found ∙ ap s.roots called ∙ k.is_root)) (gone_at root (s.pages root) read)))
+      (λ path k. live_at s j.aim k.root true path k.clean (subst (λ r. s.pages r ≡ None) (some_is (sym is_some ∙ is_found ∙ ap s.roots called ∙ k.is_root)) (gone_at root (s.pages root) read)))
 
   -- or it was read
   pub root_passes : (name : Key) (found : Option ℕ) (root : ℕ) (view : View) (n : Next) → name ≡ j.tree.name → found ≡ s.roots name → found ≡ Some root → Some view ≡ view_of root (s.pages root)
@@ -74,29 +74,33 @@ module _ (j : Job) (s : State) where
   root_passes name found root view n called is_found is_some read t = record {
     told = λ path k.
         let v = viewed root (s.pages root) view read in
-        t.told s path (ap s.pages v.0 ∙ v.1) (subst (λ r. CleanFrom (nodes_of s) (key_of j.call) r true path) (some_is (sym k.is_root ∙ sym (ap s.roots called) ∙ sym is_found ∙ is_some) ∙ sym v.0) k.clean);
+        t.told s path (ap s.pages v.0 ∙ v.1) (subst (λ r. CleanFrom (nodes_of s) j.aim r true path) (some_is (sym k.is_root ∙ sym (ap s.roots called) ∙ sym is_found ∙ is_some) ∙ sym v.0) k.clean);
   }
 
   -- the cursor is gone,
   pub cursor_gone : (a : Walk) (n : Next) → None ≡ view_of a.cursor (s.pages a.cursor) → Passes j s (stage.Walk a) n s
-  cursor_gone a n read = passes_never j s s (stage.Walk a) n (λ path k. let c = clean_ahead (nodes_of s) (key_of j.call) a.cursor a.reached path k in live_at s (key_of j.call) a.cursor c.0 path c.1 (gone_at a.cursor (s.pages a.cursor) read))
+  cursor_gone a n read = passes_never j s s (stage.Walk a) n (λ path k. let c = clean_ahead (nodes_of s) j.aim a.cursor a.reached path k in live_at s j.aim a.cursor c.0 path c.1 (gone_at a.cursor (s.pages a.cursor) read))
 
   -- or it was read
   pub cursor_passes : (a : Walk) (view : View) (n : Next) → Some view ≡ view_of a.cursor (s.pages a.cursor) → PassesOn j view a.reached n → Passes j s (stage.Walk a) n s
   cursor_passes a view n read t = record {
     told = λ path k.
         let v = viewed a.cursor (s.pages a.cursor) view read in
-        t.told s path (ap s.pages v.0 ∙ v.1) (subst (λ c. IsAheadOf (nodes_of s) (key_of j.call) c a.reached path) (sym v.0) k);
+        t.told s path (ap s.pages v.0 ∙ v.1) (subst (λ c. IsAheadOf (nodes_of s) j.aim c a.reached path) (sym v.0) k);
   }
 
 -- a walk that comes to a page of a clean path passes it
-steps : (s : State) (key : Key) (path : List ℕ) (view : View) (first : Bool) → IsUnchanged s view → CleanFrom (nodes_of s) key view.pid first path → CleanStep (nodes_of s) key path view.pid first view.node
-steps s key path view first live k = clean_step_law (nodes_of s) key path view.pid first view.node k (ap (option_map (λ (g : Page). g.node)) live)
+steps : (s : State) (aim : Bound Key) (path : List ℕ) (view : View) (first : Bool) → IsUnchanged s view → CleanFrom (nodes_of s) aim view.pid first path → CleanStep (nodes_of s) aim path view.pid first view.node
+steps s aim path view first live k = clean_step_law (nodes_of s) aim path view.pid first view.node k (ap (option_map (λ (g : Page). g.node)) live)
 
-module _ (j : Job) (view : View) (by : Reached) (n : Next) where
+-- a page under the aim does not end within it
+pub not_behind : (n : Node) (aim : Bound Key) → LiesUnder aim n → EndsWithin n aim → ⊥
+not_behind n aim under ends = elim under.1 [ inl endless ↦ ends.0 endless | inr off ↦ true_false (sym ends.1 ∙ off) ]
+
+module _ (j : Course) (view : View) (by : Reached) (n : Next) where
   -- no clean path comes here
-  pub shut : ((nodes : Nodes) (first : Bool) → IsPassed nodes (key_of j.call) view.pid first view.node → ⊥) → PassesOn j view by n
-  shut off = record { told = λ s path live k. let c = clean_ahead (nodes_of s) (key_of j.call) view.pid by path k in absurd (off (nodes_of s) c.0 (steps s (key_of j.call) path view c.0 live c.1).passed) }
+  pub shut : ((nodes : Nodes) (first : Bool) → IsPassed nodes j.aim view.pid first view.node → ⊥) → PassesOn j view by n
+  shut off = record { told = λ s path live k. let c = clean_ahead (nodes_of s) j.aim view.pid by path k in absurd (off (nodes_of s) c.0 (steps s j.aim path view c.0 live c.1).passed) }
 
   pub shut_merging : view.node.merging ≡ true → PassesOn j view by n
   shut_merging capped = shut (λ nodes first passed. true_false (sym capped ∙ passed.is_open.awake))
@@ -110,20 +114,18 @@ module _ (j : Job) (view : View) (by : Reached) (n : Next) where
       over : (c : ℕ) → 16 < c → c ≤ 16 → ⊥
       over c a b = omega arith
 
-  pub shut_outside : (b : Bool) (key : Key) → key ≡ key_of j.call → IsTrue b ↔ Covers view.node key → b ≡ false → PassesOn j view by n
-  shut_outside b key e told off = shut (λ nodes first passed. untrue b told off (subst (Covers view.node) (sym e) passed.covers))
+  pub shut_outside : (b : Bool) (bound : Bound Key) → bound ≡ j.aim → IsTrue b ↔ LiesUnder bound view.node → b ≡ false → PassesOn j view by n
+  shut_outside b bound e told off = shut (λ nodes first passed. untrue b told off (subst (λ z. LiesUnder z view.node) (sym e) passed.under))
 
-  pub shut_behind : (b : Bool) (key : Key) → key ≡ key_of j.call → IsTrue b ↔ ((view.node.hi ≢ []) × UpTo view.node.hi key) → b ≡ true → PassesOn j view by n
-  shut_behind b key e told is = shut (λ nodes first passed.
-      let beyond = told.0 is in
-      elim passed.covers.1 [ inl endless ↦ beyond.0 endless | inr below ↦ below_not_upto (key_of j.call) view.node.hi below (subst (UpTo view.node.hi) e beyond.1) ])
+  pub shut_behind : (b : Bool) (bound : Bound Key) → bound ≡ j.aim → IsTrue b ↔ EndsWithin view.node bound → b ≡ true → PassesOn j view by n
+  shut_behind b bound e told is = shut (λ nodes first passed. not_behind view.node j.aim passed.under (subst (EndsWithin view.node) e (told.0 is)))
 
 -- a walk that came to a page by `next` is on no clean path, nor is one that came by a later pointer to a page of few entries
-pub shut_next : (j : Job) (view parent : View) (n : Next) → PassesOn j view (reached.Next parent) n
+pub shut_next : (j : Course) (view parent : View) (n : Next) → PassesOn j view (reached.Next parent) n
 shut_next j view parent n = record { told = λ s path live k. absurd k }
 
-pub shut_few : (j : Job) (view parent : View) (n : Next) → count view.node.content ≤ 3 → PassesOn j view (reached.LaterPointer parent) n
-shut_few j view parent n few = record { told = λ s path live k. true_false (sym ((steps s (key_of j.call) path view false live k).passed.many few)) }
+pub shut_few : (j : Course) (view parent : View) (n : Next) → count view.node.content ≤ 3 → PassesOn j view (reached.LaterPointer parent) n
+shut_few j view parent n few = record { told = λ s path live k. true_false (sym ((steps s j.aim path view false live k).passed.many few)) }
 
 -- one alone is the last, so that some element passes
 last_any : {X : Type 0} (p : X → Bool) (xs : List X) (x : X) → IsLast p xs x → list_any p xs ≡ false → ⊥
@@ -134,24 +136,24 @@ last_any p xs x k none = true_false (sym (some (list_any p k.before) (p x) (list
     some false true c e = refl
     some false false c e = true_false (sym e)
 
-module _ (j : Job) (view : View) (by : Reached) where
+module _ (j : Course) (view : View) (by : Reached) where
   -- an index without a pointer is on no clean path,
-  pub shut_pointless : (key : Key) → key ≡ key_of j.call → IsIndex view.node.content → IsPointerFor (Included key) (pointers view.node.content) None → (n : Next) → PassesOn j view by n
-  shut_pointless key e index none n = record { told = λ s path live k. let c = clean_ahead (nodes_of s) (key_of j.call) view.pid by path k in absurd (go s path c.0 live c.1) }
+  pub shut_pointless : (bound : Bound Key) → bound ≡ j.aim → IsIndex view.node.content → IsPointerFor bound (pointers view.node.content) None → (n : Next) → PassesOn j view by n
+  shut_pointless bound e index none n = record { told = λ s path live k. let c = clean_ahead (nodes_of s) j.aim view.pid by path k in absurd (go s path c.0 live c.1) }
     where
       b : (es : List (Key × ℕ)) × (view.node.content ≡ Index es)
       b = index_is view.node.content index
 
-      go : (s : State) (path : List ℕ) (first : Bool) → IsUnchanged s view → CleanFrom (nodes_of s) (key_of j.call) view.pid first path → ⊥
+      go : (s : State) (path : List ℕ) (first : Bool) → IsUnchanged s view → CleanFrom (nodes_of s) j.aim view.pid first path → ⊥
       go s [] first live k = k
       go s (q ∷ rest) first live (at, m, passed, more) =
           let same : m ≡ view.node = some_is (sym passed.live ∙ ap (option_map (λ (g : Page). g.node)) live) in
           elim more [
             | inl l ↦ leaf_index (sym (ap (λ (z : Node). z.content) same ∙ b.1) ∙ l.1)
             | inr i ↦ last_any _ i.0 _ i.4.last
-                (subst (λ es. list_any (λ e. Rattle.sled_pages.specs.Among.is_up_to (Included (key_of j.call)) e.0) es ≡ false) (same_index (sym b.1 ∙ ap (λ (z : Node). z.content) (sym same) ∙ i.1))
-                (subst (λ z. list_any (λ e. Rattle.sled_pages.specs.Among.is_up_to (Included z) e.0) b.0 ≡ false) e
-                (subst (λ d. list_any (λ e. Rattle.sled_pages.specs.Among.is_up_to (Included key) e.0) (pointers d) ≡ false) b.1 none)))
+                (subst (λ es. list_any (λ e. Rattle.sled_pages.specs.Among.is_up_to j.aim e.0) es ≡ false) (same_index (sym b.1 ∙ ap (λ (z : Node). z.content) (sym same) ∙ i.1))
+                (subst (λ z. list_any (λ e. Rattle.sled_pages.specs.Among.is_up_to z e.0) b.0 ≡ false) e
+                (subst (λ d. list_any (λ e. Rattle.sled_pages.specs.Among.is_up_to bound e.0) (pointers d) ≡ false) b.1 none)))
           ]
         where
           leaf_index : {P : Type 0} {es : List (Key × ℕ)} {fs : List (Key × Key)} → Index es ≡ Leaf fs → P
@@ -161,17 +163,17 @@ module _ (j : Job) (view : View) (by : Reached) where
           same_index e = cc
 
   -- below one with a pointer the rest of the path is ahead,
-  pub down_passes : (c : ℕ) (first : Bool) → IsIndex view.node.content → IsPointer (Included (key_of j.call)) (pointers view.node.content) c first
+  pub down_passes : (c : ℕ) (first : Bool) → IsIndex view.node.content → IsPointer j.aim (pointers view.node.content) c first
       → PassesOn j view by (next.Go (stage.Walk (record { cursor = c; reached = by_pointer view first })))
   down_passes c first index is_last = record {
     told = λ s path live k.
         let b = index_is view.node.content index in
-        let a = clean_ahead (nodes_of s) (key_of j.call) view.pid by path k in
-        let d = (steps s (key_of j.call) path view a.0 live a.1).down b.0 c first b.1 (subst (λ d. IsPointer (Included (key_of j.call)) (pointers d) c first) b.1 is_last) in
+        let a = clean_ahead (nodes_of s) j.aim view.pid by path k in
+        let d = (steps s j.aim path view a.0 live a.1).down b.0 c first b.1 (subst (λ d. IsPointer j.aim (pointers d) c first) b.1 is_last) in
         (d.0, ap length d.1, go first (nodes_of s) d.0 d.2);
   }
     where
-      go : (first : Bool) (nodes : Nodes) (rest : List ℕ) → CleanFrom nodes (key_of j.call) c first rest → IsAheadOf nodes (key_of j.call) c (by_pointer view first) rest
+      go : (first : Bool) (nodes : Nodes) (rest : List ℕ) → CleanFrom nodes j.aim c first rest → IsAheadOf nodes j.aim c (by_pointer view first) rest
       go true nodes rest k = k
       go false nodes rest k = k
 
@@ -180,18 +182,18 @@ module _ (j : Job) (view : View) (by : Reached) where
   leaf_passes leaf changes = record {
     told = λ s path live k.
         let b = leaf_is view.node.content leaf in
-        let a = clean_ahead (nodes_of s) (key_of j.call) view.pid by path k in
-        ([], ap length ((steps s (key_of j.call) path view a.0 live a.1).leaf b.0 b.1), (refl, live, changes));
+        let a = clean_ahead (nodes_of s) j.aim view.pid by path k in
+        ([], ap length ((steps s j.aim path view a.0 live a.1).leaf b.0 b.1), (refl, live, changes));
   }
 
 -- the leaf is unchanged, so that the call does not begin again
-pub act_current : (j : Job) (old new : Store) (view : View) {change : Node → Node} {present : Option ℕ} (n : Next) → Changes change view.pid view.version old new (Err present) → Passes j (now old) (stage.Act view) n (now new)
+pub act_current : (j : Course) (old new : Store) (view : View) {change : Node → Node} {present : Option ℕ} (n : Next) → Changes change view.pid view.version old new (Err present) → Passes j (now old) (stage.Act view) n (now new)
 act_current j old new view n c = passes_never j (now old) (now new) (stage.Act view) n (λ path k. c.told.2 (c.told.1 ∙ ap (option_map (λ (g : Page). g.version)) k.1))
 
 -- it changes the leaf
-pub act_changes : (j : Job) (old new : State) (view : View) (n : Next) → (decision_at j.call view.node.content).effect ≡ Nothing → Passes j old (stage.Act view) n new
+pub act_changes : (j : Course) (old new : State) (view : View) (n : Next) → (decision_at j.call view.node.content).effect ≡ Nothing → Passes j old (stage.Act view) n new
 act_changes j old new view n none = passes_never j old new (stage.Act view) n (λ path k. k.2 none)
 
 -- a step after which the call goes on
-pub passes_further : (old new : State) (f : Flight) (taken stage : Stage) (n : Next) → taken ≡ f.stage → n ≡ next.Go stage → Passes f.job old taken n new → GoesFurther old f went.Moved new (record { job = f.job; stage = stage; turns = f.turns + 1 })
-passes_further old new f taken stage n e is p = record { told = λ path k. (subst (λ z. Passes f.job old taken z new) is p).told path (subst (λ z. IsOnPath old f.job z path) (sym e) k) }
+pub passes_further : (old new : State) (f : Flight) (taken stage : Stage) (n : Next) → taken ≡ f.stage → n ≡ next.Go stage → Passes (course_of f) old taken n new → GoesFurther old f went.Moved new (record { job = f.job; aim = f.aim; stage = stage; turns = f.turns + 1 })
+passes_further old new f taken stage n e is p = record { told = λ path k. (subst (λ z. Passes (course_of f) old taken z new) is p).told path (subst (λ z. IsOnPath old (course_of f) z path) (sym e) k) }

@@ -1,6 +1,5 @@
 -- The steps of a split and of a hoist, and the freeing of a page.
 use Rattle.std.proofs.Common.{◌≡◌, ℕ, ◌≤◌, ◌<◌, ◌^◌, Bool, List, [], ◌∷◌, Option, Some, None, option_map, Result, Ok, Err, sym, refl, ap, ◌∙◌, subst, inl, inr}
-use Rattle.std.specs.declared.ops.Bound.TheVariants.{Included}
 use Rattle.sled_pages.specs.Order.{Key}
 use Rattle.sled_pages.specs.In.{In}
 use Rattle.sled_pages.specs.Facts.{now_allocates, put_here}
@@ -12,7 +11,6 @@ use Rattle.sled_pages.specs.Store.{Store, now, Allocates, AreGiven, Changes, Fre
 use Rattle.sled_pages.specs.declared.node.Node.{Node}
 use Rattle.sled_pages.specs.declared.page.Page.{Page}
 use Rattle.sled_pages.specs.declared.page.View.{View}
-use Rattle.sled_model.specs.Answer.{key_of}
 use Rattle.tree_laws.specs.Forest.{Tree, Forest, Place}
 use Rattle.tree_laws.specs.Moment.{Moment, moment_of, IsMoment}
 use Rattle.tree_laws.specs.Laws.{replaced, allocated, freed, hoisted}
@@ -22,7 +20,7 @@ use Rattle.tree_laws.specs.declared.flight.Posting.{Posting}
 use Rattle.tree_laws.proofs.Known.{store_replaced, store_allocated, store_freed, store_hoisted}
 use Rattle.tree_laws.proofs.Splitting.{split_action, shorten_action, post_action, hoist_action, crown_action, free_action}
 use Rattle.tree_laws.proofs.Staged.{shorten_late, crown_late}
-use Rattle.sled_tree.specs.declared.flight.Job.{Job}
+use Rattle.sled_tree.specs.Course.{Course}
 use Rattle.tree_laws.specs.declared.flight.Split.{Split}
 use Rattle.tree_laws.specs.declared.flight.Shorten.{Shorten}
 use Rattle.tree_laws.specs.declared.flight.Post.{Post}
@@ -41,7 +39,7 @@ pub made_below : {node : Node} {q version : ℕ} {old new : Store} → Allocates
 made_below {node} {q} {version} {old} {new} c given = given.numbered q (record { version = version; node = node }) (ap (λ (s : State). s.pages q) (now_allocates node q version old new c) ∙ put_here (now old).pages q (Some (record { version = version; node = node })))
 
 -- the right half is made
-pub halves : (j : Job) (old new : Store) (a : Split) (left right : Node) (at : Key) (q version : ℕ) → 2 ≤ count a.page.node.content → left ≡ left_half a.page.node → right ≡ right_half a.page.node → at ≡ right.lo → Allocates right q version old new → AreGiven new
+pub halves : (j : Course) (old new : Store) (a : Split) (left right : Node) (at : Key) (q version : ℕ) → 2 ≤ count a.page.node.content → left ≡ left_half a.page.node → right ≡ right_half a.page.node → at ≡ right.lo → Allocates right q version old new → AreGiven new
     → Moves j old (stage.Split a) (next.Go (stage.Shorten (record { page = a.page; posting = a.posting; left = record left { next = Some q }; at = at; right = q; version = version }))) new
 halves j old new a left right at q version many l r b c given = subst (λ (z : Node). Moves j old (stage.Split a) (next.Go (stage.Shorten (record { page = a.page; posting = a.posting; left = record z { next = Some q }; at = at; right = q; version = version }))) new) (sym l)
     (subst (λ z. Moves j old (stage.Split a) (next.Go (stage.Shorten (record { page = a.page; posting = a.posting; left = record (left_half a.page.node) { next = Some q }; at = z; right = q; version = version }))) new) (sym (b ∙ ap (λ (z : Node). z.lo) r))
@@ -53,12 +51,12 @@ halves j old new a left right at q version many l r b c given = subst (λ (z : N
       allocated m q (record { version = version; node = right_half a.page.node }),
       store_allocated numbers gave c,
       w,
-      split_action m w j.tree.name j.tree.number (Included (key_of j.call)) a q version is c.fresh_pid c.fresh (made_below c given) many k,
+      split_action m w j.tree.name j.tree.number j.aim a q version is c.fresh_pid c.fresh (made_below c given) many k,
       leaves_allocated m w q (record { version = version; node = right_half a.page.node }) w is c.fresh_pid,
     ))
 
 -- the page becomes its left half
-module _ (j : Job) (old new : Store) (a : Shorten) (version : ℕ) (c : Changes (λ _. a.left) a.page.pid a.page.version old new (Ok version)) where
+module _ (j : Course) (old new : Store) (a : Shorten) (version : ℕ) (c : Changes (λ _. a.left) a.page.pid a.page.version old new (Ok version)) where
   plainly : (p : Posting) → changes_at j (posts_half a p)
   plainly (posting.Parent parent) = tt
   plainly posting.Root = tt
@@ -68,7 +66,7 @@ module _ (j : Job) (old new : Store) (a : Shorten) (version : ℕ) (c : Changes 
   shortened = moves_on j old new _ _ (once_acts c.told.2) (plainly a.posting) (λ numbers gave w is named k.
       let m : Moment = moment_of old numbers gave in
       let g : Page = record { version = a.page.version; node = c.told.0 } in
-      let did = shorten_action m w j.tree.name j.tree.number (Included (key_of j.call)) a version c.told.0 is (record { named = named; page = c.told.1 }) c.told.2.fresh k in (
+      let did = shorten_action m w j.tree.name j.tree.number j.aim a version c.told.0 is (record { named = named; page = c.told.1 }) c.told.2.fresh k in (
         replaced m a.page.pid (record { version = version; node = a.left }),
         store_replaced numbers gave c.told.2,
         did.0,
@@ -83,18 +81,18 @@ module _ (j : Job) (old new : Store) (a : Shorten) (version : ℕ) (c : Changes 
   shortens p e = subst (λ z. Moves j old (stage.Shorten a) (next.Go (posts_half a z)) new) e shortened
 
 -- the page had changed: the right half is freed
-pub shorten_stale : (j : Job) (old new : Store) (a : Shorten) (present : Option ℕ) → Changes (λ _. a.left) a.page.pid a.page.version old new (Err present) → Moves j old (stage.Shorten a) (next.Go (stage.Free (record { pid = a.right; version = a.version }))) new
+pub shorten_stale : (j : Course) (old new : Store) (a : Shorten) (present : Option ℕ) → Changes (λ _. a.left) a.page.pid a.page.version old new (Err present) → Moves j old (stage.Shorten a) (next.Go (stage.Free (record { pid = a.right; version = a.version }))) new
 shorten_stale j old new a present c = subst (λ (s : Store). Moves j old (stage.Shorten a) (next.Go (stage.Free (record { pid = a.right; version = a.version }))) s) (sym c.told.0)
-    (stays j old (stage.Shorten a) (stage.Free (record { pid = a.right; version = a.version })) (λ q i. i) (λ q i. i) tt (λ m w is named k. shorten_late m w j.tree.name j.tree.number (Included (key_of j.call)) a k))
+    (stays j old (stage.Shorten a) (stage.Free (record { pid = a.right; version = a.version })) (λ q i. i) (λ q i. i) tt (λ m w is named k. shorten_late m w j.tree.name j.tree.number j.aim a k))
 
 -- the pointer goes into the parent, or the parent had changed
-pub posted : (j : Job) (old new : Store) (a : Post) (node : Node) (answer : Result ℕ (Option ℕ)) → Posts a.at a.pid a.parent.node node Rattle.std.proofs.Common.true → Changes (λ _. node) a.parent.pid a.parent.version old new answer → Moves j old (stage.Post a) (next.Go stage.Root) new
+pub posted : (j : Course) (old new : Store) (a : Post) (node : Node) (answer : Result ℕ (Option ℕ)) → Posts a.at a.pid a.parent.node node Rattle.std.proofs.Common.true → Changes (λ _. node) a.parent.pid a.parent.version old new answer → Moves j old (stage.Post a) (next.Go stage.Root) new
 posted j old new a node (Err present) p c = subst (λ (s : Store). Moves j old (stage.Post a) (next.Go stage.Root) s) (sym c.told.0) (restarts j old (stage.Post a) (λ q i. i))
 posted j old new a node (Ok version) p c = moves_on j old new _ _ (once_acts c.told.2) tt (λ numbers gave w is named k.
     let m : Moment = moment_of old numbers gave in
     let g : Page = record { version = a.parent.version; node = c.told.0 } in
     let n : Page = record { version = version; node = record (a.parent.node) { content = with_pointer a.at a.pid a.parent.node.content } } in
-    let did = post_action m w j.tree.name j.tree.number (Included (key_of j.call)) a version c.told.0 is (record { named = named; page = c.told.1 }) c.told.2.fresh k in (
+    let did = post_action m w j.tree.name j.tree.number j.aim a version c.told.0 is (record { named = named; page = c.told.1 }) c.told.2.fresh k in (
       replaced m a.parent.pid n,
       store_replaced numbers gave c.told.2 ∙ ap (λ (z : Node). replaced m a.parent.pid (record { version = version; node = z })) p.told.1,
       did.0,
@@ -103,21 +101,21 @@ posted j old new a node (Ok version) p c = moves_on j old new _ _ (once_acts c.t
     ))
 
 -- a new root is made,
-pub raises : (j : Job) (old new : Store) (a : Hoist) (root : Node) (q version : ℕ) → IsOver root a.left a.at a.right → Allocates root q version old new → AreGiven new
+pub raises : (j : Course) (old new : Store) (a : Hoist) (root : Node) (q version : ℕ) → IsOver root a.left a.at a.right → Allocates root q version old new → AreGiven new
     → Moves j old (stage.Hoist a) (next.Go (stage.Crown (record { old = a.left; new = q; version = version }))) new
 raises j old new a root q version over c given = moves_on j old new _ _ (once_made c) tt (λ numbers gave w is named k. let m : Moment = moment_of old numbers gave in (
   allocated m q (record { version = version; node = root }),
   store_allocated numbers gave c,
   w,
-  hoist_action m w j.tree.name j.tree.number (Included (key_of j.call)) a q version root is c.fresh_pid c.fresh (made_below c given) over k,
+  hoist_action m w j.tree.name j.tree.number j.aim a q version root is c.fresh_pid c.fresh (made_below c given) over k,
   leaves_allocated m w q (record { version = version; node = root }) w is c.fresh_pid,
 ))
 
 -- and set, or another came before
-pub crowned : (j : Job) (old new : Store) (a : Crown) (name : Key) (done : Unit {0}) → name ≡ j.tree.name → SwapsRoot name (Some a.old) (Some a.new) old new (Ok done) → Moves j old (stage.Crown a) (next.Go stage.Root) new
+pub crowned : (j : Course) (old new : Store) (a : Crown) (name : Key) (done : Unit {0}) → name ≡ j.tree.name → SwapsRoot name (Some a.old) (Some a.new) old new (Ok done) → Moves j old (stage.Crown a) (next.Go stage.Root) new
 crowned j old new a name done e c = moves_on j old new _ _ (once_rooted name (Some a.new) old new c.told.1) tt (λ numbers gave w is named k.
     let m : Moment = moment_of old numbers gave in
-    let did = crown_action m w j.tree.name j.tree.number (Included (key_of j.call)) a is named (ap (now old).roots (sym e) ∙ c.told.0) k in (
+    let did = crown_action m w j.tree.name j.tree.number j.aim a is named (ap (now old).roots (sym e) ∙ c.told.0) k in (
       hoisted m j.tree.name a.new,
       store_hoisted numbers gave name a.new old new c.told.1 ∙ ap (λ t. hoisted m t a.new) e,
       did.0,
@@ -125,12 +123,12 @@ crowned j old new a name done e c = moves_on j old new _ _ (once_rooted name (So
       leaves_hoisted m j.tree.name a.new did.0 did.1.acts.is,
     ))
 
-pub crown_stale : (j : Job) (old new : Store) (a : Crown) (name : Key) (present : Option ℕ) → SwapsRoot name (Some a.old) (Some a.new) old new (Err present) → Moves j old (stage.Crown a) (next.Go (stage.Free (record { pid = a.new; version = a.version }))) new
+pub crown_stale : (j : Course) (old new : Store) (a : Crown) (name : Key) (present : Option ℕ) → SwapsRoot name (Some a.old) (Some a.new) old new (Err present) → Moves j old (stage.Crown a) (next.Go (stage.Free (record { pid = a.new; version = a.version }))) new
 crown_stale j old new a name present c = subst (λ (s : Store). Moves j old (stage.Crown a) (next.Go (stage.Free (record { pid = a.new; version = a.version }))) s) (sym c.told.0)
-    (stays j old (stage.Crown a) (stage.Free (record { pid = a.new; version = a.version })) (λ q i. i) (λ q i. i) tt (λ m w is named k. crown_late m w j.tree.name j.tree.number (Included (key_of j.call)) a k))
+    (stays j old (stage.Crown a) (stage.Free (record { pid = a.new; version = a.version })) (λ q i. i) (λ q i. i) tt (λ m w is named k. crown_late m w j.tree.name j.tree.number j.aim a k))
 
 -- a page of the call's own is freed
-pub freed_own : (j : Job) (old new : Store) (a : Own) (answer : Result (Unit {0}) (Option ℕ)) → Frees a.pid a.version old new answer → Moves j old (stage.Free a) (next.Go stage.Root) new
+pub freed_own : (j : Course) (old new : Store) (a : Own) (answer : Result (Unit {0}) (Option ℕ)) → Frees a.pid a.version old new answer → Moves j old (stage.Free a) (next.Go stage.Root) new
 freed_own j old new a (Err present) c = subst (λ (s : Store). Moves j old (stage.Free a) (next.Go stage.Root) s) (sym c.told.0) (record {
   touches = inl refl;
   -- the page has this version, as it is the call's own
@@ -140,6 +138,6 @@ freed_own j old new a (Ok done) c = moves_on j old new _ _ (once_freed a.pid old
   freed m a.pid,
   store_freed numbers gave a.pid old new c.told.1,
   w,
-  free_action m w j.tree.name j.tree.number (Included (key_of j.call)) a is k,
+  free_action m w j.tree.name j.tree.number j.aim a is k,
   leaves_freed m a.pid w,
 ))

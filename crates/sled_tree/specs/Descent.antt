@@ -1,24 +1,24 @@
 -- Steps of a call in flight at pages where nothing is to be repaired.
 use Rattle.std.specs.Prelude.{◌≡◌, ◌≢◌, ℕ, ◌≤◌, ◌<◌, true, false, Option, Some, None, Result, Ok, Err}
-use Rattle.sled_pages.specs.Node.{Covers, count}
+use Rattle.sled_pages.specs.Node.{count}
 use Rattle.sled_pages.specs.Store.{Store, now}
 use Rattle.sled_pages.specs.declared.error.Error.{Error}
 use Rattle.sled_pages.specs.declared.node.Data.{Data}
 use Rattle.sled_pages.specs.declared.page.View.{View}
-use Rattle.sled_model.specs.Answer.{key_of}
 use Rattle.sled_model.specs.declared.call.Call.{Call}
 use Rattle.sled_model.specs.declared.decision.Effect.TheVariants.{Nothing}
 use Rattle.sled_model.specs.declared.reply.Reply.{Reply}
 use Rattle.sled_tree.specs.Change.{IsLeaf, decision_at}
+use Rattle.sled_tree.specs.Course.{Course}
 use Rattle.sled_tree.specs.Follows.{Follows, FollowsOn, follows_read}
 use Rattle.sled_tree.specs.Moves.{Moves, Arrives, Advances}
 use Rattle.sled_tree.specs.Passing.{Passes, PassesOn, GoesFurther}
 use Rattle.sled_tree.specs.declared.descent.Descent.{Descent}
 use Rattle.sled_tree.specs.declared.descent.Descent.TheVariants as descent
 use Rattle.sled_tree.specs.declared.flight.Flight.{Flight}
-use Rattle.sled_tree.specs.declared.flight.Job.{Job}
 use Rattle.sled_tree.specs.declared.flight.Next.{Next}
 use Rattle.sled_tree.specs.declared.flight.Next.TheVariants.{Go, Refused}
+use Rattle.tree_laws.specs.Moment.{LiesUnder}
 use Rattle.tree_laws.specs.declared.flight.Stage.{Stage}
 use Rattle.tree_laws.specs.declared.flight.Stage.TheVariants as stage
 use Rattle.sled_tree.specs.declared.flight.Went.{Went}
@@ -37,28 +37,28 @@ IsPlain (reached.FirstPointer parent) n = Unit {0}
 IsPlain (reached.LaterPointer parent) n = 3 < n
 IsPlain (reached.Next parent) n = ⊥
 
--- The page has the call's key, and neither a split nor a merge goes on there or is to begin, nor is its pointer to be posted
-pub record IsClean (j : Job) (by : Reached) (view : View) : Type 0 where
+-- The page lies under the aim, and neither a split nor a merge goes on there or is to begin, nor is its pointer to be posted
+pub record IsClean (j : Course) (by : Reached) (view : View) : Type 0 where
   pub awake : view.node.merging ≡ false
   pub free : view.node.merging_child ≡ None
   pub few : count view.node.content ≤ 16
   pub plain : IsPlain by (count view.node.content)
-  pub covers : Covers view.node (key_of j.call)
+  pub under : LiesUnder j.aim view.node
 
 -- the stage reads this page, and what comes of the page is what comes of the stage
-pub record Meets (s : Store) (j : Job) (a : Stage) (view : View) : Type 0 where
+pub record Meets (s : Store) (j : Course) (a : Stage) (view : View) : Type 0 where
   pub moves : (next : Next) → Arrives j view (way_of a) next → Moves j s a next s
   pub passes : (next : Next) → PassesOn j view (way_of a) next → Passes j (now s) a next (now s)
   pub follows : (next : Next) → follows_read j view (way_of a) next → Follows j s a next s
 
 -- this comes of the stage, which changes nothing
-pub record Leads (s : Store) (j : Job) (a : Stage) (next : Next) : Type 0 where
+pub record Leads (s : Store) (j : Course) (a : Stage) (next : Next) : Type 0 where
   pub moves : Moves j s a next s
   pub passes : Passes j (now s) a next (now s)
   pub follows : Follows j s a next s
 
 -- what the stage reads
-abbrev pub met_as : Store → Job → Stage → Result (Option View) Error → Type 0
+abbrev pub met_as : Store → Course → Stage → Result (Option View) Error → Type 0
 met_as s j a (Ok None) = Leads s j a (Go stage.Root)
 met_as s j a (Ok (Some view)) = Meets s j a view
 met_as s j a (Err e) = Leads s j a (Refused e)
@@ -68,14 +68,14 @@ abbrev pub IsReplyAt : Call → Data → Option Reply → Type 0
 IsReplyAt call content None = (decision_at call content).effect ≢ Nothing
 IsReplyAt call content (Some reply) = decision_at call content ≡ record { effect = Nothing; reply = reply }
 
-abbrev pub descends_as : Store → Job → Stage → Descent → Stage → Type 0
+abbrev pub descends_as : Store → Course → Stage → Descent → Stage → Type 0
 descends_as s j a descent.None b = b ≡ a
 descends_as s j a descent.Further b = Leads s j a (Go b)
 descends_as s j a (descent.Leaf view) b = (b ≡ a) × IsLeaf view.node.content × IsClean j (way_of a) view × Meets s j a view
 descends_as s j a (descent.Next next) b = Leads s j a next
 
 -- a step that reads a page, up to what comes next; or the stage stays, and its leaf may have been read
-pub record Descends (s : Store) (j : Job) (a : Stage) (d : Descent) (b : Stage) : Type 0 where
+pub record Descends (s : Store) (j : Course) (a : Stage) (d : Descent) (b : Stage) : Type 0 where
   pub told : descends_as s j a d b
 
 -- a step that reads

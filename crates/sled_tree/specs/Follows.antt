@@ -2,11 +2,11 @@
 --
 -- Each table is total: of its lines the first one whose condition holds says what comes.
 use Rattle.std.specs.Prelude.{◌≡◌, ◌≢◌, ℕ, ◌<◌, ◌≤◌, ◌⊎◌, Bool, true, false, [], Option, Some, None, MatchOption, Result, Ok, Err}
-use Rattle.std.specs.declared.ops.Bound.TheVariants.{Included}
+use Rattle.std.specs.declared.ops.Bound.{Bound}
 use Rattle.sled_pages.specs.Order.{Key, UpTo}
-use Rattle.sled_pages.specs.Among.{IsPointerFor, IsPointerBefore}
+use Rattle.sled_pages.specs.Among.{is_up_to, IsPointerFor, IsPointerBefore}
 use Rattle.sled_pages.specs.Halves.{left_half, right_half, received}
-use Rattle.sled_pages.specs.Node.{Covers, count, pointers, applied}
+use Rattle.sled_pages.specs.Node.{count, pointers, applied}
 use Rattle.sled_pages.specs.Posting.{IsOpen, IsIndex, with_pointer, takes_pointer}
 use Rattle.sled_pages.specs.Store.{Store, now, view_of, Allocates, Changes, Frees, SwapsRoot, RefusedRead, Refused as IsRefused}
 use Rattle.sled_pages.specs.declared.error.Error.{Error}
@@ -21,8 +21,10 @@ use Rattle.sled_model.specs.declared.decision.Decision.{Decision}
 use Rattle.sled_model.specs.declared.decision.Effect.{Effect}
 use Rattle.sled_model.specs.declared.decision.Effect.TheVariants as effect
 use Rattle.sled_model.specs.declared.reply.Reply.{Reply}
+use Rattle.tree_laws.specs.Moment.{LiesUnder}
 use Rattle.tree_laws.specs.Stages.{IsOver, parent_of, by_pointer}
 use Rattle.sled_tree.specs.Change.{decision_at, link_of}
+use Rattle.sled_tree.specs.Course.{Course, course_of}
 use Rattle.sled_tree.specs.declared.flight.Flight.{Flight}
 use Rattle.sled_tree.specs.declared.flight.Went.{Went}
 use Rattle.tree_laws.specs.declared.flight.Split.{Split}
@@ -35,7 +37,6 @@ use Rattle.tree_laws.specs.declared.flight.Cap.{Cap}
 use Rattle.tree_laws.specs.declared.flight.Receive.{Receive}
 use Rattle.tree_laws.specs.declared.flight.Confirm.{Confirm}
 use Rattle.sled_tree.specs.declared.flight.Went.TheVariants as went
-use Rattle.sled_tree.specs.declared.flight.Job.{Job}
 use Rattle.tree_laws.specs.declared.flight.Merge.{Merge}
 use Rattle.tree_laws.specs.declared.flight.Seek.{Seek}
 use Rattle.tree_laws.specs.declared.flight.Walk.{Walk}
@@ -85,7 +86,7 @@ abbrev pub posting_of : Option View → Posting
 posting_of None = posting.Root
 posting_of (Some parent) = posting.Parent parent
 
--- the page next to one that ends before the key: below a parent it is read, beside the root a new root comes over both
+-- the page next to one that ends within the aim: below a parent it is read, beside the root a new root comes over both
 abbrev pub onward : View → Option ℕ → Option View → Next
 onward v None parent = Go stage.Root
 onward v (Some q) None = Go (stage.Hoist (record { left = v.pid; at = v.node.hi; right = q }))
@@ -95,14 +96,14 @@ onward v (Some q) (Some parent) = Go (stage.Walk (record { cursor = q; reached =
 abbrev pub pointed : View → View → Next
 pointed v parent = Go (stage.Post (record { parent = parent; at = v.node.lo; pid = v.pid }))
 
--- the last pointer of an index at or below the key is followed
+-- the last pointer of an index within the aim is followed
 abbrev pub down : View → Option (ℕ × Bool) → Next
 down v None = Go stage.Root
 down v (Some c) = Go (stage.Walk (record { cursor = c.0; reached = by_pointer v c.1 }))
 
-pub record GoesDown (j : Job) (v : View) (next : Next) : Type 0 where
+pub record GoesDown (j : Course) (v : View) (next : Next) : Type 0 where
   pub found : Option (ℕ × Bool)
-  pub is_last : IsPointerFor (Included (key_of j.call)) (pointers v.node.content) found
+  pub is_last : IsPointerFor j.aim (pointers v.node.content) found
   pub is : next ≡ down v found
 
 -- a call that changes nothing is decided at its leaf, and any other is to link its change
@@ -114,16 +115,16 @@ by_effect effect.Remove v reply = Go (stage.Act v)
 abbrev pub done_at : View → Decision → Next
 done_at v d = by_effect d.effect v d.reply
 
-abbrev pub follows_leaf : Job → View → Next → Type 0
+abbrev pub follows_leaf : Course → View → Next → Type 0
 follows_leaf j v next = OrNoMemory next (done_at v (decision_at j.call v.node.content))
 
-abbrev pub follows_content : Data → Job → View → Next → Type 0
+abbrev pub follows_content : Data → Course → View → Next → Type 0
 follows_content (Index es) j v next = GoesDown j v next
 follows_content (Leaf es) j v next = follows_leaf j v next
 
--- An open page of at most 16 entries that covers the key. One that was reached by `next` gets its pointer. One of few entries that
+-- An open page of at most 16 entries that lies under the aim. One that was reached by `next` gets its pointer. One of few entries that
 -- was reached by a later pointer of an index that can have it for its merging child merges
-abbrev pub follows_here : Job → View → Reached → Next → Type 0
+abbrev pub follows_here : Course → View → Reached → Next → Type 0
 follows_here j v reached.Root next = follows_content v.node.content j v next
 follows_here j v (reached.FirstPointer parent) next = follows_content v.node.content j v next
 follows_here j v (reached.LaterPointer parent) next =
@@ -131,24 +132,24 @@ follows_here j v (reached.LaterPointer parent) next =
     (follows_content v.node.content j v next)
 follows_here j v (reached.Next parent) next = OrNoMemory next (pointed v parent)
 
--- the node ends before the key
-abbrev pub EndsBefore : Node → Key → Type 0
-EndsBefore n key = (n.hi ≢ []) × UpTo n.hi key
+-- the node ends within the aim, so that the aim lies behind it
+abbrev pub EndsWithin : Node → Bound Key → Type 0
+EndsWithin n aim = (n.hi ≢ []) × (is_up_to aim n.hi ≡ true)
 
 -- an open page
-abbrev pub follows_open : Job → View → Reached → Next → Type 0
+abbrev pub follows_open : Course → View → Reached → Next → Type 0
 follows_open j v by next =
     Where (16 < count v.node.content) (next ≡ Go (stage.Split (record { page = v; posting = posting_of (parent_of by) })))
-    (Where (EndsBefore v.node (key_of j.call)) (OrNoMemory next (onward v v.node.next (parent_of by)))
-    (Where (Covers v.node (key_of j.call)) (follows_here j v by next)
+    (Where (EndsWithin v.node j.aim) (OrNoMemory next (onward v v.node.next (parent_of by)))
+    (Where (LiesUnder j.aim v.node) (follows_here j v by next)
     (next ≡ Go stage.Root)))
 
-abbrev pub follows_awake : Option ℕ → Job → View → Reached → Next → Type 0
+abbrev pub follows_awake : Option ℕ → Course → View → Reached → Next → Type 0
 follows_awake (Some child) j v by next = ResumesMerge v child next
 follows_awake None j v by next = follows_open j v by next
 
 -- a page of a walk
-abbrev pub follows_read : Job → View → Reached → Next → Type 0
+abbrev pub follows_read : Course → View → Reached → Next → Type 0
 follows_read j v by next = Where (v.node.merging ≡ true) (next ≡ Go stage.Root) (follows_awake v.node.merging_child j v by next)
 
 -- the merging child: one that is capped already is looked for from the page before it on, and an open one is to be capped
@@ -194,11 +195,11 @@ follows_cursor seek v next = Where (v.node.merging ≡ true) (next ≡ Go stage.
 pub record FollowsPage (s : Store) (pid : ℕ) (found : View → Next → Type 0) (next : Next) : Type 0 where
   pub is : ((s.is_readable pid ≡ true) × MatchOption (view_of pid ((now s).pages pid)) (next ≡ Go stage.Root) (λ v. found v next)) ⊎ ((e : Error) × (next ≡ Refused e) × RefusedRead pid s e)
 
-abbrev pub follows_root : Job → Store → Option ℕ → Next → Type 0
+abbrev pub follows_root : Course → Store → Option ℕ → Next → Type 0
 follows_root j s None next = next ≡ Go stage.Root
 follows_root j s (Some root) next = FollowsPage s root (λ v. follows_read j v reached.Root) next
 
-abbrev pub follows_walk : Job → Store → Walk → Next → Type 0
+abbrev pub follows_walk : Course → Store → Walk → Next → Type 0
 follows_walk j s a next = FollowsPage s a.cursor (λ v. follows_read j v a.reached) next
 
 -- A stage that acts
@@ -214,7 +215,7 @@ Takes change pid version old new next took late =
     ⊎ ((present : Option ℕ) × Changes change pid version old new (Err present) × (next ≡ late present))
 
 -- a change is linked at the version of the leaf that was read, and then the call is decided
-abbrev pub follows_act : Job → Store → Store → View → Next → Type 0
+abbrev pub follows_act : Course → Store → Store → View → Next → Type 0
 follows_act j old new v next =
     MatchOption (link_of (decision_at j.call v.node.content).effect (key_of j.call))
     ((new ≡ old) × (next ≡ Go stage.Root))
@@ -307,7 +308,7 @@ follows_confirm old new a next =
     (λ _. Go stage.Root)
 
 -- what a step from a stage does, and what it leads to
-abbrev pub follows_as : Job → Store → Stage → Next → Store → Type 0
+abbrev pub follows_as : Course → Store → Stage → Next → Store → Type 0
 follows_as j old stage.Root next new = (new ≡ old) × follows_root j old ((now old).roots j.tree.name) next
 follows_as j old (stage.Walk a) next new = (new ≡ old) × follows_walk j old a next
 follows_as j old (stage.Act v) next new = OrRefused old new next (follows_act j old new v next)
@@ -324,13 +325,13 @@ follows_as j old (stage.Seek a) next new = (new ≡ old) × FollowsPage old a.cu
 follows_as j old (stage.Receive a) next new = OrRefused old new next (follows_receive old new a next)
 follows_as j old (stage.Confirm a) next new = OrRefused old new next (follows_confirm old new a next)
 
-pub record Follows (j : Job) (old : Store) (stage : Stage) (next : Next) (new : Store) : Type 0 where
+pub record Follows (j : Course) (old : Store) (stage : Stage) (next : Next) (new : Store) : Type 0 where
   pub is : follows_as j old stage next new
 
 abbrev pub went_as : Store → Flight → Went → Store → Flight → Type 0
-went_as old f went.Moved new g = Follows f.job old f.stage (Go g.stage) new
-went_as old f (went.Decided reply) new g = Follows f.job old f.stage (Decided reply) new
-went_as old f (went.Refused e) new g = Follows f.job old f.stage (Refused e) new
+went_as old f went.Moved new g = Follows (course_of f) old f.stage (Go g.stage) new
+went_as old f (went.Decided reply) new g = Follows (course_of f) old f.stage (Decided reply) new
+went_as old f (went.Refused e) new g = Follows (course_of f) old f.stage (Refused e) new
 
 -- a step of a call in flight leads where its stage does
 pub record FollowsOn (old : Store) (f : Flight) (went : Went) (new : Store) (g : Flight) : Type 0 where

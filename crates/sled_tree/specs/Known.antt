@@ -5,14 +5,16 @@ use Rattle.sled_model.specs.declared.TheConstants.{MAX_LOOPS}
 use Rattle.tree_laws.specs.Forest.{Forest}
 use Rattle.tree_laws.specs.Moment.{Moment, IsMoment}
 use Rattle.tree_laws.specs.Stages.{owned}
+use Rattle.sled_tree.specs.Course.{course_of, IsAimed}
 use Rattle.sled_tree.specs.Stages.{Knows}
 use Rattle.sled_tree.specs.declared.flight.Flight.{Flight}
 use Rattle.tree_laws.specs.declared.flight.Stage.TheVariants.{Root}
 
--- What a call in flight knows of the pages is true at this moment, and it has no more turns than it may have. Without a turn it
--- has yet to begin
+-- What a call in flight knows of the pages is true at this moment, it aims at its key, and it has no more turns than it may have.
+-- Without a turn it has yet to begin
 pub record IsKnown (m : Moment) (f : Flight) : Type 0 where
-  pub told : (w : Forest) → IsMoment m w → Knows m w f.job f.stage
+  pub told : (w : Forest) → IsMoment m w → Knows m w (course_of f) f.stage
+  pub aimed : IsAimed (course_of f)
   pub few : f.turns ≤ MAX_LOOPS
   pub begins : f.turns ≡ 0 → f.stage ≡ Root
 

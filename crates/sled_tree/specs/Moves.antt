@@ -1,6 +1,5 @@
 -- What one page action of a call in flight does.
 use Rattle.std.specs.Prelude.{◌≡◌, ◌≢◌, ℕ, ◌+◌, ◌⊎◌, Bool, true, false, List, [], ◌++◌, Option, Some, None}
-use Rattle.std.specs.declared.ops.Bound.TheVariants.{Included}
 use Rattle.sled_pages.specs.In.{In}
 use Rattle.sled_pages.specs.State.{State, Action}
 use Rattle.sled_pages.specs.Store.{Store, acted, now}
@@ -8,12 +7,11 @@ use Rattle.sled_pages.specs.declared.page.Page.{Page}
 use Rattle.sled_pages.specs.declared.page.View.{View}
 use Rattle.sled_pages.specs.declared.error.Error.{Error}
 use Rattle.sled_pages.specs.declared.error.Error.TheVariants.{Io, NoMemory}
-use Rattle.sled_model.specs.Answer.{answer_of, key_of}
+use Rattle.sled_model.specs.Answer.{answer_of}
 use Rattle.sled_model.specs.declared.reply.Reply.{Reply}
 use Rattle.tree_laws.specs.Forest.{Tree, Forest, Place, contents}
 use Rattle.tree_laws.specs.Moment.{Moment, moment_of, nodes_at, IsMoment, Acts}
 use Rattle.tree_laws.specs.Stages.{IsHere, owned}
-use Rattle.sled_tree.specs.declared.flight.Job.{Job}
 use Rattle.tree_laws.specs.declared.flight.Stage.{Stage}
 use Rattle.tree_laws.specs.declared.flight.Stage.TheVariants as stage
 use Rattle.tree_laws.specs.declared.flight.Merge.{Merge}
@@ -24,6 +22,7 @@ use Rattle.sled_tree.specs.declared.flight.Next.TheVariants.{Go, Decided, Refuse
 use Rattle.sled_tree.specs.declared.flight.Flight.{Flight}
 use Rattle.sled_tree.specs.declared.flight.Went.{Went}
 use Rattle.sled_tree.specs.declared.flight.Went.TheVariants as went
+use Rattle.sled_tree.specs.Course.{Course, course_of, IsAimed}
 use Rattle.sled_tree.specs.Stages.{Knows}
 
 -- one changing action, and what it gave; nothing else of the store changes
@@ -59,7 +58,7 @@ pub record Same (old : Moment) (w : Forest) (new : Moment) (v : Forest) : Type 0
 
 -- The call replies and changes its tree as its answer on the contents now says. Without an event nothing is touched, and with
 -- one there is exactly one action
-pub record Decides (j : Job) (reply : Reply) (a b : Store) (old : Moment) (w : Forest) (new : Moment) (v : Forest) : Type 0 where
+pub record Decides (j : Course) (reply : Reply) (a b : Store) (old : Moment) (w : Forest) (new : Moment) (v : Forest) : Type 0 where
   pub replies : reply ≡ (answer_of j.call (contents (nodes_at old) w j.tree.name)).reply
   pub here : contents (nodes_at new) v j.tree.name ≡ (answer_of j.call (contents (nodes_at old) w j.tree.name)).map
   pub others : (t : Tree) → t ≢ j.tree.name → contents (nodes_at new) v t ≡ contents (nodes_at old) w t
@@ -85,38 +84,38 @@ owned_next (Decided reply) = []
 owned_next (Refused e) = []
 
 -- what comes of an action from the store a to the store b
-abbrev pub Comes : Job → Store → Store → Moment → Forest → Next → Moment → Forest → Type 0
+abbrev pub Comes : Course → Store → Store → Moment → Forest → Next → Moment → Forest → Type 0
 Comes j a b old w (Go stage) new v = Knows new v j stage × Same old w new v
 Comes j a b old w (Decided reply) new v = Decides j reply a b old w new v
 Comes j a b old w (Refused e) new v = Same old w new v
 
 -- One page action of a call whose tree is current, from a stage to what comes next.
 -- At every forest that shows the pages well formed, where the stage's facts hold, there is a forest after
-pub record Moves (j : Job) (old : Store) (stage : Stage) (next : Next) (new : Store) : Type 0 where
+pub record Moves (j : Course) (old : Store) (stage : Stage) (next : Next) (new : Store) : Type 0 where
   pub touches : touches_as next old new
   pub told : (numbers : Tree → Option ℕ) (given : ℕ → Bool) (w : Forest)
       → IsMoment (moment_of old numbers given) w → numbers j.tree.name ≡ Some j.tree.number → Knows (moment_of old numbers given) w j stage
       → (v : Forest) × Acts (owned stage) (owned_next next) (moment_of old numbers given) w (moment_of new numbers given) v × Comes j old new (moment_of old numbers given) w next (moment_of new numbers given) v × leaves_as next (owned stage) (now old) (now new) v
 
 abbrev pub advances_as : Store → Flight → Went → Store → Flight → Type 0
-advances_as old f went.Moved new g = (g.job ≡ f.job) × (g.turns ≡ f.turns + 1) × Moves f.job old f.stage (Go g.stage) new
-advances_as old f (went.Decided reply) new g = Moves f.job old f.stage (Decided reply) new
-advances_as old f (went.Refused e) new g = Moves f.job old f.stage (Refused e) new
+advances_as old f went.Moved new g = (g.job ≡ f.job) × (g.aim ≡ f.aim) × (g.turns ≡ f.turns + 1) × Moves (course_of f) old f.stage (Go g.stage) new
+advances_as old f (went.Decided reply) new g = Moves (course_of f) old f.stage (Decided reply) new
+advances_as old f (went.Refused e) new g = Moves (course_of f) old f.stage (Refused e) new
 
 -- one step of a call in flight: its stage's page action. Where the call goes on it has one turn more
 pub record Advances (old : Store) (f : Flight) (went : Went) (new : Store) (g : Flight) : Type 0 where
   pub told : advances_as old f went new g
 
--- a page that was just read, and how the walk came to it
-abbrev pub IsRead : Moment → Forest → Job → View → Reached → Type 0
-IsRead m w j v by = IsHere m w j.tree.name j.tree.number (Included (key_of j.call)) v by
+-- a page that was just read, how the walk came to it, and that the call aims at its key
+abbrev pub IsRead : Moment → Forest → Course → View → Reached → Type 0
+IsRead m w j v by = IsHere m w j.tree.name j.tree.number j.aim v by × IsAimed j
 
 -- what comes of a read, which changes nothing
-abbrev pub Reads : Job → Store → Moment → Forest → Next → Type 0
+abbrev pub Reads : Course → Store → Moment → Forest → Next → Type 0
 Reads j s m w next = (owned_next next ≡ []) × Comes j s s m w next m w
 
 -- What comes after a page was read, of every store where it was read
-pub record Arrives (j : Job) (view : View) (by : Reached) (next : Next) : Type 0 where
+pub record Arrives (j : Course) (view : View) (by : Reached) (next : Next) : Type 0 where
   pub touches : (s : Store) → touches_as next s s
   pub told : (s : Store) (numbers : Tree → Option ℕ) (given : ℕ → Bool) (w : Forest)
       → IsMoment (moment_of s numbers given) w → numbers j.tree.name ≡ Some j.tree.number → IsRead (moment_of s numbers given) w j view by
@@ -127,14 +126,14 @@ abbrev pub IsLive : Moment → View → Type 0
 IsLive m v = m.state.pages v.pid ≡ Some (record { version = v.version; node = v.node })
 
 -- what comes after a merging child was read
-pub record ReadsChild (j : Job) (merge : Merge) (view : View) (next : Next) : Type 0 where
+pub record ReadsChild (j : Course) (merge : Merge) (view : View) (next : Next) : Type 0 where
   pub touches : (s : Store) → touches_as next s s
   pub told : (s : Store) (numbers : Tree → Option ℕ) (given : ℕ → Bool) (w : Forest)
       → IsMoment (moment_of s numbers given) w → numbers j.tree.name ≡ Some j.tree.number → view.pid ≡ merge.child → IsLive (moment_of s numbers given) view → Knows (moment_of s numbers given) w j (stage.Child merge)
       → Reads j s (moment_of s numbers given) w next
 
 -- what comes after the cursor of the search for the page before a merging child was read
-pub record Looks (j : Job) (seek : Seek) (view : View) (next : Next) : Type 0 where
+pub record Looks (j : Course) (seek : Seek) (view : View) (next : Next) : Type 0 where
   pub touches : (s : Store) → touches_as next s s
   pub told : (s : Store) (numbers : Tree → Option ℕ) (given : ℕ → Bool) (w : Forest)
       → IsMoment (moment_of s numbers given) w → numbers j.tree.name ≡ Some j.tree.number → view.pid ≡ seek.cursor → IsLive (moment_of s numbers given) view → Knows (moment_of s numbers given) w j (stage.Seek seek)

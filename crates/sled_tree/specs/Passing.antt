@@ -1,14 +1,14 @@
 -- Calls in flight on clean paths: where no other call is in the way, a call goes on by a page a step.
 use Rattle.std.specs.Prelude.{◌≡◌, ◌≢◌, ℕ, suc, true, false, List, [], Some, length}
+use Rattle.std.specs.declared.ops.Bound.{Bound}
 use Rattle.sled_pages.specs.Order.{Key}
 use Rattle.sled_pages.specs.State.{State, Nodes, nodes_of}
 use Rattle.sled_pages.specs.declared.page.View.{View}
-use Rattle.sled_model.specs.Answer.{key_of}
 use Rattle.sled_model.specs.declared.decision.Effect.TheVariants.{Nothing}
 use Rattle.tree_laws.specs.Paths.{IsClean, CleanFrom}
 use Rattle.sled_tree.specs.Change.{decision_at}
+use Rattle.sled_tree.specs.Course.{Course, course_of}
 use Rattle.sled_tree.specs.declared.flight.Flight.{Flight}
-use Rattle.sled_tree.specs.declared.flight.Job.{Job}
 use Rattle.sled_tree.specs.declared.flight.Next.{Next}
 use Rattle.sled_tree.specs.declared.flight.Next.TheVariants.{Go, Decided, Refused}
 use Rattle.tree_laws.specs.declared.flight.Stage.{Stage}
@@ -23,40 +23,40 @@ abbrev pub IsUnchanged : State → View → Type 0
 IsUnchanged s v = s.pages v.pid ≡ Some (record { version = v.version; node = v.node })
 
 -- the rest of a clean path is ahead of a walk at a page that it came to so: no clean path goes on by `next`
-abbrev pub IsAheadOf : Nodes → Key → ℕ → Reached → List ℕ → Type 0
-IsAheadOf nodes key p reached.Root path = CleanFrom nodes key p true path
-IsAheadOf nodes key p (reached.FirstPointer parent) path = CleanFrom nodes key p true path
-IsAheadOf nodes key p (reached.LaterPointer parent) path = CleanFrom nodes key p false path
-IsAheadOf nodes key p (reached.Next parent) path = ⊥
+abbrev pub IsAheadOf : Nodes → Bound Key → ℕ → Reached → List ℕ → Type 0
+IsAheadOf nodes aim p reached.Root path = CleanFrom nodes aim p true path
+IsAheadOf nodes aim p (reached.FirstPointer parent) path = CleanFrom nodes aim p true path
+IsAheadOf nodes aim p (reached.LaterPointer parent) path = CleanFrom nodes aim p false path
+IsAheadOf nodes aim p (reached.Next parent) path = ⊥
 
 -- What is ahead of a call of a clean path to its key: all of it as the call begins, then the rest from the cursor of its walk on,
 -- and no page more at its leaf, which it read, changes, and finds unchanged
-abbrev pub IsOnPath : State → Job → Stage → List ℕ → Type 0
-IsOnPath s j stage.Root path = IsClean s j.tree.name (key_of j.call) path
-IsOnPath s j (stage.Walk a) path = IsAheadOf (nodes_of s) (key_of j.call) a.cursor a.reached path
+abbrev pub IsOnPath : State → Course → Stage → List ℕ → Type 0
+IsOnPath s j stage.Root path = IsClean s j.tree.name j.aim path
+IsOnPath s j (stage.Walk a) path = IsAheadOf (nodes_of s) j.aim a.cursor a.reached path
 IsOnPath s j (stage.Act v) path = (path ≡ []) × IsUnchanged s v × ((decision_at j.call v.node.content).effect ≢ Nothing)
 IsOnPath s j other path = ⊥
 
 -- a path with one page less is ahead of the call
-abbrev pub IsFurther : State → Job → Stage → List ℕ → Type 0
+abbrev pub IsFurther : State → Course → Stage → List ℕ → Type 0
 IsFurther s j stage path = (rest : List ℕ) × (length path ≡ suc (length rest)) × IsOnPath s j stage rest
 
 -- where the call goes on, it is one page further
-abbrev pub passes_as : State → Job → Next → List ℕ → Type 0
+abbrev pub passes_as : State → Course → Next → List ℕ → Type 0
 passes_as s j (Go stage) path = IsFurther s j stage path
 passes_as s j (Decided reply) path = Unit {0}
 passes_as s j (Refused e) path = Unit {0}
 
 -- an action from a stage: on a clean path it brings the call one page further, or is its last
-pub record Passes (j : Job) (old : State) (stage : Stage) (next : Next) (new : State) : Type 0 where
+pub record Passes (j : Course) (old : State) (stage : Stage) (next : Next) (new : State) : Type 0 where
   pub told : (path : List ℕ) → IsOnPath old j stage path → passes_as new j next path
 
 -- what comes after a page of a clean path was read
-pub record PassesOn (j : Job) (view : View) (by : Reached) (next : Next) : Type 0 where
-  pub told : (s : State) (path : List ℕ) → IsUnchanged s view → IsAheadOf (nodes_of s) (key_of j.call) view.pid by path → passes_as s j next path
+pub record PassesOn (j : Course) (view : View) (by : Reached) (next : Next) : Type 0 where
+  pub told : (s : State) (path : List ℕ) → IsUnchanged s view → IsAheadOf (nodes_of s) j.aim view.pid by path → passes_as s j next path
 
 abbrev pub goes_further_as : State → Flight → Went → State → Flight → Type 0
-goes_further_as old f went.Moved new g = (path : List ℕ) → IsOnPath old f.job f.stage path → IsFurther new g.job g.stage path
+goes_further_as old f went.Moved new g = (path : List ℕ) → IsOnPath old (course_of f) f.stage path → IsFurther new (course_of g) g.stage path
 goes_further_as old f (went.Decided reply) new g = Unit {0}
 goes_further_as old f (went.Refused e) new g = Unit {0}
 

@@ -1,7 +1,5 @@
 -- What a call in flight knows of the pages, by its stage.
 use Rattle.std.specs.Prelude.{◌≢◌}
-use Rattle.std.specs.declared.ops.Bound.TheVariants.{Included}
-use Rattle.sled_model.specs.Answer.{key_of}
 use Rattle.sled_model.specs.declared.decision.Effect.TheVariants.{Nothing}
 use Rattle.tree_laws.specs.Forest.{Forest}
 use Rattle.tree_laws.specs.Moment.{Moment}
@@ -9,16 +7,16 @@ use Rattle.tree_laws.specs.Stages.{IsStage}
 use Rattle.tree_laws.specs.declared.flight.Stage.{Stage}
 use Rattle.tree_laws.specs.declared.flight.Stage.TheVariants as stage
 use Rattle.sled_tree.specs.Change.{decision_at}
-use Rattle.sled_tree.specs.declared.flight.Job.{Job}
+use Rattle.sled_tree.specs.Course.{Course, IsAimed}
 
 -- a call that is to link its change at a leaf changes it
-abbrev pub changes_at : Job → Stage → Type 0
+abbrev pub changes_at : Course → Stage → Type 0
 changes_at j (stage.Act v) = (decision_at j.call v.node.content).effect ≢ Nothing
 changes_at j other = Unit {0}
 
--- what a call knows at its stage
-abbrev pub Knows : Moment → Forest → Job → Stage → Type 0
-Knows m w j a = IsStage m w j.tree.name j.tree.number (Included (key_of j.call)) a × changes_at j a
+-- what a call knows at its stage; and that it aims at its key
+abbrev pub Knows : Moment → Forest → Course → Stage → Type 0
+Knows m w j a = IsStage m w j.tree.name j.tree.number j.aim a × changes_at j a × IsAimed j
 
 -- the stage is one of a merge
 abbrev pub IsOfMerge : Stage → Type 0

@@ -6,8 +6,9 @@ ghost use Rattle.sled_tree.specs.Moves.{Moves};
 ghost use Rattle.sled_tree.specs.Follows.{OrRefused, follows_act};
 ghost use Rattle.sled_tree.specs.Passing.{Passes};
 ghost use Rattle.sled_tree.specs.Change.{IsChangeOf, link_of};
+ghost use Rattle.sled_tree.specs.Course.{course};
 
-use crate::flight::{Job, Next};
+use crate::flight::{Aim, Job, Next};
 use sled_model::{Decision, Effect, Reply};
 use sled_pages::{IVec, Link, Node, Pages, Result, View};
 use tree_laws::flight::Stage;
@@ -58,10 +59,10 @@ fn prepare(job: &Job, node: &Node) -> Result<Option<Change>>
 }
 
 // Links the call's change at the version of the leaf that it has read.
-pub(crate) fn act<P: Pages>(pages: &mut P, job: &Job, view: View) -> Next
-    ensures moves { Moves job.now (P.store pages.old) (Stage.Act view) result (P.store pages.new) }
-    ensures passes { Passes job.now (now (P.store pages.old)) (Stage.Act view) result (now (P.store pages.new)) }
-    ensures follows { OrRefused (P.store pages.old) (P.store pages.new) result (follows_act job.now (P.store pages.old) (P.store pages.new) view result) }
+pub(crate) fn act<P: Pages>(pages: &mut P, job: &Job, aim: &Aim, view: View) -> Next
+    ensures moves { Moves (course job.now aim.now) (P.store pages.old) (Stage.Act view) result (P.store pages.new) }
+    ensures passes { Passes (course job.now aim.now) (now (P.store pages.old)) (Stage.Act view) result (now (P.store pages.new)) }
+    ensures follows { OrRefused (P.store pages.old) (P.store pages.new) result (follows_act (course job.now aim.now) (P.store pages.old) (P.store pages.new) view result) }
 {
     let change = match prepare(job, &view.node) {
         Err(e) => {

@@ -7,16 +7,16 @@ ghost use Rattle.sled_pages.specs.Store.{Store};
 ghost use Rattle.tree_laws.specs.Stages.{by_pointer as reached_by};
 ghost use Rattle.sled_pages.specs.declared.error.Error.TheVariants.{NoMemory};
 ghost use Rattle.sled_tree.specs.Change.{IsLeaf, IsIndex};
+ghost use Rattle.sled_tree.specs.Course.{course, course_of};
 ghost use Rattle.sled_tree.specs.Descent.{way_of, IsPlain, IsClean, Meets, Leads, met_as, IsReplyAt, Descends, Settles};
 ghost use Rattle.tree_laws.specs.declared.flight.Stage.{Stage};
 ghost use Rattle.tree_laws.specs.declared.flight.Stage.TheVariants as variant;
 
-use crate::flight::{Flight, Job, Next, Went};
-use crate::walk::{arrive, by_pointer, covers};
+use crate::flight::{Aim, Flight, Job, Next, Went};
+use crate::walk::{arrive, by_pointer, lies_under, target};
 use sled_model::{Decision, Effect, MAX_LOOPS, Reply};
 use sled_pages::{Data, Node, Pages, Pid, Result, View};
 use std::alloc::Global;
-use std::ops::Bound;
 use tree_laws::flight::{Reached, Stage, Walk};
 
 // How far a step down came.
@@ -37,9 +37,10 @@ fn meet<P: Pages>(
     pages: &P,
     alloc: Global,
     job: &Job,
+    aim: &Aim,
     stage: &Stage,
 ) -> Option<Result<Option<View>>>
-    ensures { IfSome result (met_as (P.store pages.now) job.now stage.now) }
+    ensures { IfSome result (met_as (P.store pages.now) (course job.now aim.now) stage.now) }
 {
     match stage {
         Stage::Root => {
@@ -81,16 +82,16 @@ fn is_plain(stage: &Stage, node: &Node) -> bool
     }
 }
 
-// Whether nothing is to be repaired at a page, and its bounds have the key.
-fn is_clean(job: &Job, stage: &Stage, view: &View) -> bool
-    ensures { IsTrue result → IsClean job.now (way_of stage.now) view.now }
+// Whether nothing is to be repaired at a page, and it lies under the aim.
+fn is_clean(job: &Job, aim: &Aim, stage: &Stage, view: &View) -> bool
+    ensures { IsTrue result → IsClean (course job.now aim.now) (way_of stage.now) view.now }
 {
     let node: &Node = &view.node;
     !node.merging
         && node.merging_child.is_none()
         && !node.should_split()
         && is_plain(stage, node)
-        && covers(node, job.call.key().as_ref())
+        && lies_under(node, target(job, aim))
 }
 
 // The reply of a call at its leaf that changes nothing there.
@@ -136,21 +137,21 @@ fn walk_on(stage: &mut Stage, cursor: Pid, parent: View, first: bool)
 }
 
 // At a page where something is to be repaired.
-fn repair(job: &Job, view: View, stage: &mut Stage) -> Descent
-    ensures { (s : Store) → Meets s job.now stage.old view → Descends s job.now stage.old result stage.new }
+fn repair(job: &Job, aim: &Aim, view: View, stage: &mut Stage) -> Descent
+    ensures { (s : Store) → Meets s (course job.now aim.now) stage.old view → Descends s (course job.now aim.now) stage.old result stage.new }
 {
     let way = take_way(stage);
-    Descent::Next(arrive(job, view, way))
+    Descent::Next(arrive(job, aim, view, way))
 }
 
 // At an index.
-fn at_index(job: &Job, view: View, stage: &mut Stage) -> Descent
+fn at_index(job: &Job, aim: &Aim, view: View, stage: &mut Stage) -> Descent
     requires index { IsIndex view.node.content }
-    requires clean { IsClean job.now (way_of stage.old) view }
-    ensures { (s : Store) → Meets s job.now stage.old view → Descends s job.now stage.old result stage.new }
+    requires clean { IsClean (course job.now aim.now) (way_of stage.old) view }
+    ensures { (s : Store) → Meets s (course job.now aim.now) stage.old view → Descends s (course job.now aim.now) stage.old result stage.new }
 {
-    match view.node.pointer(Bound::Included(job.call.key().as_ref())) {
-        None => repair(job, view, stage),
+    match view.node.pointer(target(job, aim)) {
+        None => repair(job, aim, view, stage),
         Some((cursor, first)) => {
             walk_on(stage, cursor, view, first);
             Descent::Further
@@ -159,25 +160,31 @@ fn at_index(job: &Job, view: View, stage: &mut Stage) -> Descent
 }
 
 // At the page of a stage that goes down.
-fn arrive_in_place(job: &Job, view: View, stage: &mut Stage) -> Descent
-    ensures { (s : Store) → Meets s job.now stage.old view → Descends s job.now stage.old result stage.new }
+fn arrive_in_place(job: &Job, aim: &Aim, view: View, stage: &mut Stage) -> Descent
+    ensures { (s : Store) → Meets s (course job.now aim.now) stage.old view → Descends s (course job.now aim.now) stage.old result stage.new }
 {
-    if !is_clean(job, stage, &view) {
-        return repair(job, view, stage);
+    if !is_clean(job, aim, stage, &view) {
+        return repair(job, aim, view, stage);
     }
     match &view.node.content {
         Data::Leaf(_) => Descent::Leaf(view),
-        Data::Index(_) => at_index(job, view, stage),
+        Data::Index(_) => at_index(job, aim, view, stage),
     }
 }
 
 // Does the step of a stage that goes down. It reads one page at most.
-pub(crate) fn descend<P: Pages>(pages: &P, alloc: Global, job: &Job, stage: &mut Stage) -> Descent
-    ensures { Descends (P.store pages.now) job.now stage.old result stage.new }
+pub(crate) fn descend<P: Pages>(
+    pages: &P,
+    alloc: Global,
+    job: &Job,
+    aim: &Aim,
+    stage: &mut Stage,
+) -> Descent
+    ensures { Descends (P.store pages.now) (course job.now aim.now) stage.old result stage.new }
 {
-    match meet(pages, alloc, job, stage) {
+    match meet(pages, alloc, job, aim, stage) {
         None => Descent::None,
-        Some(Ok(Some(view))) => arrive_in_place(job, view, stage),
+        Some(Ok(Some(view))) => arrive_in_place(job, aim, view, stage),
         Some(Ok(None)) => Descent::Next(Next::Go(Stage::Root)),
         Some(Err(e)) => Descent::Next(Next::Refused(e)),
     }
@@ -186,7 +193,7 @@ pub(crate) fn descend<P: Pages>(pages: &P, alloc: Global, job: &Job, stage: &mut
 // The call goes on from a stage, or ends.
 pub(crate) fn settle(flight: &mut Flight, next: Next) -> Went
     requires { flight.old.turns < MAX_LOOPS }
-    ensures { (s : Store) (a : Stage) → Leads s flight.old.job a next → Settles s (record { job = flight.old.job; stage = a; turns = flight.old.turns }) result flight.new }
+    ensures { (s : Store) (a : Stage) → Leads s (course_of flight.old) a next → Settles s (record { job = flight.old.job; aim = flight.old.aim; stage = a; turns = flight.old.turns }) result flight.new }
 {
     match next {
         Next::Go(stage) => {
@@ -203,8 +210,8 @@ pub(crate) fn settle(flight: &mut Flight, next: Next) -> Went
 pub(crate) fn at_leaf(flight: &mut Flight, view: View) -> Went
     requires room { flight.old.turns < MAX_LOOPS }
     requires leaf { IsLeaf view.node.content }
-    requires clean { IsClean flight.old.job (way_of flight.old.stage) view }
-    ensures { (s : Store) → Meets s flight.old.job flight.old.stage view → Settles s flight.old result flight.new }
+    requires clean { IsClean (course_of flight.old) (way_of flight.old.stage) view }
+    ensures { (s : Store) → Meets s (course_of flight.old) flight.old.stage view → Settles s flight.old result flight.new }
 {
     match reply_at(&flight.job, &view.node) {
         Err(e) => {

@@ -1,6 +1,7 @@
 //! One page action of a call in flight.
 ghost use Rattle.std.specs.Prelude.{◌<◌};
 ghost use Rattle.sled_pages.specs.Store.{now};
+ghost use Rattle.sled_tree.specs.Course.{course};
 ghost use Rattle.sled_tree.specs.Moves.{Moves, Advances};
 ghost use Rattle.sled_tree.specs.Follows.{Follows, FollowsOn};
 ghost use Rattle.sled_tree.specs.Passing.{Passes, GoesFurther};
@@ -8,7 +9,7 @@ ghost use Rattle.sled_tree.specs.Stages.{IsOfMerge};
 
 use crate::act::act;
 use crate::descent::{Descent, at_leaf, descend, settle};
-use crate::flight::{Flight, Job, Next, Went};
+use crate::flight::{Aim, Flight, Job, Next, Went};
 use crate::hoist::{crown, hoist};
 use crate::merge::{cap, confirm, intend, read_child, receive, seek};
 use crate::split::{free, halve, post, shorten};
@@ -19,39 +20,39 @@ use std::alloc::Global;
 use tree_laws::flight::Stage;
 
 // Does the action of a stage: at most one page action.
-fn step<P: Pages>(pages: &mut P, alloc: Global, job: &Job, stage: Stage) -> Next
-    ensures moves { Moves job.now (P.store pages.old) stage result (P.store pages.new) }
-    ensures passes { Passes job.now (now (P.store pages.old)) stage result (now (P.store pages.new)) }
-    ensures follows { Follows job.now (P.store pages.old) stage result (P.store pages.new) }
+fn step<P: Pages>(pages: &mut P, alloc: Global, job: &Job, aim: &Aim, stage: Stage) -> Next
+    ensures moves { Moves (course job.now aim.now) (P.store pages.old) stage result (P.store pages.new) }
+    ensures passes { Passes (course job.now aim.now) (now (P.store pages.old)) stage result (now (P.store pages.new)) }
+    ensures follows { Follows (course job.now aim.now) (P.store pages.old) stage result (P.store pages.new) }
 {
     match stage {
-        Stage::Root => read_root(pages, alloc, job),
-        Stage::Walk(walk) => read_cursor(pages, alloc, job, walk),
-        Stage::Act(view) => act(pages, job, view),
-        Stage::Split(split) => halve(pages, alloc, job, split),
-        Stage::Shorten(split) => shorten(pages, job, split),
-        Stage::Post(pointer) => post(pages, alloc, job, pointer),
-        Stage::Hoist(pair) => hoist(pages, alloc, job, pair),
-        Stage::Crown(root) => crown(pages, job, root),
-        Stage::Free(own) => free(pages, job, own),
-        _ => step_of_merge(pages, alloc, job, stage),
+        Stage::Root => read_root(pages, alloc, job, aim),
+        Stage::Walk(walk) => read_cursor(pages, alloc, job, aim, walk),
+        Stage::Act(view) => act(pages, job, aim, view),
+        Stage::Split(split) => halve(pages, alloc, job, aim, split),
+        Stage::Shorten(split) => shorten(pages, job, aim, split),
+        Stage::Post(pointer) => post(pages, alloc, job, aim, pointer),
+        Stage::Hoist(pair) => hoist(pages, alloc, job, aim, pair),
+        Stage::Crown(root) => crown(pages, job, aim, root),
+        Stage::Free(own) => free(pages, job, aim, own),
+        _ => step_of_merge(pages, alloc, job, aim, stage),
     }
 }
 
 // The same, of the stages of a merge.
-fn step_of_merge<P: Pages>(pages: &mut P, alloc: Global, job: &Job, stage: Stage) -> Next
+fn step_of_merge<P: Pages>(pages: &mut P, alloc: Global, job: &Job, aim: &Aim, stage: Stage) -> Next
     requires { IsOfMerge stage }
-    ensures moves { Moves job.now (P.store pages.old) stage result (P.store pages.new) }
-    ensures passes { Passes job.now (now (P.store pages.old)) stage result (now (P.store pages.new)) }
-    ensures follows { Follows job.now (P.store pages.old) stage result (P.store pages.new) }
+    ensures moves { Moves (course job.now aim.now) (P.store pages.old) stage result (P.store pages.new) }
+    ensures passes { Passes (course job.now aim.now) (now (P.store pages.old)) stage result (now (P.store pages.new)) }
+    ensures follows { Follows (course job.now aim.now) (P.store pages.old) stage result (P.store pages.new) }
 {
     match stage {
-        Stage::Intend(merge) => intend(pages, alloc, job, merge),
-        Stage::Child(merge) => read_child(pages, alloc, job, merge),
-        Stage::Cap(child) => cap(pages, alloc, job, child),
-        Stage::Seek(search) => seek(pages, alloc, job, search),
-        Stage::Receive(child) => receive(pages, alloc, job, child),
-        Stage::Confirm(child) => confirm(pages, job, child),
+        Stage::Intend(merge) => intend(pages, alloc, job, aim, merge),
+        Stage::Child(merge) => read_child(pages, alloc, job, aim, merge),
+        Stage::Cap(child) => cap(pages, alloc, job, aim, child),
+        Stage::Seek(search) => seek(pages, alloc, job, aim, search),
+        Stage::Receive(child) => receive(pages, alloc, job, aim, child),
+        Stage::Confirm(child) => confirm(pages, job, aim, child),
         _ => unreachable!(),
     }
 }
@@ -64,7 +65,7 @@ fn advance_stage<P: Pages>(pages: &mut P, alloc: Global, flight: &mut Flight) ->
     ensures follows { FollowsOn (P.store pages.old) flight.old result (P.store pages.new) flight.new }
 {
     let stage = std::mem::replace(&mut flight.stage, Stage::Root);
-    match step(pages, alloc, &flight.job, stage) {
+    match step(pages, alloc, &flight.job, &flight.aim, stage) {
         Next::Go(stage) => {
             let old = std::mem::replace(&mut flight.stage, stage);
             drop(old);
@@ -83,7 +84,7 @@ pub fn advance<P: Pages>(pages: &mut P, alloc: Global, flight: &mut Flight) -> W
     ensures passes { GoesFurther (now (P.store pages.old)) flight.old result (now (P.store pages.new)) flight.new }
     ensures follows { FollowsOn (P.store pages.old) flight.old result (P.store pages.new) flight.new }
 {
-    match descend(pages, alloc, &flight.job, &mut flight.stage) {
+    match descend(pages, alloc, &flight.job, &flight.aim, &mut flight.stage) {
         Descent::None => advance_stage(pages, alloc, flight),
         Descent::Further => {
             flight.turns += 1;

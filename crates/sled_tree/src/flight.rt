@@ -1,9 +1,11 @@
 //! A call in flight as a value.
 ghost use Rattle.std.specs.Prelude.{◌≡◌};
+ghost use Rattle.sled_tree.specs.declared.flight.Aim.TheVariants.{OwnKey};
 ghost use Rattle.tree_laws.specs.declared.flight.Stage.TheVariants.{Root};
 
 use sled_model::{Call, Reply, Tree};
-use sled_pages::Error;
+use sled_pages::{Error, IVec};
+use std::ops::Bound;
 use tree_laws::flight::Stage;
 
 /// What a call in flight is to do. It stays as it is.
@@ -13,10 +15,20 @@ pub struct Job {
     pub call: Call,
 }
 
-/// A call in flight: what it is to do, where it stands, and how many of its steps went on so far.
+/// What the walk of a call in flight aims at: the last page of a level that begins within it has what it looks for.
+#[derive(Drop)]
+pub enum Aim {
+    /// The key of the call.
+    OwnKey,
+    /// A bound that lies elsewhere: at a key, just below a key, or the top.
+    At(Bound<IVec>),
+}
+
+/// A call in flight: what it is to do, what its walk aims at, where it stands, and how many of its steps went on so far.
 #[derive(Drop)]
 pub struct Flight {
     pub job: Job,
+    pub aim: Aim,
     pub stage: Stage,
     pub turns: u64,
 }
@@ -24,10 +36,11 @@ pub struct Flight {
 impl Flight {
     /// A call as it begins.
     pub fn new(tree: Tree, call: Call) -> Flight
-        ensures { result ≡ record { job = record { tree = tree; call = call }; stage = Root; turns = 0 } }
+        ensures { result ≡ record { job = record { tree = tree; call = call }; aim = OwnKey; stage = Root; turns = 0 } }
     {
         Flight {
             job: Job { tree, call },
+            aim: Aim::OwnKey,
             stage: Stage::Root,
             turns: 0,
         }

@@ -2,10 +2,11 @@
 ghost use Rattle.std.specs.Prelude.{◌≡◌, [], ◌∷◌, IfOk, IfErr};
 ghost use Rattle.sled_pages.specs.declared.error.Error.TheVariants.{NoMemory};
 ghost use Rattle.tree_laws.specs.Stages.{IsOver};
+ghost use Rattle.sled_tree.specs.Course.{course};
 ghost use Rattle.sled_tree.specs.Moves.{Moves};
 ghost use Rattle.sled_tree.specs.Follows.{OrRefused, Hoists, Crowns};
 
-use crate::flight::{Job, Next};
+use crate::flight::{Aim, Job, Next};
 use sled_pages::{Data, IVec, Index, Node, Pages, Pid, Result, law_given};
 use std::alloc::Global;
 use tree_laws::flight::{Crown, Hoist, Own, Stage};
@@ -60,8 +61,14 @@ fn root_over(alloc: Global, left: Pid, at: &IVec, right: Pid) -> Result<Node>
 }
 
 // Makes the new root.
-pub(crate) fn hoist<P: Pages>(pages: &mut P, alloc: Global, job: &Job, hoist: Hoist) -> Next
-    ensures moves { Moves job.now (P.store pages.old) (Stage.Hoist hoist) result (P.store pages.new) }
+pub(crate) fn hoist<P: Pages>(
+    pages: &mut P,
+    alloc: Global,
+    job: &Job,
+    aim: &Aim,
+    hoist: Hoist,
+) -> Next
+    ensures moves { Moves (course job.now aim.now) (P.store pages.old) (Stage.Hoist hoist) result (P.store pages.new) }
     ensures follows { OrRefused (P.store pages.old) (P.store pages.new) result (Hoists (P.store pages.old) (P.store pages.new) hoist result) }
 {
     let Hoist { left, at, right } = hoist;
@@ -84,8 +91,8 @@ pub(crate) fn hoist<P: Pages>(pages: &mut P, alloc: Global, job: &Job, hoist: Ho
 }
 
 // Sets the new root, where the old one is still the root.
-pub(crate) fn crown<P: Pages>(pages: &mut P, job: &Job, crown: Crown) -> Next
-    ensures moves { Moves job.now (P.store pages.old) (Stage.Crown crown) result (P.store pages.new) }
+pub(crate) fn crown<P: Pages>(pages: &mut P, job: &Job, aim: &Aim, crown: Crown) -> Next
+    ensures moves { Moves (course job.now aim.now) (P.store pages.old) (Stage.Crown crown) result (P.store pages.new) }
     ensures follows { OrRefused (P.store pages.old) (P.store pages.new) result (Crowns job.now.tree.name (P.store pages.old) (P.store pages.new) crown result) }
 {
     match pages.cas_root(job.tree.name.as_ref(), Some(crown.old), Some(crown.new)) {

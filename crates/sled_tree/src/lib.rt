@@ -16,7 +16,7 @@ mod split;
 mod walk;
 
 pub use dispatch::advance;
-pub use flight::{Flight, Job, Next, Went};
+pub use flight::{Aim, Flight, Job, Next, Went};
 pub use tree_laws::flight::{
     Cap, Confirm, Crown, Hoist, Merge, Own, Post, Posting, Reached, Receive, Seek, Shorten, Split,
     Stage, Walk,

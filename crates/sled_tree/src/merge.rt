@@ -6,13 +6,14 @@
 ghost use Rattle.std.specs.Prelude.{◌≡◌, ◌≢◌, ◌↔◌, ◌⊎◌, [], false, true, Some, None, IsTrue, IfOk, IfErr};
 ghost use Rattle.sled_pages.specs.declared.error.Error.TheVariants.{NoMemory};
 ghost use Rattle.sled_pages.specs.Order.{UpTo};
+ghost use Rattle.sled_tree.specs.Course.{course};
 ghost use Rattle.sled_tree.specs.Moves.{Moves};
 ghost use Rattle.sled_tree.specs.Follows.{ResumesMerge, BeginsMerge, follows_child, follows_cursor, follows_search, follows_met, FollowsPage, OrRefused, follows_intend, follows_cap, follows_receive, follows_confirm};
 ghost use Rattle.sled_tree.specs.Moves.{ReadsChild, Looks};
 ghost use Rattle.sled_tree.specs.declared.flight.Next.TheVariants.{Go};
 ghost use Rattle.tree_laws.specs.declared.flight.Stage.TheVariants as stage;
 
-use crate::flight::{Job, Next};
+use crate::flight::{Aim, Job, Next};
 use sled_pages::{Link, Node, Pages, Pid, Result, Shared, View};
 use std::alloc::Global;
 use tree_laws::flight::{Cap, Confirm, Merge, Own, Posting, Receive, Seek, Split, Stage};
@@ -55,8 +56,14 @@ fn merging(alloc: Global, node: &Node) -> Result<Shared>
 }
 
 // The parent takes the page for its merging child. All that wants memory comes before the link.
-pub(crate) fn intend<P: Pages>(pages: &mut P, alloc: Global, job: &Job, merge: Merge) -> Next
-    ensures moves { Moves job.now (P.store pages.old) (Stage.Intend merge) result (P.store pages.new) }
+pub(crate) fn intend<P: Pages>(
+    pages: &mut P,
+    alloc: Global,
+    job: &Job,
+    aim: &Aim,
+    merge: Merge,
+) -> Next
+    ensures moves { Moves (course job.now aim.now) (P.store pages.old) (Stage.Intend merge) result (P.store pages.new) }
     ensures follows { OrRefused (P.store pages.old) (P.store pages.new) result (follows_intend (P.store pages.old) (P.store pages.new) merge result) }
 {
     let Merge {
@@ -108,8 +115,14 @@ pub(crate) fn help(view: View, child: Pid) -> Next
 }
 
 // Reads the merging child.
-pub(crate) fn read_child<P: Pages>(pages: &P, alloc: Global, job: &Job, merge: Merge) -> Next
-    ensures moves { Moves job.now (P.store pages.now) (Stage.Child merge) result (P.store pages.now) }
+pub(crate) fn read_child<P: Pages>(
+    pages: &P,
+    alloc: Global,
+    job: &Job,
+    aim: &Aim,
+    merge: Merge,
+) -> Next
+    ensures moves { Moves (course job.now aim.now) (P.store pages.now) (Stage.Child merge) result (P.store pages.now) }
     ensures follows { FollowsPage (P.store pages.now) merge.child (follows_child merge) result }
 {
     match pages.read(alloc, merge.child) {
@@ -121,13 +134,13 @@ pub(crate) fn read_child<P: Pages>(pages: &P, alloc: Global, job: &Job, merge: M
             drop(merge);
             Next::Go(Stage::Root)
         }
-        Ok(Some(view)) => at_child(job, merge, view),
+        Ok(Some(view)) => at_child(job, aim, merge, view),
     }
 }
 
 // What comes after the merging child was read.
-fn at_child(job: &Job, merge: Merge, view: View) -> Next
-    ensures reads { ReadsChild job.now merge view result }
+fn at_child(job: &Job, aim: &Aim, merge: Merge, view: View) -> Next
+    ensures reads { ReadsChild (course job.now aim.now) merge view result }
     ensures follows { follows_child merge view result }
 {
     let read: &Node = &view.node;
@@ -154,8 +167,8 @@ fn at_child(job: &Job, merge: Merge, view: View) -> Next
 }
 
 // Caps the merging child. All that wants memory comes before the link.
-pub(crate) fn cap<P: Pages>(pages: &mut P, alloc: Global, job: &Job, cap: Cap) -> Next
-    ensures moves { Moves job.now (P.store pages.old) (Stage.Cap cap) result (P.store pages.new) }
+pub(crate) fn cap<P: Pages>(pages: &mut P, alloc: Global, job: &Job, aim: &Aim, cap: Cap) -> Next
+    ensures moves { Moves (course job.now aim.now) (P.store pages.old) (Stage.Cap cap) result (P.store pages.new) }
     ensures follows { OrRefused (P.store pages.old) (P.store pages.new) result (follows_cap (P.store pages.old) (P.store pages.new) cap result) }
 {
     let Cap {
@@ -215,8 +228,8 @@ fn reaches(view: &View, seek: &Seek) -> bool
 }
 
 // Reads the cursor of the search for the page before the merging child.
-pub(crate) fn seek<P: Pages>(pages: &P, alloc: Global, job: &Job, seek: Seek) -> Next
-    ensures moves { Moves job.now (P.store pages.now) (Stage.Seek seek) result (P.store pages.now) }
+pub(crate) fn seek<P: Pages>(pages: &P, alloc: Global, job: &Job, aim: &Aim, seek: Seek) -> Next
+    ensures moves { Moves (course job.now aim.now) (P.store pages.now) (Stage.Seek seek) result (P.store pages.now) }
     ensures follows { FollowsPage (P.store pages.now) seek.cursor (follows_cursor seek) result }
 {
     match pages.read(alloc, seek.cursor) {
@@ -228,13 +241,13 @@ pub(crate) fn seek<P: Pages>(pages: &P, alloc: Global, job: &Job, seek: Seek) ->
             drop(seek);
             Next::Go(Stage::Root)
         }
-        Ok(Some(view)) => at_cursor(job, seek, view),
+        Ok(Some(view)) => at_cursor(job, aim, seek, view),
     }
 }
 
 // What comes after the cursor of the search was read.
-fn at_cursor(job: &Job, seek: Seek, view: View) -> Next
-    ensures looks { Looks job.now seek view result }
+fn at_cursor(job: &Job, aim: &Aim, seek: Seek, view: View) -> Next
+    ensures looks { Looks (course job.now aim.now) seek view result }
     ensures follows { follows_cursor seek view result }
 {
     let node: &Node = &view.node;
@@ -247,18 +260,18 @@ fn at_cursor(job: &Job, seek: Seek, view: View) -> Next
         drop(seek);
         return help(view, child);
     }
-    compare(job, seek, view)
+    compare(job, aim, seek, view)
 }
 
 // An open page, before the merging child or at it.
-fn compare(job: &Job, seek: Seek, view: View) -> Next
+fn compare(job: &Job, aim: &Aim, seek: Seek, view: View) -> Next
     requires awake { view.node.merging ≡ false }
     requires free { view.node.merging_child ≡ None }
-    ensures looks { Looks job.now seek view result }
+    ensures looks { Looks (course job.now aim.now) seek view result }
     ensures follows { follows_search seek view result }
 {
     if leads_to(&view, &seek) {
-        return meet(job, seek, view);
+        return meet(job, aim, seek, view);
     }
     if reaches(&view, &seek) {
         drop(view);
@@ -278,11 +291,11 @@ fn compare(job: &Job, seek: Seek, view: View) -> Next
 }
 
 // The page before the merging child: it receives the child, or is split first.
-fn meet(job: &Job, seek: Seek, view: View) -> Next
+fn meet(job: &Job, aim: &Aim, seek: Seek, view: View) -> Next
     requires awake { view.node.merging ≡ false }
     requires free { view.node.merging_child ≡ None }
     requires leads { view.node.next ≡ Some seek.merge.child }
-    ensures looks { Looks job.now seek view result }
+    ensures looks { Looks (course job.now aim.now) seek view result }
     ensures follows { follows_met seek view result }
 {
     if view.node.should_split() {
@@ -344,8 +357,14 @@ fn further(seek: Seek, cursor: Pid) -> Next
 }
 
 // The page before the merging child receives it.
-pub(crate) fn receive<P: Pages>(pages: &mut P, alloc: Global, job: &Job, receive: Receive) -> Next
-    ensures moves { Moves job.now (P.store pages.old) (Stage.Receive receive) result (P.store pages.new) }
+pub(crate) fn receive<P: Pages>(
+    pages: &mut P,
+    alloc: Global,
+    job: &Job,
+    aim: &Aim,
+    receive: Receive,
+) -> Next
+    ensures moves { Moves (course job.now aim.now) (P.store pages.old) (Stage.Receive receive) result (P.store pages.new) }
     ensures follows { OrRefused (P.store pages.old) (P.store pages.new) result (follows_receive (P.store pages.old) (P.store pages.new) receive result) }
 {
     let Receive {
@@ -395,8 +414,8 @@ pub(crate) fn receive<P: Pages>(pages: &mut P, alloc: Global, job: &Job, receive
 }
 
 // The pointer to the received child goes.
-pub(crate) fn confirm<P: Pages>(pages: &mut P, job: &Job, confirm: Confirm) -> Next
-    ensures moves { Moves job.now (P.store pages.old) (Stage.Confirm confirm) result (P.store pages.new) }
+pub(crate) fn confirm<P: Pages>(pages: &mut P, job: &Job, aim: &Aim, confirm: Confirm) -> Next
+    ensures moves { Moves (course job.now aim.now) (P.store pages.old) (Stage.Confirm confirm) result (P.store pages.new) }
     ensures follows { OrRefused (P.store pages.old) (P.store pages.new) result (follows_confirm (P.store pages.old) (P.store pages.new) confirm result) }
 {
     let Confirm {

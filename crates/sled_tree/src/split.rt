@@ -1,18 +1,25 @@
 //! A split: the right half becomes a new page, then the page becomes its left half, then the right half gets its pointer.
 //!
 //! Between any two of these steps the tree is whole. A right half that nobody came to want is freed.
+ghost use Rattle.sled_tree.specs.Course.{course};
 ghost use Rattle.sled_tree.specs.Moves.{Moves};
 ghost use Rattle.sled_tree.specs.Follows.{OrRefused, follows_split, follows_shorten, follows_post, FreesOwn};
 
-use crate::flight::{Job, Next};
+use crate::flight::{Aim, Job, Next};
 use sled_pages::{Pages, law_given};
 use std::alloc::Global;
 use tree_laws::flight::{Hoist, Own, Post, Posting, Shorten, Split, Stage};
 use tree_laws::half::Half;
 
 // Makes the right half.
-pub(crate) fn halve<P: Pages>(pages: &mut P, alloc: Global, job: &Job, split: Split) -> Next
-    ensures moves { Moves job.now (P.store pages.old) (Stage.Split split) result (P.store pages.new) }
+pub(crate) fn halve<P: Pages>(
+    pages: &mut P,
+    alloc: Global,
+    job: &Job,
+    aim: &Aim,
+    split: Split,
+) -> Next
+    ensures moves { Moves (course job.now aim.now) (P.store pages.old) (Stage.Split split) result (P.store pages.new) }
     ensures follows { OrRefused (P.store pages.old) (P.store pages.new) result (follows_split (P.store pages.old) (P.store pages.new) split result) }
 {
     if !split.page.node.should_split() {
@@ -66,8 +73,8 @@ pub(crate) fn halve<P: Pages>(pages: &mut P, alloc: Global, job: &Job, split: Sp
 }
 
 // Replaces the page by its left half.
-pub(crate) fn shorten<P: Pages>(pages: &mut P, job: &Job, split: Shorten) -> Next
-    ensures moves { Moves job.now (P.store pages.old) (Stage.Shorten split) result (P.store pages.new) }
+pub(crate) fn shorten<P: Pages>(pages: &mut P, job: &Job, aim: &Aim, split: Shorten) -> Next
+    ensures moves { Moves (course job.now aim.now) (P.store pages.old) (Stage.Shorten split) result (P.store pages.new) }
     ensures follows { OrRefused (P.store pages.old) (P.store pages.new) result (follows_shorten (P.store pages.old) (P.store pages.new) split result) }
 {
     let Shorten {
@@ -118,8 +125,8 @@ pub(crate) fn shorten<P: Pages>(pages: &mut P, job: &Job, split: Shorten) -> Nex
 }
 
 // Puts a pointer to a page into its parent, where it has none.
-pub(crate) fn post<P: Pages>(pages: &mut P, alloc: Global, job: &Job, post: Post) -> Next
-    ensures moves { Moves job.now (P.store pages.old) (Stage.Post post) result (P.store pages.new) }
+pub(crate) fn post<P: Pages>(pages: &mut P, alloc: Global, job: &Job, aim: &Aim, post: Post) -> Next
+    ensures moves { Moves (course job.now aim.now) (P.store pages.old) (Stage.Post post) result (P.store pages.new) }
     ensures follows { OrRefused (P.store pages.old) (P.store pages.new) result (follows_post (P.store pages.old) (P.store pages.new) post result) }
 {
     let Post { parent, at, pid } = post;
@@ -151,8 +158,8 @@ pub(crate) fn post<P: Pages>(pages: &mut P, alloc: Global, job: &Job, post: Post
 }
 
 // Frees a page that is no part of any tree.
-pub(crate) fn free<P: Pages>(pages: &mut P, job: &Job, own: Own) -> Next
-    ensures moves { Moves job.now (P.store pages.old) (Stage.Free own) result (P.store pages.new) }
+pub(crate) fn free<P: Pages>(pages: &mut P, job: &Job, aim: &Aim, own: Own) -> Next
+    ensures moves { Moves (course job.now aim.now) (P.store pages.old) (Stage.Free own) result (P.store pages.new) }
     ensures follows { OrRefused (P.store pages.old) (P.store pages.new) result (FreesOwn (P.store pages.old) (P.store pages.new) own result) }
 {
     match pages.free(own.pid, own.version) {

@@ -4,21 +4,22 @@
 //! split or a merge that was left half done, or the call acts at its leaf.
 ghost use Rattle.std.specs.Prelude.{◌≡◌, ◌≢◌, ◌≤◌, ◌↔◌, IsTrue};
 ghost use Rattle.std.specs.Prelude.{None, true, false, []};
-ghost use Rattle.sled_pages.specs.Order.{UpTo};
+ghost use Rattle.sled_pages.specs.Among.{bound_of, is_up_to};
 ghost use Rattle.sled_pages.specs.Store.{now};
-ghost use Rattle.sled_pages.specs.Node.{Covers, count};
-ghost use Rattle.sled_model.specs.Answer.{key_of};
+ghost use Rattle.sled_pages.specs.Node.{count};
+ghost use Rattle.tree_laws.specs.Moment.{LiesUnder};
 ghost use Rattle.tree_laws.specs.Stages.{parent_of, by_pointer as reached_by};
 ghost use Rattle.tree_laws.specs.declared.flight.Reached.{Reached};
 ghost use Rattle.tree_laws.specs.declared.flight.Reached.TheVariants as way;
 ghost use Rattle.tree_laws.specs.declared.flight.Stage.TheVariants as stage;
 ghost use Rattle.sled_tree.specs.Change.{IsLeaf, IsIndex};
+ghost use Rattle.sled_tree.specs.Course.{aim_of, course};
 ghost use Rattle.sled_tree.specs.Moves.{Moves, Arrives};
-ghost use Rattle.sled_tree.specs.Follows.{follows_root, follows_walk, follows_read, follows_here, follows_content, follows_leaf, posting_of, onward, pointed, OrNoMemory, BeginsMerge, GoesDown};
+ghost use Rattle.sled_tree.specs.Follows.{follows_root, follows_walk, follows_read, follows_here, follows_content, follows_leaf, posting_of, onward, pointed, OrNoMemory, BeginsMerge, GoesDown, EndsWithin};
 ghost use Rattle.sled_tree.specs.Passing.{Passes, PassesOn};
 ghost use Rattle.sled_tree.specs.declared.flight.Next.TheVariants.{Go};
 
-use crate::flight::{Job, Next};
+use crate::flight::{Aim, Job, Next};
 use crate::merge::{begin, help};
 use sled_model::{Decision, Effect};
 use sled_pages::{Data, Node, Pages, View};
@@ -49,27 +50,50 @@ fn into_parent(reached: Reached) -> Option<View>
     }
 }
 
-// Whether the key lies within the node's bounds.
-#[tactic(auto, unfolding(sled_pages::specs::Order::key_cmp))]
-pub(crate) fn covers(node: &Node, key: &[u8]) -> bool
-    ensures { IsTrue result ↔ Covers node.now key.now }
+// What the walk of a call aims at.
+pub(crate) fn target<'a>(job: &'a Job, aim: &'a Aim) -> Bound<&'a [u8]>
+    ensures { bound_of result ≡ aim_of job.now aim.now }
 {
-    node.lo.as_ref().cmp(key).is_le() && (node.hi.len() == 0 || key.cmp(node.hi.as_ref()).is_lt())
+    match aim {
+        Aim::OwnKey => Bound::Included(job.call.key().as_ref()),
+        Aim::At(Bound::Included(key)) => Bound::Included(key.as_ref()),
+        Aim::At(Bound::Excluded(key)) => Bound::Excluded(key.as_ref()),
+        Aim::At(Bound::Unbounded) => Bound::Unbounded,
+    }
 }
 
-// Whether the key lies behind the node's bounds.
+// Whether a key is within a target.
 #[tactic(auto, unfolding(sled_pages::specs::Order::key_cmp))]
-fn ends_before(node: &Node, key: &[u8]) -> bool
-    ensures { IsTrue result ↔ ((node.now.hi ≢ []) × UpTo node.now.hi key.now) }
+fn is_within(key: &[u8], target: Bound<&[u8]>) -> bool
+    ensures { result ≡ is_up_to (bound_of target.entry) key.now }
 {
-    node.hi.len() != 0 && node.hi.as_ref().cmp(key).is_le()
+    match target {
+        Bound::Included(end) => key.cmp(end).is_le(),
+        Bound::Excluded(end) => key.cmp(end).is_lt(),
+        Bound::Unbounded => true,
+    }
+}
+
+// Whether a node begins within a target and does not end within it.
+pub(crate) fn lies_under(node: &Node, target: Bound<&[u8]>) -> bool
+    ensures { IsTrue result ↔ LiesUnder (bound_of target.entry) node.now }
+{
+    is_within(node.lo.as_ref(), target)
+        && (node.hi.len() == 0 || !is_within(node.hi.as_ref(), target))
+}
+
+// Whether a node ends within a target.
+fn ends_within(node: &Node, target: Bound<&[u8]>) -> bool
+    ensures { IsTrue result ↔ EndsWithin node.now (bound_of target.entry) }
+{
+    node.hi.len() != 0 && is_within(node.hi.as_ref(), target)
 }
 
 // Reads the root of the call's tree.
-pub(crate) fn read_root<P: Pages>(pages: &P, alloc: Global, job: &Job) -> Next
-    ensures moves { Moves job.now (P.store pages.now) Stage.Root result (P.store pages.now) }
-    ensures passes { Passes job.now (now (P.store pages.now)) Stage.Root result (now (P.store pages.now)) }
-    ensures follows { follows_root job.now (P.store pages.now) ((now (P.store pages.now)).roots job.now.tree.name) result }
+pub(crate) fn read_root<P: Pages>(pages: &P, alloc: Global, job: &Job, aim: &Aim) -> Next
+    ensures moves { Moves (course job.now aim.now) (P.store pages.now) Stage.Root result (P.store pages.now) }
+    ensures passes { Passes (course job.now aim.now) (now (P.store pages.now)) Stage.Root result (now (P.store pages.now)) }
+    ensures follows { follows_root (course job.now aim.now) (P.store pages.now) ((now (P.store pages.now)).roots job.now.tree.name) result }
 {
     let Some(root) = pages.root(job.tree.name.as_ref()) else {
         return Next::Go(Stage::Root);
@@ -77,15 +101,21 @@ pub(crate) fn read_root<P: Pages>(pages: &P, alloc: Global, job: &Job) -> Next
     match pages.read(alloc, root) {
         Err(e) => Next::Refused(e),
         Ok(None) => Next::Go(Stage::Root),
-        Ok(Some(view)) => arrive(job, view, Reached::Root),
+        Ok(Some(view)) => arrive(job, aim, view, Reached::Root),
     }
 }
 
 // Reads the cursor of a walk.
-pub(crate) fn read_cursor<P: Pages>(pages: &P, alloc: Global, job: &Job, walk: Walk) -> Next
-    ensures moves { Moves job.now (P.store pages.now) (Stage.Walk walk) result (P.store pages.now) }
-    ensures passes { Passes job.now (now (P.store pages.now)) (Stage.Walk walk) result (now (P.store pages.now)) }
-    ensures follows { follows_walk job.now (P.store pages.now) walk result }
+pub(crate) fn read_cursor<P: Pages>(
+    pages: &P,
+    alloc: Global,
+    job: &Job,
+    aim: &Aim,
+    walk: Walk,
+) -> Next
+    ensures moves { Moves (course job.now aim.now) (P.store pages.now) (Stage.Walk walk) result (P.store pages.now) }
+    ensures passes { Passes (course job.now aim.now) (now (P.store pages.now)) (Stage.Walk walk) result (now (P.store pages.now)) }
+    ensures follows { follows_walk (course job.now aim.now) (P.store pages.now) walk result }
 {
     match pages.read(alloc, walk.cursor) {
         Err(e) => {
@@ -96,15 +126,15 @@ pub(crate) fn read_cursor<P: Pages>(pages: &P, alloc: Global, job: &Job, walk: W
             drop(walk);
             Next::Go(Stage::Root)
         }
-        Ok(Some(view)) => arrive(job, view, walk.reached),
+        Ok(Some(view)) => arrive(job, aim, view, walk.reached),
     }
 }
 
 // What comes after a page was read.
-pub(crate) fn arrive(job: &Job, view: View, reached: Reached) -> Next
-    ensures arrives { Arrives job.now view reached result }
-    ensures passes { PassesOn job.now view reached result }
-    ensures follows { follows_read job.now view reached result }
+pub(crate) fn arrive(job: &Job, aim: &Aim, view: View, reached: Reached) -> Next
+    ensures arrives { Arrives (course job.now aim.now) view reached result }
+    ensures passes { PassesOn (course job.now aim.now) view reached result }
+    ensures follows { follows_read (course job.now aim.now) view reached result }
 {
     let node: &Node = &view.node;
     if node.merging {
@@ -117,24 +147,24 @@ pub(crate) fn arrive(job: &Job, view: View, reached: Reached) -> Next
         return help(view, child);
     }
     if node.should_split() {
-        return split(job, view, reached);
+        return split(job, aim, view, reached);
     }
-    if ends_before(node, job.call.key().as_ref()) {
-        return go_on(job, view, reached);
+    if ends_within(node, target(job, aim)) {
+        return go_on(job, aim, view, reached);
     }
-    if !covers(node, job.call.key().as_ref()) {
+    if !lies_under(node, target(job, aim)) {
         drop(view);
         drop(reached);
         return Next::Go(Stage::Root);
     }
-    at_key(job, view, reached)
+    at_key(job, aim, view, reached)
 }
 
 // A page that is too long.
-fn split(job: &Job, view: View, reached: Reached) -> Next
+fn split(job: &Job, aim: &Aim, view: View, reached: Reached) -> Next
     requires awake { view.node.merging ≡ false }
     requires free { view.node.merging_child ≡ None }
-    ensures arrives { Arrives job.now view reached result }
+    ensures arrives { Arrives (course job.now aim.now) view reached result }
     ensures follows { result ≡ Go (stage.Split (record { page = view; posting = posting_of (parent_of reached) })) }
 {
     match into_parent(reached) {
@@ -149,13 +179,12 @@ fn split(job: &Job, view: View, reached: Reached) -> Next
     }
 }
 
-// The key lies behind the page: a root is hoisted, and below a parent the walk goes on to the next page.
-fn go_on(job: &Job, view: View, reached: Reached) -> Next
+// The target lies behind the page: a root is hoisted, and below a parent the walk goes on to the next page.
+fn go_on(job: &Job, aim: &Aim, view: View, reached: Reached) -> Next
     requires awake { view.node.merging ≡ false }
     requires free { view.node.merging_child ≡ None }
-    requires bounded { view.node.hi ≢ [] }
-    requires behind { UpTo view.node.hi (key_of job.now.call) }
-    ensures arrives { Arrives job.now view reached result }
+    requires behind { EndsWithin view.node (aim_of job.now aim.now) }
+    ensures arrives { Arrives (course job.now aim.now) view reached result }
     ensures follows { OrNoMemory result (onward view view.node.next (parent_of reached)) }
 {
     let pid = view.pid;
@@ -187,32 +216,32 @@ fn go_on(job: &Job, view: View, reached: Reached) -> Next
     }
 }
 
-// A page that covers the key.
-fn at_key(job: &Job, view: View, reached: Reached) -> Next
+// A page that lies under the target.
+fn at_key(job: &Job, aim: &Aim, view: View, reached: Reached) -> Next
     requires awake { view.node.merging ≡ false }
     requires free { view.node.merging_child ≡ None }
-    requires covers { Covers view.node (key_of job.now.call) }
+    requires under { LiesUnder (aim_of job.now aim.now) view.node }
     requires few { count view.node.content ≤ 16 }
-    ensures arrives { Arrives job.now view reached result }
-    ensures passes { PassesOn job.now view reached result }
-    ensures follows { follows_here job.now view reached result }
+    ensures arrives { Arrives (course job.now aim.now) view reached result }
+    ensures passes { PassesOn (course job.now aim.now) view reached result }
+    ensures follows { follows_here (course job.now aim.now) view reached result }
 {
     match reached {
-        Reached::Next(parent) => post(job, view, parent),
-        Reached::LaterPointer(parent) => at_later(job, view, parent),
+        Reached::Next(parent) => post(job, aim, view, parent),
+        Reached::LaterPointer(parent) => at_later(job, aim, view, parent),
         Reached::FirstPointer(parent) => {
             drop(parent);
-            at_content(job, view)
+            at_content(job, aim, view)
         }
-        Reached::Root => at_content(job, view),
+        Reached::Root => at_content(job, aim, view),
     }
 }
 
 // A page that was reached by `next`: its pointer is posted.
-fn post(job: &Job, view: View, parent: View) -> Next
+fn post(job: &Job, aim: &Aim, view: View, parent: View) -> Next
     requires awake { view.node.merging ≡ false }
     requires free { view.node.merging_child ≡ None }
-    ensures arrives { Arrives job.now view (way.Next parent) result }
+    ensures arrives { Arrives (course job.now aim.now) view (way.Next parent) result }
     ensures follows { OrNoMemory result (pointed view parent) }
 {
     let pid = view.pid;
@@ -229,28 +258,28 @@ fn post(job: &Job, view: View, parent: View) -> Next
 
 // A page that was reached by a later pointer. One of few entries merges into the page before it, where the parent can have it
 // for its merging child.
-fn at_later(job: &Job, view: View, parent: View) -> Next
+fn at_later(job: &Job, aim: &Aim, view: View, parent: View) -> Next
     requires awake { view.node.merging ≡ false }
     requires free { view.node.merging_child ≡ None }
-    requires covers { Covers view.node (key_of job.now.call) }
+    requires under { LiesUnder (aim_of job.now aim.now) view.node }
     requires few { count view.node.content ≤ 16 }
-    ensures arrives { Arrives job.now view (way.LaterPointer parent) result }
-    ensures passes { PassesOn job.now view (way.LaterPointer parent) result }
-    ensures follows { follows_here job.now view (way.LaterPointer parent) result }
+    ensures arrives { Arrives (course job.now aim.now) view (way.LaterPointer parent) result }
+    ensures passes { PassesOn (course job.now aim.now) view (way.LaterPointer parent) result }
+    ensures follows { follows_here (course job.now aim.now) view (way.LaterPointer parent) result }
 {
     if parent.node.can_merge_child() && view.node.should_merge() {
-        return merge(job, view, parent);
+        return merge(job, aim, view, parent);
     }
     drop(parent);
-    at_content(job, view)
+    at_content(job, aim, view)
 }
 
 // A page of few entries merges into the one before it.
-fn merge(job: &Job, view: View, parent: View) -> Next
+fn merge(job: &Job, aim: &Aim, view: View, parent: View) -> Next
     requires awake { view.node.merging ≡ false }
     requires free { view.node.merging_child ≡ None }
     requires few { count view.node.content ≤ 3 }
-    ensures arrives { Arrives job.now view (way.LaterPointer parent) result }
+    ensures arrives { Arrives (course job.now aim.now) view (way.LaterPointer parent) result }
     ensures follows { BeginsMerge parent view.pid result }
 {
     let pid = view.pid;
@@ -259,33 +288,33 @@ fn merge(job: &Job, view: View, parent: View) -> Next
 }
 
 // A page where nothing is to be repaired.
-fn at_content(job: &Job, view: View) -> Next
+fn at_content(job: &Job, aim: &Aim, view: View) -> Next
     requires awake { view.node.merging ≡ false }
     requires free { view.node.merging_child ≡ None }
-    requires covers { Covers view.node (key_of job.now.call) }
+    requires under { LiesUnder (aim_of job.now aim.now) view.node }
     requires few { count view.node.content ≤ 16 }
-    ensures arrives { (by : Reached) → Arrives job.now view by result }
-    ensures passes { (by : Reached) → PassesOn job.now view by result }
-    ensures follows { follows_content view.node.content job.now view result }
+    ensures arrives { (by : Reached) → Arrives (course job.now aim.now) view by result }
+    ensures passes { (by : Reached) → PassesOn (course job.now aim.now) view by result }
+    ensures follows { follows_content view.node.content (course job.now aim.now) view result }
 {
     match &view.node.content {
-        Data::Index(_) => go_down(job, view),
-        Data::Leaf(_) => at_leaf(job, view),
+        Data::Index(_) => go_down(job, aim, view),
+        Data::Leaf(_) => at_leaf(job, aim, view),
     }
 }
 
-// An index that covers the key.
-fn go_down(job: &Job, view: View) -> Next
+// An index that lies under the target.
+fn go_down(job: &Job, aim: &Aim, view: View) -> Next
     requires awake { view.node.merging ≡ false }
     requires free { view.node.merging_child ≡ None }
-    requires covers { Covers view.node (key_of job.now.call) }
+    requires under { LiesUnder (aim_of job.now aim.now) view.node }
     requires few { count view.node.content ≤ 16 }
     requires index { IsIndex view.node.content }
-    ensures arrives { (by : Reached) → Arrives job.now view by result }
-    ensures passes { (by : Reached) → PassesOn job.now view by result }
-    ensures follows { GoesDown job.now view result }
+    ensures arrives { (by : Reached) → Arrives (course job.now aim.now) view by result }
+    ensures passes { (by : Reached) → PassesOn (course job.now aim.now) view by result }
+    ensures follows { GoesDown (course job.now aim.now) view result }
 {
-    match view.node.pointer(Bound::Included(job.call.key().as_ref())) {
+    match view.node.pointer(target(job, aim)) {
         None => {
             drop(view);
             Next::Go(Stage::Root)
@@ -297,16 +326,16 @@ fn go_down(job: &Job, view: View) -> Next
     }
 }
 
-// The leaf of the key. A call that changes nothing is decided.
-fn at_leaf(job: &Job, view: View) -> Next
+// The leaf under the target. A call that changes nothing is decided.
+fn at_leaf(job: &Job, aim: &Aim, view: View) -> Next
     requires awake { view.node.merging ≡ false }
     requires free { view.node.merging_child ≡ None }
-    requires covers { Covers view.node (key_of job.now.call) }
+    requires under { LiesUnder (aim_of job.now aim.now) view.node }
     requires few { count view.node.content ≤ 16 }
     requires leaf { IsLeaf view.node.content }
-    ensures arrives { (by : Reached) → Arrives job.now view by result }
-    ensures passes { (by : Reached) → PassesOn job.now view by result }
-    ensures follows { follows_leaf job.now view result }
+    ensures arrives { (by : Reached) → Arrives (course job.now aim.now) view by result }
+    ensures passes { (by : Reached) → PassesOn (course job.now aim.now) view by result }
+    ensures follows { follows_leaf (course job.now aim.now) view result }
 {
     let value = match view.node.get(job.call.key().as_ref()) {
         Err(e) => {

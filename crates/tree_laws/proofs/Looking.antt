@@ -2,7 +2,6 @@
 use Rattle.std.proofs.Common.{◌≡◌, ◌≢◌, ℕ, zero, suc, ◌+◌, ◌<◌, ◌≤◌, ◌^◌, Bool, true, false, List, [], ◌∷◌, ◌++◌, length, length-append, Option, Some, None, MatchOption, option_map, sym, refl, ap, ◌∙◌, subst, inl, inr, append_assoc, nat_eq, ◌||◌, arith}
 use Rattle.std.specs.List.{list_any}
 use Rattle.std.specs.declared.ops.Bound.{Bound}
-use Rattle.std.specs.declared.ops.Bound.TheVariants.{Included}
 use Rattle.sled_pages.specs.Among.{IsPointer, is_up_to}
 use Rattle.sled_pages.specs.In.{In}
 use Rattle.sled_pages.specs.Node.{pointers}
@@ -203,22 +202,22 @@ last_is {bound} {es} p q =
     (ap (λ (z : Key × ℕ). z.1) r.1, p.is_first ∙ ap (λ l. nat_eq (length l) 0) r.0 ∙ sym q.is_first)
 
 -- the page at which a clean path stands is passed
-pub clean_page : (nodes : Nodes) (key : Key) (path : List ℕ) (p : ℕ) (first : Bool) → CleanFrom nodes key p first path → (n : Node) → nodes p ≡ Some n → IsPassed nodes key p first n
-clean_page nodes key [] p first c n live = absurd c
-clean_page nodes key (q ∷ rest) p first c n live = subst (λ (z : Node). IsPassed nodes key p first z) (some_is c.1 n (sym c.2.live ∙ live)) c.2
+pub clean_page : (nodes : Nodes) (aim : Bound Key) (path : List ℕ) (p : ℕ) (first : Bool) → CleanFrom nodes aim p first path → (n : Node) → nodes p ≡ Some n → IsPassed nodes aim p first n
+clean_page nodes aim [] p first c n live = absurd c
+clean_page nodes aim (q ∷ rest) p first c n live = subst (λ (z : Node). IsPassed nodes aim p first z) (some_is c.1 n (sym c.2.live ∙ live)) c.2
 
 -- from an index it goes one down the list
-pub clean_down : (nodes : Nodes) (key : Key) (path : List ℕ) (p : ℕ) (first : Bool) → CleanFrom nodes key p first path → (n : Node) (es : List (Key × ℕ)) → nodes p ≡ Some n → n.content ≡ Index es → (c : ℕ) (b : Bool) → IsPointer (Included key) es c b
-    → (rest : List ℕ) × (path ≡ p ∷ rest) × CleanFrom nodes key c b rest
-clean_down nodes key [] p first k n es live index c b last = absurd k
-clean_down nodes key (q ∷ rest) p first k n es live index c b last =
+pub clean_down : (nodes : Nodes) (aim : Bound Key) (path : List ℕ) (p : ℕ) (first : Bool) → CleanFrom nodes aim p first path → (n : Node) (es : List (Key × ℕ)) → nodes p ≡ Some n → n.content ≡ Index es → (c : ℕ) (b : Bool) → IsPointer aim es c b
+    → (rest : List ℕ) × (path ≡ p ∷ rest) × CleanFrom nodes aim c b rest
+clean_down nodes aim [] p first k n es live index c b last = absurd k
+clean_down nodes aim (q ∷ rest) p first k n es live index c b last =
     let same : k.1 ≡ n = some_is k.1 n (sym k.2.live ∙ live) in
     elim k.3 [
       | inl a ↦ absurd (apart (sym (ap (λ (z : Node). z.content) (sym same) ∙ a.1) ∙ index))
       | inr a ↦
           let list : a.0 ≡ es = one (sym a.1 ∙ ap (λ (z : Node). z.content) same ∙ index) in
-          let e = last_is (subst (λ z. IsPointer (Included key) z a.2 a.3) list a.4) last in
-          (rest, ap (λ z. z ∷ rest) k.0, subst (λ z. CleanFrom nodes key z b rest) e.0 (subst (λ z. CleanFrom nodes key a.2 z rest) e.1 a.5))
+          let e = last_is (subst (λ z. IsPointer aim z a.2 a.3) list a.4) last in
+          (rest, ap (λ z. z ∷ rest) k.0, subst (λ z. CleanFrom nodes aim z b rest) e.0 (subst (λ z. CleanFrom nodes aim a.2 z rest) e.1 a.5))
     ]
   where
     apart : {xs : List (Key × Key)} {ys : List (Key × ℕ)} → Leaf xs ≡ Index ys → ⊥
@@ -228,9 +227,9 @@ clean_down nodes key (q ∷ rest) p first k n es live index c b last =
     one e = cc
 
 -- at a leaf it ends
-pub clean_leaf : (nodes : Nodes) (key : Key) (path : List ℕ) (p : ℕ) (first : Bool) → CleanFrom nodes key p first path → (n : Node) (es : List (Key × Key)) → nodes p ≡ Some n → n.content ≡ Leaf es → path ≡ p ∷ []
-clean_leaf nodes key [] p first k n es live leaf = absurd k
-clean_leaf nodes key (q ∷ rest) p first k n es live leaf =
+pub clean_leaf : (nodes : Nodes) (aim : Bound Key) (path : List ℕ) (p : ℕ) (first : Bool) → CleanFrom nodes aim p first path → (n : Node) (es : List (Key × Key)) → nodes p ≡ Some n → n.content ≡ Leaf es → path ≡ p ∷ []
+clean_leaf nodes aim [] p first k n es live leaf = absurd k
+clean_leaf nodes aim (q ∷ rest) p first k n es live leaf =
     let same : k.1 ≡ n = some_is k.1 n (sym k.2.live ∙ live) in
     elim k.3 [
       | inl a ↦ ap (λ z. z ∷ rest) k.0 ∙ ap (λ z. p ∷ z) a.2
@@ -255,22 +254,22 @@ last_in {bound} {es} {c} {b} k = (
     go (x ∷ xs) off = In-right xs ((k.key, c) ∷ k.last.after) (k.key, c) (inl refl)
 
 -- a clean path from a page of a level has a page of each level from there on
-clean_length : {nodes : Nodes} {roots : Tree → Option ℕ} {w : Forest} (f : WellFormed nodes roots w) (t : Tree) (key : Key) (path : List ℕ) (h p : ℕ) (first : Bool) → In p (w.chain (place t h)) → CleanFrom nodes key p first path → length path ≡ suc h
-clean_length f t key [] h p first i k = absurd k
-clean_length {nodes} {roots} {w} f t key (q ∷ rest) h p first i k = elim k.3 [
+clean_length : {nodes : Nodes} {roots : Tree → Option ℕ} {w : Forest} (f : WellFormed nodes roots w) (t : Tree) (aim : Bound Key) (path : List ℕ) (h p : ℕ) (first : Bool) → In p (w.chain (place t h)) → CleanFrom nodes aim p first path → length path ≡ suc h
+clean_length f t aim [] h p first i k = absurd k
+clean_length {nodes} {roots} {w} f t aim (q ∷ rest) h p first i k = elim k.3 [
   | inl a ↦ ap (λ z. length (q ∷ z)) a.2 ∙ ap suc (sym (leaf_in f t h p k.1 a.0 i k.2.live a.1))
   | inr a ↦
       let up = index_high h k.1.lo k.1.hi a.0 (subst (λ d. Holds h k.1.lo k.1.hi d) a.1 (holds_at f (place t h) p k.1 i k.2.live)) in
       let i' : In p (w.chain (place t (suc up.0))) = subst (λ z. In p (w.chain (place t z))) up.1 i in
       let j : In (a.4.key, a.2) (pointers k.1.content) = subst (λ d. In (a.4.key, a.2) (pointers d)) (sym a.1) (last_in a.4).0 in
       let c = pointer_in f t up.0 p k.1 a.4.key a.2 i' k.2.live j (λ e. none_some (sym k.2.is_open.free ∙ e)) in
-      ap suc (clean_length f t key rest up.0 a.2 a.3 c.1 a.5) ∙ sym (ap suc up.1)
+      ap suc (clean_length f t aim rest up.0 a.2 a.3 c.1 a.5) ∙ sym (ap suc up.1)
 ]
 
 pub clean_law : CleanLaw
-clean_law s w f t key path k =
+clean_law s w f t aim path k =
     let r = root_in f t k.root k.is_root in
-    (r.0, k.root, k.is_root, r.2, clean_length f t key path r.0 k.root true r.2 k.clean)
+    (r.0, k.root, k.is_root, r.2, clean_length f t aim path r.0 k.root true r.2 k.clean)
 
 -- the laws
 
@@ -284,10 +283,10 @@ pub ahead_law : AheadLaw
 ahead_law nodes roots w f t = record { begins = ahead_at f t; few = ahead_few f t; along = ahead_next f t; down = ahead_down f t }
 
 pub clean_step_law : CleanStepLaw
-clean_step_law nodes key path p first n k live = record {
-  passed = clean_page nodes key path p first k n live;
-  down = λ es c b index last. clean_down nodes key path p first k n es live index c b last;
-  leaf = λ es leaf. clean_leaf nodes key path p first k n es live leaf;
+clean_step_law nodes aim path p first n k live = record {
+  passed = clean_page nodes aim path p first k n live;
+  down = λ es c b index last. clean_down nodes aim path p first k n es live index c b last;
+  leaf = λ es leaf. clean_leaf nodes aim path p first k n es live leaf;
 }
 
 pub last_pointer_law : LastPointerLaw

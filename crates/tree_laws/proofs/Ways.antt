@@ -11,6 +11,7 @@ use Rattle.tree_laws.specs.Images.{Pages, Unclean, image, selves, key, leaf, cap
 use Rattle.tree_laws.specs.Paths.{IsPassed, CleanFrom, IsClean}
 use Rattle.tree_laws.specs.PathLaws.{CleanStep}
 use Rattle.tree_laws.proofs.Looking.{clean_step_law}
+use Rattle.tree_laws.proofs.Order.{covers_under, under_covers}
 use Rattle.tree_laws.proofs.Replace.{some_is}
 
 -- the pointers that lead to a key
@@ -27,8 +28,8 @@ unfolding key_cmp
 to_only = record { key = []; last = record { before = []; after = []; is = refl; passed = refl; none = refl }; is_first = refl }
 
 -- an open page without bounds, and the left leaf
-wide : (nodes : Nodes) (k : Key) (p : ℕ) (n : Node) → nodes p ≡ Some n → Covers n k → n.merging ≡ false → n.merging_child ≡ None → count n.content ≤ 16 → IsPassed nodes k p true n
-wide nodes k p n live covers awake free few = record { live = live; covers = covers; is_open = record { awake = awake; free = free }; few = few; many = λ l. refl }
+wide : (nodes : Nodes) (k : Key) (p : ℕ) (n : Node) → nodes p ≡ Some n → Covers n k → n.merging ≡ false → n.merging_child ≡ None → count n.content ≤ 16 → IsPassed nodes (Included k) p true n
+wide nodes k p n live covers awake free few = record { live = live; under = covers_under k n covers; is_open = record { awake = awake; free = free }; few = few; many = λ l. refl }
 
 covers_all : (hi : Key) → hi ≡ [] → Covers (leaf [] hi None []) (key 0)
 unfolding key_cmp
@@ -41,12 +42,12 @@ covers_left = (refl, inr refl)
 few : (0 ≤ 16) × (2 ≤ 16) × (3 ≤ 16) × (8 ≤ 16) × (16 ≤ 16)
 few = (omega arith, omega arith, omega arith, omega arith, omega arith)
 
-clean_at : (s : State) (t : Tree) (k : Key) (path : List ℕ) (r : ℕ) → s.roots t ≡ Some r → IsClean s t k path → CleanFrom (nodes_of s) k r true path
-clean_at s t k path r e c = subst (λ p. CleanFrom (nodes_of s) k p true path) (some_is c.root r (sym c.is_root ∙ e)) c.clean
+clean_at : (s : State) (t : Tree) (k : Key) (path : List ℕ) (r : ℕ) → s.roots t ≡ Some r → IsClean s t (Included k) path → CleanFrom (nodes_of s) (Included k) r true path
+clean_at s t k path r e c = subst (λ p. CleanFrom (nodes_of s) (Included k) p true path) (some_is c.root r (sym c.is_root ∙ e)) c.clean
 
 -- the first step of a clean path of an image
-first_step : (pages : Pages) (r : ℕ) (k : Key) (path : List ℕ) (n : Node) → nodes_of (image pages (root r)) r ≡ Some n → IsClean (image pages (root r)) one_tree k path → CleanStep (nodes_of (image pages (root r))) k path r true n
-first_step pages r k path n live c = clean_step_law _ k path r true n (clean_at (image pages (root r)) one_tree k path r refl c) live
+first_step : (pages : Pages) (r : ℕ) (k : Key) (path : List ℕ) (n : Node) → nodes_of (image pages (root r)) r ≡ Some n → IsClean (image pages (root r)) one_tree (Included k) path → CleanStep (nodes_of (image pages (root r))) (Included k) path r true n
+first_step pages r k path n live c = clean_step_law _ (Included k) path r true n (clean_at (image pages (root r)) one_tree k path r refl c) live
 
 true_false : {P : Type 0} → true ≡ false → P
 true_false e = cc
@@ -65,7 +66,7 @@ later_pointer : Unclean unnamed 3 (key 9)
 later_pointer path c =
     let s = first_step unnamed 3 (key 9) path (over both) refl c in
     let d = s.down both 2 false refl to_second in
-    let e = clean_step_law _ (key 9) d.0 2 false right d.2 refl in
+    let e = clean_step_law _ (Included (key 9)) d.0 2 false right d.2 refl in
     false_true (e.passed.many few_enough)
   where
     few_enough : 3 ≤ 3
@@ -84,13 +85,13 @@ has_a_child : Unclean intended 3 (key 0)
 has_a_child path c = some_none (first_step intended 3 (key 0) path (merging 2 (over both)) refl c).passed.is_open.free
 
 beyond_the_root : Unclean not_hoisted 1 (key 9)
-beyond_the_root path c = beyond_left (first_step not_hoisted 1 (key 9) path left.1 refl c).passed.covers
+beyond_the_root path c = beyond_left (under_covers (key 9) left.1 (first_step not_hoisted 1 (key 9) path left.1 refl c).passed.under)
 
 beyond_the_leaf : Unclean not_posted 3 (key 9)
 beyond_the_leaf path c =
     let s = first_step not_posted 3 (key 9) path (over first_only) refl c in
     let d = s.down first_only 1 true refl to_only in
-    beyond_left (clean_step_law _ (key 9) d.0 1 true left.1 d.2 refl).passed.covers
+    beyond_left (under_covers (key 9) left.1 (clean_step_law _ (Included (key 9)) d.0 1 true left.1 d.2 refl).passed.under)
 
 pub clean_paths : CleanPaths
 clean_paths = record {

@@ -2,6 +2,7 @@
 -- is not. In most of them the leaf 1 holds the keys [0] to [7], the leaf 2 holds [8] to [10], the index 3 stands over both, and
 -- the two leaves are chained: 1 ends at [8] and leads to 2.
 use Rattle.std.specs.Prelude.{◌≡◌, ℕ, false, true, List, [], ◌∷◌, ◌++◌, Option, Some, None, option_map}
+use Rattle.std.specs.declared.ops.Bound.TheVariants.{Included}
 use Rattle.sled_pages.specs.Order.{Key}
 use Rattle.sled_pages.specs.State.{State, nodes_of}
 use Rattle.sled_pages.specs.Image.{node_in, root_in}
@@ -276,7 +277,7 @@ pub record RefusedImages : Type 0 where
 
 -- no way to the key is clean
 abbrev pub Unclean : Pages → ℕ → Key → Type 0
-Unclean pages r k = (path : List ℕ) → IsClean (image pages (root r)) one_tree k path → ⊥
+Unclean pages r k = (path : List ℕ) → IsClean (image pages (root r)) one_tree (Included k) path → ⊥
 
 -- a first leaf of 3 entries, which are few
 abbrev pub few_in_the_first : Pages
@@ -292,10 +293,10 @@ too_many_in_the_root = (1, leaf [] [] None (selves 17 0)) ∷ []
 -- What a walk passes without a repair, and what it does not
 pub record CleanPaths : Type 0 where
   -- an empty root, a long one, a leaf that is neither, and a short one that a first pointer leads to
-  pub empty_root : IsClean (image fresh (root 1)) one_tree (key 0) (1 ∷ [])
-  pub long_root : IsClean (image many_in_the_root (root 1)) one_tree (key 0) (1 ∷ [])
-  pub two_levels : IsClean (image unnamed (root 3)) one_tree (key 0) (3 ∷ 1 ∷ [])
-  pub first_pointer : IsClean (image few_in_the_first (root 3)) one_tree (key 0) (3 ∷ 1 ∷ [])
+  pub empty_root : IsClean (image fresh (root 1)) one_tree (Included (key 0)) (1 ∷ [])
+  pub long_root : IsClean (image many_in_the_root (root 1)) one_tree (Included (key 0)) (1 ∷ [])
+  pub two_levels : IsClean (image unnamed (root 3)) one_tree (Included (key 0)) (3 ∷ 1 ∷ [])
+  pub first_pointer : IsClean (image few_in_the_first (root 3)) one_tree (Included (key 0)) (3 ∷ 1 ∷ [])
   -- not a short leaf that a later pointer leads to, which is to merge
   pub later_pointer : Unclean unnamed 3 (key 9)
   -- nor a page that is to be split

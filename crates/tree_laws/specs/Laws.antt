@@ -245,5 +245,5 @@ RangeLaw = (nodes : Nodes) (roots : Tree → Option ℕ) (w : Forest) → WellFo
 
 -- a clean path has a page of each level
 abbrev pub CleanLaw : Type 0
-CleanLaw = (s : State) (w : Forest) → WellFormed (nodes_of s) s.roots w → (t : Tree) (key : Key) (path : List ℕ) → IsClean s t key path
+CleanLaw = (s : State) (w : Forest) → WellFormed (nodes_of s) s.roots w → (t : Tree) (aim : Bound Key) (path : List ℕ) → IsClean s t aim path
     → (h root : ℕ) × (s.roots t ≡ Some root) × In root (w.chain (place t h)) × (length path ≡ suc h)

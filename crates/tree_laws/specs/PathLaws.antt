@@ -1,7 +1,6 @@
 -- The laws of reading walks and of clean paths, as types.
 use Rattle.std.specs.Prelude.{◌≡◌, ◌≢◌, ℕ, suc, ◌<◌, ◌≤◌, Bool, false, List, [], ◌∷◌, Option, Some}
 use Rattle.std.specs.declared.ops.Bound.{Bound}
-use Rattle.std.specs.declared.ops.Bound.TheVariants.{Included}
 use Rattle.sled_pages.specs.Order.{Key}
 use Rattle.sled_pages.specs.In.{In}
 use Rattle.sled_pages.specs.Among.{IsPointer}
@@ -33,13 +32,13 @@ abbrev pub AheadLaw : Type 0
 AheadLaw = (nodes : Nodes) (roots : Tree → Option ℕ) (w : Forest) → WellFormed nodes roots w → (t : Tree) → Aheads nodes w t
 
 -- a walk that stands at the first page of a clean path passes it, goes one down the path from an index, and ends at a leaf
-pub record CleanStep (nodes : Nodes) (key : Key) (path : List ℕ) (p : ℕ) (first : Bool) (n : Node) : Type 0 where
-  pub passed : IsPassed nodes key p first n
-  pub down : (es : List (Key × ℕ)) (c : ℕ) (b : Bool) → n.content ≡ Index es → IsPointer (Included key) es c b → (rest : List ℕ) × (path ≡ p ∷ rest) × CleanFrom nodes key c b rest
+pub record CleanStep (nodes : Nodes) (aim : Bound Key) (path : List ℕ) (p : ℕ) (first : Bool) (n : Node) : Type 0 where
+  pub passed : IsPassed nodes aim p first n
+  pub down : (es : List (Key × ℕ)) (c : ℕ) (b : Bool) → n.content ≡ Index es → IsPointer aim es c b → (rest : List ℕ) × (path ≡ p ∷ rest) × CleanFrom nodes aim c b rest
   pub leaf : (es : List (Key × Key)) → n.content ≡ Leaf es → path ≡ p ∷ []
 
 abbrev pub CleanStepLaw : Type 0
-CleanStepLaw = (nodes : Nodes) (key : Key) (path : List ℕ) (p : ℕ) (first : Bool) (n : Node) → CleanFrom nodes key p first path → nodes p ≡ Some n → CleanStep nodes key path p first n
+CleanStepLaw = (nodes : Nodes) (aim : Bound Key) (path : List ℕ) (p : ℕ) (first : Bool) (n : Node) → CleanFrom nodes aim p first path → nodes p ≡ Some n → CleanStep nodes aim path p first n
 
 -- the last pointer within a bound is a pointer of the index, a later one if it is not the first, and one alone
 abbrev pub LastPointerLaw : Type 0

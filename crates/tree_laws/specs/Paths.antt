@@ -1,36 +1,36 @@
 -- Ways down a tree that repair nothing, and how many pages a tree has.
 use Rattle.std.specs.Prelude.{◌≡◌, ℕ, ◌+◌, ◌≤◌, ◌⊎◌, Bool, true, List, [], ◌∷◌, ◌++◌, Option, Some, None, length}
-use Rattle.std.specs.declared.ops.Bound.TheVariants.{Included}
+use Rattle.std.specs.declared.ops.Bound.{Bound}
 use Rattle.sled_pages.specs.Order.{Key}
 use Rattle.sled_pages.specs.Among.{IsPointer}
-use Rattle.sled_pages.specs.Node.{count, Covers}
+use Rattle.sled_pages.specs.Node.{count}
 use Rattle.sled_pages.specs.State.{State, Nodes, nodes_of}
 use Rattle.sled_pages.specs.declared.node.Node.{Node}
 use Rattle.sled_pages.specs.declared.node.Data.TheVariants.{Leaf, Index}
 use Rattle.tree_laws.specs.Forest.{Tree, Forest, place}
 use Rattle.tree_laws.specs.Contents.{page_numbers, next_of, first_of}
-use Rattle.tree_laws.specs.Moment.{IsOpen}
+use Rattle.tree_laws.specs.Moment.{IsOpen, LiesUnder}
 
--- a page that a walk to the key passes without a repair, and whether it was reached by a first pointer or is the root
-pub record IsPassed (nodes : Nodes) (key : Key) (p : ℕ) (first : Bool) (n : Node) : Type 0 where
+-- a page that a walk to its aim passes without a repair, and whether it was reached by a first pointer or is the root
+pub record IsPassed (nodes : Nodes) (aim : Bound Key) (p : ℕ) (first : Bool) (n : Node) : Type 0 where
   pub live : nodes p ≡ Some n
-  pub covers : Covers n key
+  pub under : LiesUnder aim n
   pub is_open : IsOpen n
   pub few : count n.content ≤ 16
   pub many : count n.content ≤ 3 → first ≡ true
 
--- from this page the list goes down to a leaf, by last pointers at or below the key, over pages that are passed
-abbrev pub CleanFrom : Nodes → Key → ℕ → Bool → List ℕ → Type 0
-CleanFrom nodes key p first [] = ⊥
-CleanFrom nodes key p first (q ∷ rest) = (q ≡ p) × (n : Node) × IsPassed nodes key p first n
+-- from this page the list goes down to a leaf, by last pointers within the aim, over pages that are passed
+abbrev pub CleanFrom : Nodes → Bound Key → ℕ → Bool → List ℕ → Type 0
+CleanFrom nodes aim p first [] = ⊥
+CleanFrom nodes aim p first (q ∷ rest) = (q ≡ p) × (n : Node) × IsPassed nodes aim p first n
     × (((es : List (Key × Key)) × (n.content ≡ Leaf es) × (rest ≡ []))
-    ⊎ ((es : List (Key × ℕ)) × (n.content ≡ Index es) × (c : ℕ) × (b : Bool) × IsPointer (Included key) es c b × CleanFrom nodes key c b rest))
+    ⊎ ((es : List (Key × ℕ)) × (n.content ≡ Index es) × (c : ℕ) × (b : Bool) × IsPointer aim es c b × CleanFrom nodes aim c b rest))
 
--- a clean path of the key: one page of each level, from the root on
-pub record IsClean (s : State) (t : Tree) (key : Key) (path : List ℕ) : Type 0 where
+-- a clean path to the aim: one page of each level, from the root on
+pub record IsClean (s : State) (t : Tree) (aim : Bound Key) (path : List ℕ) : Type 0 where
   pub root : ℕ
   pub is_root : s.roots t ≡ Some root
-  pub clean : CleanFrom (nodes_of s) key root true path
+  pub clean : CleanFrom (nodes_of s) aim root true path
 
 -- how many pages there are from this one on along `next`, and then on all levels below, at most so many of each
 abbrev pub length_along : ℕ → Nodes → Option ℕ → ℕ

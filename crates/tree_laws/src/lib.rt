@@ -68,11 +68,11 @@
 //!
 //! # Clean paths and reads
 //!
-//! A clean path of a key (`IsClean`) is a list of pages that a walk to the key passes without a repair:
+//! A clean path to what a walk aims at, a key or another bound (`IsClean`), is a list of pages that the walk passes without a repair:
 //!
-//! - *It begins at the root*: `is_root`. *It goes down by the last pointer at or below the key, to a leaf*: `CleanFrom`. So it has
+//! - *It begins at the root*: `is_root`. *It goes down by the last pointer within the aim, to a leaf*: `CleanFrom`. So it has
 //!   a page of each level (`CleanLaw`), and a walk goes one down the list with each step (`CleanStepLaw`).
-//! - *Each page covers the key*: `IsPassed.covers`. *None is merging or has a merging child*: `is_open`. *None should split*: an open
+//! - *Each page lies under the aim: where it is a key, the page covers it*: `IsPassed.under`. *None is merging or has a merging child*: `is_open`. *None should split*: an open
 //!   page should where it has more than 16 entries (`few`). *One that should merge is the root or was reached by a first
 //!   pointer*: an open page should where it has 3 or fewer (`many`).
 //!

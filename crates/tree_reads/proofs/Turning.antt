@@ -16,7 +16,7 @@ use Rattle.sled_pages.specs.declared.node.Data.{Data}
 use Rattle.sled_pages.specs.declared.node.Data.TheVariants.{Leaf, Index}
 use Rattle.tree_laws.specs.Forest.{Tree, Forest, place, WellFormed, Holds}
 use Rattle.tree_laws.specs.Paths.{IsPassed, IsAhead}
-use Rattle.tree_laws.proofs.Order.{upto-below, below_upto-trans, below-trans, below_not_upto}
+use Rattle.tree_laws.proofs.Order.{upto-below, below_upto-trans, below-trans}
 use Rattle.tree_laws.proofs.Runs.{In-right}
 use Rattle.tree_laws.proofs.Replace.{some_is}
 use Rattle.tree_laws.proofs.Cover.{holds_at}
@@ -38,11 +38,14 @@ not_true true e = cc
 not_true false e = refl
 
 -- the key of a page that is passed does not lie behind it
-not_behind : (target : Bound Key) (nodes : Nodes) (key : Key) (p : ℕ) (first : Bool) (n : Node) → target ≡ Included key → IsPassed nodes key p first n → LiesBehind target n → ⊥
-not_behind target nodes key p first n is k b = elim k.covers.1 [
+not_behind : (target : Bound Key) (nodes : Nodes) (key : Key) (p : ℕ) (first : Bool) (n : Node) → target ≡ Included key → IsPassed nodes (Included key) p first n → LiesBehind target n → ⊥
+not_behind target nodes key p first n is k b = elim k.under.1 [
   | inl e ↦ b.0 e
-  | inr l ↦ below_not_upto key n.hi l (not_true (is_gt (key_cmp n.hi key)) (sym (ap (λ z. is_up_to z n.hi) is) ∙ b.1))
+  | inr l ↦ apart (sym b.1 ∙ ap (λ z. is_up_to z n.hi) is ∙ l)
 ]
+  where
+    apart : true ≡ false → ⊥
+    apart e = cc
 
 -- to the right
 pub turns_right : (target : Bound Key) (n : Node) → LiesBehind target n → Turns target n n.next
@@ -54,7 +57,7 @@ turns_right target n b = record {
       let k = ahead_next f t s.height p q.0 ahead n s.is live q.1 in
       (k.0, k.1, record { height = s.height; node = d.0; live = d.2; begins = ap (is_up_to target) d.3 ∙ b.1; is = k.2 })
       );
-  clean = λ nodes key p first path is live c. absurd (not_behind target nodes key p first n is (clean_page nodes key path p first c n live) b);
+  clean = λ nodes key p first path is live c. absurd (not_behind target nodes key p first n is (clean_page nodes (Included key) path p first c n live) b);
 }
 
 -- what does not lie behind ends there
@@ -128,7 +131,7 @@ turns_down target n c b index k off = record {
   clean = λ nodes key p first path is live c1.
       let es = index_of n.content index in
       let last : IsPointer (Included key) es.0 c b = subst (λ z. IsPointer z es.0 c b) is (subst (λ d. IsPointer target (pointers d) c b) es.1 k) in
-      let d = clean_down nodes key path p first c1 n es.0 live es.1 c b last in
+      let d = clean_down nodes (Included key) path p first c1 n es.0 live es.1 c b last in
       (b, d.0, ap length d.1, d.2);
 }
 
@@ -152,7 +155,7 @@ turns_before target n c first found index last child before = record {
       let i : In p (w.chain (place t (suc g.0))) = subst (λ h. In p (w.chain (place t h))) g.1 (standing s) in
       let law = before_child_law nodes roots w f t g.0 p n c i live child in
       go nodes roots w f t p ahead live g.0 i (subst (λ h. IsAhead w t h p ahead) g.1 s.is) law found before;
-  clean = λ nodes key p f path is live k. some_none (sym child ∙ (clean_page nodes key path p f k n live).is_open.free);
+  clean = λ nodes key p f path is live k. some_none (sym child ∙ (clean_page nodes (Included key) path p f k n live).is_open.free);
 }
   where
     some_none : {P : Type 0} → Some c ≡ None → P

@@ -26,8 +26,8 @@ none_some e = cc
 pub record Walks (s : State) (root : ℕ) (target : Bound Key) (from pid looked : ℕ) : Type 0 where
   pub more : from ≤ looked
   pub told : (w : Forest) → WellFormed (nodes_of s) s.roots w → (t : Tree) → s.roots t ≡ Some root → (ahead : ℕ) × Stands (nodes_of s) w t target pid ahead × (ahead + looked ≤ tree_pages s t + from)
-  pub clean : (key : Key) → target ≡ Included key → (first : Bool) (path : List ℕ) → CleanFrom (nodes_of s) key root first path
-      → (b : Bool) × (rest : List ℕ) × (looked + length rest ≤ from + length path) × CleanFrom (nodes_of s) key pid b rest
+  pub clean : (key : Key) → target ≡ Included key → (first : Bool) (path : List ℕ) → CleanFrom (nodes_of s) (Included key) root first path
+      → (b : Bool) × (rest : List ℕ) × (looked + length rest ≤ from + length path) × CleanFrom (nodes_of s) (Included key) pid b rest
 
 at_root : (a b c from : ℕ) → a ≤ b → c ≡ b → a + from ≤ c + from
 at_root a b c from h e = omega arith
@@ -67,7 +67,7 @@ one_left : (l r q m n : ℕ) → l + r ≤ m → r ≡ suc q → (l + 1) + q ≤
 one_left l r q m n h e = omega arith
 
 -- a path is not empty
-pub some_left : (s : State) (key : Key) (p : ℕ) (b : Bool) (rest : List ℕ) → CleanFrom (nodes_of s) key p b rest → 1 ≤ length rest
+pub some_left : (s : State) (key : Key) (p : ℕ) (b : Bool) (rest : List ℕ) → CleanFrom (nodes_of s) (Included key) p b rest → 1 ≤ length rest
 some_left s key p b [] c = absurd c
 some_left s key p b (q ∷ rest) c = one (length rest)
   where
@@ -124,10 +124,10 @@ module _ (s : State) (root : ℕ) (target : Bound Key) (from pid looked : ℕ) (
       let a = k.told w f t is in
       none_some (sym (ap (option_map (λ (g : Page). g.node)) (gone pid (s.pages pid) read)) ∙ a.1.live)
 
-  pub walk_lost : None ≡ view_of pid (s.pages pid) → (key : Key) → target ≡ Included key → (first : Bool) (path : List ℕ) → CleanFrom (nodes_of s) key root first path → MOST_PAGES < from + length path
+  pub walk_lost : None ≡ view_of pid (s.pages pid) → (key : Key) → target ≡ Included key → (first : Bool) (path : List ℕ) → CleanFrom (nodes_of s) (Included key) root first path → MOST_PAGES < from + length path
   walk_lost read key is first path c = let d = k.clean key is first path c in go d.0 d.1 d.3
     where
-      go : (b : Bool) (rest : List ℕ) → CleanFrom (nodes_of s) key pid b rest → MOST_PAGES < from + length path
+      go : (b : Bool) (rest : List ℕ) → CleanFrom (nodes_of s) (Included key) pid b rest → MOST_PAGES < from + length path
       go b [] c = absurd c
       go b (q ∷ rest) c = none_some (sym (ap (option_map (λ (g : Page). g.node)) (gone pid (s.pages pid) read)) ∙ c.2.live)
 
@@ -137,7 +137,7 @@ module _ (s : State) (root : ℕ) (target : Bound Key) (from pid looked : ℕ) (
       enough : (a l m : ℕ) → a + l ≤ m → MOST_PAGES ≤ l → MOST_PAGES ≤ m
       enough a l m h g = omega arith
 
-  pub walk_long : MOST_PAGES ≤ looked → (key : Key) → target ≡ Included key → (first : Bool) (path : List ℕ) → CleanFrom (nodes_of s) key root first path → MOST_PAGES < from + length path
+  pub walk_long : MOST_PAGES ≤ looked → (key : Key) → target ≡ Included key → (first : Bool) (path : List ℕ) → CleanFrom (nodes_of s) (Included key) root first path → MOST_PAGES < from + length path
   walk_long full key is first path c = let d = k.clean key is first path c in enough looked (length d.1) (from + length path) d.2 (some_left s key pid d.0 d.1 d.3) full
     where
       enough : (l r m : ℕ) → l + r ≤ m → 1 ≤ r → MOST_PAGES ≤ l → MOST_PAGES < m

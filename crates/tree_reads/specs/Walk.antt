@@ -46,12 +46,12 @@ turns_as nodes w t target p n ahead (Some q) = (k : ℕ) × (k < ahead) × Stand
 -- along a clean path it goes to the next page of the path
 abbrev pub keeps_path : Nodes → Key → List ℕ → Option ℕ → Type 0
 keeps_path nodes key path None = Unit {0}
-keeps_path nodes key path (Some q) = (first : Bool) × (rest : List ℕ) × (length path ≡ suc (length rest)) × CleanFrom nodes key q first rest
+keeps_path nodes key path (Some q) = (first : Bool) × (rest : List ℕ) × (length path ≡ suc (length rest)) × CleanFrom nodes (Included key) q first rest
 
 pub record Turns (target : Bound Key) (n : Node) (to : Option ℕ) : Type 0 where
   pub told : (nodes : Nodes) (roots : Tree → Option ℕ) (w : Forest) → WellFormed nodes roots w → (t : Tree) (p ahead : ℕ) → nodes p ≡ Some n → Stands nodes w t target p ahead
       → turns_as nodes w t target p n ahead to
-  pub clean : (nodes : Nodes) (key : Key) (p : ℕ) (first : Bool) (path : List ℕ) → target ≡ Included key → nodes p ≡ Some n → CleanFrom nodes key p first path → keeps_path nodes key path to
+  pub clean : (nodes : Nodes) (key : Key) (p : ℕ) (first : Bool) (path : List ℕ) → target ≡ Included key → nodes p ≡ Some n → CleanFrom nodes (Included key) p first path → keeps_path nodes key path to
 
 -- The page is live as it was read, and at every forest that shows the pages well formed it is the tree's leaf under the target.
 -- Before the walk `from` pages were looked at and after it `looked`, the leaf one of them, and all these and those still
@@ -85,7 +85,7 @@ abbrev pub for_each : ℕ → ℕ
 for_each pages = pages * pages
 
 abbrev pub gives_up_as : State → ℕ → Key → ℕ → Error → Type 0
-gives_up_as s root key from (ReportableBug text) = (first : Bool) (path : List ℕ) → CleanFrom (nodes_of s) key root first path → MOST_PAGES < from + length path
+gives_up_as s root key from (ReportableBug text) = (first : Bool) (path : List ℕ) → CleanFrom (nodes_of s) (Included key) root first path → MOST_PAGES < from + length path
 gives_up_as s root key from e = Unit {0}
 
 -- a walk to a key over a clean path is given up only where the path has more pages than may still be looked at

@@ -1,4 +1,4 @@
-use Rattle.std.proofs.Common.{refl, ◌∙◌}
+use Rattle.std.proofs.Common.{refl}
 use Rattle.sled_tree.proofs.Following.{outside, inside}
 use Rattle.sled_tree.proofs.Arriving.{helps}
 use Rattle.sled_tree.proofs.Passing.{shut_merging, shut_child, shut_long, shut_behind, shut_outside}
@@ -16,14 +16,14 @@ returns-in-Some-clause-passes c = shut_child _ _ _ _ _ (rw c.deref-node.ensures 
 pub returns-then-should_split-clause-passes : goal.returns-then-should_split-clause-passes
 returns-then-should_split-clause-passes c = shut_long _ _ _ _ _ (rw c.deref-node.ensures at c.should_split.ensures) c.if-should_split.true
 
-pub returns-then-ends_before-clause-passes : goal.returns-then-ends_before-clause-passes
-returns-then-ends_before-clause-passes c = shut_behind _ _ _ _ _ _ (c.as_ref.ensures ∙ c.key.ensures) (rw c.deref-node.ensures at c.ends_before.ensures) c.if-ends_before.true
+pub returns-then-ends_within-clause-passes : goal.returns-then-ends_within-clause-passes
+returns-then-ends_within-clause-passes c = shut_behind _ _ _ _ _ _ c.target.ensures (rw c.deref-node.ensures at c.ends_within.ensures) c.if-ends_within.true
 
-pub returns-then-not-covers-clause-passes : goal.returns-then-not-covers-clause-passes
-returns-then-not-covers-clause-passes c = shut_outside _ _ _ _ _ _ (c.as_ref-2.ensures ∙ c.key-2.ensures) (rw c.deref-node.ensures at c.covers.ensures) c.if-not-covers.true
+pub returns-then-not-lies_under-clause-passes : goal.returns-then-not-lies_under-clause-passes
+returns-then-not-lies_under-clause-passes c = shut_outside _ _ _ _ _ _ c.target-2.ensures (rw c.deref-node.ensures at c.lies_under.ensures) c.if-not-lies_under.true
 
-pub returns-then-not-covers-clause-follows : goal.returns-then-not-covers-clause-follows
-returns-then-not-covers-clause-follows c = outside _ _ _ _ (rw c.deref-node.ensures at c.if-node.false) (rw c.deref-node.ensures at c.in_default.is) _ (rw c.deref-node.ensures at c.should_split.ensures) c.if-should_split.false (rw c.deref-node.ensures at c.if-node.false, rw c.deref-node.ensures at c.in_default.is) _ _ (c.as_ref.ensures ∙ c.key.ensures) (c.as_ref-2.ensures ∙ c.key-2.ensures) _ (rw c.deref-node.ensures at c.ends_before.ensures) c.if-ends_before.false _ (rw c.deref-node.ensures at c.covers.ensures) c.if-not-covers.true refl
+pub returns-then-not-lies_under-clause-follows : goal.returns-then-not-lies_under-clause-follows
+returns-then-not-lies_under-clause-follows c = outside _ _ _ _ (rw c.deref-node.ensures at c.if-node.false) (rw c.deref-node.ensures at c.in_default.is) _ (rw c.deref-node.ensures at c.should_split.ensures) c.if-should_split.false (rw c.deref-node.ensures at c.if-node.false, rw c.deref-node.ensures at c.in_default.is) _ _ c.target.ensures c.target-2.ensures _ (rw c.deref-node.ensures at c.ends_within.ensures) c.if-ends_within.false _ (rw c.deref-node.ensures at c.lies_under.ensures) c.if-not-lies_under.true refl
 
 pub returns-clause-follows : goal.returns-clause-follows
-returns-clause-follows c = inside _ _ _ _ (rw c.deref-node.ensures at c.if-node.false) (rw c.deref-node.ensures at c.in_default.is) _ (rw c.deref-node.ensures at c.should_split.ensures) c.if-should_split.false (rw c.deref-node.ensures at c.if-node.false, rw c.deref-node.ensures at c.in_default.is) _ _ (c.as_ref.ensures ∙ c.key.ensures) (c.as_ref-2.ensures ∙ c.key-2.ensures) _ (rw c.deref-node.ensures at c.ends_before.ensures) c.if-ends_before.false _ (rw c.deref-node.ensures at c.covers.ensures) c.if-not-covers.false c.at_key.ensures.follows
+returns-clause-follows c = inside _ _ _ _ (rw c.deref-node.ensures at c.if-node.false) (rw c.deref-node.ensures at c.in_default.is) _ (rw c.deref-node.ensures at c.should_split.ensures) c.if-should_split.false (rw c.deref-node.ensures at c.if-node.false, rw c.deref-node.ensures at c.in_default.is) _ _ c.target.ensures c.target-2.ensures _ (rw c.deref-node.ensures at c.ends_within.ensures) c.if-ends_within.false _ (rw c.deref-node.ensures at c.lies_under.ensures) c.if-not-lies_under.false c.at_key.ensures.follows
