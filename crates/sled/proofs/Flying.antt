@@ -6,7 +6,9 @@ use Rattle.std.specs.Str.{bytes_eq}
 use Rattle.sled_pages.specs.Order.{Key}
 use Rattle.sled_pages.specs.In.{In}
 use Rattle.sled_pages.specs.Update.{put_at, put_name}
+use Rattle.sled_pages.specs.State.{nodes_of}
 use Rattle.sled_pages.specs.Store.{Store, now}
+use Rattle.sled_pages.specs.declared.page.Page.{Page}
 use Rattle.sled_pages.specs.declared.error.Fault.{Fault}
 use Rattle.sled_pages.specs.declared.error.Error.{Error}
 use Rattle.sled_pages.specs.declared.error.Error.TheVariants as error
@@ -37,7 +39,7 @@ use Rattle.sled_tree.specs.Moves.{Moves, ActsOnce, ActsAtMostOnce, Same, Decides
 use Rattle.sled.specs.Values.{DbValue, numbers_of, given_to, named, state_of, db_state, moment_of_db}
 use Rattle.sled.specs.Sound.{IsDb}
 use Rattle.sled.specs.Calls.{MustBeRefused, must_be_refused_as}
-use Rattle.sled.specs.Flights.{flying_of, StillStands, LosesNone, RefusesQuietly, Flies, FliesTimes, Ends, GoesOn, has_turns, IsPrompt, FliesToEnd}
+use Rattle.sled.specs.Flights.{flying_of, PagesLast, StillStands, LosesNone, RefusesQuietly, Flies, FliesTimes, Ends, GoesOn, has_turns, IsPrompt, FliesToEnd}
 use Rattle.sled_tree.proofs.Known.{not_own, known_kept}
 use Rattle.sled.proofs.Resting.{Rests, rests_refused, now_rests, rests_extends, rests_left}
 use Rattle.sled.proofs.Testing.{must_step, limit_is, no_group}
@@ -46,20 +48,39 @@ use Rattle.sled.proofs.Trees.{trees_at, trees_same, trees_put, maps_are, current
 none_some : {P X : Type 0} {x : X} → None ≡ Some x → P
 none_some e = cc
 
+-- a page is there where its node is
+page_gone : (s : Rattle.sled_pages.specs.State.State) (p : ℕ) → nodes_of s p ≡ None → s.pages p ≡ None
+page_gone s p e = go (s.pages p) e
+  where
+    go : (o : Option Page) → option_map (λ (g : Page). g.node) o ≡ None → o ≡ None
+    go None e = refl
+    go (Some g) e = none_some (sym e)
+
 -- what an action leaves of the trees, at the forests that fit
+lasts_same : (m : Moment) → PagesLast m m
+lasts_same m = record { pids = λ p e. e; merges = λ p n live on. inl live; gone = λ p e none. none }
+
+lasts_acting : {mine own : List ℕ} (m n : Moment) (w v : Forest) → Acts mine own m w n v → PagesLast m n
+lasts_acting m n w v a = record {
+  pids = a.goes.pids;
+  merges = a.goes.keeps.capped;
+  gone = λ p given none. ap (option_map (λ (g : Page). g.node)) (a.goes.gone p given (page_gone m.state p none));
+}
+
 pub loses_nothing : (lost : Option Tree) (m : Moment) → LosesNone lost m m
-loses_nothing lost m w v was is = subst (λ (z : Forest). StillStands lost w (nodes_at m) z) (one_law (nodes_at m) m.state.roots w v was.formed is.formed) (record { told = λ x p on i. inl i })
+loses_nothing lost m w v was is = subst (λ (z : Forest). StillStands lost m w m z) (one_law (nodes_at m) m.state.roots w v was.formed is.formed) (record { told = λ x p on i. inl i; last = lasts_same m })
 
 loses_acting : {mine own : List ℕ} (m n : Moment) (w v : Forest) → IsMoment m w → Acts mine own m w n v → LosesNone None m n
 loses_acting m n w v is a u z was is_now =
-    subst (λ (f : Forest). StillStands None f (nodes_at n) z) (one_law (nodes_at m) m.state.roots w u is.formed was.formed)
-    (subst (λ (f : Forest). StillStands None w (nodes_at n) f) (one_law (nodes_at n) n.state.roots v z a.is.formed is_now.formed)
+    subst (λ (f : Forest). StillStands None m f n z) (one_law (nodes_at m) m.state.roots w u is.formed was.formed)
+    (subst (λ (f : Forest). StillStands None m w n f) (one_law (nodes_at n) n.state.roots v z a.is.formed is_now.formed)
     (record {
       told = λ x p on i.
           let here = is.formed.page x p (is.formed.homed x p i) in let s = a.goes.keeps.stood x p here.0 on i here.1.live in elim s.3 [
             | inl c ↦ inl c
             | inr b ↦ inr (s.0, s.1, b)
           ];
+      last = lasts_acting m n w v a;
     }))
 
 -- what an action leaves of the store
@@ -83,7 +104,7 @@ refuses_quietly error.FullQueue a b t = absurd t
 refuses_quietly error.Closed a b t = absurd t
 
 -- no test and no limit tells `Io`
-quiet_untold : (e : Error) (a : Store) → ((fault : Fault) → e ≡ error.Io fault → ⊥) → RefusesQuietly e a a
+pub quiet_untold : (e : Error) (a : Store) → ((fault : Fault) → e ≡ error.Io fault → ⊥) → RefusesQuietly e a a
 quiet_untold error.NoMemory a off = refl
 quiet_untold (error.Io fault) a off = absurd (off fault refl)
 quiet_untold (error.CollectionNotFound name) a off = refl
@@ -492,11 +513,11 @@ below_limit f h off = let l = limit_is in omega arith
 some_is : {X : Type 0} {x y : X} → Some x ≡ Some y → x ≡ y
 some_is e = cc
 
-abbrev everywhere : Flight → ℕ → Option Flying
+abbrev pub everywhere : Flight → ℕ → Option Flying
 everywhere f n = Some (flying_of f)
 
 module _ {P M : Type 0} (store : P → Store) (meant : M → Merge) (old new : DbValue P M) (f g : Flight) (flies : Flies store meant old f Moved new g) where
-  went_on : Rattle.sled_model.specs.Steps.Moves (state_of store meant old (everywhere f) 0) 0 (state_of store meant new (put_at (everywhere f) 0 (Some (flying_of g))) 0)
+  pub went_on : Rattle.sled_model.specs.Steps.Moves (state_of store meant old (everywhere f) 0) 0 (state_of store meant new (put_at (everywhere f) 0 (Some (flying_of g))) 0)
   went_on = (flies.step.steps (everywhere f) 0 0 0 0 refl).told.0
 
   -- the tests pass still
@@ -560,7 +581,7 @@ module _ {P M : Type 0} (store : P → Store) (meant : M → Merge) (old new : D
 module _ {P M : Type 0} (store : P → Store) (meant : M → Merge) where
   prompt : (n : ℕ) (old new : DbValue P M) (f g : Flight) (went : Went) → FliesTimes store meant n old f went new g → (path : List ℕ) → IsOnPath (now (store old.pages)) f.job f.stage path → f.turns + length path < turns_limit → IsPrompt n went path
   prompt zero old new f g went (Ends flies off) path on few = record { few = omega arith; unlimited = ends_with_turns store meant old new f g went flies (omega arith) }
-  prompt (suc n) old new f g went (GoesOn {mid = mid} {h = h} flies rest) path on few =
+  prompt (suc n) old new f g went (GoesOn {mid = mid} {h = h} flies db rest) path on few =
       let p = flies.passes.told path on in
       let turns = (turn_taken store meant old mid f h flies).1 in
       let k = prompt n mid new h g went rest p.0 p.2 (fewer f.turns h.turns (length path) (length p.0) turns p.1 few) in record {
@@ -587,9 +608,9 @@ module _ {P M : Type 0} (store : P → Store) (meant : M → Merge) (old : DbVal
   pub going_first : IsKnown (moment_of_db store old) f → must_refuse_of (db_state store meant old) (f.job.tree ∷ []) ≡ None → IsFlying store meant old f old f
   going_first known tested = record { whole = λ n went new g end. (n, end); known = known; tested = tested }
 
-  pub going_more : (mid next : DbValue P M) (h k : Flight) → IsFlying store meant old f mid h → Flies store meant mid h Moved next k → IsFlying store meant old f next k
-  going_more mid next h k is flies = record {
-    whole = λ n went new g end. is.whole (suc n) went new g (GoesOn flies end);
+  pub going_more : (mid next : DbValue P M) (h k : Flight) → IsFlying store meant old f mid h → Flies store meant mid h Moved next k → IsDb store next → IsFlying store meant old f next k
+  going_more mid next h k is flies db = record {
+    whole = λ n went new g end. is.whole (suc n) went new g (GoesOn flies db end);
     known = (flies.knows.goes_on refl).1;
     tested = still_tested store meant mid next h k flies is.tested;
   }
@@ -604,7 +625,7 @@ refused_is_end e = cc
 module _ {P M : Type 0} (store : P → Store) (meant : M → Merge) where
   times_end : (n : ℕ) (old new : DbValue P M) (f g : Flight) (went : Went) → FliesTimes store meant n old f went new g → went ≢ Moved
   times_end zero old end f g went (Ends flies off) = off
-  times_end (suc n) old end f g went (GoesOn {mid = mid} {h = h} flies rest) = times_end n mid end h g went rest
+  times_end (suc n) old end f g went (GoesOn {mid = mid} {h = h} flies db rest) = times_end n mid end h g went rest
 
   pub end_reached : (old new : DbValue P M) (f g : Flight) (went : Went) → FliesToEnd store meant old f went new g → went ≢ Moved
   end_reached old new f g went flies = times_end flies.moves old new f g went flies.flies

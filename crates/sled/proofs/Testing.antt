@@ -3,7 +3,7 @@ use Rattle.std.proofs.Common.{◌≡◌, Bool, true, false, not, cond, [], ◌�
 use Rattle.sled_pages.specs.Store.{Store, now}
 use Rattle.sled_model.specs.Maps.{Merge}
 use Rattle.sled_model.specs.State.{State, Flying}
-use Rattle.sled_model.specs.Refusal.{MustRefuse, IsClosed, first_of, must_refuse_of, must_refuse, operator_test, foreign_test, dropped_test, ToBegin, ToStep, ToCall}
+use Rattle.sled_model.specs.Refusal.{MustRefuse, IsClosed, first_of, must_refuse_of, must_refuse, operator_test, foreign_test, dropped_test, ToBegin, ToStep, ToPoint, ToCall}
 use Rattle.sled_model.specs.declared.TheConstants.{MAX_LOOPS}
 use Rattle.sled_model.specs.Refusal.{turns_limit}
 use Rattle.sled_model.specs.declared.call.Call.{Call}
@@ -28,6 +28,9 @@ must_step s f = ap (first_of (must_refuse_of s (f.tree ∷ []))) (operator_none 
 
 pub must_begin : (s : State) (tree : Tree) (call : Call) → must_refuse s (ToBegin tree call) ≡ must_refuse_of s (tree ∷ [])
 must_begin s tree call = ap (first_of (must_refuse_of s (tree ∷ []))) (operator_none s tree call) ∙ first_alone (must_refuse_of s (tree ∷ []))
+
+pub must_point : (s : State) (tree : Tree) (call : Call) → must_refuse s (ToPoint tree call) ≡ must_refuse_of s (tree ∷ [])
+must_point s tree call = ap (first_of (must_refuse_of s (tree ∷ []))) (operator_none s tree call) ∙ first_alone (must_refuse_of s (tree ∷ []))
 
 -- the limit of turns is the one that the constant has
 pub limit_is : MAX_LOOPS ≡ turns_limit

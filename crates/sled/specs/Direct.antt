@@ -1,6 +1,9 @@
 -- Calls that are made at once, in no slot.
-use Rattle.std.specs.Prelude.{◌≡◌, ℕ, ◌<◌, ◌≤◌, ◌⊎◌, List, [], ◌∷◌, length, Option, Some, None}
+use Rattle.std.specs.Prelude.{◌≡◌, ℕ, ◌≤◌, ◌⊎◌, true, List, [], ◌∷◌, length, Option, Some, None, Result}
+use Rattle.sled_pages.specs.In.{In}
+use Rattle.sled_pages.specs.Order.{Key}
 use Rattle.sled_pages.specs.Store.{Store, now}
+use Rattle.sled_pages.specs.declared.node.Node.{Node}
 use Rattle.sled_pages.specs.declared.error.Error.{Error}
 use Rattle.sled_model.specs.Maps.{Maps, Merge}
 use Rattle.sled_model.specs.Answer.{key_of}
@@ -12,6 +15,10 @@ use Rattle.sled_model.specs.declared.call.Call.{Call}
 use Rattle.sled_model.specs.declared.call.Whole.{Whole}
 use Rattle.sled_model.specs.declared.tree.Tree.{Tree}
 use Rattle.sled_model.specs.declared.reply.Reply.{Reply}
+use Rattle.sled_model.specs.declared.reply.Reply.TheVariants.{Value, Swapped}
+use Rattle.sled_model.specs.declared.reply.CompareAndSwapError.{CompareAndSwapError}
+use Rattle.tree_laws.specs.Forest.{Place, Forest}
+use Rattle.tree_laws.specs.Moment.{Moment, nodes_at, IsMoment}
 use Rattle.tree_laws.specs.Paths.{IsClean}
 use Rattle.tree_laws.specs.Crashes.{Extends}
 use Rattle.tree_laws.specs.declared.flight.Stage.TheVariants.{Root}
@@ -21,7 +28,7 @@ use Rattle.sled_tree.specs.declared.flight.Flight.{Flight}
 use Rattle.sled_tree.specs.declared.flight.Went.{Went}
 use Rattle.sled_tree.specs.declared.flight.Went.TheVariants.{Decided, Refused}
 use Rattle.sled.specs.Values.{DbValue, db_state, state_of, instant_of, moment_of_db}
-use Rattle.sled.specs.Flights.{LosesNone, RefusesQuietly, FliesToEnd}
+use Rattle.sled.specs.Flights.{PagesLast, RefusesQuietly, FliesToEnd}
 
 -- any number of changing actions, one after the other
 pub data ActsOften : Store → Store → Type 0 where
@@ -33,18 +40,37 @@ abbrev pub acts_till : Option Error → Store → Store → Type 0
 acts_till None old new = ActsOften old new
 acts_till (Some e) old new = (last : Store) × ActsOften old last × RefusesQuietly e last new
 
+-- each page that stood in a tree stands there still, or is merging, or was freed
+pub record StandsOrWent (old : Moment) (w : Forest) (new : Moment) (v : Forest) : Type 0 where
+  pub told : (x : Place) (p : ℕ) → In p (w.chain x) → In p (v.chain x) ⊎ (((n : Node) × (nodes_at new p ≡ Some n) × (n.merging ≡ true)) ⊎ (nodes_at new p ≡ None))
+  pub last : PagesLast old new
+
+-- .. at the forests that fit the pages at the two moments: over any number of steps no page of a tree is lost
+abbrev pub LosesNoPage : Moment → Moment → Type 0
+LosesNoPage old new = (w v : Forest) → IsMoment old w → IsMoment new v → StandsOrWent old w new v
+
 -- What a call leaves of all else: what a crash may leave grows by these maps, what every call in flight knows stays true, no page of a
 -- tree is lost, and nothing of the database changes but its pages
 pub record Conducts {P M : Type 0} (store : P → Store) (maps : List Maps) (refused : Option Error) (old new : DbValue P M) : Type 0 where
   pub acts : acts_till refused (store old.pages) (store new.pages)
   pub extends : Extends maps (store old.pages) (store new.pages)
   pub others : (h : Flight) → IsKnown (moment_of_db store old) h → IsKnown (moment_of_db store new) h
-  pub loses : LosesNone None (moment_of_db store old) (moment_of_db store new)
+  pub loses : LosesNoPage (moment_of_db store old) (moment_of_db store new)
   pub same : new ≡ record old { pages = new.pages }
 
 -- a call as it begins
 abbrev pub begun_flight : Tree → Call → Flight
 begun_flight tree call = record { job = record { tree = tree; call = call }; stage = Root; turns = 0 }
+
+-- the reply is a value, or that there is none
+pub record IsValue (reply : Reply) : Type 0 where
+  pub value : Option Key
+  pub is : reply ≡ Value value
+
+-- the reply is how a swap came out
+pub record IsSwap (reply : Reply) : Type 0 where
+  pub swap : Result (Unit {0}) CompareAndSwapError
+  pub is : reply ≡ Swapped swap
 
 module _ {P M : Type 0} (store : P → Store) (meant : M → Merge) where
   -- A call on a key of a tree was decided, by the same steps as in a machine

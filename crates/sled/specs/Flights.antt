@@ -3,7 +3,6 @@ use Rattle.std.specs.Prelude.{◌≡◌, ◌≢◌, ℕ, zero, suc, ◌+◌, ◌
 use Rattle.sled_pages.specs.In.{In}
 use Rattle.sled_pages.specs.declared.error.Error.{Error}
 use Rattle.sled_pages.specs.declared.error.Error.TheVariants.{Io}
-use Rattle.sled_pages.specs.State.{Nodes}
 use Rattle.sled_pages.specs.declared.node.Node.{Node}
 use Rattle.sled_pages.specs.Store.{Store, now}
 use Rattle.sled_pages.specs.Update.{put_at}
@@ -31,6 +30,7 @@ use Rattle.sled_tree.specs.declared.flight.Next.TheVariants as next
 use Rattle.sled_tree.specs.declared.flight.Went.{Went}
 use Rattle.sled_tree.specs.declared.flight.Went.TheVariants.{Moved, Decided, Refused}
 use Rattle.sled.specs.Values.{DbValue, db_state, instant_of, moment_of_db}
+use Rattle.sled.specs.Sound.{IsDb}
 
 -- a call in flight, as the model has it
 abbrev pub flying_of : Flight → Flying
@@ -67,13 +67,20 @@ pub record Brings {P M : Type 0} (store : P → Store) (meant : M → Merge) (ol
   pub there : (db_state store meant old).trees f.job.tree.name ≡ Some tree
   pub is : (answer_of f.job.call tree.map).event ≡ event
 
+-- a page number that was given stays given; a page that is merging stays as it is until it is freed; and one that was freed never comes back
+pub record PagesLast (old new : Moment) : Type 0 where
+  pub pids : (p : ℕ) → old.pids p ≡ true → new.pids p ≡ true
+  pub merges : (p : ℕ) (n : Node) → nodes_at old p ≡ Some n → n.merging ≡ true → (nodes_at new p ≡ Some n) ⊎ (nodes_at new p ≡ None)
+  pub gone : (p : ℕ) → old.pids p ≡ true → nodes_at old p ≡ None → nodes_at new p ≡ None
+
 -- each page that stood in a tree stands there still, or is merging; but for those of the tree that is lost, if one is
-pub record StillStands (lost : Option Tree) (w : Forest) (nodes : Nodes) (v : Forest) : Type 0 where
-  pub told : (x : Place) (p : ℕ) → lost ≢ Some x.tree → In p (w.chain x) → In p (v.chain x) ⊎ ((n : Node) × (nodes p ≡ Some n) × (n.merging ≡ true))
+pub record StillStands (lost : Option Tree) (old : Moment) (w : Forest) (new : Moment) (v : Forest) : Type 0 where
+  pub told : (x : Place) (p : ℕ) → lost ≢ Some x.tree → In p (w.chain x) → In p (v.chain x) ⊎ ((n : Node) × (nodes_at new p ≡ Some n) × (n.merging ≡ true))
+  pub last : PagesLast old new
 
 -- .. at the forests that fit the pages at the two moments
 abbrev pub LosesNone : Option Tree → Moment → Moment → Type 0
-LosesNone lost old new = (w v : Forest) → IsMoment old w → IsMoment new v → StillStands lost w (nodes_at new) v
+LosesNone lost old new = (w v : Forest) → IsMoment old w → IsMoment new v → StillStands lost old w new v
 
 -- a refusal changes nothing; but `Io` counts a fault, or tells that some page is not readable
 abbrev pub RefusesQuietly : Error → Store → Store → Type 0
@@ -127,10 +134,10 @@ pub record Flies {P M : Type 0} (store : P → Store) (meant : M → Merge) (old
   pub leaves : DbLeaves store old f went new g
   pub knows : DbKnows store old f went new g
 
--- Steps of a call in flight, one after the other, of which so many go on and the next ends it
+-- Steps of a call in flight, one after the other, of which so many go on and the next ends it. Between them the database is as it should be
 pub data FliesTimes {P M : Type 0} (store : P → Store) (meant : M → Merge) : ℕ → DbValue P M → Flight → Went → DbValue P M → Flight → Type 0 where
   Ends : {old new : DbValue P M} {f g : Flight} {went : Went} → Flies store meant old f went new g → went ≢ Moved → FliesTimes store meant zero old f went new g
-  GoesOn : {n : ℕ} {old mid new : DbValue P M} {f h g : Flight} {went : Went} → Flies store meant old f Moved mid h → FliesTimes store meant n mid h went new g → FliesTimes store meant (suc n) old f went new g
+  GoesOn : {n : ℕ} {old mid new : DbValue P M} {f h g : Flight} {went : Went} → Flies store meant old f Moved mid h → IsDb store mid → FliesTimes store meant n mid h went new g → FliesTimes store meant (suc n) old f went new g
 
 -- the call was not refused for its turns
 abbrev pub has_turns : Went → Type 0

@@ -182,7 +182,7 @@ impl<P: Pages, M: MergeOperator> Db<P, M> {
     {
         'steps: loop {
             match self.fly_tested(flight) {
-                Went::Moved => {}
+                Went::Moved => self.audit(),
                 went => return went,
             }
         }

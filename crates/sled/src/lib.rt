@@ -4,16 +4,19 @@
 //! are well formed, now and in every state that a crash may leave (`specs/Sound`); `Db::audit` tells callers so. One step of
 //! a call in flight is a step of the model, adds the map after the call to what a crash may leave if it was decided, and
 //! keeps true what every other call in flight knows (`specs/Flights`). Opening, flushing and exporting are stated in
-//! `specs/Opens`, `specs/Flush` and `specs/Export`, and reads that take no slot in `specs/Reads`.
+//! `specs/Opens`, `specs/Flush` and `specs/Export`, reads that take no slot in `specs/Reads`, and writes that take none in
+//! `specs/Direct`.
 #![tactic(auto)]
 
 mod db;
+mod direct;
 mod export;
 mod memory;
 mod open;
 mod read;
 
 pub use db::Db;
+pub use direct::CompareAndSwapResult;
 pub use export::Collection;
 pub use memory::{crash_pages, empty_pages};
 pub use sled_model::{

@@ -109,7 +109,7 @@ module _ {P M : Type 0} (store : P → Store) (number : P → ℕ) (meant : M �
   finishes_from zero d e fs gs f g went (Ends flies off) im there gone =
       let last = stepped_as store number meant (value d fs) im slot e gs f g went there flies (λ q. gone q ∙ ap (λ x. put_at (kept_at fs) slot x q) (sym (ended_after went g off))) in
       (ends_now (outcome_of went) (value d fs) (value e gs) last.0, last.1)
-  finishes_from (suc n) d e fs gs f g went (GoesOn {mid = m} {h = h} flies rest) im there gone =
+  finishes_from (suc n) d e fs gs f g went (GoesOn {mid = m} {h = h} flies db rest) im there gone =
       let next = stepped_as store number meant (value d fs) im slot m ((slot, h) ∷ fs) f h Moved there flies (onto fs slot h) in
       let later = finishes_from n m e ((slot, h) ∷ fs) gs h g went rest next.1 (onto fs slot h slot ∙ put_here (kept_at fs) slot (Some h))
       (λ q. gone q ∙ sym (put_same (kept_at ((slot, h) ∷ fs)) (put_at (kept_at fs) slot (Some h)) slot None q (onto fs slot h q) ∙ put_again (kept_at fs) slot (Some h) None q)) in

@@ -1,0 +1,224 @@
+//! Calls on one key of a tree that are made at once, in no slot.
+//!
+//! They make the same steps as a call in flight, one after the other, repairs included.
+ghost use Rattle.std.specs.Prelude.{◌≡◌, IfOk, IfErr, ◌∷◌, [], None};
+ghost use Rattle.std.specs.Option.{option_copied};
+ghost use Rattle.sled_pages.specs.declared.error.Error.TheVariants.{NoMemory};
+ghost use Rattle.sled_model.specs.Refusal.{must_refuse_of};
+ghost use Rattle.sled_model.specs.declared.call.Call.TheVariants as call;
+ghost use Rattle.sled_model.specs.declared.reply.Reply.TheVariants as told;
+ghost use Rattle.sled.specs.Direct.{IsValue, IsSwap};
+
+use crate::db::Db;
+use sled_model::{Call, CompareAndSwapError, MergeOperator, Reply, Tree};
+use sled_pages::{IVec, Pages, Result};
+use sled_tree::{Flight, Went};
+use std::alloc::Global;
+
+/// What a swap answers: that the value was swapped, which value stood there in place of the one that was asked for, or why
+/// the call was refused.
+pub type CompareAndSwapResult = Result<std::result::Result<(), CompareAndSwapError>>;
+
+// A value of one's own, if there is one. Refused with `NoMemory` alone.
+fn own_value(alloc: Global, value: Option<&[u8]>) -> Result<Option<IVec>>
+    ensures ok { IfOk result (λ own. own ≡ option_copied value.entry) }
+    ensures err { IfErr result (λ e. e ≡ NoMemory) }
+{
+    match value {
+        Some(value) => Ok(Some(IVec::from_slice(alloc, value)?)),
+        None => Ok(None),
+    }
+}
+
+// The call that sets a value at a key.
+fn insert_of(alloc: Global, key: &[u8], value: &[u8]) -> Result<Call>
+    ensures ok { IfOk result (λ made. made ≡ call.Insert key.now value.now) }
+    ensures err { IfErr result (λ e. e ≡ NoMemory) }
+{
+    let key = IVec::from_slice(alloc, key)?;
+    match IVec::from_slice(alloc, value) {
+        Ok(value) => Ok(Call::Insert(key, value)),
+        Err(e) => {
+            drop(key);
+            Err(e)
+        }
+    }
+}
+
+// The call that takes a key out.
+fn remove_of(alloc: Global, key: &[u8]) -> Result<Call>
+    ensures ok { IfOk result (λ made. made ≡ call.Remove key.now) }
+    ensures err { IfErr result (λ e. e ≡ NoMemory) }
+{
+    match IVec::from_slice(alloc, key) {
+        Ok(key) => Ok(Call::Remove(key)),
+        Err(e) => Err(e),
+    }
+}
+
+// The call that swaps one value for another at a key.
+fn swap_of(alloc: Global, key: &[u8], old: Option<&[u8]>, new: Option<&[u8]>) -> Result<Call>
+    ensures ok { IfOk result (λ made. made ≡ call.CompareAndSwap key.now (option_copied old.entry) (option_copied new.entry)) }
+    ensures err { IfErr result (λ e. e ≡ NoMemory) }
+{
+    let key = IVec::from_slice(alloc, key)?;
+    let old = match own_value(alloc, old) {
+        Ok(old) => old,
+        Err(e) => {
+            drop(key);
+            return Err(e);
+        }
+    };
+    match own_value(alloc, new) {
+        Ok(new) => Ok(Call::CompareAndSwap(key, old, new)),
+        Err(e) => {
+            drop(key);
+            drop(old);
+            Err(e)
+        }
+    }
+}
+
+// The value that a call replied with, if there is one.
+fn value_of(reply: Reply) -> Option<IVec>
+    requires { IsValue reply }
+    ensures { reply ≡ told.Value result }
+{
+    match reply {
+        Reply::Value(value) => value,
+        _ => unreachable!(),
+    }
+}
+
+// How a swap came out, as it replied.
+fn swap_told(reply: Reply) -> std::result::Result<(), CompareAndSwapError>
+    requires { IsSwap reply }
+    ensures { reply ≡ told.Swapped result }
+{
+    match reply {
+        Reply::Swapped(swapped) => swapped,
+        _ => unreachable!(),
+    }
+}
+
+impl<P: Pages, M: MergeOperator> Db<P, M> {
+    ghost use Rattle.sled.specs.Values.{db_state};
+    ghost use Rattle.sled.specs.Direct.{PointDecided, PointRefused};
+
+    // Makes a call on a key of a tree, to its end. The tests come first.
+    pub(crate) fn point(&mut self, tree: &Tree, call: Call) -> Result<Reply>
+        ensures ok { IfOk result (λ reply. PointDecided P.store M.meant self.old tree.now call reply self.new) }
+        ensures err { IfErr result (λ e. PointRefused P.store M.meant self.old tree.now call e self.new) }
+    {
+        if let Err(e) = self.check(tree) {
+            drop(call);
+            return Err(e);
+        }
+        self.make(tree, call)
+    }
+
+    // The same of a tree that passed the tests.
+    fn make(&mut self, tree: &Tree, call: Call) -> Result<Reply>
+        requires { must_refuse_of (db_state P.store M.meant self.old) (tree.now ∷ []) ≡ None }
+        ensures ok { IfOk result (λ reply. PointDecided P.store M.meant self.old tree.now call reply self.new) }
+        ensures err { IfErr result (λ e. PointRefused P.store M.meant self.old tree.now call e self.new) }
+    {
+        let tree = match tree.clone() {
+            Ok(tree) => tree,
+            Err(e) => {
+                drop(call);
+                return Err(e);
+            }
+        };
+        let mut flight = Flight::new(tree, call);
+        let went = self.fly_on(&mut flight);
+        drop(flight);
+        match went {
+            Went::Decided(reply) => Ok(reply),
+            Went::Refused(e) => Err(e),
+            Went::Moved => unreachable!(),
+        }
+    }
+
+    /// Sets the value at a key, and answers the value that stood there, or `None` where the key was absent. Where an equal
+    /// value stands already, nothing is written.
+    ///
+    /// Like a call of a machine it repairs what it meets half done on its way: splits and merges that a call before it did
+    /// not finish. These stay also where it is refused itself, and change no map.
+    pub fn insert(&mut self, tree: &Tree, key: &[u8], value: &[u8]) -> Result<Option<IVec>>
+        ensures ok { IfOk result (λ stood. PointDecided P.store M.meant self.old tree.now (call.Insert key.now value.now) (told.Value stood) self.new) }
+        ensures err { IfErr result (λ e. PointRefused P.store M.meant self.old tree.now (call.Insert key.now value.now) e self.new) }
+    {
+        if let Err(e) = self.check(tree) {
+            return Err(e);
+        }
+        let call = match insert_of(self.allocator(), key, value) {
+            Ok(call) => call,
+            Err(e) => return Err(e),
+        };
+        match self.make(tree, call) {
+            Ok(reply) => Ok(value_of(reply)),
+            Err(e) => Err(e),
+        }
+    }
+
+    /// Another name of `insert`.
+    pub fn set(&mut self, tree: &Tree, key: &[u8], value: &[u8]) -> Result<Option<IVec>>
+        ensures ok { IfOk result (λ stood. PointDecided P.store M.meant self.old tree.now (call.Insert key.now value.now) (told.Value stood) self.new) }
+        ensures err { IfErr result (λ e. PointRefused P.store M.meant self.old tree.now (call.Insert key.now value.now) e self.new) }
+    {
+        self.insert(tree, key, value)
+    }
+
+    /// Takes a key out, and answers the value that stood there, or `None` where the key was absent. Then nothing is written.
+    pub fn remove(&mut self, tree: &Tree, key: &[u8]) -> Result<Option<IVec>>
+        ensures ok { IfOk result (λ stood. PointDecided P.store M.meant self.old tree.now (call.Remove key.now) (told.Value stood) self.new) }
+        ensures err { IfErr result (λ e. PointRefused P.store M.meant self.old tree.now (call.Remove key.now) e self.new) }
+    {
+        if let Err(e) = self.check(tree) {
+            return Err(e);
+        }
+        let call = match remove_of(self.allocator(), key) {
+            Ok(call) => call,
+            Err(e) => return Err(e),
+        };
+        match self.make(tree, call) {
+            Ok(reply) => Ok(value_of(reply)),
+            Err(e) => Err(e),
+        }
+    }
+
+    /// Another name of `remove`.
+    pub fn del(&mut self, tree: &Tree, key: &[u8]) -> Result<Option<IVec>>
+        ensures ok { IfOk result (λ stood. PointDecided P.store M.meant self.old tree.now (call.Remove key.now) (told.Value stood) self.new) }
+        ensures err { IfErr result (λ e. PointRefused P.store M.meant self.old tree.now (call.Remove key.now) e self.new) }
+    {
+        self.remove(tree, key)
+    }
+
+    /// Where the value `old` stands at a key, `None` being no value, sets `new` there, or takes the key out for `None`. Else
+    /// it writes nothing, and answers the value that stands and the one that was proposed. A value that is swapped for an
+    /// equal one is written.
+    pub fn compare_and_swap(
+        &mut self,
+        tree: &Tree,
+        key: &[u8],
+        old: Option<&[u8]>,
+        new: Option<&[u8]>,
+    ) -> CompareAndSwapResult
+        ensures ok { IfOk result (λ swapped. PointDecided P.store M.meant self.old tree.now (call.CompareAndSwap key.now (option_copied old.entry) (option_copied new.entry)) (told.Swapped swapped) self.new) }
+        ensures err { IfErr result (λ e. PointRefused P.store M.meant self.old tree.now (call.CompareAndSwap key.now (option_copied old.entry) (option_copied new.entry)) e self.new) }
+    {
+        if let Err(e) = self.check(tree) {
+            return Err(e);
+        }
+        let call = match swap_of(self.allocator(), key, old, new) {
+            Ok(call) => call,
+            Err(e) => return Err(e),
+        };
+        match self.make(tree, call) {
+            Ok(reply) => Ok(swap_told(reply)),
+            Err(e) => Err(e),
+        }
+    }
+}
