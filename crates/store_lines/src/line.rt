@@ -56,22 +56,30 @@ impl Line {
         self.is_cut |= pushed.is_err();
     }
 
+    /// Adds bytes, each as it stands in a word.
+    pub fn push_bytes(&mut self, bytes: &[u8]) {
+        for byte in bytes {
+            self.push_byte(*byte);
+        }
+    }
+
     /// Adds a byte string.
     pub fn push_word(&mut self, bytes: &[u8]) {
         match bytes {
             [] => self.push("%"),
             b"-" => self.push("%2d"),
-            _ => {
-                for byte in bytes {
-                    self.push_byte(*byte);
-                }
-            }
+            _ => self.push_bytes(bytes),
         }
     }
 
     /// Adds a space and a number.
     pub fn push_number(&mut self, number: u64) {
         self.is_cut |= write!(self.text, " {number}").is_err();
+    }
+
+    /// Adds a space and a number that is a part of a key.
+    pub fn push_part(&mut self, number: u64) {
+        self.is_cut |= write!(self.text, " #{number}").is_err();
     }
 
     /// Adds a word, a space and a number.

@@ -1,4 +1,4 @@
-//! Makes calls of a store in memory and of nodes, one a line, and compares values. It prints what comes of each line; `HELP` has the lines.
+//! Makes calls of a store in memory and of nodes, one a line, spells keys, and compares values. It prints what comes of each line; `HELP` has the lines.
 //!
 //! `store_lines FILE ..` runs files, each from a fresh store, and without arguments standard input. `store_lines check NAME ..`
 //! runs the files NAME.lines of the folder that it runs in, and compares what they print with the files NAME.expected. The exit
@@ -6,6 +6,7 @@
 #![tactic(auto)]
 
 mod check;
+mod keys;
 mod line;
 mod nodes;
 mod store;
@@ -68,6 +69,11 @@ get NODE K                            value V, or value -
 pointer NODE BOUND                    first P, or later P, or none
 pointer-before NODE P                 pointer P, or none
 successor NODE BOUND, predecessor NODE BOUND    pair K V, or none
+
+Keys of several parts. PART is # and a number, or a byte string, in which a # in front is written %23. SHAPE has a letter for each
+part, n for a number and t for a byte string; it is % where there is none.
+spell PART ..                         key K
+parts SHAPE K                         parts PART .., or none
 
 Values, separated by a comma and a space. Each of them prints a line: its text or its name, and for each of the values `=` where
 it equals a copy of that one, < or > where there is an order, and else /. OLD and NEW are byte strings or -. An error is a

@@ -1,4 +1,5 @@
 //! A store in memory, to which each line makes one call.
+use crate::keys::{read_key, spell};
 use crate::line::Line;
 use crate::nodes::{Nodes, push_node, read_link};
 use crate::words::{Result, Stop, Word, named, read_number, read_two};
@@ -51,9 +52,11 @@ enum Call {
     Refuse,
     ImagePage,
     ImageRoot,
+    Spell,
+    Parts,
 }
 
-const CALLS: [(&str, Call); 24] = [
+const CALLS: [(&str, Call); 26] = [
     ("roots", Call::Alone(Alone::Roots)),
     ("begin", Call::Alone(Alone::Begin)),
     ("seal", Call::Alone(Alone::Seal)),
@@ -78,6 +81,8 @@ const CALLS: [(&str, Call); 24] = [
     ("refuse", Call::Refuse),
     ("image-page", Call::ImagePage),
     ("image-root", Call::ImageRoot),
+    ("spell", Call::Spell),
+    ("parts", Call::Parts),
 ];
 
 /// A store, and what lines made beside it.
@@ -131,6 +136,8 @@ impl Store {
             Call::Refuse => self.refuse(words, out),
             Call::ImagePage => self.image_page(words, out),
             Call::ImageRoot => self.image_root(words, out),
+            Call::Spell => spell(self.alloc, words, out),
+            Call::Parts => read_key(self.alloc, words, out),
         }
     }
 
