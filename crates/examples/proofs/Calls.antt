@@ -3,6 +3,7 @@ use Rattle.std.proofs.Common.{◌≡◌, ◌≢◌, ℕ, zero, suc, ◌+◌, Boo
 use Rattle.std.proofs.Math.Path.{fun_ext}
 use Rattle.std.proofs.lemmas.Bool.{eq-eqb, eqb-true}
 use Rattle.std.specs.Str.{bytes_eq}
+use Rattle.std.specs.declared.ops.Bound.TheVariants.{Included}
 use Rattle.sled_pages.specs.Order.{Key}
 use Rattle.sled_pages.specs.Update.{put_at, put_name}
 use Rattle.sled_pages.specs.Facts.{same_name, put_here, put_elsewhere, put_name_here, put_name_elsewhere}
@@ -285,8 +286,8 @@ module _ {P M : Type 0} (store : P → Store) (number : P → ℕ) (meant : M �
       here : slots_at begun_now slot ≡ Some (begun tree (Get key))
       here = ap (λ (z : State). z.slots slot) b.step.step.told.0.is ∙ put_here (slots_at old) slot (Some (begun tree (Get key)))
 
-      clean : IsClean (now (store begun_now.db.pages)) tree.name key (one.0 ∷ [])
-      clean = subst (λ (s : Store). IsClean (now s) tree.name key (one.0 ∷ [])) (sym b.does.told) (one.1 key)
+      clean : IsClean (now (store begun_now.db.pages)) tree.name (Included key) (one.0 ∷ [])
+      clean = subst (λ (s : Store). IsClean (now s) tree.name (Included key) (one.0 ∷ [])) (sym b.does.told) (one.1 key)
 
       prompt : IsPrompt f.moves o (one.0 ∷ [])
       prompt = f.passes (begun tree (Get key)) (one.0 ∷ []) here refl clean (omega arith)

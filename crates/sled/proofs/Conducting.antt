@@ -348,7 +348,7 @@ module _ {P M : Type 0} (store : P → Store) (meant : M → Merge) (old : DbVal
 
   -- a call that begins knows nothing of the pages
   pub point_known : (copy : Tree) (f : Flight) → f ≡ begun_flight copy call → IsKnown (moment_of_db store old) f
-  point_known copy f is = subst (λ z. IsKnown (moment_of_db store old) z) (sym is) (record { told = λ w m. (tt, tt); few = omega arith; begins = λ none. refl })
+  point_known copy f is = subst (λ z. IsKnown (moment_of_db store old) z) (sym is) (record { told = λ w m. (tt, tt, refl); few = omega arith; begins = λ none. refl; aimed = refl })
 
   pub point_tested : (copy : Tree) (f : Flight) → f ≡ begun_flight copy call → copy ≡ tree → must_refuse_of (db_state store meant old) (tree ∷ []) ≡ None → must_refuse_of (db_state store meant old) (f.job.tree ∷ []) ≡ None
   point_tested copy f is same must = ap (λ (z : Flight). must_refuse_of (db_state store meant old) (z.job.tree ∷ [])) is ∙ ap (λ t. must_refuse_of (db_state store meant old) (t ∷ [])) same ∙ must

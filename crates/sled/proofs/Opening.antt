@@ -6,7 +6,9 @@ use Rattle.std.specs.Ordering.{eq_by_cmp}
 use Rattle.std.specs.declared.cmp.Ordering.{Ordering}
 use Rattle.std.proofs.lemmas.Bool.Decides.{nat_tests}
 use Rattle.std.specs.Str.{bytes_eq}
-use Rattle.sled_pages.specs.Order.{Key, key_cmp, UpTo}
+use Rattle.std.specs.declared.ops.Bound.TheVariants.{Included}
+use Rattle.sled_pages.specs.Order.{Key, key_cmp}
+use Rattle.sled_pages.specs.Among.{is_up_to}
 use Rattle.sled_pages.specs.Node.{count}
 use Rattle.sled_pages.specs.Facts.{same_name, put_elsewhere, put_here, now_allocates, now_acted, fresh_page}
 use Rattle.sled_pages.specs.Crash.{states_left}
@@ -45,20 +47,20 @@ false_true : {P : Type 0} → false ≡ true → P
 false_true e = cc
 
 -- no key is below the empty one
-up_to_all : (key : Key) → UpTo [] key
+begins_all : (key : Key) → is_up_to (Included key) [] ≡ true
 unfolding key_cmp
-up_to_all [] = refl
-up_to_all (b ∷ bs) = refl
+begins_all [] = refl
+begins_all (b ∷ bs) = refl
 
 -- a root that is a leaf, open and not long, is a clean path of every key
 leaf_is_clean : (s : State) (name : Key) (p : ℕ) (n : Node) (es : List (Key × Key)) → s.roots name ≡ Some p → nodes_of s p ≡ Some n → n.lo ≡ [] → n.hi ≡ [] → n.merging ≡ false → n.merging_child ≡ None → n.content ≡ kind.Leaf es → length es ≤ 16
-    → (key : Key) → IsClean s name key (p ∷ [])
+    → (key : Key) → IsClean s name (Included key) (p ∷ [])
 leaf_is_clean s name p n es root live lo hi awake free leaf few key = record {
   root = p;
   is_root = root;
   clean = (refl, n, record {
     live = live;
-    covers = (subst (λ l. UpTo l key) (sym lo) (up_to_all key), inl hi);
+    under = (subst (λ l. is_up_to (Included key) l ≡ true) (sym lo) (begins_all key), inl hi);
     is_open = record { awake = awake; free = free };
     few = subst (λ c. count c ≤ 16) (sym leaf) few;
     many = λ m. refl;

@@ -2,6 +2,7 @@
 use Rattle.std.specs.Prelude.{◌≡◌, ℕ, ◌≤◌, ◌⊎◌, true, List, [], ◌∷◌, length, Option, Some, None, Result}
 use Rattle.sled_pages.specs.In.{In}
 use Rattle.sled_pages.specs.Order.{Key}
+use Rattle.std.specs.declared.ops.Bound.TheVariants.{Included}
 use Rattle.sled_pages.specs.Store.{Store, now}
 use Rattle.sled_pages.specs.declared.node.Node.{Node}
 use Rattle.sled_pages.specs.declared.error.Error.{Error}
@@ -24,6 +25,7 @@ use Rattle.tree_laws.specs.Crashes.{Extends}
 use Rattle.tree_laws.specs.declared.flight.Stage.TheVariants.{Root}
 use Rattle.sled_tree.specs.Known.{IsKnown}
 use Rattle.sled_tree.specs.Moves.{ActsOnce}
+use Rattle.sled_tree.specs.declared.flight.Aim.TheVariants.{OwnKey}
 use Rattle.sled_tree.specs.declared.flight.Flight.{Flight}
 use Rattle.sled_tree.specs.declared.flight.Went.{Went}
 use Rattle.sled_tree.specs.declared.flight.Went.TheVariants.{Decided, Refused}
@@ -60,7 +62,7 @@ pub record Conducts {P M : Type 0} (store : P → Store) (maps : List Maps) (ref
 
 -- a call as it begins
 abbrev pub begun_flight : Tree → Call → Flight
-begun_flight tree call = record { job = record { tree = tree; call = call }; stage = Root; turns = 0 }
+begun_flight tree call = record { job = record { tree = tree; call = call }; aim = OwnKey; stage = Root; turns = 0 }
 
 -- the reply is a value, or that there is none
 pub record IsValue (reply : Reply) : Type 0 where
@@ -86,7 +88,7 @@ module _ {P M : Type 0} (store : P → Store) (meant : M → Merge) where
     pub refuses : RefusesPoint (db_state store meant old) (store old.pages) (store new.pages) tree call e (db_state store meant new)
     pub conducts : Conducts store [] (Some e) old new
     pub steps : (new ≡ old) ⊎ ((last : Flight) × FliesToEnd store meant old (begun_flight tree call) (Refused e) new last)
-    pub turns : TellsTurns e → (path : List ℕ) → IsClean (now (store old.pages)) tree.name (key_of call) path → turns_limit ≤ length path
+    pub turns : TellsTurns e → (path : List ℕ) → IsClean (now (store old.pages)) tree.name (Included (key_of call)) path → turns_limit ≤ length path
 
   -- A whole call on a tree was decided, in whatever machine the database is
   pub record WholeDecided (old : DbValue P M) (whole : Whole) (reply : Reply) (new : DbValue P M) : Type 0 where

@@ -2,6 +2,7 @@
 use Rattle.std.specs.Prelude.{◌≡◌, ℕ, ◌+◌, ◌*◌, ◌≤◌, ◌⊎◌, true, false, List, [], ◌∷◌, length, map, Option, Some, None, is_some, if◌then◌else◌}
 use Rattle.std.specs.FinMap.Entries.{is_sorted}
 use Rattle.std.specs.Str.{bytes_eq}
+use Rattle.std.specs.declared.ops.Bound.TheVariants.{Included}
 use Rattle.sled_pages.specs.Order.{Key, key_cmp}
 use Rattle.sled_pages.specs.Store.{Store, now, IsRoots}
 use Rattle.sled_pages.specs.State.{State}
@@ -66,7 +67,7 @@ RefusesOpen = RefusesTree default_name
 
 -- the tree is one page, and nothing is to be repaired on the way to any key
 abbrev pub IsOnePage : State → Key → Type 0
-IsOnePage s name = (page : ℕ) × ((key : Key) → IsClean s name key (page ∷ []))
+IsOnePage s name = (page : ℕ) × ((key : Key) → IsClean s name (Included key) (page ∷ []))
 
 -- there is a tree of this name now, and no fault was met
 pub record HasTree (name : Key) (old new : Store) : Type 0 where

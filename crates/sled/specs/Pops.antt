@@ -1,5 +1,6 @@
 -- What taking the pair at an end of a tree comes to, step by step, and when it is given up.
 use Rattle.std.specs.Prelude.{◌≡◌, ℕ, ◌≤◌, ◌⊎◌, List, length, Option, Some}
+use Rattle.std.specs.declared.ops.Bound.TheVariants.{Included}
 use Rattle.sled_pages.specs.Order.{Key}
 use Rattle.sled_pages.specs.Store.{Store, now}
 use Rattle.sled_pages.specs.declared.error.Error.{Error}
@@ -32,7 +33,7 @@ module _ {P M : Type 0} (store : P → Store) (meant : M → Merge) (old : DbVal
     pub there : (db_state store meant old).trees tree.name ≡ Some named
     pub pair : Key × Key
     pub ends : is_end named.map (Some pair)
-    pub long : (path : List ℕ) → IsClean (now (store old.pages)) tree.name pair.0 path → turns_limit ≤ length path
+    pub long : (path : List ℕ) → IsClean (now (store old.pages)) tree.name (Included pair.0) path → turns_limit ≤ length path
 
   -- A pop is told that its turns were used up only where the tree has so many pages that this function of their number comes to the
   -- limit of a read, or where there was something to repair on the way to the key, or the way has so many levels
