@@ -182,15 +182,16 @@ module _ {P M : Type 0} (store : P → Store) (meant : M → Merge) where
     extends = extends_then a.extends b.extends;
     others = λ h known. b.others h (a.others h known);
     loses = loses_then (moment_of_db store old) (moment_of_db store mid) (moment_of_db store new) db.forest db.is a.loses b.loses;
+    sound = λ d. b.sound (a.sound d);
     same = b.same ∙ ap (λ (z : DbValue P M). record z { pages = new.pages }) a.same;
   }
 
   -- a call that does nothing, and one that is refused at its begin for no fault
   pub conducts_none : (old : DbValue P M) → Conducts store [] None old old
-  conducts_none old = record { acts = NoAction; extends = extends_same (store old.pages); others = λ h known. known; loses = loses_same (moment_of_db store old); same = refl }
+  conducts_none old = record { acts = NoAction; extends = extends_same (store old.pages); others = λ h known. known; loses = loses_same (moment_of_db store old); sound = λ d. d; same = refl }
 
   pub conducts_refused : (old : DbValue P M) (e : Error) → RefusesQuietly e (store old.pages) (store old.pages) → Conducts store [] (Some e) old old
-  conducts_refused old e quiet = record { acts = (store old.pages, NoAction, quiet); extends = extends_same (store old.pages); others = λ h known. known; loses = loses_same (moment_of_db store old); same = refl }
+  conducts_refused old e quiet = record { acts = (store old.pages, NoAction, quiet); extends = extends_same (store old.pages); others = λ h known. known; loses = loses_same (moment_of_db store old); sound = λ d. d; same = refl }
 
   -- the steps of a call
   walk_acts : (n : ℕ) (old new : DbValue P M) (f g : Flight) (went : Went) → FliesTimes store meant n old f went new g → acts_till (error_of went) (store old.pages) (store new.pages)
@@ -209,6 +210,10 @@ module _ {P M : Type 0} (store : P → Store) (meant : M → Merge) where
   walk_loses zero old new f g went (Ends flies off) = loses_once (moment_of_db store old) (moment_of_db store new) flies.loses
   walk_loses (suc n) old new f g went (GoesOn {mid = mid} {h = h} flies db rest) =
       loses_then (moment_of_db store old) (moment_of_db store mid) (moment_of_db store new) db.forest db.is (loses_once (moment_of_db store old) (moment_of_db store mid) flies.loses) (walk_loses n mid new h g went rest)
+
+  walk_sound : (n : ℕ) (old new : DbValue P M) (f g : Flight) (went : Went) → FliesTimes store meant n old f went new g → IsDb store old → IsDb store new
+  walk_sound zero old new f g went (Ends flies off) d = flies.step.sound d
+  walk_sound (suc n) old new f g went (GoesOn {mid = mid} {h = h} flies db rest) d = walk_sound n mid new h g went rest db
 
   walk_same : (n : ℕ) (old new : DbValue P M) (f g : Flight) (went : Went) → FliesTimes store meant n old f went new g → new ≡ record old { pages = new.pages }
   walk_same zero old new f g went (Ends flies off) = flies.step.same
@@ -255,6 +260,7 @@ module _ {P M : Type 0} (store : P → Store) (meant : M → Merge) where
           extends = walk_extends n old new f g went flies.flies;
           others = λ k known. walk_others n old new f g went flies.flies k (record { off = λ q i j. absurd i }) known;
           loses = walk_loses n old new f g went flies.flies;
+          sound = walk_sound n old new f g went flies.flies;
           same = walk_same n old new f g went flies.flies;
         }
 

@@ -56,19 +56,6 @@ module _ {P M : Type 0} (store : P → Store) (meant : M → Merge) (old : DbVal
     still : SameNow (store old.pages) (store q) → IsMoment (moment_of_db store (record old { pages = q })) db.forest × IsSized (nodes_at (moment_of_db store (record old { pages = q }))) db.forest
     still s = (subst (λ (m : Moment). IsMoment m db.forest) (sym (same_moment q s)) db.is, subst (λ (m : Moment). IsSized (nodes_at m) db.forest) (sym (same_moment q s)) db.sized)
 
-    pub flush_done : (flush_number : P → ℕ) (number : ℕ) → number ≡ flush_number old.pages → (now (store old.pages)).in_group ≡ false → store q ≡ flushed (store old.pages) → FlushesDb store flush_number meant old number (record old { pages = q })
-    flush_done flush_number number told calm e = record {
-      free = open_now store meant old calm;
-      told = told;
-      is = e;
-      same = refl;
-      left = flushes_left flushes calm ∙ ap (λ z. z ∷ []) (sym (flushes_now flushes));
-      maps = sym (maps_are store meant (record old { pages = q }) db.forest (still (flushed_now e)).0);
-    }
-      where
-        flushes : Flushes (store old.pages) (store q)
-        flushes = subst (λ (s : Store). Flushes (store old.pages) s) (sym e) (flushes_same (store old.pages))
-
     pub flush_db : (now (store old.pages)).in_group ≡ false → store q ≡ flushed (store old.pages) → IsDb store (record old { pages = q })
     flush_db calm e = let s = still (flushed_now e) in record {
       forest = db.forest;
@@ -79,6 +66,20 @@ module _ {P M : Type 0} (store : P → Store) (meant : M → Merge) (old : DbVal
       default = db.default;
       unwatched = db.unwatched;
     }
+
+    pub flush_done : (flush_number : P → ℕ) (number : ℕ) → number ≡ flush_number old.pages → (now (store old.pages)).in_group ≡ false → store q ≡ flushed (store old.pages) → FlushesDb store flush_number meant old number (record old { pages = q })
+    flush_done flush_number number told calm e = record {
+      free = open_now store meant old calm;
+      told = told;
+      is = e;
+      sound = λ d. flush_db calm e;
+      same = refl;
+      left = flushes_left flushes calm ∙ ap (λ z. z ∷ []) (sym (flushes_now flushes));
+      maps = sym (maps_are store meant (record old { pages = q }) db.forest (still (flushed_now e)).0);
+    }
+      where
+        flushes : Flushes (store old.pages) (store q)
+        flushes = subst (λ (s : Store). Flushes (store old.pages) s) (sym e) (flushes_same (store old.pages))
 
     pub refused_db : (e : Error) → Refused e (store old.pages) (store q) → IsDb store (record old { pages = q })
     refused_db e r = let rests = rests_only_faults e (store old.pages) (store q) (only e (store old.pages) (store q) r.told) in let s = still (rests_now rests) in record {
@@ -109,6 +110,7 @@ module _ {P M : Type 0} (store : P → Store) (meant : M → Merge) (old : DbVal
   flush_refused q e calm r = record {
     may = λ slots given. record { told = subst (λ o. may_refuse_as o (state_of store meant old slots given) (store old.pages) (store q) (ToCall Flush) e) (sym (open_now store meant old calm)) (cause slots given q e r.told) };
     is = only e (store old.pages) (store q) r.told;
+    sound = λ d. refused_db d q e r;
     same = refl;
   }
 
@@ -117,6 +119,7 @@ module _ {P M : Type 0} (store : P → Store) (meant : M → Merge) (old : DbVal
   flush_closed e = record {
     may = λ slots given. record { told = subst (λ o. may_refuse_as o (state_of store meant old slots given) (store old.pages) (store old.pages) (ToCall Flush) error.Closed) (sym (closed_now store meant old e)) refl };
     is = refl;
+    sound = λ d. d;
     same = refl;
   }
 

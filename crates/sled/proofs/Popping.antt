@@ -258,6 +258,7 @@ module _ {P M : Type 0} (store : P → Store) (meant : M → Merge) (old : DbVal
       extends = subst (λ m. Rattle.tree_laws.specs.Crashes.Extends (m ∷ []) (store old.pages) (store old.pages)) (sym (maps_are store meant old db.forest db.is)) (extends_again none.extends (no_group store meant old tree r.tested));
       others = none.others;
       loses = none.loses;
+      sound = λ d. d;
       same = none.same;
     };
   }

@@ -77,6 +77,7 @@ module _ {P M : Type 0} (store : P → Store) (meant : M → Merge) (d : DbValue
         let k = tree_under tested in
         record {
           over = ap (λ (z : Coming P). z.pages) is;
+          root = there ∙ sym (ap (λ (z : Coming P). Some z.root) is);
           all = record { tested = tested; named = k.0; there = k.2; told = ap (λ (z : Coming P). z.pairs) is ∙ ap (pairs_within lo hi) (map_under k) };
           ended = ap (λ (z : Coming P). z.ended) is;
         }

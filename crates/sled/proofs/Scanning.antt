@@ -17,6 +17,7 @@ module _ {P M : Type 0} (store : P → Store) (meant : M → Merge) (tree : Tree
   pub begins_as : (prefix : Key) (pairs : Coming P) → Begins store meant d tree (Included prefix) (raised prefix) pairs → BeginsWith store meant d tree prefix pairs
   begins_as prefix pairs b = record {
     over = b.over;
+    root = b.root;
     all = b.all;
     beginning = λ bytes. record {
       tested = b.all.tested;

@@ -58,6 +58,7 @@ pub record Conducts {P M : Type 0} (store : P → Store) (maps : List Maps) (ref
   pub extends : Extends maps (store old.pages) (store new.pages)
   pub others : (h : Flight) → IsKnown (moment_of_db store old) h → IsKnown (moment_of_db store new) h
   pub loses : LosesNoPage (moment_of_db store old) (moment_of_db store new)
+  pub sound : IsDb store old → IsDb store new
   pub same : new ≡ record old { pages = new.pages }
 
 -- a call as it begins

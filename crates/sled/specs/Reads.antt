@@ -26,9 +26,10 @@ module _ {P M : Type 0} (store : P → Store) (meant : M → Merge) (d : DbValue
     pub there : (db_state store meant d).trees tree.name ≡ Some named
     pub told : is named.map
 
-  -- the iterator begins with the pairs of the tree's map within the bounds, over the pages as they are
+  -- the iterator begins with the pairs of the tree's map within the bounds, over the pages and the root of the tree as they are
   pub record Begins (lo hi : Bound Key) (pairs : Coming P) : Type 0 where
     pub over : pairs.pages ≡ d.pages
+    pub root : (now (store d.pages)).roots tree.name ≡ Some pairs.root
     pub all : ReadsMap (λ map. pairs.pairs ≡ pairs_within lo hi map)
     pub ended : pairs.ended ≡ is_reversed lo hi
 
@@ -36,6 +37,7 @@ module _ {P M : Type 0} (store : P → Store) (meant : M → Merge) (d : DbValue
   -- Where the keys of these are byte strings, as all keys are that it can give, they are the pairs whose keys begin with the prefix
   pub record BeginsWith (prefix : Key) (pairs : Coming P) : Type 0 where
     pub over : pairs.pages ≡ d.pages
+    pub root : (now (store d.pages)).roots tree.name ≡ Some pairs.root
     pub all : ReadsMap (λ map. pairs.pairs ≡ pairs_within (Included prefix) (raised prefix) map)
     pub beginning : AllByRecursion (λ e. IsBytes e.0) pairs.pairs → ReadsMap (λ map. pairs.pairs ≡ pairs_beginning prefix map)
     pub ended : pairs.ended ≡ false

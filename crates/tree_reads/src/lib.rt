@@ -23,3 +23,5 @@ pub use walk::{is_up_to, leaf_at};
 
 /// A read that has looked at this many pages is given up.
 pub const MOST_PAGES: u64 = 1_000_000;
+
+const _: () = prove!(MOST_PAGES == 1_000_000);
