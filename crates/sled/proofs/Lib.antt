@@ -8,3 +8,4 @@ pub mod Flushing
 pub mod Opening
 pub mod Reopening
 pub mod Reading
+pub mod Popping

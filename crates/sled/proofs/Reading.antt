@@ -87,7 +87,7 @@ module _ {P M : Type 0} (store : P → Store) (meant : M → Merge) (d : DbValue
         go : (e : Error) → refuses_walk_as of (store d.pages) root e → stops_reading store meant d tree of e
         go NoMemory k = tt
         go (Io fault) k = k
-        go (ReportableBug text) k = k db.forest db.is.formed tree.name there
+        go (ReportableBug text) k = (k.0, k.1 db.forest db.is.formed tree.name there)
         go (CollectionNotFound name) k = absurd k
         go (Unsupported text) k = absurd k
         go (Corruption fault) k = absurd k

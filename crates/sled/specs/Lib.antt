@@ -6,4 +6,5 @@ pub mod Calls
 pub mod Reads
 pub mod Flights
 pub mod Direct
+pub mod Pops
 pub mod Flush

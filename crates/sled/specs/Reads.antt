@@ -5,6 +5,7 @@ use Rattle.sled_pages.specs.Order.{Key}
 use Rattle.sled_pages.specs.Store.{Store, now}
 use Rattle.sled_pages.specs.declared.error.Error.{Error}
 use Rattle.sled_pages.specs.declared.error.Error.TheVariants.{NoMemory, Io, ReportableBug}
+use Rattle.sled_pages.specs.declared.texts.TheConstants.{WALK_PASSED_TURNS}
 use Rattle.sled_model.specs.Maps.{Map, Merge}
 use Rattle.sled_model.specs.State.{NamedTree}
 use Rattle.sled_model.specs.Refusal.{MustRefuse, must_refuse_of, tells}
@@ -33,7 +34,7 @@ module _ {P M : Type 0} (store : P → Store) (meant : M → Merge) (d : DbValue
   abbrev pub stops_reading : (ℕ → ℕ) → Error → Type 0
   stops_reading of NoMemory = Unit {0}
   stops_reading of (Io fault) = (pid : ℕ) × ((store d.pages).is_readable pid ≡ false)
-  stops_reading of (ReportableBug text) = MOST_PAGES ≤ of (tree_pages (now (store d.pages)) tree.name)
+  stops_reading of (ReportableBug text) = (text.now ≡ WALK_PASSED_TURNS.now) × (MOST_PAGES ≤ of (tree_pages (now (store d.pages)) tree.name))
   stops_reading of e = ⊥
 
   abbrev pub refuses_reading_as : (ℕ → ℕ) → Option MustRefuse → Error → Type 0

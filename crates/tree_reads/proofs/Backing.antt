@@ -177,7 +177,7 @@ refuses_more of up s root e more r = record { told = go e r.told }
     go : (e : Error) → refuses_walk_as of s root e → refuses_walk_as up s root e
     go NoMemory k = tt
     go (Io fault) k = k
-    go (ReportableBug text) k = λ w f t is. chain MOST_PAGES (of (tree_pages (now s) t)) (up (tree_pages (now s) t)) (k w f t is) (more w f t is)
+    go (ReportableBug text) k = (k.0, λ w f t is. chain MOST_PAGES (of (tree_pages (now s) t)) (up (tree_pages (now s) t)) (k.1 w f t is) (more w f t is))
     go (CollectionNotFound name) k = absurd k
     go (Unsupported text) k = absurd k
     go (Corruption fault) k = absurd k

@@ -13,6 +13,7 @@ use Rattle.sled_pages.specs.declared.node.Data.TheVariants.{Leaf, Index}
 use Rattle.sled_pages.specs.declared.page.View.{View}
 use Rattle.sled_pages.specs.declared.error.Error.{Error}
 use Rattle.sled_pages.specs.declared.error.Error.TheVariants.{NoMemory, Io, ReportableBug}
+use Rattle.sled_pages.specs.declared.texts.TheConstants.{WALK_PASSED_TURNS}
 use Rattle.tree_laws.specs.Forest.{Tree, Forest, place, WellFormed}
 use Rattle.tree_laws.specs.Paths.{CleanFrom, IsAhead, tree_pages}
 use Rattle.tree_reads.specs.declared.TheConstants.{MOST_PAGES}
@@ -69,7 +70,7 @@ HasTooMany of s root = (w : Forest) → WellFormed (nodes_of s) s.roots w → (t
 abbrev pub refuses_walk_as : (ℕ → ℕ) → Store → ℕ → Error → Type 0
 refuses_walk_as of s root NoMemory = Unit {0}
 refuses_walk_as of s root (Io fault) = (pid : ℕ) × (s.is_readable pid ≡ false)
-refuses_walk_as of s root (ReportableBug text) = HasTooMany of (now s) root
+refuses_walk_as of s root (ReportableBug text) = (text.now ≡ WALK_PASSED_TURNS.now) × HasTooMany of (now s) root
 refuses_walk_as of s root e = ⊥
 
 -- Refused for want of memory, for a fault where some page is not readable, or for too many pages: from left to right no page is

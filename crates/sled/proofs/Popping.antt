@@ -1,0 +1,510 @@
+-- Calls that take out the pair at an end of a tree, and clears.
+use Rattle.std.proofs.Common.{◌≡◌, ◌≢◌, ℕ, zero, suc, ◌+◌, ◌<◌, ◌≤◌, ◌⊎◌, Bool, true, false, not, cond, List, [], ◌∷◌, ◌++◌, append-nil, length, Option, Some, None, is_some, Result, Ok, Err, IfOk, IfErr, sym, refl, ap, ◌∙◌, subst, inl, inr, arith}
+use Rattle.std.proofs.lemmas.Cmp.{tied_itself}
+use Rattle.std.specs.List.{filter, list_any}
+use Rattle.std.specs.FinMap.Entries.{find}
+use Rattle.std.specs.Ordering.{is_eq, eq_by_cmp}
+use Rattle.std.specs.declared.ops.Bound.TheVariants.{Unbounded}
+use Rattle.sled_pages.specs.Order.{Key, key_cmp}
+use Rattle.sled_pages.specs.Among.{is_from, is_up_to, IsSuccessor, IsPredecessor}
+use Rattle.sled_pages.specs.Node.{without}
+use Rattle.sled_pages.specs.Facts.{put_name_here}
+use Rattle.sled_pages.specs.Update.{put_name}
+use Rattle.sled_pages.specs.Store.{Store, now}
+use Rattle.sled_pages.specs.declared.error.Error.{Error}
+use Rattle.sled_pages.specs.declared.error.Error.TheVariants as error
+use Rattle.sled_pages.specs.declared.texts.TheConstants.{WALK_PASSED_TURNS}
+use Rattle.sled_model.specs.Maps.{Map, Maps, Merge, IsLeast, IsGreatest}
+use Rattle.sled_model.specs.Answer.{Answer, answer_of, map_after}
+use Rattle.sled_model.specs.State.{State, NamedTree, Flying, maps_of, decided_on}
+use Rattle.sled_model.specs.Refusal.{MustRefuse, IsClosed, IsForeign, IsDropped, HasNoOperator, first_of, must_refuse, must_refuse_of, MayRefuse, MeetsFullQueue, EndMeetsFullQueue, TellsTurns, ToPoint, ToCall, cause_of, may_refuse_as, tells, turns_limit}
+use Rattle.sled_model.specs.Steps.{Instant, WholeDecides, WholeRefuses}
+use Rattle.sled_model.specs.Whole.{Pops, popped, RemovesLeast, RemovesNone, RemovesOne, Clears, StopsClearing}
+use Rattle.sled_model.specs.declared.call.Call.TheVariants.{Remove}
+use Rattle.sled_model.specs.declared.call.Whole.{Whole}
+use Rattle.sled_model.specs.declared.call.Whole.TheVariants.{PopMin, PopMax, Clear}
+use Rattle.sled_model.specs.declared.decision.Effect.TheVariants as effect
+use Rattle.sled_model.specs.declared.reply.Reply.{Reply}
+use Rattle.sled_model.specs.declared.reply.Reply.TheVariants.{Pair, Done}
+use Rattle.sled_model.specs.declared.tree.Tree.{Tree}
+use Rattle.tree_laws.proofs.Crashing.{extends_again}
+use Rattle.tree_laws.proofs.Order.{key_total}
+use Rattle.tree_laws.specs.Paths.{tree_pages}
+use Rattle.tree_reads.specs.Walk.{once, for_each}
+use Rattle.tree_reads.specs.declared.TheConstants.{MOST_PAGES}
+use Rattle.sled.specs.Values.{DbValue, state_of, db_state, instant_of}
+use Rattle.sled.specs.Sound.{IsDb}
+use Rattle.sled.specs.Flights.{RefusesQuietly}
+use Rattle.sled.specs.Reads.{ReadsMap, RefusesReading, refuses_reading_as, stops_reading}
+use Rattle.sled.specs.Direct.{ActsOften, NoAction, OneAction, Conducts, PointDecided, PointRefused, WholeDecided, WholeRefused}
+use Rattle.sled.specs.Pops.{TakesOut, RefusesToTake, IsLongWay, GivesUpPop}
+use Rattle.sled.proofs.Conducting.{conducts_then, conducts_none, conducts_refused}
+use Rattle.sled.proofs.Testing.{no_group}
+use Rattle.sled.proofs.Trees.{maps_are}
+
+none_some : {P X : Type 0} {x : X} → None ≡ Some x → P
+none_some e = cc
+
+some_is : {X : Type 0} {x y : X} → Some x ≡ Some y → x ≡ y
+some_is e = cc
+
+true_false : {P : Type 0} → true ≡ false → P
+true_false e = cc
+
+-- what holds of an answer, and of an error
+ok_weaker : {A E : Type 0} (p q : A → Type 0) → ((a : A) → p a → q a) → (r : Result A E) → IfOk r p → IfOk r q
+ok_weaker p q h (Ok a) k = h a k
+ok_weaker p q h (Err e) k = tt
+
+err_weaker : {A E : Type 0} (p q : E → Type 0) → ((e : E) → p e → q e) → (r : Result A E) → IfErr r p → IfErr r q
+err_weaker p q h (Ok a) k = tt
+err_weaker p q h (Err e) k = h e k
+
+-- ---- the ends of a map
+
+pub least_is : (map : Map) (found : Option (Key × Key)) → IsSuccessor Unbounded map found → IsLeast map found
+least_is [] None k = refl
+least_is (x ∷ xs) None k = true_false k
+least_is map (Some pair) k = (k.after, k.is ∙ ap (λ b. b ++ pair ∷ k.after) (empty k.before k.none))
+  where
+    empty : (b : Map) → list_any (λ e. is_from Unbounded e.0) b ≡ false → b ≡ []
+    empty [] none = refl
+    empty (x ∷ xs) none = true_false none
+
+pub greatest_is : (map : Map) (found : Option (Key × Key)) → IsPredecessor Unbounded map found → IsGreatest map found
+greatest_is [] None k = refl
+greatest_is (x ∷ xs) None k = true_false k
+greatest_is map (Some pair) k = (k.before, k.is ∙ ap (λ a. k.before ++ pair ∷ a) (empty k.after k.none))
+  where
+    empty : (a : Map) → list_any (λ e. is_up_to Unbounded e.0) a ≡ false → a ≡ []
+    empty [] none = refl
+    empty (x ∷ xs) none = true_false none
+
+-- a map without its least key is shorter
+fewer : (p : Key × Key → Bool) (xs : Map) → length (filter p xs) ≤ length xs
+fewer p [] = omega arith
+fewer p (x ∷ xs) = let f = fewer p xs in elim (p x) as (λ b. length (cond b (x ∷ filter p xs) (filter p xs)) ≤ suc (length xs)) [ true ↦ omega arith | false ↦ omega arith ]
+
+shorter : (pair : Key × Key) (rest : Map) → length (answer_of (Remove pair.0) (pair ∷ rest)).map < suc (length rest)
+shorter pair rest = subst (λ n. n < suc (length rest)) (sym is) below
+  where
+    k : Key
+    k = pair.0
+
+    tied : eq_by_cmp key_cmp pair.0 pair.0 ≡ true
+    tied = ap is_eq (tied_itself key_total pair.0)
+
+    is : length (answer_of (Remove pair.0) (pair ∷ rest)).map ≡ length (without pair.0 rest)
+    is =
+        ap (λ b. length (map_after (cond (is_some (cond b (Some pair.1) (find key_cmp pair.0 rest))) effect.Remove effect.Nothing) pair.0 (pair ∷ rest))) tied
+        ∙ ap (λ b. length (cond (not b) (pair ∷ without pair.0 rest) (without pair.0 rest))) tied
+
+    below : length (without pair.0 rest) < suc (length rest)
+    below = let f = fewer (λ e. not (eq_by_cmp key_cmp pair.0 e.0)) rest in omega arith
+
+-- how many pairs a tree has, if it is there
+abbrev pub size_of : Option NamedTree → ℕ
+size_of None = 0
+size_of (Some t) = length t.map
+
+-- ---- refusals
+
+-- the causes for which a call that takes out the pair at an end is refused, where none of the tests fails
+abbrev pub cause_at_end : (Map → Option (Key × Key) → Type 0) → State → Store → Store → Tree → Error → Type 0
+cause_at_end is_end s a b tree error.NoMemory = Unit {0}
+cause_at_end is_end s a b tree (error.Io fault) = (a.faults < b.faults) ⊎ ((pid : ℕ) × (a.is_readable pid ≡ false))
+cause_at_end is_end s a b tree (error.ReportableBug text) = text.now ≡ WALK_PASSED_TURNS.now
+cause_at_end is_end s a b tree error.FullQueue = EndMeetsFullQueue is_end s tree
+cause_at_end is_end s a b tree (error.CollectionNotFound name) = ⊥
+cause_at_end is_end s a b tree (error.Unsupported text) = ⊥
+cause_at_end is_end s a b tree (error.Corruption fault) = ⊥
+cause_at_end is_end s a b tree error.Closed = ⊥
+
+first_alone : (a : Option MustRefuse) → first_of a None ≡ a
+first_alone None = refl
+first_alone (Some m) = refl
+
+-- a whole call that takes out the pair at an end
+pub record IsPop (is_end : Map → Option (Key × Key) → Type 0) (tree : Tree) (whole : Whole) : Type 0 where
+  pub must : (s : State) → must_refuse s (ToCall whole) ≡ must_refuse_of s (tree ∷ [])
+  pub cause : (s : State) (a b : Store) (e : Error) → cause_at_end is_end s a b tree e → cause_of s a b (ToCall whole) e
+  pub decides : (old : Instant) (reply : Reply) (new : State) (maps : List Maps) → Pops is_end old.state whole tree reply new maps → WholeDecides old whole reply new maps
+  pub refuses : (s : State) (a b : Store) (e : Error) (new : State) → MayRefuse s a b (ToCall whole) e → new ≡ s → WholeRefuses s a b whole e new []
+
+min_is : (tree : Tree) → IsPop IsLeast tree (PopMin tree)
+min_is tree = record {
+  must = λ s. first_alone (must_refuse_of s (tree ∷ []));
+  cause = go;
+  decides = λ old reply new maps k. k;
+  refuses = λ s a b e new may is. (may, is, refl);
+}
+  where
+    go : (s : State) (a b : Store) (e : Error) → cause_at_end IsLeast s a b tree e → cause_of s a b (ToCall (PopMin tree)) e
+    go s a b error.NoMemory k = tt
+    go s a b (error.Io fault) k = k
+    go s a b (error.ReportableBug text) k = k
+    go s a b error.FullQueue k = k
+    go s a b (error.CollectionNotFound name) k = k
+    go s a b (error.Unsupported text) k = k
+    go s a b (error.Corruption fault) k = k
+    go s a b error.Closed k = k
+
+max_is : (tree : Tree) → IsPop IsGreatest tree (PopMax tree)
+max_is tree = record {
+  must = λ s. first_alone (must_refuse_of s (tree ∷ []));
+  cause = go;
+  decides = λ old reply new maps k. k;
+  refuses = λ s a b e new may is. (may, is, refl);
+}
+  where
+    go : (s : State) (a b : Store) (e : Error) → cause_at_end IsGreatest s a b tree e → cause_of s a b (ToCall (PopMax tree)) e
+    go s a b error.NoMemory k = tt
+    go s a b (error.Io fault) k = k
+    go s a b (error.ReportableBug text) k = k
+    go s a b error.FullQueue k = k
+    go s a b (error.CollectionNotFound name) k = k
+    go s a b (error.Unsupported text) k = k
+    go s a b (error.Corruption fault) k = k
+    go s a b error.Closed k = k
+
+-- a part of a clear is refused as a pop of the least pair is
+as_clear : (s : State) (a m b : Store) (tree : Tree) (e : Error) → m.faults ≡ a.faults → m.is_readable ≡ a.is_readable → MayRefuse s m b (ToCall (PopMin tree)) e → MayRefuse s a b (ToCall (Clear tree)) e
+as_clear s a m b tree e faults readable may = record { told = told (must_refuse s (ToCall (PopMin tree))) may.told }
+  where
+    cause : (e : Error) → cause_of s m b (ToCall (PopMin tree)) e → cause_of s a b (ToCall (Clear tree)) e
+    cause error.NoMemory k = tt
+    cause (error.Io fault) (inl k) = inl (subst (λ n. n < b.faults) faults k)
+    cause (error.Io fault) (inr (pid, k)) = inr (pid, subst (λ (f : ℕ → Bool). f pid ≡ false) readable k)
+    cause (error.ReportableBug text) k = k
+    cause error.FullQueue k = k
+    cause (error.CollectionNotFound name) k = k
+    cause (error.Unsupported text) k = k
+    cause (error.Corruption fault) k = k
+    cause error.Closed k = k
+
+    told : (o : Option MustRefuse) → may_refuse_as o s m b (ToCall (PopMin tree)) e → may_refuse_as o s a b (ToCall (Clear tree)) e
+    told None k = cause e k
+    told (Some must) k = k
+
+-- ---- pops
+
+-- the state with these slots
+abbrev with_slots : (ℕ → Option Flying) → ℕ → State → State
+with_slots slots given s = record s { slots = slots; slots_given = given }
+
+module _ {P M : Type 0} (store : P → Store) (meant : M → Merge) (old : DbValue P M) (tree : Tree) (is_end : Map → Option (Key × Key) → Type 0) (whole : Whole) (pop : IsPop is_end tree whole) where
+  -- what a read says, where it is refused
+  read_cause : (of : ℕ → ℕ) (s : State) (e : Error) → stops_reading store meant old tree of e → cause_at_end is_end s (store old.pages) (store old.pages) tree e
+  read_cause of s error.NoMemory k = tt
+  read_cause of s (error.Io fault) k = inr k
+  read_cause of s (error.ReportableBug text) k = k.0
+  read_cause of s error.FullQueue k = absurd k
+  read_cause of s (error.CollectionNotFound name) k = absurd k
+  read_cause of s (error.Unsupported text) k = absurd k
+  read_cause of s (error.Corruption fault) k = absurd k
+  read_cause of s error.Closed k = absurd k
+
+  read_may : (of : ℕ → ℕ) (e : Error) → RefusesReading store meant old tree of e → (slots : ℕ → Option Flying) (given : ℕ) → MayRefuse (state_of store meant old slots given) (store old.pages) (store old.pages) (ToCall whole) e
+  read_may of e r slots given = record { told = subst (λ o. may_refuse_as o (state_of store meant old slots given) (store old.pages) (store old.pages) (ToCall whole) e) (sym (pop.must (state_of store meant old slots given))) (go (must_refuse_of (db_state store meant old) (tree ∷ [])) r.told) }
+    where
+      go : (o : Option MustRefuse) → refuses_reading_as store meant old tree of o e → may_refuse_as o (state_of store meant old slots given) (store old.pages) (store old.pages) (ToCall whole) e
+      go None k = pop.cause (state_of store meant old slots given) (store old.pages) (store old.pages) e (read_cause of (state_of store meant old slots given) e k)
+      go (Some must) k = k
+
+  read_quiet : (of : ℕ → ℕ) (e : Error) (o : Option MustRefuse) → refuses_reading_as store meant old tree of o e → RefusesQuietly e (store old.pages) (store old.pages)
+  read_quiet of error.NoMemory o k = refl
+  read_quiet of (error.Io fault) None k = inr (refl, k)
+  read_quiet of (error.Io fault) (Some IsClosed) k = untold k
+    where
+      untold : {X : Type 0} → error.Io fault ≡ error.Closed → X
+      untold e = cc
+  read_quiet of (error.Io fault) (Some IsForeign) k = absurd k
+  read_quiet of (error.Io fault) (Some (IsDropped name)) (inl k) = untold k
+    where
+      untold : {X : Type 0} → error.Io fault ≡ error.CollectionNotFound name → X
+      untold e = cc
+  read_quiet of (error.Io fault) (Some (IsDropped name)) (inr k) = untold k
+    where
+      untold : {X : Type 0} → error.Io fault ≡ error.NoMemory → X
+      untold e = cc
+  read_quiet of (error.Io fault) (Some HasNoOperator) k = absurd k
+  read_quiet of (error.ReportableBug text) o k = refl
+  read_quiet of error.FullQueue o k = refl
+  read_quiet of (error.CollectionNotFound name) o k = refl
+  read_quiet of (error.Unsupported text) o k = refl
+  read_quiet of (error.Corruption fault) o k = refl
+  read_quiet of error.Closed o k = refl
+
+  refused : (e : Error) (new : DbValue P M) → ((slots : ℕ → Option Flying) (given : ℕ) → MayRefuse (state_of store meant old slots given) (store old.pages) (store new.pages) (ToCall whole) e) → db_state store meant new ≡ db_state store meant old → Conducts store [] (Some e) old new
+      → WholeRefused store meant old whole e new
+  refused e new may is conducts = record {
+    maps = [];
+    refuses = λ slots given. pop.refuses (state_of store meant old slots given) (store old.pages) (store new.pages) e (state_of store meant new slots given) (may slots given) (ap (with_slots slots given) is);
+    conducts = conducts;
+  }
+
+  -- the read was refused
+  pub pop_unread : (of : ℕ → ℕ) (e : Error) → RefusesReading store meant old tree of e → WholeRefused store meant old whole e old
+  pop_unread of e r = refused e old (read_may of e r) refl (conducts_refused store meant old e (read_quiet of e (must_refuse_of (db_state store meant old) (tree ∷ [])) r.told))
+
+  -- the tree has no pair
+  pub pop_none : IsDb store old → ReadsMap store meant old tree (λ map. is_end map None) → WholeDecided store meant old whole (Pair None) old
+  pop_none db r = record {
+    maps = maps_of (db_state store meant old) ∷ [];
+    decides = λ slots given number. pop.decides (instant_of store meant old slots given number) (Pair None) (state_of store meant old slots given) (maps_of (db_state store meant old) ∷ [])
+        (record { free = pop.must (state_of store meant old slots given) ∙ r.tested; named = r.named; there = r.there; found = None; ends = r.told; replies = refl; is = refl; added = refl });
+    conducts = let none = conducts_none store meant old in record {
+      acts = none.acts;
+      extends = subst (λ m. Rattle.tree_laws.specs.Crashes.Extends (m ∷ []) (store old.pages) (store old.pages)) (sym (maps_are store meant old db.forest db.is)) (extends_again none.extends (no_group store meant old tree r.tested));
+      others = none.others;
+      loses = none.loses;
+      same = none.same;
+    };
+  }
+
+  module _ (pair : Key × Key) (r : ReadsMap store meant old tree (λ map. is_end map (Some pair))) where
+    -- the pair was taken out
+    pub pop_found : (found : Option (Key × Key)) (new : DbValue P M) → TakesOut store meant old tree pair found new → WholeDecided store meant old whole (Pair found) new
+    pop_found found new t =
+        let d = t.decided.decides in record {
+          maps = maps_of (db_state store meant new) ∷ [];
+          decides = λ slots given number. pop.decides (instant_of store meant old slots given number) (Pair found) (state_of store meant new slots given) (maps_of (db_state store meant new) ∷ [])
+              (record {
+                free = pop.must (state_of store meant old slots given) ∙ r.tested;
+                named = d.named;
+                there = d.there;
+                found = Some pair;
+                ends = subst (λ (n : NamedTree). is_end n.map (Some pair)) (some_is (sym r.there ∙ d.there)) r.told;
+                replies = ap Pair t.answers;
+                is = ap (with_slots slots given) d.is;
+                added = refl;
+              });
+          conducts = t.decided.conducts;
+        }
+
+    -- the causes for which a removal is refused
+    take_cause : (slots : ℕ → Option Flying) (given : ℕ) (b : Store) (e : Error) → cause_of (db_state store meant old) (store old.pages) b (ToPoint tree (Remove pair.0)) e → cause_at_end is_end (state_of store meant old slots given) (store old.pages) b tree e
+    take_cause slots given b error.NoMemory k = tt
+    take_cause slots given b (error.Io fault) k = k
+    take_cause slots given b (error.ReportableBug text) k = k
+    take_cause slots given b error.FullQueue k = record {
+      named = r.named;
+      there = r.there;
+      pair = pair;
+      ends = r.told;
+      meets = record { tree = k.tree; there = k.there; event = k.event; brings = k.brings; subscriber = k.subscriber; queue = k.queue; waits = k.waits; matching = k.matching; full = k.full };
+    }
+    take_cause slots given b (error.CollectionNotFound name) k = k
+    take_cause slots given b (error.Unsupported text) k = k
+    take_cause slots given b (error.Corruption fault) k = k
+    take_cause slots given b error.Closed k = k
+
+    may_end : (slots : ℕ → Option Flying) (given : ℕ) (b : Store) (e : Error) → cause_at_end is_end (state_of store meant old slots given) (store old.pages) b tree e → MayRefuse (state_of store meant old slots given) (store old.pages) b (ToCall whole) e
+    may_end slots given b e k = record { told = subst (λ o. may_refuse_as o (state_of store meant old slots given) (store old.pages) b (ToCall whole) e) (sym (pop.must (state_of store meant old slots given) ∙ r.tested)) (pop.cause (state_of store meant old slots given) (store old.pages) b e k) }
+
+    -- it was not taken out
+    pub pop_untaken : (e : Error) (new : DbValue P M) → RefusesToTake store meant old tree pair e new → WholeRefused store meant old whole e new
+    pop_untaken e new t = elim t.told [
+      | inl p ↦ refused e new
+          (λ slots given. may_end slots given (store new.pages) e (take_cause slots given (store new.pages) e (subst (λ o. may_refuse_as o (db_state store meant old) (store old.pages) (store new.pages) (ToPoint tree (Remove pair.0)) e) (first_alone (must_refuse_of (db_state store meant old) (tree ∷ [])) ∙ r.tested) p.refuses.may.told)))
+          p.refuses.is p.conducts
+      | inr m ↦ subst (λ (z : DbValue P M). WholeRefused store meant old whole e z) (sym m.1)
+          (subst (λ x. WholeRefused store meant old whole x old) (sym m.0)
+          (refused error.NoMemory old (λ slots given. may_end slots given (store old.pages) error.NoMemory tt) refl (conducts_refused store meant old error.NoMemory refl)))
+    ]
+
+    pub gives_up_untaken : (of : ℕ → ℕ) (e : Error) (new : DbValue P M) → RefusesToTake store meant old tree pair e new → GivesUpPop store meant old tree is_end of e
+    gives_up_untaken of e new t = elim t.told [
+      | inl p ↦ record { told = λ turns. inr (record { named = r.named; there = r.there; pair = pair; ends = r.told; long = p.turns turns }) }
+      | inr m ↦ record { told = λ turns. absurd (subst TellsTurns m.0 turns) }
+    ]
+
+  pub gives_up_unread : (of : ℕ → ℕ) (e : Error) → RefusesReading store meant old tree of e → GivesUpPop store meant old tree is_end of e
+  gives_up_unread of e r = record { told = λ turns. inl (go e (must_refuse_of (db_state store meant old) (tree ∷ [])) r.told turns) }
+    where
+      bug : (text : _) (o : Option MustRefuse) → refuses_reading_as store meant old tree of o (error.ReportableBug text) → MOST_PAGES ≤ of (tree_pages (now (store old.pages)) tree.name)
+      bug text None k = k.1
+      bug text (Some IsClosed) k = untold k
+        where
+          untold : {X : Type 0} → error.ReportableBug text ≡ error.Closed → X
+          untold e = cc
+      bug text (Some IsForeign) k = absurd k
+      bug text (Some (IsDropped name)) (inl k) = untold k
+        where
+          untold : {X : Type 0} → error.ReportableBug text ≡ error.CollectionNotFound name → X
+          untold e = cc
+      bug text (Some (IsDropped name)) (inr k) = untold k
+        where
+          untold : {X : Type 0} → error.ReportableBug text ≡ error.NoMemory → X
+          untold e = cc
+      bug text (Some HasNoOperator) k = absurd k
+
+      go : (e : Error) (o : Option MustRefuse) → refuses_reading_as store meant old tree of o e → TellsTurns e → MOST_PAGES ≤ of (tree_pages (now (store old.pages)) tree.name)
+      go (error.ReportableBug text) o k turns = bug text o k
+      go error.NoMemory o k turns = absurd turns
+      go (error.Io fault) o k turns = absurd turns
+      go error.FullQueue o k turns = absurd turns
+      go (error.CollectionNotFound name) o k turns = absurd turns
+      go (error.Unsupported text) o k turns = absurd turns
+      go (error.Corruption fault) o k turns = absurd turns
+      go error.Closed o k turns = absurd turns
+
+-- the same, of what the reads of an end say
+module _ {P M : Type 0} (store : P → Store) (meant : M → Merge) (old : DbValue P M) (tree : Tree) where
+  at_least : (read found : Option (Key × Key)) → read ≡ found → ReadsMap store meant old tree (λ map. IsSuccessor Unbounded map read) → ReadsMap store meant old tree (λ map. IsLeast map found)
+  at_least read found e r = record { tested = r.tested; named = r.named; there = r.there; told = least_is r.named.map found (subst (λ z. IsSuccessor Unbounded r.named.map z) e r.told) }
+
+  at_greatest : (read found : Option (Key × Key)) → read ≡ found → ReadsMap store meant old tree (λ map. IsPredecessor Unbounded map read) → ReadsMap store meant old tree (λ map. IsGreatest map found)
+  at_greatest read found e r = record { tested = r.tested; named = r.named; there = r.there; told = greatest_is r.named.map found (subst (λ z. IsPredecessor Unbounded r.named.map z) e r.told) }
+
+  pub min_none : IsDb store old → (read : Option (Key × Key)) → read ≡ None → ReadsMap store meant old tree (λ map. IsSuccessor Unbounded map read) → WholeDecided store meant old (PopMin tree) (Pair None) old
+  min_none db read e r = pop_none store meant old tree IsLeast (PopMin tree) (min_is tree) db (at_least read None e r)
+
+  pub max_none : IsDb store old → (read : Option (Key × Key)) → read ≡ None → ReadsMap store meant old tree (λ map. IsPredecessor Unbounded map read) → WholeDecided store meant old (PopMax tree) (Pair None) old
+  max_none db read e r = pop_none store meant old tree IsGreatest (PopMax tree) (max_is tree) db (at_greatest read None e r)
+
+  pub min_unread : (e : Error) → RefusesReading store meant old tree once e → WholeRefused store meant old (PopMin tree) e old
+  min_unread e r = pop_unread store meant old tree IsLeast (PopMin tree) (min_is tree) once e r
+
+  pub max_unread : (e : Error) → RefusesReading store meant old tree for_each e → WholeRefused store meant old (PopMax tree) e old
+  max_unread e r = pop_unread store meant old tree IsGreatest (PopMax tree) (max_is tree) for_each e r
+
+  pub min_gives_up : (e : Error) → RefusesReading store meant old tree once e → GivesUpPop store meant old tree IsLeast once e
+  min_gives_up e r = gives_up_unread store meant old tree IsLeast (PopMin tree) (min_is tree) once e r
+
+  pub max_gives_up : (e : Error) → RefusesReading store meant old tree for_each e → GivesUpPop store meant old tree IsGreatest for_each e
+  max_gives_up e r = gives_up_unread store meant old tree IsGreatest (PopMax tree) (max_is tree) for_each e r
+
+  -- what comes of taking out the pair that was read
+  module _ (new : DbValue P M) (pair : Key × Key) (read : Option (Key × Key)) (e : read ≡ Some pair) (result : Result (Option (Key × Key)) Error) where
+    pub min_found : ReadsMap store meant old tree (λ map. IsSuccessor Unbounded map read) → IfOk result (λ found. TakesOut store meant old tree pair found new) → IfOk result (λ found. WholeDecided store meant old (PopMin tree) (Pair found) new)
+    min_found r t = ok_weaker _ _ (λ found k. pop_found store meant old tree IsLeast (PopMin tree) (min_is tree) pair (at_least read (Some pair) e r) found new k) result t
+
+    pub max_found : ReadsMap store meant old tree (λ map. IsPredecessor Unbounded map read) → IfOk result (λ found. TakesOut store meant old tree pair found new) → IfOk result (λ found. WholeDecided store meant old (PopMax tree) (Pair found) new)
+    max_found r t = ok_weaker _ _ (λ found k. pop_found store meant old tree IsGreatest (PopMax tree) (max_is tree) pair (at_greatest read (Some pair) e r) found new k) result t
+
+    pub min_untaken : ReadsMap store meant old tree (λ map. IsSuccessor Unbounded map read) → IfErr result (λ e. RefusesToTake store meant old tree pair e new) → IfErr result (λ e. WholeRefused store meant old (PopMin tree) e new)
+    min_untaken r t = err_weaker _ _ (λ x k. pop_untaken store meant old tree IsLeast (PopMin tree) (min_is tree) pair (at_least read (Some pair) e r) x new k) result t
+
+    pub max_untaken : ReadsMap store meant old tree (λ map. IsPredecessor Unbounded map read) → IfErr result (λ e. RefusesToTake store meant old tree pair e new) → IfErr result (λ e. WholeRefused store meant old (PopMax tree) e new)
+    max_untaken r t = err_weaker _ _ (λ x k. pop_untaken store meant old tree IsGreatest (PopMax tree) (max_is tree) pair (at_greatest read (Some pair) e r) x new k) result t
+
+    pub min_gives_up_later : ReadsMap store meant old tree (λ map. IsSuccessor Unbounded map read) → IfErr result (λ e. RefusesToTake store meant old tree pair e new) → IfErr result (GivesUpPop store meant old tree IsLeast once)
+    min_gives_up_later r t = err_weaker _ _ (λ x k. gives_up_untaken store meant old tree IsLeast (PopMin tree) (min_is tree) pair (at_least read (Some pair) e r) once x new k) result t
+
+    pub max_gives_up_later : ReadsMap store meant old tree (λ map. IsPredecessor Unbounded map read) → IfErr result (λ e. RefusesToTake store meant old tree pair e new) → IfErr result (GivesUpPop store meant old tree IsGreatest for_each)
+    max_gives_up_later r t = err_weaker _ _ (λ x k. gives_up_untaken store meant old tree IsGreatest (PopMax tree) (max_is tree) pair (at_greatest read (Some pair) e r) for_each x new k) result t
+
+-- ---- clears
+
+-- one more of the least keys is removed
+removes_more : (tree : Tree) (n : ℕ) (a b : State) (maps : List Maps) → RemovesLeast tree a n b maps → (named : NamedTree) (pair : Key × Key) (rest : Map) → b.trees tree.name ≡ Some named → named.map ≡ pair ∷ rest
+    → RemovesLeast tree a (suc n) (decided_on b tree.name named (answer_of (Remove pair.0) named.map)) (maps ++ maps_of (decided_on b tree.name named (answer_of (Remove pair.0) named.map)) ∷ [])
+removes_more tree zero a b [] RemovesNone named pair rest there is = RemovesOne named pair rest there is RemovesNone
+removes_more tree (suc n) a b (m ∷ maps) (RemovesOne first p others here was more) named pair rest there is = RemovesOne first p others here was (removes_more tree n (decided_on a tree.name first (answer_of (Remove p.0) first.map)) b maps more named pair rest there is)
+removes_more tree zero a b (m ∷ maps) run named pair rest there is = elim run [ ]
+removes_more tree (suc n) a b [] run named pair rest there is = elim run [ ]
+
+-- no action counts a fault, and none changes which pages can be read
+often_faults : {a b : Store} → ActsOften a b → b.faults ≡ a.faults
+often_faults NoAction = refl
+often_faults (OneAction o r) = often_faults r ∙ ap (λ (s : Store). s.faults) o.is
+
+often_readable : {a b : Store} → ActsOften a b → b.is_readable ≡ a.is_readable
+often_readable NoAction = refl
+often_readable (OneAction o r) = often_readable r ∙ ap (λ (s : Store). s.is_readable) o.is
+
+-- a clear that removed so many keys so far
+pub record IsClearing {P M : Type 0} (store : P → Store) (meant : M → Merge) (old : DbValue P M) (tree : Tree) (mid : DbValue P M) : Type 0 where
+  pub parts : ℕ
+  pub maps : List Maps
+  pub removes : (slots : ℕ → Option Flying) (given : ℕ) → RemovesLeast tree (state_of store meant old slots given) parts (state_of store meant mid slots given) maps
+  pub conducts : Conducts store maps None old mid
+  -- it did nothing yet, or the tests let it pass
+  pub tested : (mid ≡ old) ⊎ (must_refuse_of (db_state store meant old) (tree ∷ []) ≡ None)
+
+module _ {P M : Type 0} (store : P → Store) (meant : M → Merge) (old : DbValue P M) (tree : Tree) where
+  pub clearing_first : IsClearing store meant old tree old
+  clearing_first = record { parts = 0; maps = []; removes = λ slots given. RemovesNone; conducts = conducts_none store meant old; tested = inl refl }
+
+  module _ (mid : DbValue P M) (k : IsClearing store meant old tree mid) where
+    passed : must_refuse_of (db_state store meant mid) (tree ∷ []) ≡ None → must_refuse_of (db_state store meant old) (tree ∷ []) ≡ None
+    passed now_passed = elim k.tested [
+      | inl same ↦ subst (λ (z : DbValue P M). must_refuse_of (db_state store meant z) (tree ∷ []) ≡ None) same now_passed
+      | inr before ↦ before
+    ]
+
+    -- no pair is left
+    pub clearing_ends : (read : Option (Key × Key)) → read ≡ None → ReadsMap store meant mid tree (λ map. IsSuccessor Unbounded map read) → WholeDecided store meant old (Clear tree) Done mid
+    clearing_ends read e r = record {
+      maps = k.maps;
+      decides = λ slots given number. (
+        refl,
+        record {
+          free = first_alone (must_refuse_of (state_of store meant old slots given) (tree ∷ [])) ∙ passed r.tested;
+          parts = k.parts;
+          removes = k.removes slots given;
+          named = r.named;
+          there = r.there;
+          none = least_is r.named.map None (subst (λ z. IsSuccessor Unbounded r.named.map z) e r.told);
+        },
+      );
+      conducts = k.conducts;
+    }
+
+    -- the next part is refused
+    clearing_stops : IsDb store mid → (e : Error) (new : DbValue P M) → WholeRefused store meant mid (PopMin tree) e new → WholeRefused store meant old (Clear tree) e new
+    clearing_stops db e new w = record {
+      maps = k.maps;
+      refuses = λ slots given.
+          let r = w.refuses slots given in record {
+            parts = k.parts;
+            removes = subst (λ (s : State). RemovesLeast tree (state_of store meant old slots given) k.parts s k.maps) (sym r.1) (k.removes slots given);
+            may = as_clear (state_of store meant new slots given) (store old.pages) (store mid.pages) (store new.pages) tree e (often_faults k.conducts.acts) (often_readable k.conducts.acts)
+                (subst (λ (s : State). MayRefuse s (store mid.pages) (store new.pages) (ToCall (PopMin tree)) e) (sym r.1) r.0);
+          };
+      conducts = subst (λ m. Conducts store m (Some e) old new) (append-nil k.maps)
+          (conducts_then store meant k.maps [] (Some e) old mid new k.conducts db (subst (λ m. Conducts store m (Some e) mid new) (w.refuses (λ n. None) 0).2 w.conducts));
+    }
+
+    pub clearing_unread : IsDb store mid → (e : Error) → RefusesReading store meant mid tree once e → WholeRefused store meant old (Clear tree) e mid
+    clearing_unread db e r = clearing_stops db e mid (min_unread store meant mid tree e r)
+
+    module _ (pair : Key × Key) (read : Option (Key × Key)) (e : read ≡ Some pair) (r : ReadsMap store meant mid tree (λ map. IsSuccessor Unbounded map read)) where
+      pub clearing_untaken : IsDb store mid → (x : Error) (new : DbValue P M) → PointRefused store meant mid tree (Remove pair.0) x new → WholeRefused store meant old (Clear tree) x new
+      clearing_untaken db x new p = clearing_stops db x new (pop_untaken store meant mid tree IsLeast (PopMin tree) (min_is tree) pair (at_least store meant mid tree read (Some pair) e r) x new (record { told = inl p }))
+
+      -- a part is done
+      module _ (reply : Reply) (new : DbValue P M) (p : PointDecided store meant mid tree (Remove pair.0) reply new) where
+        abbrev named : NamedTree
+        named = p.decides.named
+
+        first : (rest : Map) × (named.map ≡ pair ∷ rest)
+        first = subst (λ (n : NamedTree). IsLeast n.map (Some pair)) (some_is (sym r.there ∙ p.decides.there)) (subst (λ z. IsLeast r.named.map z) e (least_is r.named.map read r.told))
+
+        state_now : (slots : ℕ → Option Flying) (given : ℕ) → state_of store meant new slots given ≡ decided_on (state_of store meant mid slots given) tree.name named (answer_of (Remove pair.0) named.map)
+        state_now slots given = ap (with_slots slots given) p.decides.is
+
+        pub clearing_more : IsDb store mid → IsClearing store meant old tree new
+        clearing_more db = record {
+          parts = suc k.parts;
+          maps = k.maps ++ maps_of (db_state store meant new) ∷ [];
+          removes = λ slots given. subst (λ (s : State). RemovesLeast tree (state_of store meant old slots given) (suc k.parts) s (k.maps ++ maps_of s ∷ [])) (sym (state_now slots given))
+              (removes_more tree k.parts (state_of store meant old slots given) (state_of store meant mid slots given) k.maps (k.removes slots given) named pair first.0 p.decides.there first.1);
+          conducts = conducts_then store meant k.maps (maps_of (db_state store meant new) ∷ []) None old mid new k.conducts db p.conducts;
+          tested = inr (passed r.tested);
+        }
+
+        -- and the tree has a pair less
+        pub clearing_smaller : size_of ((db_state store meant new).trees tree.name) < size_of ((db_state store meant mid).trees tree.name)
+        clearing_smaller = less (length (answer_of (Remove pair.0) named.map).map) (length first.0) (size_of ((db_state store meant new).trees tree.name)) (size_of ((db_state store meant mid).trees tree.name)) after before
+            (subst (λ (m : Map). length (answer_of (Remove pair.0) m).map < suc (length first.0)) (sym first.1) (shorter pair first.0))
+          where
+            after : size_of ((db_state store meant new).trees tree.name) ≡ length (answer_of (Remove pair.0) named.map).map
+            after = ap (λ (s : State). size_of (s.trees tree.name)) p.decides.is ∙ ap size_of (put_name_here (db_state store meant mid).trees tree.name (Some (record named { map = (answer_of (Remove pair.0) named.map).map })))
+
+            before : size_of ((db_state store meant mid).trees tree.name) ≡ suc (length first.0)
+            before = ap size_of p.decides.there ∙ ap length first.1
+
+            less : (a r x y : ℕ) → x ≡ a → y ≡ suc r → a < suc r → x < y
+            less a r x y e f h = omega arith

@@ -1,0 +1,20 @@
+use Rattle.sled.proofs.Popping.{min_none, min_found, min_unread, min_untaken, min_gives_up, min_gives_up_later}
+use Rattle.sled.proofs.db.Db.pop_min.Goals as goal
+
+pub returns-in-Ok-Some-clause-ok : goal.returns-in-Ok-Some-clause-ok
+returns-in-Ok-Some-clause-ok g c = min_found g.P.Pages.store g.M.MergeOperator.meant _ _ c.take_out.new.self _ _ c.in-Ok-Some.field-0-is c.take_out.result c.in-Ok-Some.ensures.ok c.take_out.ensures.ok
+
+pub returns-in-Ok-Some-clause-err : goal.returns-in-Ok-Some-clause-err
+returns-in-Ok-Some-clause-err g c = min_untaken g.P.Pages.store g.M.MergeOperator.meant _ _ c.take_out.new.self _ _ c.in-Ok-Some.field-0-is c.take_out.result c.in-Ok-Some.ensures.ok c.take_out.ensures.err
+
+pub returns-in-Ok-Some-clause-gives_up : goal.returns-in-Ok-Some-clause-gives_up
+returns-in-Ok-Some-clause-gives_up g c = min_gives_up_later g.P.Pages.store g.M.MergeOperator.meant _ _ c.take_out.new.self _ _ c.in-Ok-Some.field-0-is c.take_out.result c.in-Ok-Some.ensures.ok c.take_out.ensures.err
+
+pub returns-in-Ok-None-clause-ok : goal.returns-in-Ok-None-clause-ok
+returns-in-Ok-None-clause-ok g c = min_none g.P.Pages.store g.M.MergeOperator.meant _ _ c.audit.ensures _ c.in-Ok-None.field-0-is c.in-Ok-None.ensures.ok
+
+pub returns-in-Err-clause-err : goal.returns-in-Err-clause-err
+returns-in-Err-clause-err g c = min_unread g.P.Pages.store g.M.MergeOperator.meant _ _ _ c.in-Err.ensures.err
+
+pub returns-in-Err-clause-gives_up : goal.returns-in-Err-clause-gives_up
+returns-in-Err-clause-gives_up g c = min_gives_up g.P.Pages.store g.M.MergeOperator.meant _ _ _ c.in-Err.ensures.err

@@ -1,0 +1,40 @@
+-- What taking the pair at an end of a tree comes to, step by step, and when it is given up.
+use Rattle.std.specs.Prelude.{◌≡◌, ℕ, ◌≤◌, ◌⊎◌, List, length, Option, Some}
+use Rattle.sled_pages.specs.Order.{Key}
+use Rattle.sled_pages.specs.Store.{Store, now}
+use Rattle.sled_pages.specs.declared.error.Error.{Error}
+use Rattle.sled_pages.specs.declared.error.Error.TheVariants.{NoMemory}
+use Rattle.sled_model.specs.Maps.{Map, Merge}
+use Rattle.sled_model.specs.State.{NamedTree}
+use Rattle.sled_model.specs.Refusal.{TellsTurns, turns_limit}
+use Rattle.sled_model.specs.declared.call.Call.TheVariants.{Remove}
+use Rattle.sled_model.specs.declared.reply.Reply.{Reply}
+use Rattle.sled_model.specs.declared.tree.Tree.{Tree}
+use Rattle.tree_laws.specs.Paths.{IsClean, tree_pages}
+use Rattle.tree_reads.specs.declared.TheConstants.{MOST_PAGES}
+use Rattle.sled.specs.Values.{DbValue, db_state}
+use Rattle.sled.specs.Direct.{PointDecided, PointRefused}
+
+module _ {P M : Type 0} (store : P → Store) (meant : M → Merge) (old : DbValue P M) (tree : Tree) where
+  -- the pair was taken out, and is the answer
+  pub record TakesOut (pair : Key × Key) (found : Option (Key × Key)) (new : DbValue P M) : Type 0 where
+    pub answers : found ≡ Some pair
+    pub reply : Reply
+    pub decided : PointDecided store meant old tree (Remove pair.0) reply new
+
+  -- its removal was refused, or there was no memory for a copy of its key
+  pub record RefusesToTake (pair : Key × Key) (e : Error) (new : DbValue P M) : Type 0 where
+    pub told : PointRefused store meant old tree (Remove pair.0) e new ⊎ ((e ≡ NoMemory) × (new ≡ old))
+
+  -- the way to the key of the pair at this end is not clean, or it has as many levels as a call has turns
+  pub record IsLongWay (is_end : Map → Option (Key × Key) → Type 0) : Type 0 where
+    pub named : NamedTree
+    pub there : (db_state store meant old).trees tree.name ≡ Some named
+    pub pair : Key × Key
+    pub ends : is_end named.map (Some pair)
+    pub long : (path : List ℕ) → IsClean (now (store old.pages)) tree.name pair.0 path → turns_limit ≤ length path
+
+  -- A pop is told that its turns were used up only where the tree has so many pages that this function of their number comes to the
+  -- limit of a read, or where there was something to repair on the way to the key, or the way has so many levels
+  pub record GivesUpPop (is_end : Map → Option (Key × Key) → Type 0) (of : ℕ → ℕ) (e : Error) : Type 0 where
+    pub told : TellsTurns e → (MOST_PAGES ≤ of (tree_pages (now (store old.pages)) tree.name)) ⊎ IsLongWay is_end

@@ -1,0 +1,93 @@
+//! Whole calls, which take pairs out of a tree.
+ghost use Rattle.std.specs.Prelude.{◌≡◌, IfOk, IfErr, OnOk};
+ghost use Rattle.sled_model.specs.Maps.{IsLeast, IsGreatest};
+ghost use Rattle.sled_model.specs.declared.call.Whole.TheVariants.{PopMin, PopMax, Clear};
+ghost use Rattle.sled_model.specs.declared.reply.Reply.TheVariants.{Pair, Done};
+ghost use Rattle.tree_reads.specs.Walk.{once, for_each};
+
+use crate::db::Db;
+use sled_model::{Call, MergeOperator, Tree};
+use sled_pages::{IVec, Pages, Result};
+
+impl<P: Pages, M: MergeOperator> Db<P, M> {
+    ghost use Rattle.sled.specs.Direct.{WholeDecided, WholeRefused};
+    ghost use Rattle.sled.specs.Pops.{TakesOut, RefusesToTake, GivesUpPop};
+
+    // Takes out a pair that was read just now.
+    fn take_out(&mut self, tree: &Tree, pair: (IVec, IVec)) -> Result<Option<(IVec, IVec)>>
+        ensures ok { IfOk result (λ found. TakesOut P.store M.meant self.old tree.now pair found self.new) }
+        ensures err { IfErr result (λ e. RefusesToTake P.store M.meant self.old tree.now pair e self.new) }
+    {
+        let key = match pair.0.clone() {
+            Ok(key) => key,
+            Err(e) => {
+                drop(pair);
+                return Err(e);
+            }
+        };
+        match self.point(tree, Call::Remove(key)) {
+            Ok(reply) => {
+                drop(reply);
+                Ok(Some(pair))
+            }
+            Err(e) => {
+                drop(pair);
+                Err(e)
+            }
+        }
+    }
+
+    /// Takes out the pair with the least key, and answers it; or `None`, where the tree is empty. The pair is read without a repair,
+    /// and then removed by the steps of `remove`.
+    pub fn pop_min(&mut self, tree: &Tree) -> Result<Option<(IVec, IVec)>>
+        ensures ok { IfOk result (λ found. WholeDecided P.store M.meant self.old (PopMin tree.now) (Pair found) self.new) }
+        ensures err { IfErr result (λ e. WholeRefused P.store M.meant self.old (PopMin tree.now) e self.new) }
+        ensures gives_up { IfErr result (GivesUpPop P.store M.meant self.old tree.now IsLeast once) }
+    {
+        match self.first(tree) {
+            Ok(Some(pair)) => self.take_out(tree, pair),
+            Ok(None) => {
+                self.audit();
+                Ok(None)
+            }
+            Err(e) => Err(e),
+        }
+    }
+
+    /// Takes out the pair with the greatest key, and answers it; or `None`, where the tree is empty.
+    pub fn pop_max(&mut self, tree: &Tree) -> Result<Option<(IVec, IVec)>>
+        ensures ok { IfOk result (λ found. WholeDecided P.store M.meant self.old (PopMax tree.now) (Pair found) self.new) }
+        ensures err { IfErr result (λ e. WholeRefused P.store M.meant self.old (PopMax tree.now) e self.new) }
+        ensures gives_up { IfErr result (GivesUpPop P.store M.meant self.old tree.now IsGreatest for_each) }
+    {
+        match self.last(tree) {
+            Ok(Some(pair)) => self.take_out(tree, pair),
+            Ok(None) => {
+                self.audit();
+                Ok(None)
+            }
+            Err(e) => Err(e),
+        }
+    }
+
+    /// Takes out all keys, one after the other from the least up, each as `pop_min` does. It is not atomic: refused midway, the
+    /// keys that are out stay out.
+    pub fn clear(&mut self, tree: &Tree) -> Result<()>
+        ensures ok { OnOk result (WholeDecided P.store M.meant self.old (Clear tree.now) Done self.new) }
+        ensures err { IfErr result (λ e. WholeRefused P.store M.meant self.old (Clear tree.now) e self.new) }
+    {
+        'parts: loop {
+            self.audit();
+            let (key, value) = match self.first(tree) {
+                Ok(Some(pair)) => pair,
+                Ok(None) => return Ok(()),
+                Err(e) => return Err(e),
+            };
+            drop(value);
+            match self.point(tree, Call::Remove(key)) {
+                Ok(reply) => drop(reply),
+                Err(e) => return Err(e),
+            }
+        }
+    }
+}
