@@ -9,3 +9,4 @@ pub mod Opening
 pub mod Reopening
 pub mod Reading
 pub mod Scanning
+pub mod Popping

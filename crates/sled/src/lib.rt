@@ -14,6 +14,7 @@ mod export;
 mod memory;
 mod open;
 mod read;
+mod whole;
 
 pub use db::Db;
 pub use direct::CompareAndSwapResult;
