@@ -475,7 +475,8 @@ step N; finish N; abandon N; turns N; flush; crash N; dump; new; new refuse N ..
 reopen unreadable PID ..; reopen mark N; recover; recover refuse N ..; recovered; pages; crowd SEED CALLS; run STEP, ..
 reads; load N MOST ALL; find N PAGES; overtake N COUNT; handle DATABASE NAME N; help; quit
 has K; read K; lt K; gt K; first; last; len; empty; range LO HI; range-back LO HI; range-ends LO HI
-keys LO HI; keys-back LO HI; values LO HI; values-back LO HI"""
+keys LO HI; keys-back LO HI; values LO HI; values-back LO HI
+owned insert K V; owned set K V; owned remove K; owned del K; owned cas K OLD NEW; owned flush"""
 FORMS = [form.split(' ') for form in re.split('; |\n', FORMS)]
 POINT = ('insert', 'get', 'remove', 'cas')
 LOOKS = ('has', 'read', 'lt', 'gt', 'first', 'last', 'len', 'empty', 'range', 'keys', 'values')
@@ -541,6 +542,11 @@ def some_keys(count):
         yield number.to_bytes(8, 'big')
 
 
+def in_line(words):
+    """The line of a machine that answers as a call of the database itself."""
+    return ({'set': 'insert', 'del': 'remove'}.get(words[0], words[0]),) + tuple(words[1:])
+
+
 class Shell:
     """Runs lines, one after the other, over a store of its own."""
 
@@ -589,6 +595,9 @@ class Shell:
         if name == 'handle':
             self.handle = words
             return ['done']
+        if name == 'owned':
+            self.slots, self.begun = {}, 0
+            return self.do(*in_line(words))
         if name.partition('-')[0] in POINT + LOOKS + ('begin',) and self.handle != HANDLE:
             raise Refused(2 if self.handle[0] != HANDLE[0] else 1)
         if name in POINT:

@@ -49,6 +49,15 @@ impl<P: Pages, M: MergeOperator> Session<P, M> {
         }
     }
 
+    /// A session over a database, where this tree is current.
+    pub fn with_tree(alloc: Global, db: Db<P, M>, tree: Tree) -> Session<P, M> {
+        Session {
+            machine: Machine::new(db),
+            tree,
+            slots: Vec::new(alloc),
+        }
+    }
+
     /// The database.
     pub fn db(&self) -> &Db<P, M> {
         self.machine.db()
@@ -65,16 +74,22 @@ impl<P: Pages, M: MergeOperator> Session<P, M> {
         drop(old);
     }
 
-    /// The database. The calls in flight are given up.
-    pub fn into_db(self) -> Db<P, M> {
+    /// The database and the current tree. The calls in flight are given up.
+    pub fn into_parts(self) -> (Db<P, M>, Tree) {
         let Session {
             machine,
             tree,
             slots,
         } = self;
         drop(slots);
+        (machine.into_db(), tree)
+    }
+
+    /// The database. The calls in flight are given up.
+    pub fn into_db(self) -> Db<P, M> {
+        let (db, tree) = self.into_parts();
         drop(tree);
-        machine.into_db()
+        db
     }
 
     /// How often the call of this number went on so far, if it is in flight.

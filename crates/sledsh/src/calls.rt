@@ -272,8 +272,8 @@ pub fn run_steps(
     done
 }
 
-// The byte string of a word.
-fn bytes_of(alloc: Global, word: &[u8]) -> Result<IVec> {
+/// The byte string of a word.
+pub fn bytes_of(alloc: Global, word: &[u8]) -> Result<IVec> {
     match answered(read_word(alloc, word))? {
         Some(bytes) => Ok(bytes),
         None => Err(Stopped),

@@ -2,6 +2,7 @@
 
 use crate::calls::tell;
 use crate::look::{Look, Side, read_bound};
+use crate::owned::Owned;
 use sled_lines::command::{self, parse};
 use sled_lines::input::Stopped;
 use sled_lines::print::Piece::Text;
@@ -34,6 +35,8 @@ pub enum Verb {
     Handle,
     /// A read that takes no slot.
     Look(Look),
+    /// A call of the database itself.
+    Owned(Owned),
     Help,
     Quit,
 }
@@ -43,7 +46,7 @@ type Form = (&'static str, &'static str, Verb, &'static str);
 
 // What a command takes has words of its own: K, V, OLD, NEW, DATABASE and NAME are byte strings, LO and HI bounds, STEP a step of a
 // call in flight, and the others numbers; `..` stands for more of the word before it.
-const FORMS: [Form; 49] = [
+const FORMS: [Form; 55] = [
     (
         "insert",
         "K V",
@@ -290,6 +293,42 @@ const FORMS: [Form; 49] = [
         "LO HI",
         Verb::Look(Look::Values(Side::Back)),
         "prints them from the back",
+    ),
+    (
+        "owned insert",
+        "K V",
+        Verb::Owned(Owned::Insert),
+        "the same as without `owned`, by a call of the database itself; slots end, as at all of these",
+    ),
+    (
+        "owned set",
+        "K V",
+        Verb::Owned(Owned::Set),
+        "another name of that insert",
+    ),
+    (
+        "owned remove",
+        "K",
+        Verb::Owned(Owned::Remove),
+        "takes a key out, and prints the value that stood there",
+    ),
+    (
+        "owned del",
+        "K",
+        Verb::Owned(Owned::Del),
+        "another name of that removal",
+    ),
+    (
+        "owned cas",
+        "K OLD NEW",
+        Verb::Owned(Owned::Cas),
+        "sets the value at a key to NEW where it is OLD; - is no value",
+    ),
+    (
+        "owned flush",
+        "",
+        Verb::Owned(Owned::Flush),
+        "makes all durable",
     ),
     ("help", "", Verb::Help, "prints these lines"),
     ("quit", "", Verb::Quit, "ends"),

@@ -8,6 +8,7 @@ mod crowd;
 mod forms;
 mod levels;
 mod look;
+mod owned;
 mod plain;
 mod shell;
 mod store;

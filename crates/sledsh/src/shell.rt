@@ -6,6 +6,7 @@ use crate::crowd::run_calls;
 use crate::forms::{Command, Verb, push_help, read};
 use crate::levels::tell_levels;
 use crate::look::{Look, tell_look};
+use crate::owned::{Owned, tell_owned};
 use crate::store::Kept;
 use line_files::Program;
 use sled::{DEFAULT_TREE, Db};
@@ -212,6 +213,35 @@ impl<'a> Shell<'a> {
         )
     }
 
+    // Makes a call of the database itself, with the words behind its own.
+    fn make_owned(
+        &mut self,
+        session: Session<Counting<'a>>,
+        owned: Owned,
+    ) -> (Session<Counting<'a>>, Result<(), Stopped>) {
+        let line = first_word(without_end(self.line.as_slice())).1;
+        let words = first_word(line.unwrap_or(b"")).1.unwrap_or(b"");
+        tell_owned(self.alloc, session, owned, words, &mut self.out)
+    }
+
+    // Answers a command that is a call of the database itself.
+    fn owned(&mut self, state: &mut State<'a>, owned: Owned) -> Result<(), Stopped> {
+        let shut = State::Shut(Kept::empty(self.alloc));
+        let (next, told) = match std::mem::replace(state, shut) {
+            State::Open(session) => {
+                let (session, told) = self.make_owned(session, owned);
+                (State::Open(session), told)
+            }
+            State::Shut(kept) => (
+                State::Shut(kept),
+                tell_refused(&mut self.out, Error::Closed),
+            ),
+        };
+        let shut = std::mem::replace(state, next);
+        drop(shut);
+        told
+    }
+
     // Answers a command that asks a database.
     fn ask(&mut self, state: &mut State<'a>, verb: Verb, numbers: [u64; 3]) -> Result<(), Stopped> {
         match (state, verb) {
@@ -251,6 +281,7 @@ impl<'a> Shell<'a> {
             | Verb::Overtake
             | Verb::Handle
             | Verb::Look(_) => self.ask(state, verb, numbers),
+            Verb::Owned(owned) => self.owned(state, owned),
             Verb::Pages if is_shut => tell_refused(&mut self.out, Error::Closed),
             Verb::Mark if numbers[0] < self.mark => self.tell_below(numbers[0]),
             Verb::Crowd => run_calls(self.alloc, numbers[0], numbers[1], &mut self.out),

@@ -1,0 +1,189 @@
+//! Calls of the database itself, with no machine round it.
+
+use crate::calls::{Result, bytes_of, tell, tell_outcome, tell_refused};
+use crate::counting::Counting;
+use sled::{CompareAndSwapResult, Db};
+use sled_lines::input::Stopped;
+use sled_lines::print::Piece::{Number, Text, Word};
+use sled_lines::session::Session;
+use sled_lines::words::{first_word, read_value};
+use sled_model::{Outcome, Reply, Tree};
+use sled_pages::IVec;
+use std::alloc::Global;
+
+// What a call of a database answers.
+type Answer<T> = sled_pages::Result<T>;
+
+/// Which call it is.
+#[derive(Clone, Copy)]
+pub enum Owned {
+    Insert,
+    Set,
+    Remove,
+    Del,
+    Cas,
+    Flush,
+}
+
+fn tell_old(out: &mut Vec<u8>, stood: Answer<Option<IVec>>) -> Result<()> {
+    match stood {
+        Ok(Some(value)) => {
+            let told = tell(out, &[Text(b"old "), Word(value.as_ref()), Text(b"\n")]);
+            drop(value);
+            told
+        }
+        Ok(None) => tell(out, &[Text(b"old -\n")]),
+        Err(e) => tell_refused(out, e),
+    }
+}
+
+fn tell_swap(out: &mut Vec<u8>, swapped: CompareAndSwapResult) -> Result<()> {
+    match swapped {
+        Ok(swapped) => {
+            let outcome = Outcome::Decided(Reply::Swapped(swapped));
+            let told = tell_outcome(out, &outcome);
+            drop(outcome);
+            told
+        }
+        Err(e) => tell_refused(out, e),
+    }
+}
+
+fn tell_flushed(out: &mut Vec<u8>, count: Answer<usize>) -> Result<()> {
+    match count {
+        Ok(count) => tell(out, &[Text(b"flushed "), Number(count as u64), Text(b"\n")]),
+        Err(e) => tell_refused(out, e),
+    }
+}
+
+// The value that a word is, or none.
+fn value_of(alloc: Global, word: &[u8]) -> Result<Option<IVec>> {
+    match read_value(alloc, word) {
+        Ok(Some(value)) => Ok(value),
+        Ok(None) => Err(Stopped),
+        Err(e) => {
+            drop(e);
+            Err(Stopped)
+        }
+    }
+}
+
+// A value, lent.
+fn lend(value: &Option<IVec>) -> Option<&[u8]> {
+    match value {
+        Some(value) => Some(value.as_ref()),
+        None => None,
+    }
+}
+
+fn insert(
+    alloc: Global,
+    db: &mut Db<Counting<'_>>,
+    tree: &Tree,
+    owned: Owned,
+    words: &[u8],
+    out: &mut Vec<u8>,
+) -> Result<()> {
+    let (key, value) = first_word(words);
+    let key = bytes_of(alloc, key)?;
+    let value = match bytes_of(alloc, value.unwrap_or(b"")) {
+        Ok(value) => value,
+        Err(stopped) => {
+            drop(key);
+            return Err(stopped);
+        }
+    };
+    let stood = match owned {
+        Owned::Set => db.set(tree, key.as_ref(), value.as_ref()),
+        _ => db.insert(tree, key.as_ref(), value.as_ref()),
+    };
+    drop(key);
+    drop(value);
+    tell_old(out, stood)
+}
+
+fn remove(
+    alloc: Global,
+    db: &mut Db<Counting<'_>>,
+    tree: &Tree,
+    owned: Owned,
+    word: &[u8],
+    out: &mut Vec<u8>,
+) -> Result<()> {
+    let key = bytes_of(alloc, word)?;
+    let stood = match owned {
+        Owned::Del => db.del(tree, key.as_ref()),
+        _ => db.remove(tree, key.as_ref()),
+    };
+    drop(key);
+    tell_old(out, stood)
+}
+
+// A swap at a key.
+fn swap_at(
+    alloc: Global,
+    db: &mut Db<Counting<'_>>,
+    tree: &Tree,
+    key: &[u8],
+    values: &[u8],
+    out: &mut Vec<u8>,
+) -> Result<()> {
+    let (old, new) = first_word(values);
+    let old = value_of(alloc, old)?;
+    let new = match value_of(alloc, new.unwrap_or(b"")) {
+        Ok(new) => new,
+        Err(stopped) => {
+            drop(old);
+            return Err(stopped);
+        }
+    };
+    let swapped = db.compare_and_swap(tree, key, lend(&old), lend(&new));
+    drop(old);
+    drop(new);
+    tell_swap(out, swapped)
+}
+
+fn swap(
+    alloc: Global,
+    db: &mut Db<Counting<'_>>,
+    tree: &Tree,
+    words: &[u8],
+    out: &mut Vec<u8>,
+) -> Result<()> {
+    let (key, values) = first_word(words);
+    let key = bytes_of(alloc, key)?;
+    let told = swap_at(alloc, db, tree, key.as_ref(), values.unwrap_or(b""), out);
+    drop(key);
+    told
+}
+
+// Makes a call with the words that its line has, and adds what it answers.
+fn make(
+    alloc: Global,
+    db: &mut Db<Counting<'_>>,
+    tree: &Tree,
+    owned: Owned,
+    words: &[u8],
+    out: &mut Vec<u8>,
+) -> Result<()> {
+    match owned {
+        Owned::Insert | Owned::Set => insert(alloc, db, tree, owned, words, out),
+        Owned::Remove | Owned::Del => remove(alloc, db, tree, owned, words, out),
+        Owned::Cas => swap(alloc, db, tree, words, out),
+        Owned::Flush => tell_flushed(out, db.flush()),
+    }
+}
+
+/// Takes a session apart, makes a call of its database, adds what it answers, and makes a session again, where the same tree
+/// is current. The calls in flight are given up.
+pub fn tell_owned<'a>(
+    alloc: Global,
+    session: Session<Counting<'a>>,
+    owned: Owned,
+    words: &[u8],
+    out: &mut Vec<u8>,
+) -> (Session<Counting<'a>>, Result<()>) {
+    let (mut db, tree) = session.into_parts();
+    let told = make(alloc, &mut db, &tree, owned, words, out);
+    (Session::with_tree(alloc, db, tree), told)
+}
