@@ -88,3 +88,9 @@ cell_holds cs n i x y h e f =
     let here : Some x ≡ Some (n, Some h.item) = sym (read_at cs i x (slice_get_within cs i (n, Some h.item) h.is) e) ∙ h.is in
     let item : Some h.item ≡ Some y = sym (ap (λ p. p.1) (some_is here)) ∙ f in
     (h.is ∙ ap (λ o. Some (n, o)) item, ap (λ p. p.0) (some_is here))
+
+-- .. and is not empty
+pub cell_full : {X : Type 0} (cs : List (ℕ × Option X)) (n i : ℕ) (x : ℕ × Option X) → HoldsAt cs n i → x ≡ get_or cs i x → x.1 ≡ None → ⊥
+cell_full cs n i x h e f =
+    let here : Some x ≡ Some (n, Some h.item) = sym (read_at cs i x (slice_get_within cs i (n, Some h.item) h.is) e) ∙ h.is in
+    none_some (sym f ∙ ap (λ p. p.1) (some_is here))

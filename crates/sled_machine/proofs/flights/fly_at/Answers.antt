@@ -1,6 +1,12 @@
 use Rattle.std.proofs.Common.{Some, ap, slice_set}
-use Rattle.sled_machine.proofs.Steps.{cell_holds}
+use Rattle.sled_machine.proofs.Steps.{cell_holds, cell_full}
 use Rattle.sled_machine.proofs.flights.fly_at.Goals as goal
+
+pub fly-requires-after_bounds : goal.fly-requires-after_bounds
+fly-requires-after_bounds g c κs within = c.requires.known c.in-Some.flight (cell_holds c.args.table.now.cells.items c.args.slot c.args.i c.index_mut.result.now c.in-Some.flight c.requires.holds c.index_mut.ensures.value c.in-Some.is).0
+
+pub unreachable-requires : goal.unreachable-requires
+unreachable-requires g c = cell_full c.args.table.now.cells.items c.args.slot c.args.i c.index_mut.result.now c.requires.holds c.index_mut.ensures.value c.in-None.is
 
 pub returns : goal.returns
 returns g c =
