@@ -1,0 +1,9 @@
+use Rattle.std.proofs.Common.{length}
+use Rattle.examples.proofs.Entries.{Goes}
+use Rattle.examples.proofs.index.all_of.Given as goal
+
+abbrev pub invariant-loop-entry : goal.invariant-loop-entry
+invariant-loop-entry g l = Goes l.fn.entries.pairs l.found.items l.entries
+
+abbrev pub decreases-loop-entry : goal.decreases-loop-entry
+decreases-loop-entry g l = length l.entries.pairs
