@@ -1,5 +1,5 @@
 -- What the steps of a call in flight do to the maps.
-use Rattle.std.proofs.Common.{◌≡◌, ◌≢◌, ℕ, zero, suc, ◌+◌, Bool, true, false, cond, nat_eq, List, [], ◌∷◌, Option, Some, None, option_map, map, sym, refl, ap, ◌∙◌, subst, inl, inr, ◌⊎◌, arith}
+use Rattle.std.proofs.Common.{◌≡◌, ◌≢◌, ℕ, zero, suc, ◌+◌, Bool, true, false, cond, nat_eq, List, [], ◌∷◌, Option, Some, None, option_map, map, Result, IfOk, sym, refl, ap, ◌∙◌, subst, inl, inr, ◌⊎◌, arith}
 use Rattle.std.proofs.Math.Path.{fun_ext}
 use Rattle.std.proofs.lemmas.Bool.{eq-eqb, eqb-true}
 use Rattle.std.specs.Str.{bytes_eq}
@@ -7,6 +7,7 @@ use Rattle.std.specs.declared.ops.Bound.TheVariants.{Included}
 use Rattle.sled_pages.specs.Order.{Key}
 use Rattle.sled_pages.specs.Update.{put_at, put_name}
 use Rattle.sled_pages.specs.Facts.{same_name, put_here, put_elsewhere, put_name_here, put_name_elsewhere}
+use Rattle.sled_pages.specs.State.{State as PageState}
 use Rattle.sled_pages.specs.Store.{Store, now}
 use Rattle.sled_pages.specs.Crash.{states_left}
 use Rattle.tree_laws.specs.Contents.{trees_of}
@@ -121,6 +122,10 @@ step_means old new at outcome.Abandoned maps slot tree call s m = absurd s.told
 -- the maps of these trees
 abbrev maps_at : (Key → Option NamedTree) → Maps
 maps_at trees name = option_map (λ (t : NamedTree). t.map) (trees name)
+
+-- what is said of a tree of one page is said of its name
+pub prompt_named : (s : PageState) (a b : Key) (r : Result Outcome Error) → a ≡ b → IfOk r (λ got. IsOnePage s a → HasTurns got) → IfOk r (λ got. IsOnePage s b → HasTurns got)
+prompt_named s a b r e h = subst (λ n. IfOk r (λ got. IsOnePage s n → HasTurns got)) e h
 
 -- an insert that was decided changes one value
 insert_puts : (old new : Trees) (tree : Tree) (key value : Key) (reply : Reply) → Answered old new tree (Insert key value) reply → PutsOne (maps_at old) (maps_at new) tree.name key value
