@@ -11,6 +11,7 @@ use Rattle.sled_model.specs.declared.outcome.Step.{Step}
 use Rattle.sled_model.specs.declared.outcome.Outcome.{Outcome}
 use Rattle.tree_laws.specs.Contents.{trees_of}
 use Rattle.sled.specs.Opens.{Opens}
+use Rattle.sled.specs.Sound.{IsDb}
 use Rattle.sled.specs.Values.{DbValue, named, numbers_of}
 use Rattle.sled_machine.specs.CrashMaps.{Leaves, kept_after}
 use Rattle.sled_machine.specs.Run.{RunsKeeping, KeepsAll, KeepsMore}
@@ -54,11 +55,19 @@ module _ {P M : Type 0} (store : P → Store) (number : P → ℕ) (meant : M �
     flush_number = number m.db.pages;
   }
 
+  -- what holds of a database holds of it whatever its operators are
+  plain_sound : (d : DbValue P M) → IsDb store d → IsDb store (plain d)
+  plain_sound d s = record { forest = s.forest; is = s.is; sized = s.sized; safe = s.safe; ascends = s.ascends; default = s.default; unwatched = s.unwatched }
+
+  meant_sound : (d : DbValue P M) → IsDb store (plain d) → IsDb store d
+  meant_sound d s = record { forest = s.forest; is = s.is; sized = s.sized; safe = s.safe; ascends = s.ascends; default = s.default; unwatched = s.unwatched }
+
   plain_step : (a b : MachineValue P M) (s : Step) (o : Outcome) → (r : MachineStep store number meant a s o b) → MachineStep store number (λ m. m) (plain_machine a) s o (plain_machine b)
   plain_step a b s o r = record {
     maps = r.maps;
     step = subst (λ (x : Instant). Steps x s o (instant_of store number (λ m. m) (plain_machine b)) r.maps) (sym (same_instant a)) (subst (λ (y : Instant). Steps (instant_of store number meant a) s o y r.maps) (sym (same_instant b)) r.step);
     keeps = λ kept l. subst (λ (y : Instant). Leaves (store b.db.pages) (kept_after s o r.maps (maps_of y.state) kept)) (sym (same_instant b)) (r.keeps kept l);
+    sound = λ d. plain_sound b.db (r.sound (meant_sound a.db d));
   }
 
   pub plain_run : (a b : MachineValue P M) (kept : List Maps) (ss : List Step) (os : List Outcome) (last : List Maps) → RunsKeeping store number meant a kept ss os b last → RunsKeeping store number (λ m. m) (plain_machine a) kept ss os (plain_machine b) last
@@ -77,6 +86,7 @@ module _ {P M : Type 0} (store : P → Store) (number : P → ℕ) (meant : M �
     flushes = o.flushes;
     left = o.left;
     maps = o.maps;
+    fresh = o.fresh;
     names = o.names;
     numbers = o.numbers;
     ascends = o.ascends;

@@ -30,6 +30,7 @@ use Rattle.sled_tree.proofs.Known.{known_new}
 use Rattle.tree_laws.specs.declared.flight.Stage.TheVariants.{Root}
 use Rattle.sled_tree.specs.declared.flight.Went.{Went}
 use Rattle.sled_tree.specs.declared.flight.Went.TheVariants.{Moved, Decided, Refused}
+use Rattle.sled.specs.Sound.{IsDb}
 use Rattle.sled.specs.Values.{DbValue, state_of, db_state, instant_of as instant_of_db, moment_of_db}
 use Rattle.sled.specs.Calls.{MustBeRefused, must_be_refused_as}
 use Rattle.sled_tree.specs.Known.{IsKnown, AreApart}
@@ -104,6 +105,7 @@ module _ {P M : Type 0} (store : P → Store) (number : P → ℕ) (meant : M �
     maps = [];
     step = told;
     keeps = λ kept l. subst (Leaves (store w.db.pages)) (sym (keeps kept)) (leaves_same (store w.db.pages) kept (subst (λ (d : DbValue P M). Leaves (store d.pages) kept) (sym same) l));
+    sound = λ d. subst (λ (z : DbValue P M). IsDb store z) (sym same) d;
   }
 
   -- no call has the slot
@@ -168,6 +170,7 @@ module _ {P M : Type 0} (store : P → Store) (number : P → ℕ) (meant : M �
         step = subst (λ z. Steps (instant_of store number meant v) (step.Step slot) (outcome_of went) (instant_of_db store meant db z v.slots_given (number db.pages)) (maps_added went (maps_of (db_state store meant db)))) (sym (slots_put v.flights gs slot kept are ∙ ap (put_at (slots_of v.flights) slot) is))
             (flies.step.steps (slots_of v.flights) v.slots_given slot (number v.db.pages) (number db.pages) (ap (option_map flying_of) there));
         keeps = λ before l. extended (maps_added went (maps_of (db_state store meant db))) (store v.db.pages) (store db.pages) flies.step.extends before l;
+        sound = flies.step.sound;
       };
       does = record { told = acts_flying went flies };
       follows = record {
@@ -347,6 +350,7 @@ module _ {P M : Type 0} (store : P → Store) (number : P → ℕ) (meant : M �
       maps = [];
       step = record { told = (f.free, ap Number f.told, stays_state store meant v.db db f.same (flushed_now f.is) (slots_of v.flights) v.slots_given, refl) };
       keeps = λ kept l. record { is = subst (λ z. Matches z (maps_of (db_state store meant db) ∷ [])) (sym (ap (map trees_of) f.left ∙ ap (λ z. z ∷ []) f.maps)) (matches_same _) };
+      sound = f.sound;
     };
     does = record { told = f.is };
     follows = record { told = tt };
@@ -365,6 +369,7 @@ module _ {P M : Type 0} (store : P → Store) (number : P → ℕ) (meant : M �
       maps = [];
       step = record { told = (f.may (slots_of v.flights) v.slots_given, stays_state store meant v.db db f.same (rests_now rests) (slots_of v.flights) v.slots_given, refl) };
       keeps = λ kept l. extended [] (store v.db.pages) (store db.pages) (rests_extends rests) kept l;
+      sound = f.sound;
     };
     does = record { told = f.is };
     follows = record { told = tt };

@@ -56,6 +56,7 @@ module _ {P M : Type 0} (store : P → Store) (number : P → ℕ) (meant : M �
       maps = d.maps;
       step = record { told = d.decides (slots_of v.flights) v.slots_given (number v.db.pages) };
       keeps = λ kept l. subst (Leaves (store db.pages)) (sym (kept_other (kind_of w) off d.maps (maps_of (instant_of store number meant (record v { db = db })).state) kept)) (extended d.maps (store v.db.pages) (store db.pages) d.conducts.extends kept l);
+      sound = d.conducts.sound;
     };
     does = record { told = acts_other (kind_of w) off reply (store v.db.pages) (store db.pages) d.conducts.acts };
     follows = record { told = tt };
@@ -71,6 +72,7 @@ module _ {P M : Type 0} (store : P → Store) (number : P → ℕ) (meant : M �
       maps = d.maps;
       step = record { told = d.refuses (slots_of v.flights) v.slots_given };
       keeps = λ kept l. extended d.maps (store v.db.pages) (store db.pages) d.conducts.extends kept l;
+      sound = d.conducts.sound;
     };
     does = record { told = stops_other (kind_of w) off e (store v.db.pages) (store db.pages) d.conducts.acts };
     follows = record { told = tt };

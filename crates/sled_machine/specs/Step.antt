@@ -22,6 +22,7 @@ use Rattle.sled_tree.specs.declared.flight.Aim.TheVariants.{OwnKey}
 use Rattle.sled_tree.specs.declared.flight.Flight.{Flight}
 use Rattle.tree_laws.specs.declared.flight.Stage.TheVariants.{Root}
 use Rattle.sled_tree.specs.declared.flight.Went.{Went}
+use Rattle.sled.specs.Sound.{IsDb}
 use Rattle.sled.specs.Values.{db_state, moment_of_db}
 use Rattle.sled.specs.Flights.{RefusesQuietly, LosesNone, outcome_of}
 use Rattle.sled.specs.Flush.{only_faults}
@@ -32,11 +33,12 @@ use Rattle.sled_machine.specs.Slots.{kept_at}
 use Rattle.sled_machine.specs.Values.{MachineValue, instant_of}
 
 -- One step of the machine is a step of the model, which adds these maps to those after each decided call; and whatever maps a crash
--- might leave before it, after it they are those that the step makes of them
+-- might leave before it, after it they are those that the step makes of them. The pages stay well formed, now and after every crash
 pub record MachineStep {P M : Type 0} (store : P → Store) (flush_number : P → ℕ) (meant : M → Merge) (old : MachineValue P M) (s : Step) (o : Outcome) (new : MachineValue P M) : Type 0 where
   pub maps : List Maps
   pub step : Steps (instant_of store flush_number meant old) s o (instant_of store flush_number meant new) maps
   pub keeps : (kept : List Maps) → Leaves (store old.db.pages) kept → Leaves (store new.db.pages) (kept_after s o maps (maps_of (instant_of store flush_number meant new).state) kept)
+  pub sound : IsDb store old.db → IsDb store new.db
 
 -- the call in the slot brings this event by the map now, or none
 pub record BringsAt (s : State) (slot : ℕ) (event : Option Event) : Type 0 where
