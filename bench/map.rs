@@ -1,14 +1,17 @@
 //! The twin of `crates/bench` over the ordered map of the standard library: the same words, calls, output and checksums.
 //!
 //!     map PAIRS CALLS SEED SHORTEST LONGEST FLUSH WORKLOAD..
+//!     map PAIRS CALLS SEED SHORTEST LONGEST FLUSH WORKLOAD.. direct WORKLOAD..
 //!     map lines
 //!
 //! With the word `lines` it is a twin of `sledrun`: it reads `insert`, `get` and `remove` lines of plain words, and `flush`.
 use std::collections::BTreeMap;
 use std::io::{self, BufRead, BufWriter, Write};
+use std::ops::Bound;
 
 const STARTS: u64 = 256;
 const CHOICES: u64 = 1 << 63;
+const RANGE: usize = 100;
 
 type Bytes = Box<[u8]>;
 
@@ -88,7 +91,19 @@ impl Bench {
         self.insert(if choice % 2 == 0 { place } else { other }, !turn)
     }
 
+    // So many pairs at most from a key on: how many there were, and a checksum of them.
+    fn taken(&self, from: &[u8], most: usize) -> (u64, u64) {
+        let pairs = self.map.range::<[u8], _>((Bound::Included(from), Bound::Unbounded));
+        pairs.take(most).fold((0, 0u64), |(count, sum), (key, value)| {
+            let pair = digest(Some(key)).wrapping_add(digest(Some(value)));
+            (count + 1, sum.rotate_left(1) ^ pair)
+        })
+    }
+
     fn run(&mut self, workload: &str) -> Option<(u64, u64)> {
+        if workload == "scan" {
+            return Some(self.taken(b"", usize::MAX));
+        }
         let calls = if workload == "load" {
             self.pairs
         } else {
@@ -99,6 +114,7 @@ impl Bench {
             "inserts" => |bench, turn| bench.insert(bench.pairs.wrapping_add(turn), turn),
             "removals" => |bench, turn| bench.remove(turn),
             "mix" => |bench, turn| bench.mixed(turn),
+            "ranges" => |bench, turn| bench.taken(&bench.key(bench.loaded(turn)), RANGE).1,
             "gets" | "slots" => |bench, turn| bench.get(bench.loaded(turn)),
             _ => return None,
         };
@@ -127,7 +143,8 @@ fn measure(words: &[String]) -> Option<()> {
             .map(|place| scattered(place).to_be_bytes()[0])
             .collect(),
     };
-    for workload in workloads {
+    // Direct or not is all one to the map.
+    for workload in workloads.iter().filter(|word| *word != "direct") {
         let start = clock();
         let (calls, sum) = bench.run(workload)?;
         let time = clock() - start;

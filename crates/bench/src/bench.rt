@@ -23,22 +23,19 @@ pub enum Workload {
     Removals,
     /// Gets of pairs that were loaded, which all begin before the first of them is ended.
     Slots,
-    /// Direct reads of pairs that were loaded.
-    Reads,
     /// All pairs, from the least key up, by an iterator.
     Scan,
     /// Ranges of a hundred pairs, each from a key that was loaded on.
     Ranges,
 }
 
-const WORKLOADS: [(&str, Workload); 9] = [
+const WORKLOADS: [(&str, Workload); 8] = [
     ("load", Workload::Load),
     ("gets", Workload::Gets),
     ("inserts", Workload::Inserts),
     ("mix", Workload::Mix),
     ("removals", Workload::Removals),
     ("slots", Workload::Slots),
-    ("reads", Workload::Reads),
     ("scan", Workload::Scan),
     ("ranges", Workload::Ranges),
 ];
@@ -56,10 +53,83 @@ pub fn named(name: &str) -> Result<Workload> {
     Err(Stopped)
 }
 
-/// A machine, and what is done with it.
+/// Who makes the calls.
+#[derive(Drop)]
+enum Client<M> {
+    /// A machine, step by step.
+    Stepped(Machine<MemPages, M>),
+    /// A database, each call at once.
+    Direct(Db<MemPages, M>),
+}
+
+impl<M: MergeOperator> Client<M> {
+    fn db(&self) -> &Db<MemPages, M> {
+        match self {
+            Client::Stepped(machine) => machine.db(),
+            Client::Direct(db) => db,
+        }
+    }
+
+    // A call from its begin to its end: what stands for its answer in a checksum.
+    fn call(&mut self, tree: &Tree, call: Call) -> Result<u64> {
+        match self {
+            Client::Stepped(machine) => {
+                let outcome = machine.complete(tree, call);
+                let digest = digest_of(&outcome);
+                drop(outcome);
+                digest
+            }
+            Client::Direct(db) => {
+                let digest = made(db, tree, &call);
+                drop(call);
+                digest
+            }
+        }
+    }
+
+    fn flush(&mut self) -> Result<()> {
+        match self {
+            Client::Stepped(machine) => {
+                let outcome = machine.whole(Whole::Flush);
+                let flushed = digest_of(&outcome);
+                drop(outcome);
+                flushed.map(|_| ())
+            }
+            Client::Direct(db) => match db.flush() {
+                Ok(_) => Ok(()),
+                Err(error) => Err(Stopped::from(error)),
+            },
+        }
+    }
+
+    fn begin(&mut self, tree: &Tree, call: Call) -> Result<Slot> {
+        match self {
+            Client::Stepped(machine) => Ok(machine.begin(tree, call)?),
+            Client::Direct(_) => {
+                drop(call);
+                Err(Stopped)
+            }
+        }
+    }
+
+    // Ends a call: what stands for its answer in a checksum.
+    fn end(&mut self, slot: Slot) -> Result<u64> {
+        match self {
+            Client::Stepped(machine) => {
+                let outcome = machine.finish(slot);
+                let digest = digest_of(&outcome);
+                drop(outcome);
+                digest
+            }
+            Client::Direct(_) => Err(Stopped),
+        }
+    }
+}
+
+/// A database, and what is done with it.
 #[derive(Drop)]
 pub struct Bench<M = Box<dyn MergeOperator + Send>> {
-    machine: Machine<MemPages, M>,
+    client: Client<M>,
     tree: Tree,
     pairs: Pairs,
     calls: u64,
@@ -69,6 +139,7 @@ pub struct Bench<M = Box<dyn MergeOperator + Send>> {
 }
 
 impl<M: MergeOperator> Bench<M> {
+    /// A machine makes the calls.
     pub fn over(db: Db<MemPages, M>, pairs: Pairs, calls: u64, flush: u64) -> Result<Bench<M>> {
         let tree = match db.default_tree() {
             Ok(tree) => tree,
@@ -79,13 +150,37 @@ impl<M: MergeOperator> Bench<M> {
             }
         };
         Ok(Bench {
-            machine: Machine::new(db),
+            client: Client::Stepped(Machine::new(db)),
             tree,
             pairs,
             calls,
             flush,
             changes: 0,
         })
+    }
+
+    /// The same, but that the database itself makes the calls.
+    pub fn into_direct(self) -> Bench<M> {
+        let Bench {
+            client,
+            tree,
+            pairs,
+            calls,
+            flush,
+            changes,
+        } = self;
+        let db = match client {
+            Client::Stepped(machine) => machine.into_db(),
+            Client::Direct(db) => db,
+        };
+        Bench {
+            client: Client::Direct(db),
+            tree,
+            pairs,
+            calls,
+            flush,
+            changes,
+        }
     }
 
     /// Runs a workload: how many calls it made, and a checksum of their answers.
@@ -115,7 +210,6 @@ impl<M: MergeOperator> Bench<M> {
             Workload::Inserts => self.insert(new, turn),
             Workload::Removals => self.remove(turn),
             Workload::Mix => self.mixed(turn),
-            Workload::Reads => self.read(loaded),
             Workload::Ranges => self.range(loaded),
             Workload::Gets | Workload::Slots | Workload::Scan => self.get(loaded),
         }
@@ -165,26 +259,18 @@ impl<M: MergeOperator> Bench<M> {
         Ok(digest)
     }
 
-    // A direct read of the value at a key.
-    fn read(&self, place: u64) -> Result<u64> {
-        let key = self.pairs.key(place)?;
-        let value = self.machine.db().get(&self.tree, key.as_ref())?;
-        drop(key);
-        Ok(digest(&value))
-    }
-
     // The first pairs from a key on, by an iterator.
     fn range(&self, place: u64) -> Result<u64> {
         let key = self.pairs.key(place)?;
         let lo = Bound::Included(key.as_ref());
-        let pairs = self.machine.db().range(&self.tree, lo, Bound::Unbounded)?;
+        let pairs = self.client.db().range(&self.tree, lo, Bound::Unbounded)?;
         let (_, sum) = taken(pairs, RANGE)?;
         Ok(sum)
     }
 
     // All pairs, by an iterator: how many there are, and a checksum of them.
     fn scan(&self) -> Result<(u64, u64)> {
-        let pairs = self.machine.db().iter(&self.tree)?;
+        let pairs = self.client.db().iter(&self.tree)?;
         taken(pairs, usize::MAX)
     }
 
@@ -195,32 +281,17 @@ impl<M: MergeOperator> Bench<M> {
             return Ok(());
         }
         self.changes = 0;
-        let outcome = self.machine.whole(Whole::Flush);
-        let flushed = digest_of(&outcome);
-        drop(outcome);
-        flushed.map(|_| ())
+        self.client.flush()
     }
 
-    // A call from its begin to its end.
     fn call(&mut self, call: Call) -> Result<u64> {
-        let outcome = self.machine.complete(&self.tree, call);
-        let digest = digest_of(&outcome);
-        drop(outcome);
-        digest
-    }
-
-    // Ends a call: what stands for its answer in a checksum.
-    fn end(&mut self, slot: Slot) -> Result<u64> {
-        let outcome = self.machine.finish(slot);
-        let digest = digest_of(&outcome);
-        drop(outcome);
-        digest
+        self.client.call(&self.tree, call)
     }
 
     fn begin_all(&mut self, slots: &mut Vec<Slot>) -> Result<()> {
         for turn in 0..self.calls {
             let key = self.pairs.key(self.loaded(turn))?;
-            slots.push(self.machine.begin(&self.tree, Call::Get(key))?)?;
+            slots.push(self.client.begin(&self.tree, Call::Get(key))?)?;
         }
         Ok(())
     }
@@ -228,7 +299,7 @@ impl<M: MergeOperator> Bench<M> {
     fn end_all(&mut self, slots: &[Slot]) -> Result<u64> {
         let mut sum = 0u64;
         for slot in slots {
-            sum = sum.rotate_left(1) ^ self.end(*slot)?;
+            sum = sum.rotate_left(1) ^ self.client.end(*slot)?;
         }
         Ok(sum)
     }
@@ -238,6 +309,24 @@ impl<M: MergeOperator> Bench<M> {
         let mut slots = Vec::new(self.pairs.alloc());
         self.begin_all(&mut slots)?;
         self.end_all(slots.as_slice())
+    }
+}
+
+// Makes a call on a database: what stands for its answer in a checksum.
+fn made<M: MergeOperator>(db: &mut Db<MemPages, M>, tree: &Tree, call: &Call) -> Result<u64> {
+    let answer = match call {
+        Call::Get(key) => db.get(tree, key.as_ref()),
+        Call::Insert(key, value) => db.insert(tree, key.as_ref(), value.as_ref()),
+        Call::Remove(key) => db.remove(tree, key.as_ref()),
+        Call::CompareAndSwap(..) => return Err(Stopped),
+    };
+    match answer {
+        Ok(value) => {
+            let digest = digest(&value);
+            drop(value);
+            Ok(digest)
+        }
+        Err(error) => Err(Stopped::from(error)),
     }
 }
 

@@ -1,9 +1,11 @@
 //! Measures calls on a database in memory, one kind of calls after the other.
 //!
 //!     bench PAIRS CALLS SEED SHORTEST LONGEST FLUSH WORKLOAD..
+//!     bench PAIRS CALLS SEED SHORTEST LONGEST FLUSH WORKLOAD.. direct WORKLOAD..
 //!
 //! The workloads are `load`, which inserts so many pairs, and `gets`, `inserts`, `mix`, `removals` and `slots`, each of so many
-//! calls. Keys are 8 bytes, and values SHORTEST to LONGEST bytes. After each FLUSH changes there is a flush, and none where that
+//! calls; `ranges`, so many ranges of a hundred pairs at most, and `scan`, which reads all pairs. A machine makes the calls, and
+//! after the word `direct` the database itself, which has no `slots`. Keys are 8 bytes, and values SHORTEST to LONGEST bytes. After each FLUSH changes there is a flush, and none where that
 //! is 0. Each workload prints its name, how many calls it made and a checksum of their answers; and on standard error its name
 //! and the processor time that it took, in microseconds. The status is 1 for other words, and where anything failed.
 #![tactic(auto)]
@@ -42,6 +44,17 @@ fn measure_all(rt: &HostRuntime, bench: &mut Bench, names: &[String]) -> Result<
     Ok(())
 }
 
+// The words before `direct`, and those after it.
+fn parts(names: &[String]) -> (&[String], &[String]) {
+    for (place, name) in names.iter().enumerate() {
+        if name.as_str() == "direct" {
+            let (before, from) = names.split_at(place);
+            return (before, from.get(1..).unwrap_or(&[]));
+        }
+    }
+    (names, &[])
+}
+
 fn numbers(words: &[String; 6]) -> Result<[u64; 6], Stopped> {
     let mut numbers = [0; 6];
     for (number, word) in numbers.iter_mut().zip(words) {
@@ -65,7 +78,12 @@ fn run_words(rt: &HostRuntime, words: &[String]) -> Result<(), Stopped> {
         }
     };
     let mut bench = Bench::over(db, pairs, calls, flush)?;
-    let measured = measure_all(rt, &mut bench, names);
+    let (stepped, direct) = parts(names);
+    let mut measured = measure_all(rt, &mut bench, stepped);
+    let mut bench = bench.into_direct();
+    if measured.is_ok() {
+        measured = measure_all(rt, &mut bench, direct);
+    }
     // The process ends now. To let the pairs go would count as instructions of the calls.
     std::mem::forget(bench);
     measured

@@ -30,6 +30,7 @@ use Rattle.sled_tree.specs.declared.flight.Flight.{Flight}
 use Rattle.sled_tree.specs.declared.flight.Went.{Went}
 use Rattle.sled_tree.specs.declared.flight.Went.TheVariants.{Decided, Refused}
 use Rattle.sled.specs.Values.{DbValue, db_state, state_of, instant_of, moment_of_db}
+use Rattle.sled.specs.Sound.{IsDb}
 use Rattle.sled.specs.Flights.{PagesLast, RefusesQuietly, FliesToEnd}
 
 -- any number of changing actions, one after the other
