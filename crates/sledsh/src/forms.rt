@@ -3,6 +3,7 @@
 use crate::calls::tell;
 use crate::look::{Look, Side, read_bound};
 use crate::owned::Owned;
+use crate::pops::Pop;
 use sled_lines::command::{self, parse};
 use sled_lines::input::Stopped;
 use sled_lines::print::Piece::Text;
@@ -35,6 +36,8 @@ pub enum Verb {
     Handle,
     /// A read that takes no slot.
     Look(Look),
+    /// A whole call that takes pairs out.
+    Pop(Pop),
     /// A call of the database itself.
     Owned(Owned),
     Help,
@@ -46,7 +49,7 @@ type Form = (&'static str, &'static str, Verb, &'static str);
 
 // What a command takes has words of its own: K, V, P, OLD, NEW, DATABASE and NAME are byte strings, LO and HI bounds, STEP a step of a
 // call in flight, and the others numbers; `..` stands for more of the word before it.
-const FORMS: [Form; 57] = [
+const FORMS: [Form; 60] = [
     (
         "insert",
         "K V",
@@ -305,6 +308,24 @@ const FORMS: [Form; 57] = [
         "LO HI",
         Verb::Look(Look::Values(Side::Back)),
         "prints them from the back",
+    ),
+    (
+        "pop-min",
+        "",
+        Verb::Pop(Pop::Min),
+        "takes the pair with the least key out, and prints it",
+    ),
+    (
+        "pop-max",
+        "",
+        Verb::Pop(Pop::Max),
+        "takes the pair with the greatest key out, and prints it",
+    ),
+    (
+        "clear",
+        "",
+        Verb::Pop(Pop::All),
+        "takes all keys out, from the least up",
     ),
     (
         "owned insert",
