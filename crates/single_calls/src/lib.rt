@@ -4,6 +4,8 @@
 
 mod database;
 mod machine;
+mod reads;
 
 pub use database::{check, close, decide, default_tree, export, flush, fly, fly_to_end, new_tree};
 pub use machine::{abandon, begin, complete, finish, new_machine, run, step, turns, whole};
+pub use reads::{contains_key, get_lt, len, range};
