@@ -3,9 +3,11 @@
 #![tactic(auto)]
 
 mod callers;
+mod index;
 mod streams;
 
 use callers::{is_read, survives};
+use index::finds_entries;
 use sled_lines::input::Stopped;
 use std::process::ExitCode;
 use streams::{CASES, served};
@@ -22,6 +24,10 @@ fn run(rt: &HostRuntime) -> Result<(), Stopped> {
     println!(rt;
         "a new database survives a crash: {}",
         answer(survives(rt.alloc())?)
+    )?;
+    println!(rt;
+        "the entries of an index under a number are found: {}",
+        answer(finds_entries(rt.alloc())?)
     )?;
     for case in &CASES {
         let (status, lines) = served(rt.alloc(), case)?;

@@ -1,5 +1,5 @@
 -- The entries of an index that have a first part.
-use Rattle.std.proofs.Common.{◌≡◌, ◌↔◌, ℕ, ◌<◌, ◌^◌, Bool, true, false, cond, nat_eq, filter, drop, length, List, [], ◌∷◌, ◌++◌, refl, sym, ap, ◌∙◌, subst, inl, inr, ◌⊎◌, Some, None, Ok, Err, Result, IfOk, append_assoc, append-nil}
+use Rattle.std.proofs.Common.{◌≡◌, ℕ, ◌<◌, ◌^◌, Bool, true, false, cond, nat_eq, filter, drop, length, List, [], ◌∷◌, ◌++◌, refl, sym, ap, ◌∙◌, subst, inl, inr, ◌⊎◌, Some, None, Ok, Err, Result, IfOk, append_assoc, append-nil}
 use Rattle.std.specs.List.{starts_with, AllByRecursion}
 use Rattle.std.proofs.lemmas.Bool.Decides.{Decides-eqb}
 use Rattle.std.proofs.lemmas.Slice.Eq.{starts_is}
@@ -13,7 +13,7 @@ use Rattle.tree_reads.specs.Ranges.{Coming, TakesFirst, whole}
 use Rattle.sled.specs.Reads
 use Rattle.sled.specs.Reads.{ReadsMap}
 use Rattle.sled.specs.Values.{DbValue}
-use Rattle.ordered_keys.specs.Keys.{spelled, spelled_number, BeginsWith, BeginsKey, KeepsPrefixes}
+use Rattle.ordered_keys.specs.Keys.{spelled, spelled_number, BeginsWith, KeepsPrefixes}
 use Rattle.ordered_keys.specs.declared.part.Kind.{Kind}
 use Rattle.ordered_keys.specs.declared.part.Kind.TheVariants as kinds
 use Rattle.ordered_keys.specs.declared.part.Part.{Part}

@@ -1,0 +1,56 @@
+//! The reader of an index in `examples`, over a database with entries.
+use examples::entries_under;
+use ordered_keys::{push_number, push_text};
+use sled::{Db, empty_pages};
+use sled_machine::Machine;
+use sled_model::{Call, Tree};
+use sled_pages::{IVec, MemPages, Result};
+use std::alloc::Global;
+
+// Inserts an entry, with its text as the value.
+fn insert(
+    alloc: Global,
+    machine: &mut Machine<MemPages>,
+    tree: &Tree,
+    number: u64,
+    text: &[u8],
+) -> Result<()> {
+    let mut key = Vec::new(alloc);
+    push_number(&mut key, number)?;
+    push_text(&mut key, text)?;
+    let key = IVec::from_slice(alloc, key.as_slice())?;
+    let outcome = machine.complete(tree, Call::Insert(key, IVec::from_slice(alloc, text)?));
+    drop(outcome);
+    Ok(())
+}
+
+// Inserts four entries, two of them under one number, and reads these.
+fn fill_and_read(alloc: Global, machine: &mut Machine<MemPages>) -> Result<bool> {
+    let tree = machine.db().default_tree()?;
+    insert(alloc, machine, &tree, 7, b"b")?;
+    insert(alloc, machine, &tree, 8, b"a")?;
+    insert(alloc, machine, &tree, 7, b"a")?;
+    insert(alloc, machine, &tree, 6, b"c")?;
+    let found = entries_under(alloc, machine.db(), &tree, 7)?;
+    let is_found = match found.as_slice() {
+        [first, second] => first.1.as_ref() == b"a" && second.1.as_ref() == b"b",
+        _ => false,
+    };
+    drop(found);
+    drop(tree);
+    Ok(is_found)
+}
+
+/// Whether the entries of an index under a number are found, in their order.
+pub fn finds_entries(alloc: Global) -> Result<bool> {
+    let mut machine = match Db::open(alloc, empty_pages(alloc), b"db") {
+        Ok(db) => Machine::new(db),
+        Err((pages, e)) => {
+            drop(pages);
+            return Err(e);
+        }
+    };
+    let found = fill_and_read(alloc, &mut machine);
+    drop(machine);
+    found
+}
