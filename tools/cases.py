@@ -12,6 +12,7 @@ import sys
 import cases_flights
 import cases_levels
 import cases_owned
+import cases_pops
 import cases_rare
 import cases_reads
 import cases_refusals

@@ -476,9 +476,11 @@ reopen unreadable PID ..; reopen mark N; recover; recover refuse N ..; recovered
 reads; load N MOST ALL; find N PAGES; overtake N COUNT; handle DATABASE NAME N; help; quit
 has K; read K; lt K; gt K; first; last; len; empty; range LO HI; range-back LO HI; range-ends LO HI
 keys LO HI; keys-back LO HI; values LO HI; values-back LO HI
+pop-min; pop-max; clear
 owned insert K V; owned set K V; owned remove K; owned del K; owned cas K OLD NEW; owned flush"""
 FORMS = [form.split(' ') for form in re.split('; |\n', FORMS)]
 POINT = ('insert', 'get', 'remove', 'cas')
+POPS = ('pop-min', 'pop-max', 'clear')
 LOOKS = ('has', 'read', 'lt', 'gt', 'first', 'last', 'len', 'empty', 'range', 'keys', 'values')
 READERS = {'K': value_of, 'V': value_of, 'DATABASE': value_of, 'NAME': value_of, 'OLD': optional, 'NEW': optional, 'LO': bound_of, 'HI': bound_of}
 
@@ -598,12 +600,14 @@ class Shell:
         if name == 'owned':
             self.slots, self.begun = {}, 0
             return self.do(*in_line(words))
-        if name.partition('-')[0] in POINT + LOOKS + ('begin',) and self.handle != HANDLE:
+        if (name.partition('-')[0] in POINT + LOOKS + ('begin',) or name in POPS) and self.handle != HANDLE:
             raise Refused(2 if self.handle[0] != HANDLE[0] else 1)
         if name in POINT:
             return [self.advance([fly(store, (name,) + words), 0], True)]
         if name.partition('-')[0] in LOOKS:
             return self.looked(name, *words)
+        if name in POPS:
+            return self.popped(name)
         if name == 'begin':
             self.begun += 1
             self.slots[self.begun] = [fly(store, words), 0]
@@ -630,6 +634,18 @@ class Shell:
         finally:
             self.open()
         return [f'level {len(level)} {max(len(n.entries) for n in level)}' for level in levels] + [f'end {len(levels)}']
+
+    def popped(self, name):
+        """Takes out the pair at an end, or all pairs from the least up. Each is read, and then removed as by a removal."""
+        while True:
+            all = Range(self.store, None, None)
+            pair = all.search_back() if name == 'pop-max' else all.search()
+            if pair:
+                self.advance([fly(self.store, ('remove', pair[0])), 0], True)
+            if name != 'clear':
+                return ['found ' + (f'{word(pair[0])} {word(pair[1])}' if pair else '-')]
+            if not pair:
+                return ['done']
 
     def looked(self, name, *words):
         """What a read prints that takes no slot."""
@@ -728,6 +744,14 @@ class Shell:
                     return 'moved'
         except StopIteration as end:
             return end.value
+
+    def pairs(self):
+        """All pairs, also those of pages that cannot be read."""
+        store = self.store
+        reads, unreadable, store.unreadable = store.reads, store.unreadable, set()
+        pairs = dict(pair for leaf in self.levels()[-1] for pair in leaf.entries)
+        store.reads, store.unreadable = reads, unreadable
+        return pairs
 
     def levels(self, whole=False):
         """The pages of each level, from the root down. Only the last one is read as a whole where nothing else is asked."""

@@ -7,7 +7,7 @@ answers, what each dump has, and that a crash leaves the pairs of some moment si
 import os
 import re
 import sys
-from oracle import GREATEST, LOOKS, Shell, in_line, is_from, is_up_to, read_line, word
+from oracle import GREATEST, LOOKS, POPS, Shell, in_line, is_from, is_up_to, read_line, word
 
 DATA = os.path.join(os.path.dirname(os.path.abspath(__file__)), '..', 'crates', 'sledsh', 'data')
 CASES = []
@@ -87,6 +87,26 @@ class Plain:
         found = pairs[-1 if name in ('lt', 'last') else 0]
         return [f'found {word(found[0])} {word(found[1])}']
 
+    def pop(self, key):
+        """The key is taken out, if it is one, and what is printed of its pair."""
+        if key is None:
+            return 'found -'
+        old = self.pairs[key]
+        self.changes.append((key, old))
+        self.set(key, None)
+        return f'found {word(key)} {word(old)}'
+
+    def pops(self, name, printed, pairs):
+        """A call that takes pairs out printed this, and left these pairs. A clear that was refused may have begun."""
+        keys = sorted(self.pairs)
+        if name == 'clear':
+            for key in keys[:len(keys) - len(pairs)]:
+                self.pop(key)
+            expect(self.pairs == pairs and (printed != 'done' or not pairs), name, printed, pairs)
+        elif not printed.startswith('refused'):
+            at = -1 if name == 'pop-max' else 0
+            expect(printed == self.pop(keys[at] if keys else None), name, printed)
+
     def is_left(self, pairs, keep):
         """A crash left these pairs, and kept so many actions: they are those of a moment since the last flush."""
         while self.pairs != pairs or len(self.changes) > keep:
@@ -99,6 +119,10 @@ class Plain:
         if name == 'owned':
             self.calls = {}
             return self.meets(in_line(words[1:]), printed, shell)
+        if name in POPS:
+            if not last.endswith(('E1', 'E2', 'E8')):
+                self.pops(name, last, shell.pairs())
+            return
         if last.startswith('refused'):
             return
         if name in ('insert', 'get', 'remove', 'cas'):

@@ -1,12 +1,12 @@
 -- Lines: how outcomes are printed.
-use Rattle.std.specs.Prelude.{ℕ, List, [], ◌∷◌, ◌++◌, Ok, Err, codes, decimal}
+use Rattle.std.specs.Prelude.{ℕ, List, [], ◌∷◌, ◌++◌, Some, None, Ok, Err, codes, decimal}
 use Rattle.sled_pages.specs.Order.{Key}
 use Rattle.sled_pages.specs.declared.error.Error.{Error}
 use Rattle.sled_pages.specs.declared.error.Error.TheVariants.{CollectionNotFound, Unsupported, ReportableBug, Io, Corruption, NoMemory, FullQueue, Closed}
 use Rattle.sled_model.specs.declared.call.Call.{Call}
 use Rattle.sled_model.specs.declared.call.Call.TheVariants.{Get, Insert, Remove, CompareAndSwap}
 use Rattle.sled_model.specs.declared.reply.Reply.{Reply}
-use Rattle.sled_model.specs.declared.reply.Reply.TheVariants.{Value, Swapped, Number}
+use Rattle.sled_model.specs.declared.reply.Reply.TheVariants.{Value, Swapped, Number, Done, Pair}
 use Rattle.sled_model.specs.declared.reply.CompareAndSwapError.{CompareAndSwapError}
 use Rattle.sled_model.specs.declared.outcome.Outcome.{Outcome}
 use Rattle.sled_model.specs.declared.outcome.Outcome.TheVariants.{Begun, Moved, Decided, Refused, Abandoned, NoSuchSlot}
@@ -40,11 +40,17 @@ name_of shown.Old = codes "old "
 abbrev pub conflict_line : CompareAndSwapError → List ℕ
 conflict_line conflict = codes "conflict " ++ word_of conflict.current ++ codes " " ++ word_of conflict.proposed ++ end
 
+abbrev pub found_line : Key → Key → List ℕ
+found_line key value = codes "found " ++ printed key ++ codes " " ++ printed value ++ end
+
 abbrev pub reply_line : Shown → Reply → List ℕ
 reply_line show (Value bytes) = name_of show ++ word_of bytes ++ end
 reply_line show (Swapped (Ok done)) = codes "swapped" ++ end
 reply_line show (Swapped (Err conflict)) = conflict_line conflict
 reply_line show (Number n) = codes "flushed " ++ decimal n ++ end
+reply_line show Done = codes "done" ++ end
+reply_line show (Pair (Some pair)) = found_line pair.0 pair.1
+reply_line show (Pair None) = codes "found -" ++ end
 
 -- errors are numbered in the order of their variants
 abbrev pub error_number : Error → ℕ

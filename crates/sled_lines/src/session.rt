@@ -116,7 +116,12 @@ impl<P: Pages, M: MergeOperator> Session<P, M> {
 
     /// Makes all durable.
     pub fn flush(&mut self) -> Outcome {
-        self.machine.whole(Whole::Flush)
+        self.whole(Whole::Flush)
+    }
+
+    /// A whole call, in one step.
+    pub fn whole(&mut self, whole: Whole) -> Outcome {
+        self.machine.whole(whole)
     }
 
     /// Does a list of steps. They name slots by the machine's numbers.

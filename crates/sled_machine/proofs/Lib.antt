@@ -3,4 +3,5 @@ pub mod Cells
 pub mod Steps
 pub mod Machines
 pub mod Runs
+pub mod Wholes
 pub mod Finishing

@@ -12,7 +12,6 @@ use Rattle.sled_model.specs.Refusal.{MustRefuse, MayRefuse, must_refuse_of, may_
 use Rattle.sled_model.specs.Steps.{Steps}
 use Rattle.sled_model.specs.declared.event.Event.{Event}
 use Rattle.sled_model.specs.declared.call.Call.{Call}
-use Rattle.sled_model.specs.declared.call.Whole.{Whole}
 use Rattle.sled_model.specs.declared.call.Whole.TheVariants.{Flush}
 use Rattle.sled_model.specs.declared.tree.Tree.{Tree}
 use Rattle.sled_model.specs.declared.reply.Reply.TheVariants.{Number}
@@ -333,7 +332,7 @@ module _ {P M : Type 0} (store : P → Store) (number : P → ℕ) (meant : M �
 
   -- a flush
   module _ (db : DbValue P M) (same : db ≡ record (v.db) { pages = db.pages }) (stays : SameNow (store v.db.pages) (store db.pages)) where
-    flush_loses : MachineLoses store v (record v { db = db })
+    flush_loses : MachineLoses store v (step.Whole Flush) (record v { db = db })
     flush_loses = record { none = subst (λ (m : Moment). LosesNone None (moment_of_db store v.db) m) (sym (stays_moment store meant v.db db same stays)) (loses_nothing None (moment_of_db store v.db)) }
 
     pub stays_machine : IsMachine (moment_of_db store db) v.flights v.slots_given
@@ -436,13 +435,6 @@ module _ {P M : Type 0} (store : P → Store) (number : P → ℕ) (meant : M �
   pub room_as : (tree : Tree) (call : Call) (r : Error) → must_refuse_of (db_state store meant old.db) (tree ∷ []) ≡ None → r ≡ Rattle.sled_pages.specs.declared.error.Error.TheVariants.NoMemory → (gs : List (ℕ × Flight)) → gs ≡ inside.flights
       → Reaches store number meant old (step.Begin tree call) (outcome.Refused r) (record inside { flights = gs })
   room_as tree call r must m gs g = subst (λ z. Reaches store number meant old (step.Begin tree call) (outcome.Refused r) z) (sym e ∙ ap (λ z. record inside { flights = z }) (sym g)) (memory_as tree call r (tested_inside tree must) m)
-
-  -- a flush is the only whole call yet
-  pub flushed_any : (w : Whole) (db : DbValue P M) (n : ℕ) → FlushesDb store number meant inside.db n db → Reaches store number meant old (step.Whole w) (outcome.Decided (Number n)) (record inside { db = db })
-  flushed_any Flush db n f = flushed_as db n f
-
-  pub refused_any : (w : Whole) (db : DbValue P M) (r : Error) → RefusesFlush store meant inside.db db r → Reaches store number meant old (step.Whole w) (outcome.Refused r) (record inside { db = db })
-  refused_any Flush db r f = flush_refused_as db r f
 
 -- what holds of any error of a kind
 pub err_weaker : {A E : Type 0} (P Q : E → Type 0) → ((e : E) → P e → Q e) → (r : Result A E) → IfErr r P → IfErr r Q

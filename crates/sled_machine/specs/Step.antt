@@ -5,15 +5,14 @@ use Rattle.sled_model.specs.Maps.{Maps, Merge}
 use Rattle.sled_model.specs.Answer.{answer_of}
 use Rattle.sled_model.specs.Refusal.{must_refuse_of, turns_limit}
 use Rattle.sled_model.specs.State.{State, NamedTree, Flying, maps_of}
-use Rattle.sled_model.specs.Steps.{Steps}
+use Rattle.sled_model.specs.Steps.{Steps, Kind, Flushing, kind_of}
 use Rattle.sled_model.specs.declared.outcome.Step.{Step}
 use Rattle.sled_model.specs.declared.outcome.Step.TheVariants as step
 use Rattle.sled_model.specs.declared.outcome.Outcome.{Outcome}
 use Rattle.sled_model.specs.declared.outcome.Outcome.TheVariants.{Begun, Moved, Decided, Refused, NoSuchSlot}
 use Rattle.sled_model.specs.declared.event.Event.{Event}
-use Rattle.sled_model.specs.declared.call.Whole.TheVariants.{Flush}
 use Rattle.tree_laws.specs.Forest.{Forest}
-use Rattle.tree_laws.specs.Moment.{IsMoment}
+use Rattle.tree_laws.specs.Moment.{Moment, IsMoment}
 use Rattle.tree_laws.specs.Stages.{owned}
 use Rattle.sled_tree.specs.Follows.{FollowsOn}
 use Rattle.sled_tree.specs.Moves.{ActsOnce, ActsAtMostOnce, LeavesNone}
@@ -24,6 +23,7 @@ use Rattle.sled_tree.specs.declared.flight.Went.{Went}
 use Rattle.sled.specs.Values.{db_state, moment_of_db}
 use Rattle.sled.specs.Flights.{RefusesQuietly, LosesNone, outcome_of}
 use Rattle.sled.specs.Flush.{only_faults}
+use Rattle.sled.specs.Direct.{acts_till, LosesNoPage}
 use Rattle.sled_machine.specs.CrashMaps.{Leaves, kept_after}
 use Rattle.sled_machine.specs.Fly.{flight_after}
 use Rattle.sled_machine.specs.Slots.{kept_at}
@@ -50,9 +50,18 @@ pub record DecidesBy (s : State) (slot : ℕ) (old new : Store) : Type 0 where
   pub quiet : BringsAt s slot None → new ≡ old
   pub loud : (event : Event) → BringsAt s slot (Some event) → ActsOnce old new
 
+-- What a whole call does to the store: a flush makes all durable, and where it is refused nothing but a fault is counted. Any other does
+-- changing actions, one after the other, and after the last of them nothing; where it is refused then at most a fault is counted
+abbrev pub whole_acts : Kind → Outcome → Store → Store → Type 0
+whole_acts Flushing (Decided reply) old new = new ≡ flushed old
+whole_acts Flushing (Refused e) old new = only_faults e old new
+whole_acts kind (Decided reply) old new = acts_till None old new
+whole_acts kind (Refused e) old new = acts_till (Some e) old new
+whole_acts kind o old new = ⊥
+
 -- What a step does to the store: a call that begins or is given up, or that no slot has, does nothing. A step of a slot does at most
 -- one changing action: none where the call is refused or decided without an event, and one where it is decided with one. A fault that
--- the store counts refuses the call with `Io`. A flush makes all durable, and where it is refused nothing but a fault is counted
+-- the store counts refuses the call with `Io`
 abbrev pub acts_as : State → Step → Outcome → Store → Store → Type 0
 acts_as s (step.Begin tree call) o old new = new ≡ old
 acts_as s (step.Step slot) (Decided reply) old new = DecidesBy s slot old new
@@ -60,9 +69,7 @@ acts_as s (step.Step slot) (Refused e) old new = RefusesQuietly e old new
 acts_as s (step.Step slot) NoSuchSlot old new = new ≡ old
 acts_as s (step.Step slot) o old new = ActsAtMostOnce old new
 acts_as s (step.Abandon slot) o old new = new ≡ old
-acts_as s (step.Whole Flush) (Decided reply) old new = new ≡ flushed old
-acts_as s (step.Whole Flush) (Refused e) old new = only_faults e old new
-acts_as s (step.Whole Flush) o old new = ⊥
+acts_as s (step.Whole whole) o old new = whole_acts (kind_of whole) o old new
 
 pub record MachineActs {P M : Type 0} (store : P → Store) (meant : M → Merge) (old : MachineValue P M) (s : Step) (o : Outcome) (new : MachineValue P M) : Type 0 where
   pub told : acts_as (instant_of store (λ p. 0) meant old).state s o (store old.db.pages) (store new.db.pages)
@@ -97,7 +104,7 @@ passes_as store old s o new = Unit {0}
 pub record MachinePasses {P M : Type 0} (store : P → Store) (old : MachineValue P M) (s : Step) (o : Outcome) (new : MachineValue P M) : Type 0 where
   pub told : passes_as store old s o new
 
--- the slot that a step is about; a flush is about none, and nor is a call that does not begin
+-- the slot that a step is about; a whole call is about none, and nor is a call that does not begin
 abbrev pub slot_of : Step → Outcome → Option ℕ
 slot_of (step.Begin tree call) (Begun slot) = Some slot
 slot_of (step.Step slot) o = Some slot
@@ -115,9 +122,19 @@ pub record MachineSlots {P M : Type 0} (old : MachineValue P M) (s : Step) (o : 
   pub starts : starts_as s o new
   pub others : (slot : ℕ) → slot_of s o ≢ Some slot → kept_at new.flights slot ≡ kept_at old.flights slot
 
+-- each page of a tree stands there still, or is merging. A whole call but a flush does many actions, and a page that merged may have
+-- been freed by then
+abbrev pub whole_loses : Kind → Moment → Moment → Type 0
+whole_loses Flushing old new = LosesNone None old new
+whole_loses kind old new = LosesNoPage old new
+
+abbrev pub loses_as : Step → Moment → Moment → Type 0
+loses_as (step.Whole whole) old new = whole_loses (kind_of whole) old new
+loses_as s old new = LosesNone None old new
+
 -- no page of a tree is lost
-pub record MachineLoses {P M : Type 0} (store : P → Store) (old new : MachineValue P M) : Type 0 where
-  pub none : LosesNone None (moment_of_db store old.db) (moment_of_db store new.db)
+pub record MachineLoses {P M : Type 0} (store : P → Store) (old : MachineValue P M) (s : Step) (new : MachineValue P M) : Type 0 where
+  pub none : loses_as s (moment_of_db store old.db) (moment_of_db store new.db)
 
 -- the pages that are the own of the call in a slot, if there is one
 abbrev pub owned_by : Option Flight → List ℕ
@@ -141,5 +158,5 @@ pub record Reaches {P M : Type 0} (store : P → Store) (flush_number : P → �
   pub follows : MachineFollows store meant old s o new
   pub passes : MachinePasses store old s o new
   pub slots : MachineSlots old s o new
-  pub loses : MachineLoses store old new
+  pub loses : MachineLoses store old s new
   pub leaves : MachineLeaves store old s o new

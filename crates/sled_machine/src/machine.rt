@@ -4,6 +4,7 @@ ghost use Rattle.std.specs.Option.{option_map};
 ghost use Rattle.sled_pages.specs.declared.error.Error.TheVariants.{NoMemory};
 ghost use Rattle.sled_model.specs.Refusal.{must_refuse_of};
 ghost use Rattle.sled_model.specs.declared.call.Call.{Call};
+ghost use Rattle.sled_model.specs.declared.call.Whole.TheVariants.{Flush, PopMin, PopMax, Clear};
 ghost use Rattle.sled_model.specs.declared.outcome.Outcome.TheVariants as outcome;
 ghost use Rattle.sled_model.specs.declared.outcome.Step.TheVariants as step;
 
@@ -126,7 +127,7 @@ impl<P: Pages, M: MergeOperator> Machine<P, M> {
         ensures follows { MachineFollows P.store M.meant self.old (step.Step slot) result self.new }
         ensures passes { MachinePasses P.store self.old (step.Step slot) result self.new }
         ensures slots { MachineSlots self.old (step.Step slot) result self.new }
-        ensures loses { MachineLoses P.store self.old self.new }
+        ensures loses { MachineLoses P.store self.old (step.Step slot) self.new }
         ensures leaves { MachineLeaves P.store self.old (step.Step slot) result self.new }
     {
         let Some(i) = self.table.find(slot.0) else {
@@ -160,21 +161,59 @@ impl<P: Pages, M: MergeOperator> Machine<P, M> {
     pub fn whole(&mut self, whole: Whole) -> Outcome
         ensures { Reaches P.store P.flush_number M.meant self.old (step.Whole whole) result self.new }
     {
-        self.whole_of(&whole)
+        let outcome = self.whole_of(&whole);
+        drop(whole);
+        outcome
     }
 
     fn whole_of(&mut self, whole: &Whole) -> Outcome
         ensures { Reaches P.store P.flush_number M.meant self.old (step.Whole whole.now) result self.new }
     {
         match whole {
-            Whole::Flush => {
-                let count = match self.db.flush() {
-                    Ok(count) => count,
-                    Err(e) => return Outcome::Refused(e),
-                };
-                Outcome::Decided(Reply::Number(count as u64))
-            }
+            Whole::Flush => self.flush(),
+            Whole::PopMin(tree) => self.pop_min(tree),
+            Whole::PopMax(tree) => self.pop_max(tree),
+            Whole::Clear(tree) => self.clear(tree),
         }
+    }
+
+    fn flush(&mut self) -> Outcome
+        ensures { Reaches P.store P.flush_number M.meant self.old (step.Whole Flush) result self.new }
+    {
+        let count = match self.db.flush() {
+            Ok(count) => count,
+            Err(e) => return Outcome::Refused(e),
+        };
+        Outcome::Decided(Reply::Number(count as u64))
+    }
+
+    fn pop_min(&mut self, tree: &Tree) -> Outcome
+        ensures { Reaches P.store P.flush_number M.meant self.old (step.Whole (PopMin tree.now)) result self.new }
+    {
+        let found = match self.db.pop_min(tree) {
+            Ok(found) => found,
+            Err(e) => return Outcome::Refused(e),
+        };
+        Outcome::Decided(Reply::Pair(found))
+    }
+
+    fn pop_max(&mut self, tree: &Tree) -> Outcome
+        ensures { Reaches P.store P.flush_number M.meant self.old (step.Whole (PopMax tree.now)) result self.new }
+    {
+        let found = match self.db.pop_max(tree) {
+            Ok(found) => found,
+            Err(e) => return Outcome::Refused(e),
+        };
+        Outcome::Decided(Reply::Pair(found))
+    }
+
+    fn clear(&mut self, tree: &Tree) -> Outcome
+        ensures { Reaches P.store P.flush_number M.meant self.old (step.Whole (Clear tree.now)) result self.new }
+    {
+        if let Err(e) = self.db.clear(tree) {
+            return Outcome::Refused(e);
+        }
+        Outcome::Decided(Reply::Done)
     }
 
     /// Does steps of the call in the slot until it ends. There are no more than its turns allow. Where no other call left

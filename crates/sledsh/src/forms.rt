@@ -3,6 +3,7 @@
 use crate::calls::tell;
 use crate::look::{Look, Side, read_bound};
 use crate::owned::Owned;
+use crate::pops::Pop;
 use sled_lines::command::{self, parse};
 use sled_lines::input::Stopped;
 use sled_lines::print::Piece::Text;
@@ -35,6 +36,8 @@ pub enum Verb {
     Handle,
     /// A read that takes no slot.
     Look(Look),
+    /// A whole call that takes pairs out.
+    Pop(Pop),
     /// A call of the database itself.
     Owned(Owned),
     Help,
@@ -293,6 +296,24 @@ const FORMS: [Form; 58] = [
         "LO HI",
         Verb::Look(Look::Values(Side::Back)),
         "prints them from the back",
+    ),
+    (
+        "pop-min",
+        "",
+        Verb::Pop(Pop::Min),
+        "takes the pair with the least key out, and prints it",
+    ),
+    (
+        "pop-max",
+        "",
+        Verb::Pop(Pop::Max),
+        "takes the pair with the greatest key out, and prints it",
+    ),
+    (
+        "clear",
+        "",
+        Verb::Pop(Pop::All),
+        "takes all keys out, from the least up",
     ),
     (
         "owned insert",

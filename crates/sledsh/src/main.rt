@@ -10,6 +10,7 @@ mod levels;
 mod look;
 mod owned;
 mod plain;
+mod pops;
 mod shell;
 mod store;
 

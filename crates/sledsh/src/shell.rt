@@ -7,6 +7,7 @@ use crate::forms::{Command, Verb, push_help, read};
 use crate::levels::tell_levels;
 use crate::look::{Look, tell_look};
 use crate::owned::{Owned, tell_owned};
+use crate::pops::tell_pop;
 use crate::store::Kept;
 use line_files::Program;
 use sled::{DEFAULT_TREE, Db};
@@ -253,6 +254,7 @@ impl<'a> Shell<'a> {
                 &mut self.out,
             ),
             (State::Open(session), Verb::Look(which)) => self.look(session, which),
+            (State::Open(session), Verb::Pop(pop)) => tell_pop(session, pop, &mut self.out),
             (State::Open(session), verb) => {
                 ask(
                     self.alloc,
@@ -280,7 +282,8 @@ impl<'a> Shell<'a> {
             | Verb::Find
             | Verb::Overtake
             | Verb::Handle
-            | Verb::Look(_) => self.ask(state, verb, numbers),
+            | Verb::Look(_)
+            | Verb::Pop(_) => self.ask(state, verb, numbers),
             Verb::Owned(owned) => self.owned(state, owned),
             Verb::Pages if is_shut => tell_refused(&mut self.out, Error::Closed),
             Verb::Mark if numbers[0] < self.mark => self.tell_below(numbers[0]),

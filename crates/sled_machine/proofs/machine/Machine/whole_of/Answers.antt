@@ -1,8 +1,0 @@
-use Rattle.sled_machine.proofs.Machines.{flushed_any, refused_any}
-use Rattle.sled_machine.proofs.machine.Machine.whole_of.Goals as goal
-
-pub returns-in-Err : goal.returns-in-Err
-returns-in-Err g c = refused_any g.P.Pages.store g.P.Pages.flush_number g.M.MergeOperator.meant _ _ c.self.view_is c.self.invariant.0 _ _ _ c.in-Err.ensures.err
-
-pub returns : goal.returns
-returns g c = flushed_any g.P.Pages.store g.P.Pages.flush_number g.M.MergeOperator.meant _ _ c.self.view_is c.self.invariant.0 _ _ _ c.in-Ok.ensures.ok
