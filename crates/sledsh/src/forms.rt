@@ -358,6 +358,24 @@ const FORMS: [Form; 60] = [
         "sets the value at a key to NEW where it is OLD; - is no value",
     ),
     (
+        "owned pop-min",
+        "",
+        Verb::Owned(Owned::PopMin),
+        "takes the pair with the least key out, and prints it",
+    ),
+    (
+        "owned pop-max",
+        "",
+        Verb::Owned(Owned::PopMax),
+        "takes the pair with the greatest key out, and prints it",
+    ),
+    (
+        "owned clear",
+        "",
+        Verb::Owned(Owned::Clear),
+        "takes all keys out, from the least up",
+    ),
+    (
         "owned flush",
         "",
         Verb::Owned(Owned::Flush),
