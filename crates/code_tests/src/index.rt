@@ -24,6 +24,10 @@ fn insert(
     Ok(())
 }
 
+fn is(value: &IVec, bytes: &[u8]) -> bool {
+    value.as_ref() == bytes
+}
+
 // Inserts four entries, two of them under one number, and reads these.
 fn fill_and_read(alloc: Global, machine: &mut Machine<MemPages>) -> Result<bool> {
     let tree = machine.db().default_tree()?;
@@ -33,7 +37,7 @@ fn fill_and_read(alloc: Global, machine: &mut Machine<MemPages>) -> Result<bool>
     insert(alloc, machine, &tree, 6, b"c")?;
     let found = entries_under(alloc, machine.db(), &tree, 7)?;
     let is_found = match found.as_slice() {
-        [first, second] => first.1.as_ref() == b"a" && second.1.as_ref() == b"b",
+        [first, second] => is(&first.1, b"a") && is(&second.1, b"b"),
         _ => false,
     };
     drop(found);
