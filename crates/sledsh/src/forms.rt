@@ -49,7 +49,7 @@ type Form = (&'static str, &'static str, Verb, &'static str);
 
 // What a command takes has words of its own: K, V, OLD, NEW, DATABASE and NAME are byte strings, LO and HI bounds, STEP a step of a
 // call in flight, and the others numbers; `..` stands for more of the word before it.
-const FORMS: [Form; 58] = [
+const FORMS: [Form; 61] = [
     (
         "insert",
         "K V",
