@@ -3,3 +3,4 @@ pub mod Calls
 pub mod Opened
 pub mod Meant
 pub mod Surviving
+pub mod Queueing

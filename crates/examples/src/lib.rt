@@ -1,11 +1,13 @@
 //! Callers that are proved from public contracts alone, as a user would write them: what those contracts say is enough to build
-//! on. `callers` are examples of a machine, and `recovery` of a crash.
+//! on. `callers` are examples of a machine, `recovery` of a crash, and `queue` of a database that takes pairs out.
 #![tactic(auto)]
 
 mod callers;
+mod queue;
 mod recovery;
 
 pub use callers::{
     crash, get, insert_then_get, insert_then_get_in_new, race, reopen, reopen_then_get,
 };
+pub use queue::{add, take};
 pub use recovery::survive;
