@@ -4,3 +4,4 @@ pub mod Opened
 pub mod Meant
 pub mod Surviving
 pub mod Entries
+pub mod Queueing

@@ -1,3 +1,4 @@
 pub mod Reads
 pub mod Survive
 pub mod Index
+pub mod Queue
