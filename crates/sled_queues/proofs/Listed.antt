@@ -1,0 +1,1 @@
+-- Which queues stand in which list.
