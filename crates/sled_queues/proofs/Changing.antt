@@ -15,13 +15,13 @@ one_more f true false o h = refl
 one_more f false true o h = refl
 one_more f false false o h = refl
 
-pub changes_more : (f : WaitingValue → WaitingValue) (last : ℕ) (ns : List ℕ) (i x : ℕ) (a b c : Waitings) → Rise last ns → i < length ns → x ≡ get_or ns i x
-    → ((n : ℕ) → b n ≡ changed_in f (take i ns) a n) → ((n : ℕ) → c n ≡ changed_at f x b n) → (n : ℕ) → c n ≡ changed_in f (take (i + 1) ns) a n
-changes_more f last ns i x a b c r l at is next n =
+pub changes_more : (f : WaitingValue → WaitingValue) (last : ℕ) (ns : List ℕ) (i d : ℕ) (a b c : Waitings) → Rise last ns → i < length ns
+    → ((n : ℕ) → b n ≡ changed_in f (take i ns) a n) → ((n : ℕ) → c n ≡ changed_at f (get_or ns i d) b n) → (n : ℕ) → c n ≡ changed_in f (take (i + 1) ns) a n
+changes_more f last ns i d a b c r l is next n =
     next n
-    ∙ ap (λ o. cond (nat_eq n x) (option_map f o) o) (is n)
-    ∙ one_more f (is_in n (take i ns)) (nat_eq n x) (a n) (λ e. ap (λ k. is_in k (take i ns)) (eqb-true n x e ∙ at) ∙ unmet 0 last ns i x r.is l)
-    ∙ sym (ap (λ b. cond b (option_map f (a n)) (a n)) (list_any_more (nat_eq n) ns i x l ∙ ap (λ k. is_in n (take i ns) || nat_eq n k) (sym at)))
+    ∙ ap (λ o. cond (nat_eq n (get_or ns i d)) (option_map f o) o) (is n)
+    ∙ one_more f (is_in n (take i ns)) (nat_eq n (get_or ns i d)) (a n) (λ e. ap (λ k. is_in k (take i ns)) (eqb-true n (get_or ns i d) e) ∙ unmet 0 last ns i d r.is l)
+    ∙ sym (ap (λ b. cond b (option_map f (a n)) (a n)) (list_any_more (nat_eq n) ns i d l))
 
 pub changes_all : (f : WaitingValue → WaitingValue) (ns : List ℕ) (i : ℕ) (a b : Waitings) → i ≡ length ns → ((n : ℕ) → b n ≡ changed_in f (take i ns) a n) → (n : ℕ) → b n ≡ changed_in f ns a n
 changes_all f ns i a b e is n = is n ∙ ap (λ k. changed_in f (take k ns) a n) e ∙ ap (λ l. changed_in f l a n) (take-length ns)

@@ -1,6 +1,6 @@
 -- Lists of numbers that rise.
 use Rattle.std.proofs.Common.{◌≡◌, ◌≢◌, ℕ, zero, suc, ◌+◌, ◌<◌, ◌≤◌, Bool, true, false, cond, not, nat_eq, ◌||◌, List, [], ◌∷◌, ◌++◌, take, length, get_or, sym, refl, ap, ◌∙◌, arith}
-use Rattle.std.specs.List.{filter}
+use mathlib.Core.Bool.{true≢false}
 use Rattle.std.proofs.lemmas.Bool.{eq-eqb, ne_eqb, eqb-true}
 use Rattle.sled_queues.specs.Lists.{is_in, without, RiseUpTo, Rise}
 
@@ -70,20 +70,36 @@ without_from low last k (n ∷ ns) r = elim (nat_eq n k) as (λ b. RiseUpTo low 
 pub without_rises : (last k : ℕ) (ns : List ℕ) → Rise last ns → Rise last (without k ns)
 without_rises last k ns r = record { is = without_from 0 last k ns r.is }
 
+-- the beginning of a list that rises
+take_from : (low last k : ℕ) (ns : List ℕ) → RiseUpTo low last ns → RiseUpTo low last (take k ns)
+take_from low last zero [] r = tt
+take_from low last zero (n ∷ ns) r = tt
+take_from low last (suc k) [] r = tt
+take_from low last (suc k) (n ∷ ns) r = (r.0, r.1, take_from n last k ns r.2)
+
+pub take_rises : (last k : ℕ) (ns : List ℕ) → Rise last ns → Rise last (take k ns)
+take_rises last k ns r = record { is = take_from 0 last k ns r.is }
+
 -- the other numbers stay
+kept_once : (k n m : ℕ) (ns : List ℕ) (b : Bool) → n ≢ k → nat_eq m k ≡ b → is_in n (without k ns) ≡ is_in n ns → is_in n (cond (not b) (m ∷ without k ns) (without k ns)) ≡ (nat_eq n m || is_in n ns)
+kept_once k n m ns true h e rest = rest ∙ sym (ap (λ b. b || is_in n ns) (ne_eqb n m (λ s. h (s ∙ eqb-true m k e))))
+kept_once k n m ns false h e rest = ap (λ b. nat_eq n m || b) rest
+
 pub without_keeps : (k n : ℕ) (ns : List ℕ) → n ≢ k → is_in n (without k ns) ≡ is_in n ns
 without_keeps k n [] h = refl
-without_keeps k n (m ∷ ns) h = go (nat_eq m k) refl
-  where
-    go : (b : Bool) → nat_eq m k ≡ b → is_in n (cond (not b) (m ∷ without k ns) (without k ns)) ≡ (nat_eq n m || is_in n ns)
-    go true e = without_keeps k n ns h ∙ sym (ap (λ b. b || is_in n ns) (ne_eqb n m (λ s. h (s ∙ eqb-true m k e))))
-    go false e = ap (λ b. nat_eq n m || b) (without_keeps k n ns h)
+without_keeps k n (m ∷ ns) h = kept_once k n m ns (nat_eq m k) h refl (without_keeps k n ns h)
 
 -- a number that is not in a list is put to its end and taken out again
+or_left : (a b : Bool) → (a || b) ≡ false → a ≡ false
+or_left true b e = e
+or_left false b e = refl
+
+or_right : (a b : Bool) → (a || b) ≡ false → b ≡ false
+or_right true b e = absurd (true≢false e)
+or_right false b e = e
+
 pub push_without : (k : ℕ) (ns : List ℕ) → is_in k ns ≡ false → without k (ns ++ k ∷ []) ≡ ns
 push_without k [] h = ap (λ b. cond (not b) (k ∷ []) []) (eq-eqb k k refl)
-push_without k (m ∷ ns) h = go (nat_eq k m) refl h
-  where
-    go : (b : Bool) → nat_eq k m ≡ b → (b || is_in k ns) ≡ false → without k (m ∷ ns ++ k ∷ []) ≡ m ∷ ns
-    go true e f = cc
-    go false e f = ap (λ b. cond (not b) (m ∷ without k (ns ++ k ∷ [])) (without k (ns ++ k ∷ []))) (ne_eqb m k (λ s. cc)) ∙ ap (λ z. m ∷ z) (push_without k ns f)
+push_without k (m ∷ ns) h =
+    ap (λ b. cond (not b) (m ∷ without k (ns ++ k ∷ [])) (without k (ns ++ k ∷ []))) (ne_eqb m k (λ s. absurd (true≢false (sym (eq-eqb k m (sym s)) ∙ or_left (nat_eq k m) (is_in k ns) h))))
+    ∙ ap (λ z. m ∷ z) (push_without k ns (or_right (nat_eq k m) (is_in k ns) h))

@@ -1,9 +1,11 @@
 //! The queues of a list of subscribers, and the lists of each tree.
-ghost use Rattle.std.specs.Prelude.{◌≡◌, ℕ, nat_eq, ◌++◌, ◌∷◌, [], OnOk, OnErr, IfErr, if◌then◌else◌};
+ghost use Rattle.std.specs.Prelude.{◌≡◌, ℕ, nat_eq, ◌++◌, ◌∷◌, [], Some, None, option_map, OnOk, OnErr, IfErr, if◌then◌else◌};
 ghost use Rattle.std.specs.List.{list_any};
 ghost use Rattle.std.specs.Ordering.{nat_cmp};
 ghost use Rattle.std.specs.BTreeMap.{get};
 ghost use Rattle.sled_pages.specs.declared.error.Error.TheVariants.{NoMemory};
+ghost use Rattle.sled_pages.specs.Update.{put_at};
+ghost use Rattle.sled_queues.specs.Queues.{oldest_in, taken_in};
 ghost use Rattle.sled_queues.specs.Lists.{lists_of, without, Rise, changed_at, changed_in, gains, loses, tells, forgets, is_full_for};
 
 use crate::waiting::Waiting;
@@ -118,6 +120,50 @@ fn cancel(queues: &mut BTreeMap<u64, Waiting>, number: u64)
     }
 }
 
+// Takes the oldest event that waits in a queue, if there is one.
+pub(crate) fn take(queues: &mut BTreeMap<u64, Waiting>, number: u64) -> Option<Event>
+    ensures told { result ≡ oldest_in (get nat_cmp queues.old number) }
+    ensures rest { (n : ℕ) → get nat_cmp queues.new n ≡ changed_at taken_in number (get nat_cmp queues.old) n }
+{
+    match queues.get_mut(&number) {
+        Some(waiting) => waiting.next(),
+        None => None,
+    }
+}
+
+// Adds a queue under a new number. Refused with `NoMemory` alone.
+pub(crate) fn add(queues: &mut BTreeMap<u64, Waiting>, number: u64, waiting: Waiting) -> Result<()>
+    ensures ok { OnOk result ((n : ℕ) → get nat_cmp queues.new n ≡ put_at (get nat_cmp queues.old) number (Some waiting) n) }
+    ensures err { OnErr result ((n : ℕ) → get nat_cmp queues.new n ≡ get nat_cmp queues.old n) }
+    ensures cause { IfErr result (λ e. e ≡ NoMemory) }
+{
+    match queues.insert(number, waiting) {
+        Ok(none) => {
+            drop(none);
+            Ok(())
+        }
+        Err(failed) => {
+            drop(failed);
+            Err(Error::NoMemory)
+        }
+    }
+}
+
+// Lets a queue go, and says which tree it watched.
+pub(crate) fn remove(queues: &mut BTreeMap<u64, Waiting>, number: u64) -> Option<u64>
+    ensures was { result ≡ option_map (λ w. w.tree) (get nat_cmp queues.old number) }
+    ensures rest { (n : ℕ) → get nat_cmp queues.new n ≡ put_at (get nat_cmp queues.old) number None n }
+{
+    match queues.remove(&number) {
+        Some(waiting) => {
+            let tree = waiting.tree();
+            drop(waiting);
+            Some(tree)
+        }
+        None => None,
+    }
+}
+
 // Puts a number to the end of the list of a tree. Refused with `NoMemory` alone.
 pub(crate) fn enlist(
     lists: &mut BTreeMap<u64, Vec<u64>>,
@@ -151,12 +197,11 @@ pub(crate) fn enlist(
 pub(crate) fn unlist(lists: &mut BTreeMap<u64, Vec<u64>>, tree: u64, number: u64)
     ensures { (t : ℕ) → lists_of lists.new t ≡ (if nat_eq t tree then without number (lists_of lists.old t) else lists_of lists.old t) }
 {
-    let mut is_empty = false;
-    if let Some(list) = lists.get_mut(&tree) {
-        list.retain(|n| *n != number);
-        is_empty = list.is_empty();
-    }
-    if is_empty {
+    let Some(list) = lists.get_mut(&tree) else {
+        return;
+    };
+    list.retain(|n| *n != number);
+    if list.is_empty() {
         let none = lists.remove(&tree);
         drop(none);
     }

@@ -5,7 +5,9 @@ ghost use Rattle.sled_queues.specs.Values.{queue_at};
 ghost use Rattle.sled_queues.specs.Queues.{AreQueues, Becomes, no_queues, with_subscriber, committed, cancelled, oldest_in, without_oldest_of, without_subscriber};
 ghost use Rattle.sled_queues.specs.Tells.{prepares_as, refuses_watch};
 
-use crate::lists::{any_full, cancel_all, commit_all, enlist, prepare_all, unlist};
+use crate::lists::{
+    add, any_full, cancel_all, commit_all, enlist, prepare_all, remove, take, unlist,
+};
 use crate::waiting::Waiting;
 use sled_model::{Event, Subscriber};
 use sled_pages::texts::NUMBERS_USED_UP;
@@ -71,13 +73,9 @@ impl Queues {
             drop(prefix);
             return Err(e);
         }
-        match self.queues.insert(number, Waiting::new(alloc, tree, prefix)) {
-            Ok(none) => drop(none),
-            Err(failed) => {
-                drop(failed);
-                unlist(&mut self.lists, tree, number);
-                return Err(Error::NoMemory);
-            }
+        if let Err(e) = add(&mut self.queues, number, Waiting::new(alloc, tree, prefix)) {
+            unlist(&mut self.lists, tree, number);
+            return Err(e);
         }
         self.given = number;
         Ok(Subscriber(number))
@@ -127,19 +125,14 @@ impl Queues {
         ensures told { result ≡ oldest_in (queue_at self.old subscriber.now) }
         ensures rest { Becomes (without_oldest_of subscriber.now (queue_at self.old)) self.old.given self.new }
     {
-        match self.queues.get_mut(&subscriber.0) {
-            Some(waiting) => waiting.next(),
-            None => None,
-        }
+        take(&mut self.queues, subscriber.0)
     }
 
     /// Gives a subscriber's queue up, with its events. It takes no memory. Of an unknown subscriber nothing changes.
     pub fn unsubscribe(&mut self, subscriber: &Subscriber)
         ensures { Becomes (without_subscriber subscriber.now (queue_at self.old)) self.old.given self.new }
     {
-        if let Some(waiting) = self.queues.remove(&subscriber.0) {
-            let tree = waiting.tree();
-            drop(waiting);
+        if let Some(tree) = remove(&mut self.queues, subscriber.0) {
             unlist(&mut self.lists, tree, subscriber.0);
         }
     }
@@ -147,5 +140,7 @@ impl Queues {
     /// What always holds: the numbers, and that at most 1024 events wait in a queue. It does nothing.
     pub fn audit(&self)
         ensures { AreQueues self.now }
-    {}
+    {
+        let _ = &self.queues;
+    }
 }
