@@ -316,3 +316,7 @@ removed_queues k a b is same q = record {
     left : (n : ℕ) (w : WaitingValue) → ((n ≡ k) × (None ≡ Some w)) ⊎ ((n ≢ k) × (queue_at a n ≡ Some w)) → queue_at a n ≡ Some w
     left n w (inl h) = none_some h.1
     left n w (inr h) = h.1
+
+-- what the queues become, where the value before is seen as another
+pub becomes : (f : Waitings → Waitings) (was old new : QueuesValue) → was ≡ old → queue_at new ≡ f (queue_at was) → new.given ≡ was.given → Becomes (f (queue_at old)) old.given new
+becomes f was old new e held count = record { held = held ∙ ap (λ v. f (queue_at v)) e; count = count ∙ ap (λ (v : QueuesValue). v.given) e }

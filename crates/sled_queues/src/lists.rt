@@ -1,5 +1,5 @@
 //! The queues of a list of subscribers, and the lists of each tree.
-ghost use Rattle.std.specs.Prelude.{◌≡◌, ℕ, nat_eq, ◌++◌, ◌∷◌, [], Some, None, option_map, OnOk, OnErr, IfErr, if◌then◌else◌};
+ghost use Rattle.std.specs.Prelude.{◌≡◌, ℕ, nat_eq, ◌++◌, ◌∷◌, [], Some, None, option_map, IsTrue, OnOk, OnErr, IfErr, if◌then◌else◌};
 ghost use Rattle.std.specs.List.{list_any};
 ghost use Rattle.std.specs.Ordering.{nat_cmp};
 ghost use Rattle.std.specs.BTreeMap.{get};
@@ -164,6 +164,16 @@ pub(crate) fn remove(queues: &mut BTreeMap<u64, Waiting>, number: u64) -> Option
     }
 }
 
+// The list of a tree.
+pub(crate) fn numbers_of(lists: &BTreeMap<u64, Vec<u64>>, tree: u64) -> &[u64]
+    ensures { result.now ≡ lists_of lists.now tree }
+{
+    match lists.get(&tree) {
+        Some(list) => list.as_slice(),
+        None => &[],
+    }
+}
+
 // Puts a number to the end of the list of a tree. Refused with `NoMemory` alone.
 pub(crate) fn enlist(
     lists: &mut BTreeMap<u64, Vec<u64>>,
@@ -200,9 +210,17 @@ pub(crate) fn unlist(lists: &mut BTreeMap<u64, Vec<u64>>, tree: u64, number: u64
     let Some(list) = lists.get_mut(&tree) else {
         return;
     };
-    list.retain(|n| *n != number);
-    if list.is_empty() {
+    if take_out(list, number) {
         let none = lists.remove(&tree);
         drop(none);
     }
+}
+
+// Takes a number out of a list, and says whether none is left.
+fn take_out(list: &mut Vec<u64>, number: u64) -> bool
+    ensures rest { list.new.items ≡ without number list.old.items }
+    ensures empty { IsTrue result → list.new.items ≡ [] }
+{
+    list.retain(|n| *n != number);
+    list.is_empty()
 }

@@ -6,7 +6,7 @@ ghost use Rattle.sled_queues.specs.Queues.{AreQueues, Becomes, no_queues, with_s
 ghost use Rattle.sled_queues.specs.Tells.{prepares_as, refuses_watch};
 
 use crate::lists::{
-    add, any_full, cancel_all, commit_all, enlist, prepare_all, remove, take, unlist,
+    add, any_full, cancel_all, commit_all, enlist, numbers_of, prepare_all, remove, take, unlist,
 };
 use crate::waiting::Waiting;
 use sled_model::{Event, Subscriber};
@@ -89,34 +89,28 @@ impl Queues {
         ensures err { OnErr result (Becomes (queue_at self.old) self.old.given self.new) }
         ensures cause { IfErr result (λ e. e ≡ NoMemory) }
     {
-        let Some(numbers) = self.lists.get(&tree) else {
-            return Ok(true);
-        };
-        if any_full(&self.queues, numbers.as_slice(), event) {
+        let numbers = numbers_of(&self.lists, tree);
+        if any_full(&self.queues, numbers, event) {
             return Ok(false);
         }
-        match prepare_all(&mut self.queues, numbers.as_slice(), event) {
-            Ok(()) => Ok(true),
-            Err(e) => Err(e),
+        if let Err(e) = prepare_all(&mut self.queues, numbers, event) {
+            return Err(e);
         }
+        Ok(true)
     }
 
     /// Makes wait all that is prepared in the queues of a tree. It takes no memory.
     pub fn commit(&mut self, tree: u64)
         ensures { Becomes (committed tree (queue_at self.old)) self.old.given self.new }
     {
-        if let Some(numbers) = self.lists.get(&tree) {
-            commit_all(&mut self.queues, numbers.as_slice());
-        }
+        commit_all(&mut self.queues, numbers_of(&self.lists, tree));
     }
 
     /// Drops all that is prepared in the queues of a tree.
     pub fn cancel(&mut self, tree: u64)
         ensures { Becomes (cancelled tree (queue_at self.old)) self.old.given self.new }
     {
-        if let Some(numbers) = self.lists.get(&tree) {
-            cancel_all(&mut self.queues, numbers.as_slice());
-        }
+        cancel_all(&mut self.queues, numbers_of(&self.lists, tree));
     }
 
     /// Takes the oldest event that waits for a subscriber: `None` where none waits, and for an unknown subscriber. It takes no

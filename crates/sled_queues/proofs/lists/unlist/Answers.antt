@@ -1,7 +1,0 @@
-use Rattle.sled_queues.proofs.lists.unlist.Goals as goal
-
-pub returns-then-is_empty : goal.returns-then-is_empty
-returns-then-is_empty c = ?
-
-pub returns-else-is_empty : goal.returns-else-is_empty
-returns-else-is_empty c = ?
