@@ -38,10 +38,10 @@ gained_lost e w = go (has_prefix e w) refl
   where
     go : (b : Bool) → has_prefix e w ≡ b → loses e (gains e w) ≡ w
     go true h = ap (λ b. loses e (cond b (record w { coming = w.coming ++ e ∷ [] }) w)) h
-      ∙ ap (λ b. cond b (record w { coming = take (length (w.coming ++ e ∷ []) - 1) (w.coming ++ e ∷ []) }) (record w { coming = w.coming ++ e ∷ [] })) h
-      ∙ ap (λ l. record w { coming = l }) (shorter w.coming e)
+        ∙ ap (λ b. cond b (record w { coming = take (length (w.coming ++ e ∷ []) - 1) (w.coming ++ e ∷ []) }) (record w { coming = w.coming ++ e ∷ [] })) h
+        ∙ ap (λ l. record w { coming = l }) (shorter w.coming e)
     go false h = ap (λ b. loses e (cond b (record w { coming = w.coming ++ e ∷ [] }) w)) h
-      ∙ ap (λ b. cond b (record w { coming = take (length w.coming - 1) w.coming }) w) h
+        ∙ ap (λ b. cond b (record w { coming = take (length w.coming - 1) w.coming }) w) h
 
 both : {W : Type 0} (f g : W → W) (b : Bool) (o : Option W) → ((w : W) → g (f w) ≡ w) → cond b (option_map g (cond b (option_map f o) o)) (cond b (option_map f o) o) ≡ o
 both f g true None h = refl

@@ -4,14 +4,13 @@ use Rattle.std.proofs.Math.Path.{fun_ext}
 use mathlib.Core.Bool.{true≢false}
 use Rattle.std.specs.Option.{option_to_list}
 use Rattle.std.proofs.lemmas.Bool.{eq-eqb, ne_eqb, eqb-true}
-use Rattle.sled_pages.specs.Update.{put_at}
-use Rattle.sled_model.specs.State.{Queue, matches, delivered}
-use Rattle.sled_model.specs.Queues.{waiting_in, oldest, without_oldest, taken}
+use Rattle.sled_model.specs.State.{Queue, matches}
+use Rattle.sled_model.specs.Queues.{waiting_in, oldest, without_oldest}
 use Rattle.sled_model.specs.declared.event.Event.{Event}
-use Rattle.sled_queues.specs.Values.{WaitingValue, Waitings}
-use Rattle.sled_queues.specs.Queues.{queue_of, queues_of, IsCalm, prepared_in, prepared, committed_in, committed, cancelled_in, cancelled}
+use Rattle.sled_queues.specs.Values.{WaitingValue}
+use Rattle.sled_queues.specs.Queues.{queue_of, prepared_in, committed_in, cancelled_in}
 use Rattle.sled_queues.specs.Lists.{has_prefix}
-use Rattle.sled_queues.specs.Laws.{Delivers, DeliversLaw, CancelsLaw, Turn, Comes, Takes, after_turn, after_turns, taken_at, taken_by, brought_at, brought, OrdersLaw}
+use Rattle.sled_queues.specs.Laws.{DeliversLaw, CancelsLaw, Turn, Comes, Takes, after_turn, after_turns, taken_at, taken_by, brought_at, brought, OrdersLaw}
 
 some_is : {A : Type 0} {a b : A} → Some a ≡ Some b → a ≡ b
 some_is e = cc
@@ -84,10 +83,10 @@ pub delivers_law : DeliversLaw
 delivers_law queues calm tree e = record {
   hidden = fun_ext (λ n. map_twice (prepared_in tree e) queue_of (queues n) ∙ on_option (λ w. queue_of (prepared_in tree e w)) queue_of (queues n) (λ w there. hides e w (matches tree e (queue_of w))));
   shown = fun_ext (λ n.
-    ap (option_map queue_of) (map_twice (prepared_in tree e) (committed_in tree) (queues n))
-    ∙ map_twice (λ w. committed_in tree (prepared_in tree e w)) queue_of (queues n)
-    ∙ on_option (λ w. queue_of (committed_in tree (prepared_in tree e w))) (λ w. cond (matches tree e (queue_of w)) (record (queue_of w) { events = w.events ++ e ∷ [] }) (queue_of w)) (queues n) (λ w there. one_told tree e w (calm.none n w there))
-    ∙ sym (map_twice queue_of (λ (q : Queue). cond (matches tree e q) (record q { events = q.events ++ e ∷ [] }) q) (queues n)));
+      ap (option_map queue_of) (map_twice (prepared_in tree e) (committed_in tree) (queues n))
+      ∙ map_twice (λ w. committed_in tree (prepared_in tree e w)) queue_of (queues n)
+      ∙ on_option (λ w. queue_of (committed_in tree (prepared_in tree e w))) (λ w. cond (matches tree e (queue_of w)) (record (queue_of w) { events = w.events ++ e ∷ [] }) (queue_of w)) (queues n) (λ w there. one_told tree e w (calm.none n w there))
+      ∙ sym (map_twice queue_of (λ (q : Queue). cond (matches tree e q) (record q { events = q.events ++ e ∷ [] }) q) (queues n)));
   calm = record {
     none = λ n w there. calm_from (λ w. committed_in tree (prepared_in tree e w)) (queues n) w (λ v h. one_calm tree e v (calm.none n v h)) (sym (map_twice (prepared_in tree e) (committed_in tree) (queues n)) ∙ there);
   };

@@ -6,13 +6,12 @@ use Rattle.std.specs.List.{list_any}
 use Rattle.std.proofs.lemmas.Bool.{eq-eqb, ne_eqb, eqb-true, leb-true, leb-false}
 use Rattle.std.proofs.lemmas.List.{length-append}
 use Rattle.std.proofs.lemmas.List.Folds.{list_any-append}
-use Rattle.sled_pages.specs.Order.{Key}
 use Rattle.sled_pages.specs.Update.{put_at}
 use Rattle.sled_model.specs.State.{matches}
 use Rattle.sled_model.specs.Refusal.{queue_limit}
 use Rattle.sled_model.specs.declared.event.Event.{Event}
 use Rattle.sled_queues.specs.Values.{WaitingValue, QueuesValue, Waitings, queue_at}
-use Rattle.sled_queues.specs.Queues.{queue_of, held, AreQueues, Becomes, with_subscriber, prepared_in, prepared, committed_in, committed, cancelled_in, cancelled, taken_in, without_oldest_of, without_subscriber}
+use Rattle.sled_queues.specs.Queues.{queue_of, held, AreQueues, Becomes, prepared_in, prepared, committed_in, committed, cancelled_in, cancelled, taken_in, without_oldest_of}
 use Rattle.sled_queues.specs.Tells.{HasRoom, MeetsFull}
 use Rattle.sled_queues.specs.Lists.{is_in, without, Rise, AreListed, changed_at, changed_in, has_prefix, gains, tells, forgets, is_full_for}
 use Rattle.sled_queues.proofs.Rising.{is_out, raise, push_rises, without_rises, without_keeps, push_without}
@@ -157,9 +156,9 @@ not_le a b e = leb-false a b e
 pub has_room : (tree : ℕ) (e : Event) (ns : List ℕ) (a : Waitings) (lists : ℕ → List ℕ) (given : ℕ) → AreListed a lists given → lists tree ≡ ns → list_any (λ n. is_full_for e (a n)) ns ≡ false → HasRoom tree e a
 has_room tree e ns a lists given l k none = record {
   room = λ n w there m.
-    let here : is_in n ns ≡ true = ap (is_in n) (sym k) ∙ l.listed n w there tree ∙ and_left (nat_eq w.tree tree) (has_prefix e w) m in
-    let full : (has_prefix e w && nat_le queue_limit (held w)) ≡ false = ap (is_full_for e) (sym there) ∙ none_of (λ n. is_full_for e (a n)) ns n none here in
-    not_le queue_limit (held w) (ap (λ b. b && nat_le queue_limit (held w)) (sym (and_right (nat_eq w.tree tree) (has_prefix e w) m)) ∙ full);
+      let here : is_in n ns ≡ true = ap (is_in n) (sym k) ∙ l.listed n w there tree ∙ and_left (nat_eq w.tree tree) (has_prefix e w) m in
+      let full : (has_prefix e w && nat_le queue_limit (held w)) ≡ false = ap (is_full_for e) (sym there) ∙ none_of (λ n. is_full_for e (a n)) ns n none here in
+      not_le queue_limit (held w) (ap (λ b. b && nat_le queue_limit (held w)) (sym (and_right (nat_eq w.tree tree) (has_prefix e w) m)) ∙ full);
 }
 
 pub meets_full : (tree : ℕ) (e : Event) (ns : List ℕ) (a : Waitings) (lists : ℕ → List ℕ) (given : ℕ) → AreListed a lists given → lists tree ≡ ns → list_any (λ n. is_full_for e (a n)) ns ≡ true → MeetsFull tree e a
@@ -259,12 +258,15 @@ added_listed tree given fresh a b lists more of is put l = record {
     new : (t : ℕ) (b : Bool) → nat_eq t tree ≡ b → is_in (given + 1) (cond b (lists t ++ (given + 1) ∷ []) (lists t)) ≡ nat_eq tree t
     new t true h = pushed_in (given + 1) (lists t) ∙ sym (eq-eqb tree t (sym (eqb-true t tree h)))
     new t false h = is_out given (given + 1) (lists t) (l.rise t) (omega arith) ∙ sym (ne_eqb tree t (λ s. true≢false (sym (eq-eqb t tree (sym s)) ∙ h)))
+
     older : (n : ℕ) (t : ℕ) (b : Bool) → n ≢ given + 1 → is_in n (cond b (lists t ++ (given + 1) ∷ []) (lists t)) ≡ is_in n (lists t)
     older n t true h = in_pushed n (given + 1) (lists t) h
     older n t false h = refl
+
     go : (n : ℕ) (w : WaitingValue) (t : ℕ) → ((n ≡ given + 1) × (Some fresh ≡ Some w)) ⊎ ((n ≢ given + 1) × (a n ≡ Some w)) → is_in n (cond (nat_eq t tree) (lists t ++ (given + 1) ∷ []) (lists t)) ≡ nat_eq w.tree t
     go n w t (inl h) = ap (λ m. is_in m (cond (nat_eq t tree) (lists t ++ (given + 1) ∷ []) (lists t))) h.0 ∙ new t (nat_eq t tree) refl ∙ ap (λ k. nat_eq k t) (sym of ∙ ap (λ (z : WaitingValue). z.tree) (some_is h.1))
     go n w t (inr h) = older n t (nat_eq t tree) h.0 ∙ l.listed n w h.1 t
+
     rises : (t : ℕ) (b : Bool) → Rise (given + 1) (cond b (lists t ++ (given + 1) ∷ []) (lists t))
     rises t true = push_rises given (lists t) (l.rise t)
     rises t false = raise given (given + 1) (lists t) (omega arith) (l.rise t)
@@ -278,6 +280,7 @@ added_queues fresh a b none is same q = record {
     number : (n : ℕ) (w : WaitingValue) → ((n ≡ a.given + 1) × (Some fresh ≡ Some w)) ⊎ ((n ≢ a.given + 1) × (queue_at a n ≡ Some w)) → (0 < n) × (n ≤ b.given)
     number n w (inl h) = let e = h.0 in (omega (arith, e), omega (arith, e, same))
     number n w (inr h) = let m = q.numbered n w h.1 in let low = m.0 in let high = m.1 in (low, omega (arith, high, same))
+
     bound : (n : ℕ) (w : WaitingValue) → ((n ≡ a.given + 1) × (Some fresh ≡ Some w)) ⊎ ((n ≢ a.given + 1) × (queue_at a n ≡ Some w)) → held w ≤ queue_limit
     bound n w (inl h) = subst (λ (z : WaitingValue). held z ≤ queue_limit) (some_is h.1) (subst (λ k. k ≤ queue_limit) (sym none) (omega arith))
     bound n w (inr h) = q.within n w h.1
@@ -300,9 +303,11 @@ removed_listed k tree given a b lists more is out l = record {
     others : (n t : ℕ) (b : Bool) → n ≢ k → is_in n (cond b (without k (lists t)) (lists t)) ≡ is_in n (lists t)
     others n t true h = without_keeps k n (lists t) h
     others n t false h = refl
+
     go : (n : ℕ) (w : WaitingValue) (t : ℕ) → ((n ≡ k) × (None ≡ Some w)) ⊎ ((n ≢ k) × (a n ≡ Some w)) → is_in n (cond (nat_eq t tree) (without k (lists t)) (lists t)) ≡ nat_eq w.tree t
     go n w t (inl h) = none_some h.1
     go n w t (inr h) = others n t (nat_eq t tree) h.0 ∙ l.listed n w h.1 t
+
     rises : (t : ℕ) (b : Bool) → Rise given (cond b (without k (lists t)) (lists t))
     rises t true = without_rises given k (lists t) (l.rise t)
     rises t false = l.rise t

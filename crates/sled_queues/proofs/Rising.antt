@@ -63,9 +63,9 @@ lower_from low high last (n ∷ ns) l r = (higher low high n l r.0, r.1, r.2)
 without_from : (low last k : ℕ) (ns : List ℕ) → RiseUpTo low last ns → RiseUpTo low last (without k ns)
 without_from low last k [] r = tt
 without_from low last k (n ∷ ns) r = elim (nat_eq n k) as (λ b. RiseUpTo low last (cond (not b) (n ∷ without k ns) (without k ns))) [
-    | true ↦ lower_from low n last (without k ns) r.0 (without_from n last k ns r.2)
-    | false ↦ (r.0, r.1, without_from n last k ns r.2)
-  ]
+  | true ↦ lower_from low n last (without k ns) r.0 (without_from n last k ns r.2)
+  | false ↦ (r.0, r.1, without_from n last k ns r.2)
+]
 
 pub without_rises : (last k : ℕ) (ns : List ℕ) → Rise last ns → Rise last (without k ns)
 without_rises last k ns r = record { is = without_from 0 last k ns r.is }

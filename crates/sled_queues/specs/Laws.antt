@@ -1,5 +1,5 @@
 -- What the calls on queues come to in the model, as laws.
-use Rattle.std.specs.Prelude.{◌≡◌, ℕ, ◌+◌, nat_eq, List, [], ◌∷◌, ◌++◌, Option, Some, None, if◌then◌else◌}
+use Rattle.std.specs.Prelude.{◌≡◌, ℕ, nat_eq, List, [], ◌∷◌, ◌++◌, Option, Some, if◌then◌else◌}
 use Rattle.std.specs.Option.{option_to_list}
 use Rattle.sled_pages.specs.Order.{Key}
 use Rattle.sled_model.specs.State.{Queue, matches, delivered}

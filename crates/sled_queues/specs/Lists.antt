@@ -1,5 +1,5 @@
 -- The subscribers of each tree, in lists, and what becomes of the queues of a list.
-use Rattle.std.specs.Prelude.{◌≡◌, ℕ, ◌+◌, ◌-◌, ◌<◌, ◌≤◌, nat_eq, nat_le, ◌&&◌, not, Bool, true, false, List, [], ◌∷◌, ◌++◌, take, length, Option, Some, None, option_map, if◌then◌else◌}
+use Rattle.std.specs.Prelude.{◌≡◌, ℕ, ◌-◌, ◌<◌, ◌≤◌, nat_eq, nat_le, ◌&&◌, not, Bool, false, List, [], ◌∷◌, ◌++◌, take, length, Option, Some, None, option_map, if◌then◌else◌}
 use Rattle.std.specs.List.{list_any, starts_with, filter}
 use Rattle.std.specs.Ordering.{nat_cmp}
 use Rattle.std.specs.BTreeMap.{BTreeMap, get}

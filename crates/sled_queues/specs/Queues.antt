@@ -1,5 +1,5 @@
 -- What queues are, and what each call makes of them.
-use Rattle.std.specs.Prelude.{◌≡◌, ℕ, ◌+◌, ◌<◌, ◌≤◌, nat_eq, List, [], ◌∷◌, ◌++◌, length, drop, Option, Some, None, option_map, slice_get, if◌then◌else◌}
+use Rattle.std.specs.Prelude.{◌≡◌, ℕ, ◌+◌, ◌<◌, ◌≤◌, nat_eq, [], ◌∷◌, ◌++◌, length, drop, Option, Some, None, option_map, slice_get, if◌then◌else◌}
 use Rattle.sled_pages.specs.Order.{Key}
 use Rattle.sled_pages.specs.Update.{put_at}
 use Rattle.sled_model.specs.State.{Queue, matches}

@@ -1,5 +1,5 @@
 -- What the calls on queues answer.
-use Rattle.std.specs.Prelude.{◌≡◌, ℕ, ◌<◌, ◌≤◌, Bool, true, false, Option, Some}
+use Rattle.std.specs.Prelude.{◌≡◌, ℕ, ◌<◌, ◌≤◌, Bool, true, false, Some}
 use Rattle.sled_pages.specs.declared.error.Error.{Error}
 use Rattle.sled_pages.specs.declared.error.Error.TheVariants.{Unsupported, NoMemory}
 use Rattle.sled_pages.specs.declared.texts.TheConstants.{NUMBERS_USED_UP}
