@@ -3,7 +3,7 @@ use Rattle.std.specs.Prelude.{◌≡◌, ℕ, zero, suc, List, [], ◌∷◌, Op
 use Rattle.sled_pages.specs.Order.{Key}
 use Rattle.sled_pages.specs.Store.{Store}
 use Rattle.sled_pages.specs.declared.error.Error.{Error}
-use Rattle.sled_model.specs.Maps.{Map, Maps, IsLeast}
+use Rattle.sled_model.specs.Maps.{Map, Maps}
 use Rattle.sled_model.specs.Answer.{answer_of}
 use Rattle.sled_model.specs.State.{State, NamedTree, maps_of, decided_on}
 use Rattle.sled_model.specs.Refusal.{ToPoint, ToCall, must_refuse, MayRefuse}

@@ -10,6 +10,7 @@ mod event;
 mod operator;
 mod outcome;
 mod reply;
+mod subscriber;
 mod tree;
 
 pub use call::{Call, Whole};
@@ -18,6 +19,7 @@ pub use event::Event;
 pub use operator::MergeOperator;
 pub use outcome::{Outcome, Slot, Step};
 pub use reply::{CompareAndSwapError, Reply};
+pub use subscriber::Subscriber;
 pub use tree::Tree;
 
 /// A call whose turns are this many is refused at its next step.

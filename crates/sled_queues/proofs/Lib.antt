@@ -1,0 +1,4 @@
+pub mod Rising
+pub mod Changing
+pub mod Listed
+pub mod Lawful

@@ -1,0 +1,69 @@
+-- What the calls on queues come to in the model, as laws.
+use Rattle.std.specs.Prelude.{◌≡◌, ℕ, nat_eq, List, [], ◌∷◌, ◌++◌, Option, Some, if◌then◌else◌}
+use Rattle.std.specs.Option.{option_to_list}
+use Rattle.sled_pages.specs.Order.{Key}
+use Rattle.sled_model.specs.State.{Queue, matches, delivered}
+use Rattle.sled_model.specs.Queues.{waiting_in, oldest, watched, taken, given_up}
+use Rattle.sled_model.specs.declared.event.Event.{Event}
+use Rattle.sled_queues.specs.Values.{Waitings}
+use Rattle.sled_queues.specs.Queues.{queues_of, IsCalm, with_subscriber, prepared, committed, cancelled, oldest_in, without_oldest_of, without_subscriber}
+
+-- An event that is prepared is seen by nobody; once it is committed it is delivered, and nothing is prepared any more
+pub record Delivers (queues : Waitings) (tree : ℕ) (e : Event) : Type 0 where
+  pub hidden : queues_of (prepared tree e queues) ≡ queues_of queues
+  pub shown : queues_of (committed tree (prepared tree e queues)) ≡ delivered tree (Some e) (queues_of queues)
+  pub calm : IsCalm (committed tree (prepared tree e queues))
+
+abbrev pub DeliversLaw : Type 0
+DeliversLaw = (queues : Waitings) → IsCalm queues → (tree : ℕ) (e : Event) → Delivers queues tree e
+
+-- an event that is prepared and cancelled leaves all as it was
+abbrev pub CancelsLaw : Type 0
+CancelsLaw = (queues : Waitings) → IsCalm queues → (tree : ℕ) (e : Event) → cancelled tree (prepared tree e queues) ≡ queues
+
+-- the other calls are those of the model
+pub record Serves (queues : Waitings) : Type 0 where
+  pub watches : (n tree : ℕ) (prefix : Key) → queues_of (with_subscriber n tree prefix queues) ≡ watched n tree prefix (queues_of queues)
+  pub gives : (n : ℕ) → oldest_in (queues n) ≡ oldest (queues_of queues n)
+  pub takes : (n : ℕ) → queues_of (without_oldest_of n queues) ≡ taken n (queues_of queues)
+  pub gives_up : (n : ℕ) → queues_of (without_subscriber n queues) ≡ given_up n (queues_of queues)
+
+abbrev pub ServesLaw : Type 0
+ServesLaw = (queues : Waitings) → Serves queues
+
+-- what happens to queues: an event of a tree is delivered, or a subscriber takes its oldest event
+pub data Turn : Type 0 where
+  Comes : (tree : ℕ) (event : Event) → Turn
+  Takes : (subscriber : ℕ) → Turn
+
+abbrev pub after_turn : Turn → (ℕ → Option Queue) → ℕ → Option Queue
+after_turn (Comes tree e) queues = delivered tree (Some e) queues
+after_turn (Takes n) queues = taken n queues
+
+abbrev pub after_turns : List Turn → (ℕ → Option Queue) → ℕ → Option Queue
+after_turns [] queues = queues
+after_turns (t ∷ ts) queues = after_turns ts (after_turn t queues)
+
+-- the events that a subscriber takes at these turns, in order
+abbrev pub taken_at : ℕ → Turn → (ℕ → Option Queue) → List Event
+taken_at n (Comes tree e) queues = []
+taken_at n (Takes m) queues = if nat_eq m n then option_to_list (oldest (queues n)) else []
+
+abbrev pub taken_by : ℕ → List Turn → (ℕ → Option Queue) → List Event
+taken_by n [] queues = []
+taken_by n (t ∷ ts) queues = taken_at n t queues ++ taken_by n ts (after_turn t queues)
+
+-- the events among them that a queue waits for, in order
+abbrev pub brought_at : Queue → Turn → List Event
+brought_at q (Comes tree e) = if matches tree e q then e ∷ [] else []
+brought_at q (Takes n) = []
+
+abbrev pub brought : Queue → List Turn → List Event
+brought q [] = []
+brought q (t ∷ ts) = brought_at q t ++ brought q ts
+
+-- What a subscriber took, and then what waits for it, are the events that waited at first and then those that came for it, in their
+-- order. At first nothing waits for a new subscriber
+abbrev pub OrdersLaw : Type 0
+OrdersLaw = (turns : List Turn) (n : ℕ) (queues : ℕ → Option Queue) (q : Queue) → queues n ≡ Some q
+    → taken_by n turns queues ++ waiting_in (after_turns turns queues n) ≡ q.events ++ brought q turns

@@ -1,0 +1,5 @@
+pub mod Values
+pub mod Queues
+pub mod Tells
+pub mod Lists
+pub mod Laws

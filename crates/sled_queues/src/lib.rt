@@ -1,0 +1,17 @@
+//! The queues of subscribers.
+//!
+//! An event comes into them in two steps. `Queues::prepare` puts a copy of it behind the events of each queue that waits for
+//! it, where no subscriber sees it yet; this may be refused. `Queues::commit` makes wait what was prepared; it takes no
+//! memory and cannot be refused. So a call prepares, changes its page, and commits.
+//!
+//! Contracts see the queues by subscriber (`specs/Values`), of which the model's queues are a part (`queues_of`). What each
+//! call makes of them is in `specs/Queues`, and what it answers in `specs/Tells`.
+#![tactic(auto)]
+
+mod laws;
+mod lists;
+mod queues;
+mod waiting;
+
+pub use laws::{law_cancels, law_delivers, law_orders, law_serves};
+pub use queues::Queues;

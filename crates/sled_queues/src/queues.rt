@@ -1,0 +1,140 @@
+//! The queues of all subscribers.
+ghost use Rattle.std.specs.Prelude.{◌≡◌, ◌+◌, Some, None, OnOk, OnErr, IfOk, IfErr};
+ghost use Rattle.sled_pages.specs.declared.error.Error.TheVariants.{NoMemory};
+ghost use Rattle.sled_queues.specs.Values.{queue_at};
+ghost use Rattle.sled_queues.specs.Queues.{AreQueues, Becomes, no_queues, with_subscriber, committed, cancelled, oldest_in, without_oldest_of, without_subscriber};
+ghost use Rattle.sled_queues.specs.Tells.{prepares_as, refuses_watch};
+
+use crate::lists::{
+    add, any_full, cancel_all, commit_all, enlist, numbers_of, prepare_all, remove, take, unlist,
+};
+use crate::waiting::Waiting;
+use sled_model::{Event, Subscriber};
+use sled_pages::texts::NUMBERS_USED_UP;
+use sled_pages::{Error, IVec, Result};
+use std::alloc::Global;
+use std::collections::BTreeMap;
+use std::marker::Model;
+
+/// The queues of the subscribers of a database, which holds at most 1024 events in each. An event costs the subscribers of
+/// its tree alone.
+#[derive(Drop)]
+pub struct Queues {
+    // the queues by subscriber
+    queues: BTreeMap<u64, Waiting>,
+    // the subscribers of each tree that has some, rising
+    lists: BTreeMap<u64, Vec<u64>>,
+    // how many numbers were given
+    given: u64,
+}
+
+impl Model for Queues {
+    ghost use Rattle.std.specs.Ordering.{nat_cmp};
+    ghost use Rattle.std.specs.BTreeMap.{get};
+    ghost use Rattle.sled_queues.specs.Values.{QueuesValue};
+    ghost use Rattle.sled_queues.specs.Queues.{AreQueues};
+    ghost use Rattle.sled_queues.specs.Lists.{AreListed, lists_of};
+
+    ghost Value = { QueuesValue };
+
+    ghost view = { λ q. record { queues = q.queues.entries; given = q.given } };
+
+    ghost invariant = { λ q. AreQueues (record { queues = q.queues.entries; given = q.given }) × AreListed (get nat_cmp q.queues) (lists_of q.lists) q.given };
+}
+
+impl Queues {
+    /// No subscribers.
+    pub fn new(alloc: Global) -> Queues
+        ensures { Becomes no_queues 0 result }
+    {
+        Queues {
+            queues: BTreeMap::new(alloc),
+            lists: BTreeMap::new(alloc),
+            given: 0,
+        }
+    }
+
+    /// A new subscriber to the keys of a tree that begin with a prefix; the tree is named by its number. The subscriber's
+    /// number is the next one, from 1, and no subscriber ever had it. Refused with `NoMemory`, or with `Unsupported` after
+    /// the greatest number of 64 bits; then nothing changes.
+    pub fn watch(&mut self, alloc: Global, tree: u64, prefix: IVec) -> Result<Subscriber>
+        ensures number { IfOk result (λ n. n ≡ self.old.given + 1) }
+        ensures fresh { IfOk result (λ n. queue_at self.old n ≡ None) }
+        ensures ok { IfOk result (λ n. Becomes (with_subscriber n tree prefix (queue_at self.old)) n self.new) }
+        ensures err { OnErr result (Becomes (queue_at self.old) self.old.given self.new) }
+        ensures cause { IfErr result (refuses_watch self.old.given) }
+    {
+        if self.given == u64::MAX {
+            drop(prefix);
+            return Err(Error::Unsupported(NUMBERS_USED_UP));
+        }
+        let number = self.given + 1;
+        if let Err(e) = enlist(&mut self.lists, alloc, tree, number) {
+            drop(prefix);
+            return Err(e);
+        }
+        if let Err(e) = add(&mut self.queues, number, Waiting::new(alloc, tree, prefix)) {
+            unlist(&mut self.lists, tree, number);
+            return Err(e);
+        }
+        self.given = number;
+        Ok(Subscriber(number))
+    }
+
+    /// Prepares an event of a tree: a copy comes behind the events of each queue that waits for it, where `next` does not
+    /// give it yet. Answers whether there was room: where a queue that waits for it holds 1024 events, waiting and prepared
+    /// ones together, nothing changes. Refused with `NoMemory` alone, and then nothing changes.
+    pub fn prepare(&mut self, tree: u64, event: &Event) -> Result<bool>
+        ensures ok { IfOk result (λ room. prepares_as tree event.now self.old room self.new) }
+        ensures err { OnErr result (Becomes (queue_at self.old) self.old.given self.new) }
+        ensures cause { IfErr result (λ e. e ≡ NoMemory) }
+    {
+        let numbers = numbers_of(&self.lists, tree);
+        if any_full(&self.queues, numbers, event) {
+            return Ok(false);
+        }
+        if let Err(e) = prepare_all(&mut self.queues, numbers, event) {
+            return Err(e);
+        }
+        Ok(true)
+    }
+
+    /// Makes wait all that is prepared in the queues of a tree. It takes no memory.
+    pub fn commit(&mut self, tree: u64)
+        ensures { Becomes (committed tree (queue_at self.old)) self.old.given self.new }
+    {
+        commit_all(&mut self.queues, numbers_of(&self.lists, tree));
+    }
+
+    /// Drops all that is prepared in the queues of a tree.
+    pub fn cancel(&mut self, tree: u64)
+        ensures { Becomes (cancelled tree (queue_at self.old)) self.old.given self.new }
+    {
+        cancel_all(&mut self.queues, numbers_of(&self.lists, tree));
+    }
+
+    /// Takes the oldest event that waits for a subscriber: `None` where none waits, and for an unknown subscriber. It takes no
+    /// memory, and as long however many wait.
+    pub fn next(&mut self, subscriber: &Subscriber) -> Option<Event>
+        ensures told { result ≡ oldest_in (queue_at self.old subscriber.now) }
+        ensures rest { Becomes (without_oldest_of subscriber.now (queue_at self.old)) self.old.given self.new }
+    {
+        take(&mut self.queues, subscriber.0)
+    }
+
+    /// Gives a subscriber's queue up, with its events. It takes no memory. Of an unknown subscriber nothing changes.
+    pub fn unsubscribe(&mut self, subscriber: &Subscriber)
+        ensures { Becomes (without_subscriber subscriber.now (queue_at self.old)) self.old.given self.new }
+    {
+        if let Some(tree) = remove(&mut self.queues, subscriber.0) {
+            unlist(&mut self.lists, tree, subscriber.0);
+        }
+    }
+
+    /// What always holds: the numbers, and that at most 1024 events wait in a queue. It does nothing.
+    pub fn audit(&self)
+        ensures { AreQueues self.now }
+    {
+        let _ = &self.queues;
+    }
+}
