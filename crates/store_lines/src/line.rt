@@ -1,131 +1,272 @@
-//! What is printed: how byte strings, numbers and answers stand in a line.
-use crate::words::{Result, Stop, Word};
-use sled_model::CompareAndSwapError;
-use sled_pages::{Error, IVec};
+//! Lines: how byte strings and numbers are read.
+use crate::text::Text;
+use sled_pages::{IVec, Pid};
 use std::alloc::Global;
 
-/// Text that is added to. Where there is no memory for a part of it, that is told at the end alone.
+/// A line that is read word by word, and what it prints. A word that is missing, or is not what is asked for, is taken for an
+/// empty one, and then the line cannot be read. Who acts asks `is_read` first.
 #[derive(Drop)]
-pub struct Line {
-    text: String,
-    is_cut: bool,
+pub struct Line<'a> {
+    pub out: Text,
+    rest: Option<&'a str>,
+    is_bad: bool,
 }
 
-impl Line {
-    pub fn new(alloc: Global) -> Line {
+/// The value beside a word in a table.
+pub fn named<T: Copy>(table: &[(&str, T)], word: &str) -> Option<T> {
+    for row in table {
+        if row.0 == word {
+            return Some(row.1);
+        }
+    }
+    None
+}
+
+impl<'a> Line<'a> {
+    pub fn new(alloc: Global, text: &'a str) -> Line<'a> {
         Line {
-            text: String::new(alloc),
-            is_cut: false,
+            out: Text::new(alloc),
+            rest: Some(text),
+            is_bad: false,
         }
     }
 
     pub fn alloc(&self) -> Global {
-        *self.text.allocator()
+        self.out.alloc()
     }
 
-    /// Begins anew.
-    pub fn clear(&mut self) {
-        self.text.clear();
+    /// The line cannot be read.
+    pub fn fail(&mut self) {
+        self.is_bad = true;
     }
 
-    /// The text, if there was memory for all of it.
-    pub fn text(&self) -> Result<&str> {
-        if self.is_cut {
-            return Err(Stop::NoMemory);
+    pub fn is_bad(&self) -> bool {
+        self.is_bad
+    }
+
+    /// What was not read yet, if there is more.
+    pub fn rest(&self) -> Option<&'a str> {
+        self.rest
+    }
+
+    /// Reads this text from here on.
+    pub fn read_on(&mut self, rest: Option<&'a str>) {
+        self.rest = rest;
+    }
+
+    /// Whether the line ends here, could be read, and there was memory for it.
+    pub fn is_read(&mut self) -> bool {
+        self.is_bad |= self.rest.is_some();
+        !self.is_bad && !self.out.is_cut()
+    }
+
+    /// What was read, if the line ends with it.
+    pub fn whole<T: Drop>(&mut self, read: Option<T>) -> Option<T> {
+        if self.is_read() {
+            return read;
         }
-        Ok(self.text.as_str())
+        drop(read);
+        None
     }
 
-    pub fn push(&mut self, text: &str) {
-        self.is_cut |= self.text.push_str(text).is_err();
-    }
-
-    /// Adds a line.
-    pub fn push_line(&mut self, line: &Line) {
-        self.push(line.text.as_str());
-        self.push("\n");
-        self.is_cut |= line.is_cut;
-    }
-
-    // Adds a byte as it stands in a word.
-    fn push_byte(&mut self, byte: u8) {
-        let pushed = match byte {
-            b'!'..=b'~' if byte != b'%' => self.text.push(char::from(byte)),
-            _ => write!(self.text, "%{byte:02x}"),
+    /// The next word.
+    pub fn word(&mut self) -> &'a str {
+        let text = self.rest.unwrap_or("");
+        let word = match text.split_once(' ') {
+            Some((word, rest)) => {
+                self.rest = Some(rest);
+                word
+            }
+            None => {
+                self.rest = None;
+                text
+            }
         };
-        self.is_cut |= pushed.is_err();
+        self.is_bad |= word.is_empty();
+        word
     }
 
-    /// Adds bytes, each as it stands in a word.
-    pub fn push_bytes(&mut self, bytes: &[u8]) {
-        for byte in bytes {
-            self.push_byte(*byte);
+    /// The number that a word is.
+    pub fn number_of(&mut self, word: &str) -> u64 {
+        match word.parse::<u64>() {
+            Ok(number) => number,
+            Err(_) => {
+                self.fail();
+                0
+            }
         }
     }
 
-    /// Adds a byte string.
-    pub fn push_word(&mut self, bytes: &[u8]) {
-        match bytes {
-            [] => self.push("%"),
-            b"-" => self.push("%2d"),
-            _ => self.push_bytes(bytes),
+    pub fn number(&mut self) -> u64 {
+        let word = self.word();
+        self.number_of(word)
+    }
+
+    /// The number of a page, or `-`, which is none.
+    pub fn page(&mut self) -> Option<Pid> {
+        match self.word() {
+            "-" => None,
+            word => Some(Pid(self.number_of(word))),
         }
     }
 
-    /// Adds a space and a number.
-    pub fn push_number(&mut self, number: u64) {
-        self.is_cut |= write!(self.text, " {number}").is_err();
+    /// The bytes that a word spells. `%` is the empty string; elsewhere a `%` and two digits stand for one byte, and all else
+    /// for itself.
+    pub fn bytes_of(&mut self, word: &str) -> Vec<u8> {
+        let mut bytes = Vec::new(self.alloc());
+        if word == "-" || word.is_empty() {
+            self.fail();
+        } else if word != "%" {
+            self.push_spelled(word.as_bytes(), &mut bytes);
+        }
+        bytes
     }
 
-    /// Adds a space and a number that is a part of a key.
-    pub fn push_part(&mut self, number: u64) {
-        self.is_cut |= write!(self.text, " #{number}").is_err();
+    pub fn bytes(&mut self) -> Vec<u8> {
+        let word = self.word();
+        self.bytes_of(word)
     }
 
-    /// Adds a word, a space and a number.
-    pub fn push_numbered(&mut self, word: &str, number: u64) {
-        self.push(word);
-        self.push_number(number);
+    fn push_spelled(&mut self, word: &[u8], bytes: &mut Vec<u8>) {
+        let mut rest = word;
+        for _ in 0..word.len() {
+            let Some((byte, others)) = first_byte(rest) else {
+                break;
+            };
+            self.out.keep(bytes, byte);
+            rest = others;
+        }
+        self.is_bad |= !rest.is_empty();
     }
 
-    /// Adds keys and what stands beside them.
-    pub fn push_entries<W: Word>(&mut self, entries: &[(IVec, W)]) {
-        for (key, beside) in entries {
-            key.print(self);
-            beside.print(self);
+    /// The byte string that a word spells.
+    pub fn string_of(&mut self, word: &str) -> Option<IVec> {
+        let bytes = self.bytes_of(word);
+        let string = IVec::from_slice(self.alloc(), bytes.as_slice());
+        drop(bytes);
+        self.out.kept(string)
+    }
+
+    pub fn read<W: Word>(&mut self) -> Option<W> {
+        W::read(self)
+    }
+
+    /// Reads words to the end of the line.
+    pub fn list<W: Word>(&mut self) -> Vec<W> {
+        let mut list = Vec::new(self.alloc());
+        for _ in 0..u64::MAX {
+            if self.rest.is_none() {
+                break;
+            }
+            if let Some(item) = W::read(self) {
+                self.out.keep(&mut list, item);
+            }
+        }
+        list
+    }
+}
+
+// The byte that a spelling begins with, and what follows it.
+fn first_byte(word: &[u8]) -> Option<(u8, &[u8])> {
+    match word {
+        [b'%', high, low, rest @ ..] => Some((byte_of(*high, *low)?, rest)),
+        [byte, rest @ ..] if *byte != b'%' && byte.is_ascii_graphic() => Some((*byte, rest)),
+        _ => None,
+    }
+}
+
+// The byte of two hexadecimal digits.
+fn byte_of(high: u8, low: u8) -> Option<u8> {
+    Some(hex_value(high)? << 4 | hex_value(low)?)
+}
+
+// What a hexadecimal digit counts.
+fn hex_value(digit: u8) -> Option<u8> {
+    match digit {
+        b'0'..=b'9' => Some(digit - b'0'),
+        b'a'..=b'f' => Some(digit - b'a' + 10),
+        _ => None,
+    }
+}
+
+/// What a word stands for, or several words.
+pub trait Word: Drop {
+    /// Reads it; `None` where the line cannot be read or there was no memory.
+    fn read(line: &mut Line<'_>) -> Option<Self>;
+
+    /// Adds a space and the word.
+    fn print(&self, out: &mut Text);
+}
+
+impl Word for u64 {
+    fn read(line: &mut Line<'_>) -> Option<u64> {
+        Some(line.number())
+    }
+
+    fn print(&self, out: &mut Text) {
+        out.push_number(*self);
+    }
+}
+
+impl Word for Pid {
+    fn read(line: &mut Line<'_>) -> Option<Pid> {
+        Some(Pid(line.number()))
+    }
+
+    fn print(&self, out: &mut Text) {
+        out.push_number(self.0);
+    }
+}
+
+impl Word for IVec {
+    fn read(line: &mut Line<'_>) -> Option<IVec> {
+        let word = line.word();
+        line.string_of(word)
+    }
+
+    fn print(&self, out: &mut Text) {
+        out.push(" ");
+        out.push_word(self.as_ref());
+    }
+}
+
+// `-` is none.
+impl<W: Word> Word for Option<W> {
+    fn read(line: &mut Line<'_>) -> Option<Option<W>> {
+        let text = line.rest();
+        if line.word() == "-" {
+            return Some(None);
+        }
+        line.read_on(text);
+        W::read(line).map(Some)
+    }
+
+    fn print(&self, out: &mut Text) {
+        match self {
+            Some(word) => word.print(out),
+            None => out.push(" -"),
         }
     }
+}
 
-    /// Adds `yes` or `no`.
-    pub fn push_whether(&mut self, is: bool) {
-        self.push(if is { "yes" } else { "no" });
+impl<A: Word, B: Word> Word for (A, B) {
+    fn read(line: &mut Line<'_>) -> Option<(A, B)> {
+        let first = A::read(line);
+        first.zip(B::read(line))
     }
 
-    /// Adds the text of an error, and the name that it has.
-    pub fn push_error(&mut self, error: &Error) {
-        self.is_cut |= write!(self.text, "{error}").is_err();
-        if let Error::CollectionNotFound(name) = error {
-            name.print(self);
+    fn print(&self, out: &mut Text) {
+        self.0.print(out);
+        self.1.print(out);
+    }
+}
+
+/// Adds what is in a list, if there was memory for it.
+pub fn push_all<W: Word>(out: &mut Text, list: sled_pages::Result<Vec<W>>) {
+    if let Some(list) = out.kept(list) {
+        for item in list.as_slice() {
+            item.print(out);
         }
-    }
-
-    /// Adds the text of a conflict.
-    pub fn push_conflict(&mut self, conflict: &CompareAndSwapError) {
-        self.is_cut |= write!(self.text, "{conflict}").is_err();
-    }
-
-    /// Adds why a call was refused.
-    pub fn push_refused(&mut self, error: Error) {
-        self.push("refused: ");
-        self.push_error(&error);
-        drop(error);
-    }
-
-    /// Adds whether a call was refused.
-    pub fn push_answer(&mut self, answer: sled_pages::Result<()>) {
-        match answer {
-            Ok(()) => self.push("done"),
-            Err(error) => self.push_refused(error),
-        }
+        drop(list);
     }
 }

@@ -10,8 +10,8 @@ mod keys;
 mod line;
 mod nodes;
 mod store;
+mod text;
 mod values;
-mod words;
 
 use check::{Texts, printed_by};
 use line_files::check;
@@ -89,7 +89,7 @@ trees K K N, ..                       the database's name, the tree's own and it
 
 // Prints what a text of lines prints.
 fn run_text(rt: &HostRuntime, text: &str) -> io::Result<()> {
-    let printed = printed_by(rt.alloc(), text)?;
+    let printed = printed_by(rt.alloc(), text);
     rt.print(printed.text()?)
 }
 

@@ -2,9 +2,9 @@
 ghost use Rattle.std.specs.Prelude.{◌≡◌};
 ghost use Rattle.sled_pages.specs.Node.{count};
 
-use crate::line::Line;
-use crate::words::{Result, Stop, Word, named, read_two};
-use sled_pages::{Data, IVec, Index, Leaf, Link, Node, Pid};
+use crate::line::{Line, Word, named, push_all};
+use crate::text::Text;
+use sled_pages::{Data, IVec, Index, Leaf, Link, Node, Pid, Result};
 use std::alloc::Global;
 use std::ops::Bound;
 
@@ -18,14 +18,6 @@ enum Make {
     Split,
 }
 
-const MAKES: [(&str, Make); 5] = [
-    ("leaf", Make::Leaf),
-    ("index", Make::Index),
-    ("clone", Make::Clone),
-    ("receive", Make::Receive),
-    ("split", Make::Split),
-];
-
 // What changes a node.
 #[derive(Clone, Copy)]
 enum Change {
@@ -33,12 +25,6 @@ enum Change {
     Next,
     Post,
 }
-
-const CHANGES: [(&str, Change); 3] = [
-    ("apply", Change::Apply),
-    ("next", Change::Next),
-    ("post", Change::Post),
-];
 
 // What is asked of a node alone.
 #[derive(Clone, Copy)]
@@ -50,30 +36,43 @@ enum Question {
     CanMergeChild,
 }
 
-const QUESTIONS: [(&str, Question); 5] = [
-    ("show", Question::Show),
-    ("len", Question::Len),
-    ("should-split", Question::ShouldSplit),
-    ("should-merge", Question::ShouldMerge),
-    ("can-merge-child", Question::CanMergeChild),
-];
-
 // What is sought in a node.
 #[derive(Clone, Copy)]
 enum Search {
     Get,
-    Pointer,
     PointerBefore,
+    Pointer,
     Successor,
     Predecessor,
 }
 
-const SEARCHES: [(&str, Search); 5] = [
-    ("get", Search::Get),
-    ("pointer", Search::Pointer),
-    ("pointer-before", Search::PointerBefore),
-    ("successor", Search::Successor),
-    ("predecessor", Search::Predecessor),
+#[derive(Clone, Copy)]
+enum Call {
+    Make(Make),
+    Change(Change),
+    Ask(Question),
+    Find(Search),
+}
+
+const CALLS: [(&str, Call); 18] = [
+    ("leaf", Call::Make(Make::Leaf)),
+    ("index", Call::Make(Make::Index)),
+    ("clone", Call::Make(Make::Clone)),
+    ("receive", Call::Make(Make::Receive)),
+    ("split", Call::Make(Make::Split)),
+    ("apply", Call::Change(Change::Apply)),
+    ("next", Call::Change(Change::Next)),
+    ("post", Call::Change(Change::Post)),
+    ("show", Call::Ask(Question::Show)),
+    ("len", Call::Ask(Question::Len)),
+    ("should-split", Call::Ask(Question::ShouldSplit)),
+    ("should-merge", Call::Ask(Question::ShouldMerge)),
+    ("can-merge-child", Call::Ask(Question::CanMergeChild)),
+    ("get", Call::Find(Search::Get)),
+    ("pointer-before", Call::Find(Search::PointerBefore)),
+    ("pointer", Call::Find(Search::Pointer)),
+    ("successor", Call::Find(Search::Successor)),
+    ("predecessor", Call::Find(Search::Predecessor)),
 ];
 
 /// The nodes that have names.
@@ -91,261 +90,293 @@ impl Nodes {
         }
     }
 
-    fn get(&self, name: &str) -> Result<&Node> {
+    fn get(&self, name: &str) -> Option<&Node> {
         for (other, node) in self.named.as_slice() {
             if other.as_ref() == name.as_bytes() {
-                return Ok(node);
+                return Some(node);
             }
         }
-        Err(Stop::BadLine)
+        None
     }
 
-    fn get_mut(&mut self, name: &str) -> Result<&mut Node> {
+    fn get_mut(&mut self, name: &str) -> Option<&mut Node> {
         for (other, node) in self.named.as_mut_slice() {
             if other.as_ref() == name.as_bytes() {
-                return Ok(node);
+                return Some(node);
             }
         }
-        Err(Stop::BadLine)
+        None
     }
 
-    /// A copy of the node of a name.
-    pub fn copy(&self, name: &str) -> Result<Node> {
+    // A copy of the node of a name.
+    fn copy(&self, name: &str, line: &mut Line<'_>) -> Option<Node> {
         match self.get(name) {
-            Ok(node) => Ok(node.clone(self.alloc)?),
-            Err(stop) => Err(stop),
+            Some(node) if line.is_read() => line.out.kept(node.clone(self.alloc)),
+            _ => {
+                line.fail();
+                None
+            }
         }
     }
 
-    /// Gives a node a name, in the place of another one of that name.
-    pub fn put(&mut self, name: &str, node: Node) -> Result<()> {
+    /// A copy of the node that the last word of a line names.
+    pub fn last(&self, line: &mut Line<'_>) -> Option<Node> {
+        let name = line.word();
+        self.copy(name, line)
+    }
+
+    // Gives a node a name, in the place of another one of that name.
+    fn set(&mut self, name: &str, node: Node, out: &mut Text) {
         match self.get_mut(name) {
-            Ok(place) => {
+            Some(place) => {
                 let old = std::mem::replace(place, node);
                 drop(old);
-                Ok(())
             }
-            Err(_) => self.add(name, node),
+            None => self.add(name, node, out),
         }
     }
 
-    fn add(&mut self, name: &str, node: Node) -> Result<()> {
+    fn add(&mut self, name: &str, node: Node, out: &mut Text) {
         match IVec::from_slice(self.alloc, name.as_bytes()) {
-            Ok(name) => Ok(self.named.push((name, node))?),
+            Ok(name) => out.keep(&mut self.named, (name, node)),
             Err(error) => {
+                drop(error);
                 drop(node);
-                Err(Stop::from(error))
+                out.cut();
             }
+        }
+    }
+
+    /// Gives a node a name, if there was memory for it.
+    pub fn put(&mut self, name: &str, made: Result<Node>, out: &mut Text) {
+        if let Some(node) = out.kept(made) {
+            self.set(name, node, out);
+        }
+    }
+
+    // The same, and says so.
+    fn give(&mut self, name: &str, node: Option<Node>, line: &mut Line<'_>) {
+        if let Some(node) = node {
+            self.set(name, node, &mut line.out);
+            line.out.done();
         }
     }
 
     /// Does what a line says whose first word is this one.
-    pub fn run(&mut self, command: &str, words: &[&str], out: &mut Line) -> Result<()> {
-        if let Some(make) = named(&MAKES, command) {
-            return self.make(make, words, out);
-        }
-        let [name, words @ ..] = words else {
-            return Err(Stop::BadLine);
-        };
-        if let Some(change) = named(&CHANGES, command) {
-            return change_node(self.alloc, change, self.get_mut(name)?, words, out);
-        }
-        match self.get(name) {
-            Ok(node) => look(self.alloc, command, node, words, out),
-            Err(stop) => Err(stop),
+    pub fn run(&mut self, name: &str, line: &mut Line<'_>) {
+        match named(&CALLS, name) {
+            Some(Call::Make(make)) => self.make(make, line),
+            Some(Call::Change(change)) => self.change(change, line),
+            Some(Call::Ask(question)) => self.ask(question, line),
+            Some(Call::Find(search)) => self.find(search, line),
+            None => line.fail(),
         }
     }
 
-    fn make(&mut self, make: Make, words: &[&str], out: &mut Line) -> Result<()> {
+    fn make(&mut self, make: Make, line: &mut Line<'_>) {
         match make {
-            Make::Leaf => self.build(true, words)?,
-            Make::Index => self.build(false, words)?,
-            Make::Clone => self.keep_copy(words)?,
-            Make::Receive => self.receive(words)?,
-            Make::Split => return self.split(words, out),
+            Make::Leaf => self.build(true, line),
+            Make::Index => self.build(false, line),
+            Make::Clone => self.keep_copy(line),
+            Make::Receive => self.receive(line),
+            Make::Split => self.split(line),
         }
-        out.push("done");
-        Ok(())
     }
 
     // Builds a leaf or an index.
-    fn build(&mut self, is_leaf: bool, words: &[&str]) -> Result<()> {
-        let [name, words @ ..] = words else {
-            return Err(Stop::BadLine);
+    fn build(&mut self, is_leaf: bool, line: &mut Line<'_>) {
+        let name = line.word();
+        let node = read_node(is_leaf, line);
+        self.give(name, node, line);
+    }
+
+    fn keep_copy(&mut self, line: &mut Line<'_>) {
+        let (of, name) = (line.word(), line.word());
+        let copy = self.copy(of, line);
+        self.give(name, copy, line);
+    }
+
+    fn receive(&mut self, line: &mut Line<'_>) {
+        let (left, right, name) = (line.word(), line.word(), line.word());
+        let both = match (self.get(left), self.get(right)) {
+            (Some(left), Some(right)) if line.is_read() => {
+                line.out.kept(left.receive_merge(self.alloc, right))
+            }
+            _ => {
+                line.fail();
+                None
+            }
         };
-        match read_node(self.alloc, is_leaf, words) {
-            Ok(node) => self.put(name, node),
-            Err(stop) => Err(stop),
+        self.give(name, both, line);
+    }
+
+    fn split(&mut self, line: &mut Line<'_>) {
+        let (of, left_name, right_name) = (line.word(), line.word(), line.word());
+        let halves = match self.get(of) {
+            Some(node) if line.is_read() => halves_of(self.alloc, node, &mut line.out),
+            _ => {
+                line.fail();
+                None
+            }
+        };
+        if let Some((left, right)) = halves {
+            self.set(left_name, left, &mut line.out);
+            self.give(right_name, Some(right), line);
         }
     }
 
-    fn keep_copy(&mut self, words: &[&str]) -> Result<()> {
-        let [of, name] = words else {
-            return Err(Stop::BadLine);
-        };
-        match self.copy(of) {
-            Ok(copy) => self.put(name, copy),
-            Err(stop) => Err(stop),
+    fn change(&mut self, change: Change, line: &mut Line<'_>) {
+        let name = line.word();
+        match self.get_mut(name) {
+            Some(node) => change_node(change, node, line),
+            None => line.fail(),
         }
     }
 
-    fn receive(&mut self, words: &[&str]) -> Result<()> {
-        let [left, right, name] = words else {
-            return Err(Stop::BadLine);
-        };
-        let (Ok(left), Ok(right)) = (self.get(left), self.get(right)) else {
-            return Err(Stop::BadLine);
-        };
-        let both = left.receive_merge(self.alloc, right)?;
-        self.put(name, both)
+    fn ask(&self, question: Question, line: &mut Line<'_>) {
+        let name = line.word();
+        match self.get(name) {
+            Some(node) if line.is_read() => ask_node(question, node, &mut line.out),
+            _ => line.fail(),
+        }
     }
 
-    fn split(&mut self, words: &[&str], out: &mut Line) -> Result<()> {
-        let [of, left_name, right_name] = words else {
-            return Err(Stop::BadLine);
-        };
-        let node = self.get(of)?;
-        if len(node) < 2 {
-            out.push("barred");
-            return Ok(());
+    fn find(&self, search: Search, line: &mut Line<'_>) {
+        let name = line.word();
+        match self.get(name) {
+            Some(node) => find_in(search, node, line),
+            None => line.fail(),
         }
-        let (left, right) = node.split(self.alloc)?;
-        out.push("done");
-        let left_put = self.put(left_name, left);
-        let right_put = self.put(right_name, right);
-        left_put.and(right_put)
     }
 }
 
-fn change_node(
-    alloc: Global,
-    change: Change,
-    node: &mut Node,
-    words: &[&str],
-    out: &mut Line,
-) -> Result<()> {
+// The halves of a node, if it can be split.
+fn halves_of(alloc: Global, node: &Node, out: &mut Text) -> Option<(Node, Node)> {
+    if len(node) < 2 {
+        out.push("barred");
+        return None;
+    }
+    out.kept(node.split(alloc))
+}
+
+fn change_node(change: Change, node: &mut Node, line: &mut Line<'_>) {
     match change {
-        Change::Apply => apply(alloc, node, words, out),
-        Change::Next => lead_on(alloc, node, words, out),
-        Change::Post => post(alloc, node, words, out),
+        Change::Apply => apply(node, line),
+        Change::Next => lead_on(node, line),
+        Change::Post => post(node, line),
     }
 }
 
-fn apply(alloc: Global, node: &mut Node, words: &[&str], out: &mut Line) -> Result<()> {
-    let link = read_link(alloc, words)?;
-    node.apply(link)?;
-    out.push("done");
-    Ok(())
+fn apply(node: &mut Node, line: &mut Line<'_>) {
+    if let Some(link) = read_link(line) {
+        if line.out.kept(node.apply(link)).is_some() {
+            line.out.done();
+        }
+    }
 }
 
-fn lead_on(alloc: Global, node: &mut Node, words: &[&str], out: &mut Line) -> Result<()> {
-    let [next] = words else {
-        return Err(Stop::BadLine);
-    };
-    node.next = Option::read(alloc, next)?;
-    out.push("done");
-    Ok(())
+fn lead_on(node: &mut Node, line: &mut Line<'_>) {
+    let next = line.page();
+    if line.is_read() {
+        node.next = next;
+        line.out.done();
+    }
 }
 
-fn post(alloc: Global, node: &mut Node, words: &[&str], out: &mut Line) -> Result<()> {
-    let [key, pid] = words else {
-        return Err(Stop::BadLine);
-    };
-    let (key, pid) = read_two(alloc, key, pid)?;
-    out.push_whether(node.parent_split(key, pid)?);
-    Ok(())
-}
-
-// Looks at a node.
-fn look(alloc: Global, command: &str, node: &Node, words: &[&str], out: &mut Line) -> Result<()> {
-    match words {
-        [] => ask(command, node, out),
-        [word] => find(alloc, command, node, word, out),
-        _ => Err(Stop::BadLine),
+fn post(node: &mut Node, line: &mut Line<'_>) {
+    let pointer = line.read::<(IVec, Pid)>();
+    if let Some((key, pid)) = line.whole(pointer) {
+        if let Some(is) = line.out.kept(node.parent_split(key, pid)) {
+            line.out.push_whether(is);
+        }
     }
 }
 
 // Answers a question about a node.
-fn ask(question: &str, node: &Node, out: &mut Line) -> Result<()> {
-    match named(&QUESTIONS, question) {
-        Some(Question::Show) => return push_node(out, node),
-        Some(Question::Len) => out.push_numbered("number", len(node) as u64),
-        Some(Question::ShouldSplit) => out.push_whether(node.should_split()),
-        Some(Question::ShouldMerge) => out.push_whether(node.should_merge()),
-        Some(Question::CanMergeChild) => out.push_whether(node.can_merge_child()),
-        None => return Err(Stop::BadLine),
+fn ask_node(question: Question, node: &Node, out: &mut Text) {
+    match question {
+        Question::Show => push_node(out, node),
+        Question::Len => out.push_numbered("number", len(node) as u64),
+        Question::ShouldSplit => out.push_whether(node.should_split()),
+        Question::ShouldMerge => out.push_whether(node.should_merge()),
+        Question::CanMergeChild => out.push_whether(node.can_merge_child()),
     }
-    Ok(())
 }
 
 // Finds what a word asks for.
-fn find(alloc: Global, search: &str, node: &Node, word: &str, out: &mut Line) -> Result<()> {
-    match named(&SEARCHES, search) {
-        Some(Search::Get) => find_value(alloc, node, word, out),
-        Some(Search::PointerBefore) => find_before(alloc, node, word, out),
-        Some(search) => find_within(alloc, search, node, word, out),
-        None => Err(Stop::BadLine),
+fn find_in(search: Search, node: &Node, line: &mut Line<'_>) {
+    match search {
+        Search::Get => find_value(node, line),
+        Search::PointerBefore => find_before(node, line),
+        _ => find_within(search, node, line),
     }
 }
 
-fn find_value(alloc: Global, node: &Node, word: &str, out: &mut Line) -> Result<()> {
-    let key = IVec::read(alloc, word)?;
-    let value = node.get(key.as_ref())?;
-    out.push("value");
-    value.print(out);
-    Ok(())
-}
-
-fn find_before(alloc: Global, node: &Node, word: &str, out: &mut Line) -> Result<()> {
-    let pid = Pid::read(alloc, word)?;
-    push_found(out, "pointer", node.pointer_before(pid));
-    Ok(())
-}
-
-// Finds what a word bounds that is `[K`, `(K` or `..`.
-fn find_within(
-    alloc: Global,
-    search: Search,
-    node: &Node,
-    word: &str,
-    out: &mut Line,
-) -> Result<()> {
-    if word == ".." {
-        return find_from(search, node, Bound::Unbounded, out);
+fn find_value(node: &Node, line: &mut Line<'_>) {
+    let key = line.bytes();
+    if line.is_read() {
+        push_value(&mut line.out, node.get(key.as_slice()));
     }
-    let Some((key, is_included)) = key_of(word) else {
-        return Err(Stop::BadLine);
-    };
-    let key = IVec::read(alloc, key)?;
-    let key = key.as_ref();
-    let bound = if is_included {
+    drop(key);
+}
+
+fn push_value(out: &mut Text, value: Result<Option<IVec>>) {
+    if let Some(value) = out.kept(value) {
+        out.push("value");
+        value.print(out);
+        drop(value);
+    }
+}
+
+fn find_before(node: &Node, line: &mut Line<'_>) {
+    let pid = Pid(line.number());
+    if line.is_read() {
+        push_found(&mut line.out, "pointer", node.pointer_before(pid));
+    }
+}
+
+// The word of the key of a bound that is `[K`, `(K` or `..`, which has the empty key; `-` where it is none of them.
+fn key_of(bound: &str) -> &str {
+    if bound == ".." {
+        return "%";
+    }
+    let included = bound.strip_prefix('[');
+    included.or(bound.strip_prefix('(')).unwrap_or("-")
+}
+
+fn bound_of<'a>(bound: &str, key: &'a [u8]) -> Bound<&'a [u8]> {
+    if bound.starts_with('[') {
         Bound::Included(key)
-    } else {
+    } else if bound.starts_with('(') {
         Bound::Excluded(key)
-    };
-    find_from(search, node, bound, out)
-}
-
-// The key of a bound, and whether it is included.
-fn key_of(bound: &str) -> Option<(&str, bool)> {
-    match bound.strip_prefix('[') {
-        Some(key) => Some((key, true)),
-        None => Some((bound.strip_prefix('(')?, false)),
+    } else {
+        Bound::Unbounded
     }
 }
 
-fn find_from(search: Search, node: &Node, bound: Bound<&[u8]>, out: &mut Line) -> Result<()> {
+// Finds what a word bounds.
+fn find_within(search: Search, node: &Node, line: &mut Line<'_>) {
+    let bound = line.word();
+    let key = line.bytes_of(key_of(bound));
+    if line.is_read() {
+        find_from(search, node, bound_of(bound, key.as_slice()), &mut line.out);
+    }
+    drop(key);
+}
+
+fn find_from(search: Search, node: &Node, bound: Bound<&[u8]>, out: &mut Text) {
     match search {
         Search::Successor => push_pair(out, node.successor(bound)),
         Search::Predecessor => push_pair(out, node.predecessor(bound)),
-        _ => {
-            match node.pointer(bound) {
-                Some((pid, true)) => push_found(out, "first", Some(pid)),
-                Some((pid, false)) => push_found(out, "later", Some(pid)),
-                None => push_found(out, "first", None),
-            }
-            Ok(())
-        }
+        _ => push_pointer(out, node.pointer(bound)),
+    }
+}
+
+fn push_pointer(out: &mut Text, found: Option<(Pid, bool)>) {
+    match found {
+        Some((pid, true)) => out.push_numbered("first", pid.0),
+        Some((pid, false)) => out.push_numbered("later", pid.0),
+        None => out.push("none"),
     }
 }
 
@@ -359,136 +390,131 @@ fn len(node: &Node) -> usize
     }
 }
 
-const MERGING: [(&str, bool); 2] = [("merging", true), ("-", false)];
+// `merging` or `-`.
+fn read_merging(line: &mut Line<'_>) -> bool {
+    let word = line.word();
+    let merging = word == "merging";
+    if !merging && word != "-" {
+        line.fail();
+    }
+    merging
+}
 
 // A node, but for its name.
-fn read_node(alloc: Global, is_leaf: bool, words: &[&str]) -> Result<Node> {
-    let [lo, hi, next, child, merging, entries @ ..] = words else {
-        return Err(Stop::BadLine);
-    };
-    let (Ok((next, merging_child)), Some(merging)) = (
-        read_two(alloc, next, child),
-        named(&MERGING, merging),
-    ) else {
-        return Err(Stop::BadLine);
-    };
-    let (lo, hi) = read_two(alloc, lo, hi)?;
-    match read_content(alloc, is_leaf, entries) {
-        Ok(content) => Ok(Node {
-            lo,
-            hi,
-            next,
-            merging,
-            merging_child,
-            content,
-        }),
-        Err(stop) => {
-            drop(lo);
-            drop(hi);
-            Err(stop)
-        }
-    }
-}
-
-fn read_content(alloc: Global, is_leaf: bool, words: &[&str]) -> Result<Data> {
-    if is_leaf {
-        let pairs = read_entries(alloc, words)?;
-        Ok(Data::Leaf(Leaf::from_pairs(alloc, pairs.as_slice())?))
+fn read_node(is_leaf: bool, line: &mut Line<'_>) -> Option<Node> {
+    let bounds = line.read::<(IVec, IVec)>();
+    let (next, merging_child) = (line.page(), line.page());
+    let merging = read_merging(line);
+    let content = if is_leaf {
+        read_leaf(line)
     } else {
-        let pointers = read_entries(alloc, words)?;
-        Ok(Data::Index(Index::from_pairs(alloc, pointers.as_slice())?))
-    }
-}
-
-fn read_entries<W: Word>(alloc: Global, words: &[&str]) -> Result<Vec<(IVec, W)>> {
-    let mut entries = Vec::new(alloc);
-    for entry in words.chunks(2) {
-        push_entry(alloc, entry, &mut entries)?;
-    }
-    Ok(entries)
-}
-
-fn push_entry<W: Word>(alloc: Global, words: &[&str], entries: &mut Vec<(IVec, W)>) -> Result<()> {
-    let [key, beside] = words else {
-        return Err(Stop::BadLine);
+        read_index(line)
     };
-    match read_two(alloc, key, beside) {
-        Ok(entry) => Ok(entries.push(entry)?),
-        Err(stop) => Err(stop),
-    }
+    let ((lo, hi), content) = bounds.zip(content)?;
+    Some(Node {
+        lo,
+        hi,
+        next,
+        merging,
+        merging_child,
+        content,
+    })
 }
 
-/// A link.
-pub fn read_link(alloc: Global, words: &[&str]) -> Result<Link> {
-    let [name, words @ ..] = words else {
-        return Err(Stop::BadLine);
-    };
-    match words {
-        [] => link_alone(name),
-        [word] => link_of_one(alloc, name, word),
-        [key, value] if *name == "set" => {
-            let (key, value) = read_two(alloc, key, value)?;
-            Ok(Link::Set(key, value))
+fn read_leaf(line: &mut Line<'_>) -> Option<Data> {
+    let pairs = line.list::<(IVec, IVec)>();
+    let leaf = Leaf::from_pairs(line.alloc(), pairs.as_slice());
+    drop(pairs);
+    let leaf = line.out.kept(leaf);
+    line.whole(leaf).map(Data::Leaf)
+}
+
+fn read_index(line: &mut Line<'_>) -> Option<Data> {
+    let pointers = line.list::<(IVec, Pid)>();
+    let index = Index::from_pairs(line.alloc(), pointers.as_slice());
+    drop(pointers);
+    let index = line.out.kept(index);
+    line.whole(index).map(Data::Index)
+}
+
+// What a link does.
+#[derive(Clone, Copy)]
+enum Kind {
+    Set,
+    Del,
+    Intend,
+    Confirm,
+    Cap,
+}
+
+const KINDS: [(&str, Kind); 5] = [
+    ("set", Kind::Set),
+    ("del", Kind::Del),
+    ("intend", Kind::Intend),
+    ("confirm", Kind::Confirm),
+    ("cap", Kind::Cap),
+];
+
+fn read_set(line: &mut Line<'_>) -> Option<Link> {
+    let (key, value) = line.read()?;
+    Some(Link::Set(key, value))
+}
+
+/// A link, with which a line ends.
+pub fn read_link(line: &mut Line<'_>) -> Option<Link> {
+    let name = line.word();
+    let link = match named(&KINDS, name) {
+        Some(Kind::Set) => read_set(line),
+        Some(Kind::Del) => line.read().map(Link::Del),
+        Some(Kind::Intend) => Some(Link::ParentMergeIntention(Pid(line.number()))),
+        Some(Kind::Confirm) => Some(Link::ParentMergeConfirm),
+        Some(Kind::Cap) => Some(Link::ChildMergeCap),
+        None => {
+            line.fail();
+            None
         }
-        _ => Err(Stop::BadLine),
-    }
-}
-
-fn link_alone(name: &str) -> Result<Link> {
-    match name {
-        "confirm" => Ok(Link::ParentMergeConfirm),
-        "cap" => Ok(Link::ChildMergeCap),
-        _ => Err(Stop::BadLine),
-    }
-}
-
-fn link_of_one(alloc: Global, name: &str, word: &str) -> Result<Link> {
-    match name {
-        "del" => Ok(Link::Del(IVec::read(alloc, word)?)),
-        "intend" => Ok(Link::ParentMergeIntention(Pid::read(alloc, word)?)),
-        _ => Err(Stop::BadLine),
-    }
+    };
+    line.whole(link)
 }
 
 // Adds a word and the number of a page, or `none`.
-fn push_found(out: &mut Line, word: &str, page: Option<Pid>) {
+fn push_found(out: &mut Text, word: &str, page: Option<Pid>) {
     match page {
         Some(pid) => out.push_numbered(word, pid.0),
         None => out.push("none"),
     }
 }
 
-fn push_pair(out: &mut Line, found: sled_pages::Result<Option<(IVec, IVec)>>) -> Result<()> {
-    match found? {
-        Some((key, value)) => {
+fn push_pair(out: &mut Text, found: Result<Option<(IVec, IVec)>>) {
+    match out.kept(found) {
+        Some(Some(pair)) => {
             out.push("pair");
-            key.print(out);
-            value.print(out);
+            pair.print(out);
+            drop(pair);
         }
-        None => out.push("none"),
+        Some(None) => out.push("none"),
+        None => {}
     }
-    Ok(())
 }
 
 /// Adds a node as a line builds it, but for its name.
-pub fn push_node(out: &mut Line, node: &Node) -> Result<()> {
+pub fn push_node(out: &mut Text, node: &Node) {
     match &node.content {
         Data::Leaf(leaf) => {
             push_frame(out, "leaf", node);
-            let pairs = leaf.pairs(out.alloc())?;
-            out.push_entries(pairs.as_slice());
+            let pairs = leaf.pairs(out.alloc());
+            push_all(out, pairs);
         }
         Data::Index(index) => {
             push_frame(out, "index", node);
-            let pointers = index.pairs(out.alloc())?;
-            out.push_entries(pointers.as_slice());
+            let pointers = index.pairs(out.alloc());
+            push_all(out, pointers);
         }
     }
-    Ok(())
 }
 
 // Adds what a node is but for its entries.
-fn push_frame(out: &mut Line, kind: &str, node: &Node) {
+fn push_frame(out: &mut Text, kind: &str, node: &Node) {
     out.push(kind);
     node.lo.print(out);
     node.hi.print(out);

@@ -1,12 +1,12 @@
 //! A store in memory, to which each line makes one call.
 use crate::keys::{read_key, spell};
-use crate::line::Line;
+use crate::line::{Line, Word, named, push_all};
 use crate::nodes::{Nodes, push_node, read_link};
-use crate::words::{Result, Stop, Word, named, read_number, read_two};
-use sled_pages::{IVec, MemPages, Node, Pages, Pid, Version, View};
+use crate::text::Text;
+use sled_pages::{IVec, MemPages, Node, Pages, Pid, Result, Version, View};
 use std::alloc::Global;
 
-type Changed = sled_pages::Result<std::result::Result<Version, Option<Version>>>;
+type Changed = Result<std::result::Result<Version, Option<Version>>>;
 
 // A call of one word.
 #[derive(Clone, Copy)]
@@ -113,273 +113,236 @@ impl Store {
         }
     }
 
-    /// Does what the words of a line say, and adds what that comes to.
-    pub fn run(&mut self, words: &[&str], out: &mut Line) -> Result<()> {
-        let [name, words @ ..] = words else {
-            return Err(Stop::BadLine);
-        };
+    /// Does what a line says whose first word is this one, and adds what that comes to.
+    pub fn run(&mut self, name: &str, line: &mut Line<'_>) {
         match named(&CALLS, name) {
-            Some(call) => self.call(call, words, out),
-            None => self.nodes.run(name, words, out),
+            Some(call) => self.call(call, line),
+            None => self.nodes.run(name, line),
         }
     }
 
-    fn call(&mut self, call: Call, words: &[&str], out: &mut Line) -> Result<()> {
+    fn call(&mut self, call: Call, line: &mut Line<'_>) {
         match call {
-            Call::Alone(call) => self.alone(call, words, out),
-            Call::Numbered(call) => self.numbered(call, words, out),
-            Call::Versioned(call) => self.versioned(call, words, out),
-            Call::Allocate => self.allocate(words, out),
-            Call::Read => self.read(words, out),
-            Call::Root => self.root(words, out),
-            Call::Swap => self.swap(words, out),
-            Call::Refuse => self.refuse(words, out),
-            Call::ImagePage => self.image_page(words, out),
-            Call::ImageRoot => self.image_root(words, out),
-            Call::Spell => spell(self.alloc, words, out),
-            Call::Parts => read_key(self.alloc, words, out),
+            Call::Alone(call) => self.alone(call, line),
+            Call::Numbered(call) => self.numbered(call, line),
+            Call::Versioned(call) => self.versioned(call, line),
+            Call::Allocate => self.allocate(line),
+            Call::Read => self.read(line),
+            Call::Root => self.root(line),
+            Call::Swap => self.swap(line),
+            Call::Refuse => self.refuse(line),
+            Call::ImagePage => self.image_page(line),
+            Call::ImageRoot => self.image_root(line),
+            Call::Spell => spell(line),
+            Call::Parts => read_key(line),
         }
     }
 
-    fn alone(&mut self, call: Alone, words: &[&str], out: &mut Line) -> Result<()> {
-        if !words.is_empty() {
-            return Err(Stop::BadLine);
+    fn alone(&mut self, call: Alone, line: &mut Line<'_>) {
+        if line.is_read() {
+            self.act(call, &mut line.out);
         }
+    }
+
+    fn act(&mut self, call: Alone, out: &mut Text) {
         match call {
-            Alone::Roots => return self.roots(out),
+            Alone::Roots => self.roots(out),
             Alone::Begin => self.begin(out),
             Alone::Seal => self.seal(out),
             Alone::InGroup => out.push_whether(self.pages.in_group()),
             Alone::Flush => self.flush(out),
             Alone::Mark => out.push_numbered("number", self.pages.mark()),
             Alone::WasRecovered => out.push_whether(self.pages.was_recovered()),
-            Alone::New => {
-                self.put_new(MemPages::new(self.alloc));
-                out.push("done");
-            }
+            Alone::New => self.renew(Ok(MemPages::new(self.alloc)), out),
             Alone::LetGo => {
                 self.held.clear();
-                out.push("done");
+                out.done();
             }
         }
-        Ok(())
     }
 
-    fn numbered(&mut self, call: Numbered, words: &[&str], out: &mut Line) -> Result<()> {
-        let [number] = words else {
-            return Err(Stop::BadLine);
-        };
-        let number = read_number(number)?;
-        let done = match call {
-            Numbered::SetAside => return self.set_aside(number, out),
-            Numbered::Crash => self.crash(number),
-            Numbered::Unreadable => self.unreadable(Pid(number)),
-            Numbered::Image => self.image(number),
-            Numbered::Hold => self.hold(Pid(number)),
-        };
-        done?;
-        out.push("done");
-        Ok(())
-    }
-
-    fn versioned(&mut self, call: Versioned, words: &[&str], out: &mut Line) -> Result<()> {
-        let [pid, version, words @ ..] = words else {
-            return Err(Stop::BadLine);
-        };
-        let (Ok(pid), Ok(version)) = (Pid::read(self.alloc, pid), self.version(version)) else {
-            return Err(Stop::BadLine);
-        };
-        match call {
-            Versioned::Link => self.link(pid, version, words, out),
-            Versioned::Replace => self.replace(pid, version, words, out),
-            Versioned::Free => self.free(pid, version, words, out),
+    fn numbered(&mut self, call: Numbered, line: &mut Line<'_>) {
+        let number = line.number();
+        if line.is_read() {
+            self.act_on(call, number, &mut line.out);
         }
     }
 
-    fn link(&mut self, pid: Pid, version: Version, link: &[&str], out: &mut Line) -> Result<()> {
-        let link = read_link(self.alloc, link)?;
-        let answer = self.pages.link(pid, version, link);
-        self.push_changed(answer, out)
+    fn act_on(&mut self, call: Numbered, number: u64, out: &mut Text) {
+        match call {
+            Numbered::SetAside => self.set_aside(number, out),
+            Numbered::Crash => self.crash(number, out),
+            Numbered::Unreadable => out.push_answer(self.pages.unreadable(Pid(number))),
+            Numbered::Image => self.image(number, out),
+            Numbered::Hold => self.hold(Pid(number), out),
+        }
     }
 
-    fn replace(
-        &mut self,
-        pid: Pid,
-        version: Version,
-        words: &[&str],
-        out: &mut Line,
-    ) -> Result<()> {
-        let [name] = words else {
-            return Err(Stop::BadLine);
-        };
-        let node = self.nodes.copy(name)?;
-        let answer = self.pages.replace(pid, version, node);
-        self.push_changed(answer, out)
+    fn versioned(&mut self, call: Versioned, line: &mut Line<'_>) {
+        let pid = Pid(line.number());
+        let version = self.version(line);
+        match call {
+            Versioned::Link => self.link(pid, version, line),
+            Versioned::Replace => self.replace(pid, version, line),
+            Versioned::Free => self.free(pid, version, line),
+        }
     }
 
-    // Goes on with another store.
-    fn put(&mut self, pages: MemPages) {
-        let old = std::mem::replace(&mut self.pages, pages);
-        drop(old);
+    fn link(&mut self, pid: Pid, version: Version, line: &mut Line<'_>) {
+        if let Some(link) = read_link(line) {
+            let answer = self.pages.link(pid, version, link);
+            self.push_changed(answer, &mut line.out);
+        }
     }
 
-    // Goes on with a store of which no version was met.
-    fn put_new(&mut self, pages: MemPages) {
-        self.put(pages);
+    fn replace(&mut self, pid: Pid, version: Version, line: &mut Line<'_>) {
+        if let Some(node) = self.nodes.last(line) {
+            let answer = self.pages.replace(pid, version, node);
+            self.push_changed(answer, &mut line.out);
+        }
+    }
+
+    // Goes on with the store that was made, if there was memory for it.
+    fn put(&mut self, made: Result<MemPages>, out: &mut Text) {
+        if let Some(pages) = out.kept(made) {
+            let old = std::mem::replace(&mut self.pages, pages);
+            drop(old);
+            out.done();
+        }
+    }
+
+    // The same with a store of which no version was met.
+    fn renew(&mut self, made: Result<MemPages>, out: &mut Text) {
         self.versions.clear();
+        self.put(made, out);
     }
 
     // The version of this place among those that were met; where there is none, the version of this number.
-    fn version(&self, word: &str) -> Result<Version> {
+    fn version(&self, line: &mut Line<'_>) -> Version {
         let met = self.versions.as_slice();
+        let word = line.word();
         if word == "last" {
-            return met.last().copied().ok_or(Stop::BadLine);
+            return last_of(met, line);
         }
-        let number = read_number(word)?;
+        let number = line.number_of(word);
         let place = usize::try_from(number).unwrap_or(usize::MAX);
-        Ok(met.get(place).copied().unwrap_or(Version(number)))
+        met.get(place).copied().unwrap_or(Version(number))
     }
 
-    // The place of a version, which is a new one where it was not met before.
-    fn place_of(&mut self, version: Version) -> Result<usize> {
-        for (place, met) in self.versions.as_slice().iter().enumerate() {
-            if *met == version {
-                return Ok(place);
-            }
+    // Adds the place of a version, which is a new one where it was not met before.
+    fn push_version(&mut self, version: Version, out: &mut Text) {
+        let place = place_of(self.versions.as_slice(), version);
+        if place == self.versions.len() {
+            out.keep(&mut self.versions, version);
         }
-        let place = self.versions.len();
-        self.versions.push(version)?;
-        Ok(place)
-    }
-
-    // Adds the place of a version.
-    fn push_version(&mut self, version: Version, out: &mut Line) -> Result<()> {
-        let place = self.place_of(version)?;
         out.push_numbered(" version", place as u64);
-        Ok(())
     }
 
     // Adds the line of a page that has another version, or is not there.
-    fn push_found(&mut self, present: Option<Version>, out: &mut Line) -> Result<()> {
+    fn push_found(&mut self, present: Option<Version>, out: &mut Text) {
         out.push("found");
         match present {
             Some(version) => self.push_version(version, out),
-            None => {
-                out.push(" -");
-                Ok(())
-            }
+            None => out.push(" -"),
         }
     }
 
-    fn push_changed(&mut self, answer: Changed, out: &mut Line) -> Result<()> {
+    fn push_changed(&mut self, answer: Changed, out: &mut Text) {
         match answer {
             Ok(Ok(version)) => {
                 out.push("changed");
-                self.push_version(version, out)
+                self.push_version(version, out);
             }
             Ok(Err(present)) => self.push_found(present, out),
-            Err(error) => {
-                out.push_refused(error);
-                Ok(())
-            }
+            Err(error) => out.push_refused(error),
         }
     }
 
     // Adds the number of a page and the place of its version.
-    fn push_page(&mut self, pid: Pid, version: Version, out: &mut Line) -> Result<()> {
+    fn push_page(&mut self, pid: Pid, version: Version, out: &mut Text) {
         out.push_numbered("page", pid.0);
-        self.push_version(version, out)
+        self.push_version(version, out);
     }
 
-    fn allocate(&mut self, words: &[&str], out: &mut Line) -> Result<()> {
-        let [name] = words else {
-            return Err(Stop::BadLine);
+    fn allocate(&mut self, line: &mut Line<'_>) {
+        let Some(node) = self.nodes.last(line) else {
+            return;
         };
-        match self.pages.allocate(self.nodes.copy(name)?) {
-            Ok((pid, version)) => self.push_page(pid, version, out),
-            Err(error) => {
-                out.push_refused(error);
-                Ok(())
-            }
+        match self.pages.allocate(node) {
+            Ok((pid, version)) => self.push_page(pid, version, &mut line.out),
+            Err(error) => line.out.push_refused(error),
         }
     }
 
-    fn read(&mut self, words: &[&str], out: &mut Line) -> Result<()> {
-        match words {
-            [pid] => self.read_page(Pid::read(self.alloc, pid)?, None, out),
-            [pid, name] => self.read_page(Pid::read(self.alloc, pid)?, Some(name), out),
-            _ => Err(Stop::BadLine),
+    fn read(&mut self, line: &mut Line<'_>) {
+        let pid = Pid(line.number());
+        let name = if line.rest().is_some() {
+            Some(line.word())
+        } else {
+            None
+        };
+        if line.is_read() {
+            self.read_page(pid, name, &mut line.out);
         }
     }
 
-    fn read_page(&mut self, pid: Pid, name: Option<&str>, out: &mut Line) -> Result<()> {
+    fn read_page(&mut self, pid: Pid, name: Option<&str>, out: &mut Text) {
         match self.pages.read(self.alloc, pid) {
             Ok(Some(view)) => {
-                let kept = self.keep(&view, name, out);
+                self.show(&view, name, out);
                 drop(view);
-                return kept;
             }
             Ok(None) => out.push("none"),
             Err(error) => out.push_refused(error),
         }
-        Ok(())
     }
 
     // Adds the line of a page, and keeps a copy of its node under the name.
-    fn keep(&mut self, view: &View, name: Option<&str>, out: &mut Line) -> Result<()> {
-        self.push_page(view.pid, view.version, out)?;
+    fn show(&mut self, view: &View, name: Option<&str>, out: &mut Text) {
+        self.push_page(view.pid, view.version, out);
         out.push(" ");
-        push_node(out, &view.node)?;
-        match name {
-            Some(name) => self.nodes.put(name, view.node.clone(self.alloc)?),
-            None => Ok(()),
+        push_node(out, &view.node);
+        if let Some(name) = name {
+            let copy = view.node.clone(self.alloc);
+            self.nodes.put(name, copy, out);
         }
     }
 
-    fn free(&mut self, pid: Pid, version: Version, words: &[&str], out: &mut Line) -> Result<()> {
-        if !words.is_empty() {
-            return Err(Stop::BadLine);
+    fn free(&mut self, pid: Pid, version: Version, line: &mut Line<'_>) {
+        if !line.is_read() {
+            return;
         }
         match self.pages.free(pid, version) {
-            Ok(Ok(())) => out.push("done"),
-            Ok(Err(present)) => return self.push_found(present, out),
-            Err(error) => out.push_refused(error),
+            Ok(Ok(())) => line.out.done(),
+            Ok(Err(present)) => self.push_found(present, &mut line.out),
+            Err(error) => line.out.push_refused(error),
         }
-        Ok(())
     }
 
-    fn swap(&mut self, words: &[&str], out: &mut Line) -> Result<()> {
-        let [name, old, new] = words else {
-            return Err(Stop::BadLine);
-        };
-        let (old, new) = read_two(self.alloc, old, new)?;
-        let name = IVec::read(self.alloc, name)?;
-        match self.pages.cas_root(name.as_ref(), old, new) {
-            Ok(Ok(())) => out.push("done"),
-            Ok(Err(present)) => push_root(out, "found", present),
-            Err(error) => out.push_refused(error),
+    fn swap(&mut self, line: &mut Line<'_>) {
+        let name = line.bytes();
+        let (old, new) = (line.page(), line.page());
+        if line.is_read() {
+            let answer = self.pages.cas_root(name.as_slice(), old, new);
+            push_swapped(answer, &mut line.out);
         }
         drop(name);
-        Ok(())
     }
 
-    fn root(&self, words: &[&str], out: &mut Line) -> Result<()> {
-        let [name] = words else {
-            return Err(Stop::BadLine);
-        };
-        let name = IVec::read(self.alloc, name)?;
-        push_root(out, "root", self.pages.root(name.as_ref()));
-        Ok(())
+    fn root(&self, line: &mut Line<'_>) {
+        let name = line.bytes();
+        if line.is_read() {
+            push_root(&mut line.out, "root", self.pages.root(name.as_slice()));
+        }
+        drop(name);
     }
 
-    fn roots(&self, out: &mut Line) -> Result<()> {
-        let roots = self.pages.roots(self.alloc)?;
+    fn roots(&self, out: &mut Text) {
         out.push("roots");
-        out.push_entries(roots.as_slice());
-        Ok(())
+        push_all(out, self.pages.roots(self.alloc));
     }
 
-    fn begin(&mut self, out: &mut Line) {
+    fn begin(&mut self, out: &mut Text) {
         if self.pages.in_group() {
             out.push("barred");
         } else {
@@ -387,7 +350,7 @@ impl Store {
         }
     }
 
-    fn seal(&mut self, out: &mut Line) {
+    fn seal(&mut self, out: &mut Text) {
         if self.pages.in_group() {
             out.push_answer(self.pages.seal_group());
         } else {
@@ -395,10 +358,9 @@ impl Store {
         }
     }
 
-    fn flush(&mut self, out: &mut Line) {
+    fn flush(&mut self, out: &mut Text) {
         if self.pages.in_group() {
-            out.push("barred");
-            return;
+            return out.push("barred");
         }
         match self.pages.flush() {
             Ok(count) => out.push_numbered("flushed", count as u64),
@@ -406,72 +368,97 @@ impl Store {
         }
     }
 
-    fn set_aside(&mut self, upto: u64, out: &mut Line) -> Result<()> {
+    fn set_aside(&mut self, upto: u64, out: &mut Text) {
         if upto < self.pages.mark() {
             out.push("barred");
         } else {
             out.push_answer(self.pages.set_aside(upto));
         }
-        Ok(())
     }
 
-    fn crash(&mut self, keep: u64) -> Result<()> {
+    fn crash(&mut self, keep: u64, out: &mut Text) {
         let keep = usize::try_from(keep).unwrap_or(usize::MAX);
         let pages = std::mem::replace(&mut self.pages, MemPages::new(self.alloc));
-        let left = pages.crash(keep)?;
-        self.put(left);
-        Ok(())
+        self.put(pages.crash(keep), out);
     }
 
-    fn refuse(&mut self, words: &[&str], out: &mut Line) -> Result<()> {
-        let mut calls = Vec::new(self.alloc);
-        for word in words {
-            calls.push(read_number(word)?)?;
+    fn refuse(&mut self, line: &mut Line<'_>) {
+        let calls = line.list::<u64>();
+        if line.is_read() {
+            let answer = self.pages.refuse_at(calls.as_slice());
+            line.out.push_answer(answer);
         }
-        out.push_answer(self.pages.refuse_at(calls.as_slice()));
-        Ok(())
+        drop(calls);
     }
 
-    fn image_page(&mut self, words: &[&str], out: &mut Line) -> Result<()> {
-        let [pid, name] = words else {
-            return Err(Stop::BadLine);
-        };
-        let pid = Pid::read(self.alloc, pid)?;
-        self.image_pages.push((pid, self.nodes.copy(name)?))?;
-        out.push("done");
-        Ok(())
+    fn image_page(&mut self, line: &mut Line<'_>) {
+        let pid = Pid(line.number());
+        if let Some(node) = self.nodes.last(line) {
+            line.out.keep(&mut self.image_pages, (pid, node));
+            line.out.done();
+        }
     }
 
-    fn image_root(&mut self, words: &[&str], out: &mut Line) -> Result<()> {
-        let [name, pid] = words else {
-            return Err(Stop::BadLine);
-        };
-        self.image_roots.push(read_two(self.alloc, name, pid)?)?;
-        out.push("done");
-        Ok(())
+    fn image_root(&mut self, line: &mut Line<'_>) {
+        let root = line.read();
+        if let Some(root) = line.whole(root) {
+            line.out.keep(&mut self.image_roots, root);
+            line.out.done();
+        }
     }
 
-    fn unreadable(&mut self, pid: Pid) -> Result<()> {
-        Ok(self.pages.unreadable(pid)?)
-    }
-
-    fn image(&mut self, mark: u64) -> Result<()> {
+    fn image(&mut self, mark: u64, out: &mut Text) {
         let pages = std::mem::replace(&mut self.image_pages, Vec::new(self.alloc));
         let roots = std::mem::replace(&mut self.image_roots, Vec::new(self.alloc));
-        let made = MemPages::from_image(self.alloc, pages, roots, mark)?;
-        self.put_new(made);
-        Ok(())
+        let made = MemPages::from_image(self.alloc, pages, roots, mark);
+        self.renew(made, out);
     }
 
-    fn hold(&mut self, pid: Pid) -> Result<()> {
-        match self.pages.read(self.alloc, pid)? {
-            Some(view) => Ok(self.held.push(view)?),
-            None => Ok(()),
+    fn hold(&mut self, pid: Pid, out: &mut Text) {
+        match self.pages.read(self.alloc, pid) {
+            Ok(view) => self.hold_on(view, out),
+            Err(error) => out.push_refused(error),
+        }
+    }
+
+    fn hold_on(&mut self, view: Option<View>, out: &mut Text) {
+        if let Some(view) = view {
+            out.keep(&mut self.held, view);
+        }
+        out.done();
+    }
+}
+
+// The version that was met last.
+fn last_of(met: &[Version], line: &mut Line<'_>) -> Version {
+    match met.last() {
+        Some(version) => *version,
+        None => {
+            line.fail();
+            Version(0)
         }
     }
 }
 
-fn push_root(out: &mut Line, word: &str, root: Option<Pid>) {
+// How many versions were met before this one.
+fn place_of(met: &[Version], version: Version) -> usize {
+    for (place, other) in met.iter().enumerate() {
+        if *other == version {
+            return place;
+        }
+    }
+    met.len()
+}
+
+fn push_swapped(answer: Result<std::result::Result<(), Option<Pid>>>, out: &mut Text) {
+    match answer {
+        Ok(Ok(())) => out.done(),
+        Ok(Err(present)) => push_root(out, "found", present),
+        Err(error) => out.push_refused(error),
+    }
+}
+
+fn push_root(out: &mut Text, word: &str, root: Option<Pid>) {
     out.push(word);
     root.print(out);
 }

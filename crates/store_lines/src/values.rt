@@ -1,9 +1,8 @@
 //! What values are: their equality, their order, their copies and their texts.
-use crate::line::Line;
-use crate::words::{Result, Stop, Word, read_number, read_two, split};
+use crate::line::{Line, Word, named};
+use crate::text::Text;
 use sled_model::{Call, CompareAndSwapError, Event, Tree, Whole};
-use sled_pages::{Error, Fault, IVec};
-use std::alloc::Global;
+use sled_pages::{Error, Fault, IVec, Result};
 
 /// What the values of a line are.
 #[derive(Clone, Copy)]
@@ -17,34 +16,25 @@ pub enum Kind {
     Tree,
 }
 
-const KINDS: [(&str, Kind); 7] = [
-    ("strings ", Kind::String),
-    ("events ", Kind::Event),
-    ("conflicts ", Kind::Conflict),
-    ("errors ", Kind::Error),
-    ("calls ", Kind::Call),
-    ("wholes ", Kind::Whole),
-    ("trees ", Kind::Tree),
+/// The words that lines of values begin with.
+pub const KINDS: [(&str, Kind); 7] = [
+    ("strings", Kind::String),
+    ("events", Kind::Event),
+    ("conflicts", Kind::Conflict),
+    ("errors", Kind::Error),
+    ("calls", Kind::Call),
+    ("wholes", Kind::Whole),
+    ("trees", Kind::Tree),
 ];
-
-/// The kind that a line of values begins with, and the values.
-pub fn kind_of(line: &str) -> Option<(Kind, &str)> {
-    for (name, kind) in KINDS.as_slice() {
-        if let Some(values) = line.strip_prefix(*name) {
-            return Some((*kind, values));
-        }
-    }
-    None
-}
 
 // Values that lines compare.
 trait Sample: PartialEq + Drop {
-    fn read(alloc: Global, words: &[&str]) -> Result<Self>;
+    fn sample(line: &mut Line<'_>) -> Option<Self>;
 
-    fn copy(&self) -> sled_pages::Result<Self>;
+    fn copy(&self) -> Result<Self>;
 
     // Adds its text or its name.
-    fn print(&self, out: &mut Line);
+    fn show(&self, out: &mut Text);
 
     // What stands between the value and one that it does not equal: `/` where there is no order.
     fn sign(&self, _: &Self) -> &'static str {
@@ -57,18 +47,15 @@ fn sign_of<T: Ord>(value: &T, other: &T) -> &'static str {
 }
 
 impl Sample for IVec {
-    fn read(alloc: Global, words: &[&str]) -> Result<IVec> {
-        let [word] = words else {
-            return Err(Stop::BadLine);
-        };
-        <IVec as Word>::read(alloc, word)
+    fn sample(line: &mut Line<'_>) -> Option<IVec> {
+        line.read()
     }
 
-    fn copy(&self) -> sled_pages::Result<IVec> {
+    fn copy(&self) -> Result<IVec> {
         self.clone()
     }
 
-    fn print(&self, out: &mut Line) {
+    fn show(&self, out: &mut Text) {
         out.push_word(self.as_ref());
     }
 
@@ -78,24 +65,19 @@ impl Sample for IVec {
 }
 
 impl Sample for Event {
-    fn read(alloc: Global, words: &[&str]) -> Result<Event> {
-        let [key, value] = words else {
-            return Err(Stop::BadLine);
-        };
-        match read_two(alloc, key, value) {
-            Ok((key, value)) => Ok(match value {
-                Some(value) => Event::Insert { key, value },
-                None => Event::Remove { key },
-            }),
-            Err(stop) => Err(stop),
-        }
+    fn sample(line: &mut Line<'_>) -> Option<Event> {
+        let (key, value) = line.read::<(IVec, Option<IVec>)>()?;
+        Some(match value {
+            Some(value) => Event::Insert { key, value },
+            None => Event::Remove { key },
+        })
     }
 
-    fn copy(&self) -> sled_pages::Result<Event> {
+    fn copy(&self) -> Result<Event> {
         self.clone()
     }
 
-    fn print(&self, out: &mut Line) {
+    fn show(&self, out: &mut Text) {
         out.push_word(self.key().as_ref());
     }
 
@@ -105,21 +87,16 @@ impl Sample for Event {
 }
 
 impl Sample for CompareAndSwapError {
-    fn read(alloc: Global, words: &[&str]) -> Result<CompareAndSwapError> {
-        let [current, proposed] = words else {
-            return Err(Stop::BadLine);
-        };
-        match read_two(alloc, current, proposed) {
-            Ok((current, proposed)) => Ok(CompareAndSwapError { current, proposed }),
-            Err(stop) => Err(stop),
-        }
+    fn sample(line: &mut Line<'_>) -> Option<CompareAndSwapError> {
+        let (current, proposed) = line.read()?;
+        Some(CompareAndSwapError { current, proposed })
     }
 
-    fn copy(&self) -> sled_pages::Result<CompareAndSwapError> {
+    fn copy(&self) -> Result<CompareAndSwapError> {
         self.clone()
     }
 
-    fn print(&self, out: &mut Line) {
+    fn show(&self, out: &mut Text) {
         out.push_conflict(self);
     }
 
@@ -128,182 +105,166 @@ impl Sample for CompareAndSwapError {
     }
 }
 
-fn read_absence(alloc: Global, name: &str) -> Result<Error> {
-    match <IVec as Word>::read(alloc, name) {
-        Ok(name) => Ok(Error::CollectionNotFound(name)),
-        Err(stop) => Err(stop),
-    }
-}
-
-fn read_plain_error(number: &str) -> Result<Error> {
-    match number {
-        "2" => Ok(Error::Unsupported("one")),
-        "3" => Ok(Error::ReportableBug("two")),
-        "4" => Ok(Error::Io(Fault(3))),
-        "5" => Ok(Error::Corruption(Fault(4))),
-        "6" => Ok(Error::NoMemory),
-        "7" => Ok(Error::FullQueue),
-        "8" => Ok(Error::Closed),
-        _ => Err(Stop::BadLine),
-    }
-}
-
 // The error of a number. The first one has a name.
+fn error_of(number: u64) -> Option<Error> {
+    match number {
+        2 => Some(Error::Unsupported("one")),
+        3 => Some(Error::ReportableBug("two")),
+        4 => Some(Error::Io(Fault(3))),
+        5 => Some(Error::Corruption(Fault(4))),
+        6 => Some(Error::NoMemory),
+        7 => Some(Error::FullQueue),
+        8 => Some(Error::Closed),
+        _ => None,
+    }
+}
+
 impl Sample for Error {
-    fn read(alloc: Global, words: &[&str]) -> Result<Error> {
-        match words {
-            [number] => read_plain_error(number),
-            ["1", name] => read_absence(alloc, name),
-            _ => Err(Stop::BadLine),
+    fn sample(line: &mut Line<'_>) -> Option<Error> {
+        let number = line.number();
+        if number == 1 {
+            return line.read().map(Error::CollectionNotFound);
         }
+        let error = error_of(number);
+        if error.is_none() {
+            line.fail();
+        }
+        error
     }
 
-    fn copy(&self) -> sled_pages::Result<Error> {
+    fn copy(&self) -> Result<Error> {
         self.clone()
     }
 
-    fn print(&self, out: &mut Line) {
+    fn show(&self, out: &mut Text) {
         out.push_error(self);
     }
 }
 
-fn read_insert(alloc: Global, words: &[&str]) -> Result<Call> {
-    let [key, value] = words else {
-        return Err(Stop::BadLine);
-    };
-    let (key, value) = read_two(alloc, key, value)?;
-    Ok(Call::Insert(key, value))
+fn read_insert(line: &mut Line<'_>) -> Option<Call> {
+    let (key, value) = line.read()?;
+    Some(Call::Insert(key, value))
 }
 
-fn read_swap(alloc: Global, words: &[&str]) -> Result<Call> {
-    let [key, old, new] = words else {
-        return Err(Stop::BadLine);
-    };
-    let key = <IVec as Word>::read(alloc, key)?;
-    match read_two(alloc, old, new) {
-        Ok((old, new)) => Ok(Call::CompareAndSwap(key, old, new)),
-        Err(stop) => {
-            drop(key);
-            Err(stop)
-        }
-    }
+fn read_swap(line: &mut Line<'_>) -> Option<Call> {
+    let (key, (old, new)) = line.read()?;
+    Some(Call::CompareAndSwap(key, old, new))
 }
 
 impl Sample for Call {
-    fn read(alloc: Global, words: &[&str]) -> Result<Call> {
-        let [name, words @ ..] = words else {
-            return Err(Stop::BadLine);
-        };
-        match *name {
-            "get" => Ok(Call::Get(<IVec as Sample>::read(alloc, words)?)),
-            "insert" => read_insert(alloc, words),
-            "remove" => Ok(Call::Remove(<IVec as Sample>::read(alloc, words)?)),
-            "cas" => read_swap(alloc, words),
-            _ => Err(Stop::BadLine),
+    fn sample(line: &mut Line<'_>) -> Option<Call> {
+        match line.word() {
+            "get" => line.read().map(Call::Get),
+            "insert" => read_insert(line),
+            "remove" => line.read().map(Call::Remove),
+            "cas" => read_swap(line),
+            _ => {
+                line.fail();
+                None
+            }
         }
     }
 
-    fn copy(&self) -> sled_pages::Result<Call> {
+    fn copy(&self) -> Result<Call> {
         self.clone()
     }
 
-    fn print(&self, out: &mut Line) {
+    fn show(&self, out: &mut Text) {
         out.push_word(self.key().as_ref());
     }
 }
 
 impl Sample for Whole {
-    fn read(_: Global, words: &[&str]) -> Result<Whole> {
-        match words {
-            ["flush"] => Ok(Whole::Flush),
-            _ => Err(Stop::BadLine),
+    fn sample(line: &mut Line<'_>) -> Option<Whole> {
+        if line.word() != "flush" {
+            line.fail();
         }
+        Some(Whole::Flush)
     }
 
-    fn copy(&self) -> sled_pages::Result<Whole> {
+    fn copy(&self) -> Result<Whole> {
         self.clone()
     }
 
-    fn print(&self, out: &mut Line) {
+    fn show(&self, out: &mut Text) {
         out.push("flush");
     }
 }
 
 impl Sample for Tree {
-    fn read(alloc: Global, words: &[&str]) -> Result<Tree> {
-        let [database, name, number] = words else {
-            return Err(Stop::BadLine);
-        };
-        let number = read_number(number)?;
-        match read_two(alloc, database, name) {
-            Ok((database, name)) => Ok(Tree {
-                database,
-                name,
-                number,
-            }),
-            Err(stop) => Err(stop),
-        }
+    fn sample(line: &mut Line<'_>) -> Option<Tree> {
+        let ((database, name), number) = line.read()?;
+        Some(Tree {
+            database,
+            name,
+            number,
+        })
     }
 
-    fn copy(&self) -> sled_pages::Result<Tree> {
+    fn copy(&self) -> Result<Tree> {
         self.clone()
     }
 
-    fn print(&self, out: &mut Line) {
+    fn show(&self, out: &mut Text) {
         out.push_word(self.name().as_ref());
     }
 }
 
 // A value with its copy.
-fn read_pair<T: Sample>(alloc: Global, item: &str) -> Result<(T, T)> {
-    let words = split(alloc, item)?;
-    let value = T::read(alloc, words.as_slice())?;
-    match value.copy() {
-        Ok(copy) => Ok((value, copy)),
-        Err(error) => {
-            drop(value);
-            Err(Stop::from(error))
-        }
+fn sample_pair<T: Sample>(line: &mut Line<'_>) -> Option<(T, T)> {
+    let value = T::sample(line)?;
+    let copy = line.out.kept(value.copy());
+    Some(value).zip(copy)
+}
+
+// Adds what stands between a value and each copy.
+fn push_signs<T: Sample>(value: &T, all: &[(T, T)], out: &mut Text) {
+    for (_, copy) in all {
+        out.push(if value == copy { "=" } else { value.sign(copy) });
     }
 }
 
-// Adds a line for each value, with what stands between it and each copy.
-fn push_all<T: Sample>(all: &[(T, T)], out: &mut Line) {
-    for (at, (value, _)) in all.iter().enumerate() {
-        if at > 0 {
-            out.push("\n");
-        }
-        value.print(out);
+// Adds a line for each value.
+fn push_samples<T: Sample>(all: &[(T, T)], out: &mut Text) {
+    let mut between = "";
+    for (value, _) in all {
+        out.push(between);
+        value.show(out);
         out.push(" ");
-        for (_, copy) in all {
-            out.push(if value == copy { "=" } else { value.sign(copy) });
+        push_signs(value, all, out);
+        between = "\n";
+    }
+}
+
+fn read_samples<T: Sample>(line: &mut Line<'_>) -> Vec<(T, T)> {
+    let mut all = Vec::new(line.alloc());
+    for item in line.rest().unwrap_or("").split(", ") {
+        line.read_on(Some(item));
+        let pair = sample_pair(line);
+        if let Some(pair) = line.whole(pair) {
+            line.out.keep(&mut all, pair);
         }
     }
+    all
 }
 
-fn read_all<T: Sample>(alloc: Global, items: &str) -> Result<Vec<(T, T)>> {
-    let mut all = Vec::new(alloc);
-    for item in items.split(", ") {
-        all.push(read_pair(alloc, item)?)?;
+fn compare_all<T: Sample>(line: &mut Line<'_>) {
+    let all: Vec<(T, T)> = read_samples(line);
+    if line.is_read() {
+        push_samples(all.as_slice(), &mut line.out);
     }
-    Ok(all)
-}
-
-fn compare_all<T: Sample>(alloc: Global, items: &str, out: &mut Line) -> Result<()> {
-    let all: Vec<(T, T)> = read_all(alloc, items)?;
-    push_all(all.as_slice(), out);
-    Ok(())
+    drop(all);
 }
 
 /// Compares the values of a line.
-pub fn compare_values(alloc: Global, kind: Kind, items: &str, out: &mut Line) -> Result<()> {
+pub fn compare_values(kind: Kind, line: &mut Line<'_>) {
     match kind {
-        Kind::String => compare_all::<IVec>(alloc, items, out),
-        Kind::Event => compare_all::<Event>(alloc, items, out),
-        Kind::Conflict => compare_all::<CompareAndSwapError>(alloc, items, out),
-        Kind::Error => compare_all::<Error>(alloc, items, out),
-        Kind::Call => compare_all::<Call>(alloc, items, out),
-        Kind::Whole => compare_all::<Whole>(alloc, items, out),
-        Kind::Tree => compare_all::<Tree>(alloc, items, out),
+        Kind::String => compare_all::<IVec>(line),
+        Kind::Event => compare_all::<Event>(line),
+        Kind::Conflict => compare_all::<CompareAndSwapError>(line),
+        Kind::Error => compare_all::<Error>(line),
+        Kind::Call => compare_all::<Call>(line),
+        Kind::Whole => compare_all::<Whole>(line),
+        Kind::Tree => compare_all::<Tree>(line),
     }
 }
