@@ -1,5 +1,5 @@
 -- What comes next, by the tests that were made.
-use Rattle.std.proofs.Common.{◌≡◌, ◌≢◌, ◌<◌, ◌↔◌, IsTrue, ◌⊎◌, [], true, false, Bool, None, sym, ◌∙◌, subst, inl, inr}
+use Rattle.std.proofs.Common.{◌≡◌, ◌<◌, ◌↔◌, IsTrue, ◌⊎◌, true, false, Bool, None, sym, ◌∙◌, subst, inl, inr}
 use Rattle.std.specs.declared.ops.Bound.{Bound}
 use Rattle.sled_pages.specs.Order.{Key}
 use Rattle.sled_pages.specs.Node.{count}

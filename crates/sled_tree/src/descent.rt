@@ -1,13 +1,16 @@
 //! The way down. Most steps are on it, at pages where nothing is to be repaired, so these are made in place: a stage is neither
 //! moved nor made anew.
 ghost use Rattle.std.specs.Prelude.{◌≡◌, ◌<◌, false, IfSome, IsTrue, IfOk, IfErr};
-ghost use Rattle.sled_pages.specs.Node.{count};
+ghost use Rattle.std.specs.declared.ops.Bound.TheVariants.{Included};
+ghost use Rattle.sled_pages.specs.Among.{IsPointerFor};
+ghost use Rattle.sled_pages.specs.Node.{count, pointers};
 ghost use Rattle.sled_pages.specs.Posting.{IsOpen};
 ghost use Rattle.sled_pages.specs.Store.{Store};
+ghost use Rattle.tree_laws.specs.Moment.{LiesUnder};
 ghost use Rattle.tree_laws.specs.Stages.{by_pointer as reached_by};
 ghost use Rattle.sled_pages.specs.declared.error.Error.TheVariants.{NoMemory};
 ghost use Rattle.sled_tree.specs.Change.{IsLeaf, IsIndex};
-ghost use Rattle.sled_tree.specs.Course.{course, course_of};
+ghost use Rattle.sled_tree.specs.Course.{aim_of, course, course_of};
 ghost use Rattle.sled_tree.specs.Descent.{way_of, IsPlain, IsClean, Meets, Leads, met_as, IsReplyAt, Descends, Settles};
 ghost use Rattle.tree_laws.specs.declared.flight.Stage.{Stage};
 ghost use Rattle.tree_laws.specs.declared.flight.Stage.TheVariants as variant;
@@ -17,6 +20,7 @@ use crate::walk::{arrive, by_pointer, lies_under, target};
 use sled_model::{Decision, Effect, MAX_LOOPS, Reply};
 use sled_pages::{Data, Node, Pages, Pid, Result, View};
 use std::alloc::Global;
+use std::ops::Bound;
 use tree_laws::flight::{Reached, Stage, Walk};
 
 // How far a step down came.
@@ -82,6 +86,34 @@ fn is_plain(stage: &Stage, node: &Node) -> bool
     }
 }
 
+// Whether a key lies within a node's bounds.
+#[tactic(auto, unfolding(sled_pages::specs::Order::key_cmp))]
+fn covers(node: &Node, key: &[u8]) -> bool
+    ensures { IsTrue result → LiesUnder (Included key.now) node.now }
+{
+    node.lo.as_ref().cmp(key).is_le() && (node.hi.len() == 0 || !node.hi.as_ref().cmp(key).is_le())
+}
+
+// Whether a node lies under what a walk aims at. A key, as most walks have it, is compared by itself, which is quicker.
+fn is_under(job: &Job, aim: &Aim, node: &Node) -> bool
+    ensures { IsTrue result → LiesUnder (aim_of job.now aim.now) node.now }
+{
+    match aim {
+        Aim::OwnKey => covers(node, job.call.key().as_ref()),
+        Aim::At(_) => lies_under(node, target(job, aim)),
+    }
+}
+
+// The pointer of an index that a walk goes down by, and whether it is the first.
+fn pointer_under(job: &Job, aim: &Aim, node: &Node) -> Option<(Pid, bool)>
+    ensures { IsPointerFor (aim_of job.now aim.now) (pointers node.now.content) result }
+{
+    match aim {
+        Aim::OwnKey => node.pointer(Bound::Included(job.call.key().as_ref())),
+        Aim::At(_) => node.pointer(target(job, aim)),
+    }
+}
+
 // Whether nothing is to be repaired at a page, and it lies under the aim.
 fn is_clean(job: &Job, aim: &Aim, stage: &Stage, view: &View) -> bool
     ensures { IsTrue result → IsClean (course job.now aim.now) (way_of stage.now) view.now }
@@ -91,7 +123,7 @@ fn is_clean(job: &Job, aim: &Aim, stage: &Stage, view: &View) -> bool
         && node.merging_child.is_none()
         && !node.should_split()
         && is_plain(stage, node)
-        && lies_under(node, target(job, aim))
+        && is_under(job, aim, node)
 }
 
 // The reply of a call at its leaf that changes nothing there.
@@ -150,7 +182,7 @@ fn at_index(job: &Job, aim: &Aim, view: View, stage: &mut Stage) -> Descent
     requires clean { IsClean (course job.now aim.now) (way_of stage.old) view }
     ensures { (s : Store) → Meets s (course job.now aim.now) stage.old view → Descends s (course job.now aim.now) stage.old result stage.new }
 {
-    match view.node.pointer(target(job, aim)) {
+    match pointer_under(job, aim, &view.node) {
         None => repair(job, aim, view, stage),
         Some((cursor, first)) => {
             walk_on(stage, cursor, view, first);

@@ -1,6 +1,5 @@
-use Rattle.sled_tree.proofs.Arriving.{at_bound}
 use Rattle.sled_tree.proofs.Descending.{leads}
 use Rattle.sled_tree.proofs.descent.at_index.Goals as goal
 
 pub returns-in-Some : goal.returns-in-Some
-returns-in-Some c s m = rw c.walk_on.ensures (leads _ s _ _ m _ _ c.requires.clean c.requires.index (at_bound _ _ _ _ _ c.target.ensures (rw c.deref.ensures at c.in-Some.ensures)))
+returns-in-Some c s m = rw c.walk_on.ensures (leads _ s _ _ m _ _ c.requires.clean c.requires.index (rw c.deref.ensures at c.in-Some.ensures))
