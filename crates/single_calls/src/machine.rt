@@ -42,7 +42,7 @@ pub fn step<P: Pages, M: MergeOperator>(machine: &mut Machine<P, M>, slot: Slot)
     ensures follows { MachineFollows P.store M.meant machine.old (step.Step slot) result machine.new }
     ensures passes { MachinePasses P.store machine.old (step.Step slot) result machine.new }
     ensures slots { MachineSlots machine.old (step.Step slot) result machine.new }
-    ensures loses { MachineLoses P.store machine.old machine.new }
+    ensures loses { MachineLoses P.store machine.old (step.Step slot) machine.new }
     ensures leaves { MachineLeaves P.store machine.old (step.Step slot) result machine.new }
 {
     machine.step(slot)
