@@ -11,9 +11,9 @@ use Rattle.sled_model.specs.Refusal.{queue_limit}
 use Rattle.sled_model.specs.Event.{key_of_event}
 use Rattle.sled_model.specs.declared.event.Event.{Event}
 use Rattle.sled_queues.specs.Values.{WaitingValue, Waitings}
-use Rattle.sled_queues.specs.Queues.{queue_of, queues_of, held, IsCalm, with_subscriber, prepared_in, prepared, committed_in, committed, cancelled_in, cancelled, taken_in, without_oldest_of, without_subscriber}
-use Rattle.sled_queues.specs.Tells.{HasRoom, MeetsFull}
-use Rattle.sled_queues.specs.Laws.{StaysCalm, CalmLaw, HasFull, HasNoFull, TellsFull, FullLaw, prepared_all, delivered_all, committed_all, cancelled_all, AreOf, DeliversAll, GroupLaw}
+use Rattle.sled_queues.specs.Queues.{queue_of, queues_of, held, IsCalm, prepared_in, prepared, committed_in, committed, cancelled_in, cancelled, taken_in}
+use Rattle.sled_queues.specs.Tells.{HasRoom}
+use Rattle.sled_queues.specs.Laws.{CalmLaw, FullLaw, prepared_all, delivered_all, committed_all, cancelled_all, AreOf, GroupLaw}
 use Rattle.sled_queues.proofs.Lawful.{on_option, map_twice, map_same, calm_from}
 
 none_some : {P A : Type 0} {a : A} → None ≡ Some a → P

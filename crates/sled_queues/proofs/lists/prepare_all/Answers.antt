@@ -10,9 +10,9 @@ use Rattle.sled_queues.proofs.lists.prepare_all.Goals as goal
 
 pub loop-i-preserved : goal.loop-i-preserved
 loop-i-preserved c = (
-    changes_more (gains c.args.event.now) c.requires.0 c.args.numbers.now c.loop-i.i 0 _ _ _ c.requires.1 c.loop-i-test.true c.loop-i.invariant.0 c.in_default.ensures.ok,
-    c.prepare.ensures.keys ∙ c.loop-i.invariant.1,
-  )
+  changes_more (gains c.args.event.now) c.requires.0 c.args.numbers.now c.loop-i.i 0 _ _ _ c.requires.1 c.loop-i-test.true c.loop-i.invariant.0 c.in_default.ensures.ok,
+  c.prepare.ensures.keys ∙ c.loop-i.invariant.1,
+)
 
 pub take_back_all-requires : goal.take_back_all-requires
 take_back_all-requires c = (c.requires.0, take_rises c.requires.0 c.loop-i.i c.args.numbers.now c.requires.1)

@@ -7,8 +7,7 @@ use Rattle.sled_queues.proofs.queues.Queues.watch.Goals as goal
 
 pub invariant_of-self-in-Err-add : goal.invariant_of-self-in-Err-add
 invariant_of-self-in-Err-add c =
-    let same = same_entries _ _ c.self.inside.given c.in-Err-add.ensures.err in
-    (
+    let same = same_entries _ _ c.self.inside.given c.in-Err-add.ensures.err in (
       same_queues _ _ same refl c.self.invariant.0,
       same_listed _ _ _ _ _ same (put_back c.args.tree c.self.inside.given _ (lists_of c.self.inside.lists) _ _ c.self.invariant.1 c.in_default.ensures.ok c.unlist.ensures) c.self.invariant.1,
     )
