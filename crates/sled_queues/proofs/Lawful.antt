@@ -16,15 +16,15 @@ some_is : {A : Type 0} {a b : A} → Some a ≡ Some b → a ≡ b
 some_is e = cc
 
 -- two functions that are the same on what a queue is, if there is one
-on_option : {W X : Type 0} (f g : W → X) (o : Option W) → ((w : W) → o ≡ Some w → f w ≡ g w) → option_map f o ≡ option_map g o
+pub on_option : {W X : Type 0} (f g : W → X) (o : Option W) → ((w : W) → o ≡ Some w → f w ≡ g w) → option_map f o ≡ option_map g o
 on_option f g None h = refl
 on_option f g (Some w) h = ap Some (h w refl)
 
-map_twice : {W X Y : Type 0} (f : W → X) (g : X → Y) (o : Option W) → option_map g (option_map f o) ≡ option_map (λ w. g (f w)) o
+pub map_twice : {W X Y : Type 0} (f : W → X) (g : X → Y) (o : Option W) → option_map g (option_map f o) ≡ option_map (λ w. g (f w)) o
 map_twice f g None = refl
 map_twice f g (Some w) = refl
 
-map_same : {W : Type 0} (o : Option W) → option_map (λ w. w) o ≡ o
+pub map_same : {W : Type 0} (o : Option W) → option_map (λ w. w) o ≡ o
 map_same None = refl
 map_same (Some w) = refl
 
@@ -75,7 +75,7 @@ one_gone tree e w calm = let p : WaitingValue = prepared_in tree e w in
 none_some : {P A : Type 0} {a : A} → None ≡ Some a → P
 none_some e = cc
 
-calm_from : (f : WaitingValue → WaitingValue) (o : Option WaitingValue) (w : WaitingValue) → ((v : WaitingValue) → o ≡ Some v → (f v).coming ≡ []) → option_map f o ≡ Some w → w.coming ≡ []
+pub calm_from : (f : WaitingValue → WaitingValue) (o : Option WaitingValue) (w : WaitingValue) → ((v : WaitingValue) → o ≡ Some v → (f v).coming ≡ []) → option_map f o ≡ Some w → w.coming ≡ []
 calm_from f None w h e = none_some e
 calm_from f (Some v) w h e = ap (λ (z : WaitingValue). z.coming) (sym (some_is e)) ∙ h v refl
 

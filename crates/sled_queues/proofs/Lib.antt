@@ -2,3 +2,4 @@ pub mod Rising
 pub mod Changing
 pub mod Listed
 pub mod Lawful
+pub mod Grouped

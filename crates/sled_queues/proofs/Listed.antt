@@ -210,6 +210,9 @@ same_listed a b lists more given is same l = record {
   rise = λ t. subst (Rise given) (sym (same t)) (l.rise t);
 }
 
+pub same_entries : (a b : List (ℕ × WaitingValue)) (given : ℕ) → b ≡ a → (n : ℕ) → queue_at (record { queues = b; given = given }) n ≡ queue_at (record { queues = a; given = given }) n
+same_entries a b given e n = ap (λ (es : List (ℕ × WaitingValue)). queue_at (record { queues = es; given = given }) n) e
+
 pub same_queues : (a b : QueuesValue) → ((n : ℕ) → queue_at b n ≡ queue_at a n) → b.given ≡ a.given → AreQueues a → AreQueues b
 same_queues a b is same q = record {
   numbered = λ n w e. let h = q.numbered n w (sym (is n) ∙ e) in (h.0, subst (λ k. n ≤ k) (sym same) h.1);

@@ -13,5 +13,8 @@ mod lists;
 mod queues;
 mod waiting;
 
-pub use laws::{law_cancels, law_delivers, law_orders, law_serves};
+pub use laws::{
+    law_cancels, law_delivers, law_delivers_all, law_orders, law_serves, law_stays_calm,
+    law_tells_full,
+};
 pub use queues::Queues;

@@ -2,7 +2,7 @@
 ghost use Rattle.std.specs.Prelude.{◌≡◌, ℕ, nat_eq, ◌++◌, ◌∷◌, [], Some, None, option_map, IsTrue, OnOk, OnErr, IfErr, if◌then◌else◌};
 ghost use Rattle.std.specs.List.{list_any};
 ghost use Rattle.std.specs.Ordering.{nat_cmp};
-ghost use Rattle.std.specs.BTreeMap.{get};
+ghost use Rattle.std.specs.BTreeMap.{get, keys, IsOrdered};
 ghost use Rattle.sled_pages.specs.declared.error.Error.TheVariants.{NoMemory};
 ghost use Rattle.sled_pages.specs.Update.{put_at};
 ghost use Rattle.sled_queues.specs.Queues.{oldest_in, taken_in};
@@ -43,7 +43,7 @@ pub(crate) fn prepare_all(
 ) -> Result<()>
     requires { (last : ℕ) × Rise last numbers.now }
     ensures ok { OnOk result ((n : ℕ) → get nat_cmp queues.new n ≡ changed_in (gains event.now) numbers.now (get nat_cmp queues.old) n) }
-    ensures err { OnErr result ((n : ℕ) → get nat_cmp queues.new n ≡ get nat_cmp queues.old n) }
+    ensures err { OnErr result (queues.new.entries ≡ queues.old.entries) }
     ensures cause { IfErr result (λ e. e ≡ NoMemory) }
 {
     for i in 0..numbers.len() {
@@ -58,6 +58,8 @@ pub(crate) fn prepare_all(
 fn prepare(queues: &mut BTreeMap<u64, Waiting>, number: u64, event: &Event) -> Result<()>
     ensures ok { OnOk result ((n : ℕ) → get nat_cmp queues.new n ≡ changed_at (gains event.now) number (get nat_cmp queues.old) n) }
     ensures err { OnErr result ((n : ℕ) → get nat_cmp queues.new n ≡ get nat_cmp queues.old n) }
+    ensures keys { keys queues.new ≡ keys queues.old }
+    ensures ordered { IsOrdered nat_cmp queues.old }
     ensures cause { IfErr result (λ e. e ≡ NoMemory) }
 {
     match queues.get_mut(&number) {
@@ -69,7 +71,8 @@ fn prepare(queues: &mut BTreeMap<u64, Waiting>, number: u64, event: &Event) -> R
 // Takes the event back that was prepared last in each queue of the list that waits for it.
 fn take_back_all(queues: &mut BTreeMap<u64, Waiting>, numbers: &[u64], event: &Event)
     requires { (last : ℕ) × Rise last numbers.now }
-    ensures { (n : ℕ) → get nat_cmp queues.new n ≡ changed_in (loses event.now) numbers.now (get nat_cmp queues.old) n }
+    ensures changed { (n : ℕ) → get nat_cmp queues.new n ≡ changed_in (loses event.now) numbers.now (get nat_cmp queues.old) n }
+    ensures keys { keys queues.new ≡ keys queues.old }
 {
     for i in 0..numbers.len() {
         take_back(queues, numbers[i], event);
@@ -77,7 +80,8 @@ fn take_back_all(queues: &mut BTreeMap<u64, Waiting>, numbers: &[u64], event: &E
 }
 
 fn take_back(queues: &mut BTreeMap<u64, Waiting>, number: u64, event: &Event)
-    ensures { (n : ℕ) → get nat_cmp queues.new n ≡ changed_at (loses event.now) number (get nat_cmp queues.old) n }
+    ensures changed { (n : ℕ) → get nat_cmp queues.new n ≡ changed_at (loses event.now) number (get nat_cmp queues.old) n }
+    ensures keys { keys queues.new ≡ keys queues.old }
 {
     if let Some(waiting) = queues.get_mut(&number) {
         waiting.take_back(event);
@@ -134,7 +138,7 @@ pub(crate) fn take(queues: &mut BTreeMap<u64, Waiting>, number: u64) -> Option<E
 // Adds a queue under a new number. Refused with `NoMemory` alone.
 pub(crate) fn add(queues: &mut BTreeMap<u64, Waiting>, number: u64, waiting: Waiting) -> Result<()>
     ensures ok { OnOk result ((n : ℕ) → get nat_cmp queues.new n ≡ put_at (get nat_cmp queues.old) number (Some waiting) n) }
-    ensures err { OnErr result ((n : ℕ) → get nat_cmp queues.new n ≡ get nat_cmp queues.old n) }
+    ensures err { OnErr result (queues.new.entries ≡ queues.old.entries) }
     ensures cause { IfErr result (λ e. e ≡ NoMemory) }
 {
     match queues.insert(number, waiting) {

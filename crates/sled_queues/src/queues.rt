@@ -61,7 +61,7 @@ impl Queues {
         ensures number { IfOk result (λ n. n ≡ self.old.given + 1) }
         ensures fresh { IfOk result (λ n. queue_at self.old n ≡ None) }
         ensures ok { IfOk result (λ n. Becomes (with_subscriber n tree prefix (queue_at self.old)) n self.new) }
-        ensures err { OnErr result (Becomes (queue_at self.old) self.old.given self.new) }
+        ensures err { OnErr result (self.new ≡ self.old) }
         ensures cause { IfErr result (refuses_watch self.old.given) }
     {
         if self.given == u64::MAX {
@@ -86,7 +86,7 @@ impl Queues {
     /// ones together, nothing changes. Refused with `NoMemory` alone, and then nothing changes.
     pub fn prepare(&mut self, tree: u64, event: &Event) -> Result<bool>
         ensures ok { IfOk result (λ room. prepares_as tree event.now self.old room self.new) }
-        ensures err { OnErr result (Becomes (queue_at self.old) self.old.given self.new) }
+        ensures err { OnErr result (self.new ≡ self.old) }
         ensures cause { IfErr result (λ e. e ≡ NoMemory) }
     {
         let numbers = numbers_of(&self.lists, tree);
@@ -114,7 +114,7 @@ impl Queues {
     }
 
     /// Takes the oldest event that waits for a subscriber: `None` where none waits, and for an unknown subscriber. It takes no
-    /// memory, and as long however many wait.
+    /// memory, and no longer where many wait.
     pub fn next(&mut self, subscriber: &Subscriber) -> Option<Event>
         ensures told { result ≡ oldest_in (queue_at self.old subscriber.now) }
         ensures rest { Becomes (without_oldest_of subscriber.now (queue_at self.old)) self.old.given self.new }

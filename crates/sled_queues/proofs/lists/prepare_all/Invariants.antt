@@ -1,8 +1,8 @@
 use Rattle.std.proofs.Common.{◌≡◌, ℕ, take}
 use Rattle.std.specs.Ordering.{nat_cmp}
-use Rattle.std.specs.BTreeMap.{get}
+use Rattle.std.specs.BTreeMap.{get, keys}
 use Rattle.sled_queues.specs.Lists.{changed_in, gains}
 use Rattle.sled_queues.proofs.lists.prepare_all.Given as goal
 
 abbrev pub invariant-loop-i : goal.invariant-loop-i
-invariant-loop-i l = (n : ℕ) → get nat_cmp l.queues n ≡ changed_in (gains l.event) (take l.i l.numbers) (get nat_cmp l.fn.queues) n
+invariant-loop-i l = ((n : ℕ) → get nat_cmp l.queues n ≡ changed_in (gains l.event) (take l.i l.numbers) (get nat_cmp l.fn.queues) n) × (keys l.queues ≡ keys l.fn.queues)

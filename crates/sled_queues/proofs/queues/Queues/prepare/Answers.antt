@@ -5,7 +5,7 @@ use Rattle.sled_queues.specs.Values.{QueuesValue, queue_at}
 use Rattle.sled_queues.specs.Queues.{prepared}
 use Rattle.sled_queues.specs.Tells.{HasRoom, MeetsFull}
 use Rattle.sled_queues.specs.Lists.{lists_of, Rise}
-use Rattle.sled_queues.proofs.Listed.{prepares, prepared_listed, prepared_queues, has_room, meets_full, becomes, same_listed, same_queues}
+use Rattle.sled_queues.proofs.Listed.{prepares, prepared_listed, prepared_queues, has_room, meets_full, becomes, same_entries, same_listed, same_queues}
 use Rattle.sled_queues.proofs.queues.Queues.prepare.Goals as goal
 
 pub prepare_all-requires : goal.prepare_all-requires
@@ -15,7 +15,9 @@ pub returns-then-any_full-clause-ok : goal.returns-then-any_full-clause-ok
 returns-then-any_full-clause-ok c = (subst (λ (s : QueuesValue). MeetsFull c.args.tree c.args.event.now (queue_at s)) c.self.view_is (meets_full c.args.tree c.args.event.now c.numbers_of-numbers.result.now (get nat_cmp c.self.inside.queues) (lists_of c.self.inside.lists) c.self.inside.given c.self.invariant.1 (sym c.numbers_of-numbers.ensures) (sym c.any_full.ensures ∙ c.if-any_full.true)), refl)
 
 pub invariant_of-self : goal.invariant_of-self
-invariant_of-self c = (same_queues _ _ c.in-Err.ensures.err refl c.self.invariant.0, same_listed _ _ _ _ _ c.in-Err.ensures.err (λ t. refl) c.self.invariant.1)
+invariant_of-self c =
+    let same = same_entries _ _ c.self.inside.given c.in-Err.ensures.err in
+    (same_queues _ _ same refl c.self.invariant.0, same_listed _ _ _ _ _ same (λ t. refl) c.self.invariant.1)
 
 pub invariant_of-self-2 : goal.invariant_of-self-2
 invariant_of-self-2 c =
