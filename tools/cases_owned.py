@@ -52,7 +52,8 @@ def owned_calls_answer_as_those_of_a_machine(s):
 def slots_end_at_an_owned_call(s):
     """A call of the database itself ends every slot, and they are counted from 1 again; a line that cannot be read ends none."""
     for line, printed in (('owned insert b 1', 'old -'), ('owned set b 1', 'old 1'), ('owned remove b', 'old 1'), ('owned del b', 'old -'),
-                          ('owned cas b 1 2', 'conflict - 2'), ('owned flush', 'flushed 2')):
+                          ('owned cas b 1 2', 'conflict - 2'), ('owned pop-min', 'found -'), ('owned pop-max', 'found -'), ('owned clear', 'done'),
+                          ('owned flush', 'flushed 2')):
         s.begin(1, 'insert a 1')
         s.begin(2, 'get a')
         s.moves(1)
@@ -65,7 +66,8 @@ def slots_end_at_an_owned_call(s):
             get a        value -
         ''')
     s.begin(1, 'insert a 1')
-    for line in ('owned', 'owned get a', 'owned insert a', 'owned set a 1 2', 'owned remove a b', 'owned cas a 1', 'owned flush 1', 'owned step 1',
+    for line in ('owned', 'owned get a', 'owned insert a', 'owned set a 1 2', 'owned remove a b', 'owned cas a 1', 'owned flush 1', 'owned pop-min 1',
+                 'owned clear a', 'owned pop', 'owned step 1',
                  'owned begin get a', 'owned insert - 1', 'owned del %2', 'owned cas a %zz 1', 'owned '):
         s.ask(line)
         s.line('turns 1', 'number 0')
@@ -89,7 +91,7 @@ def an_owned_call_of_a_tree_that_is_not_there_is_refused(s):
     s.line('owned insert a 1', 'old -')
     for handle, error in (('other __sled__default 1', 'E2'), ('other __sled__default 2', 'E2'), ('sledsh t 1', 'E1'), ('sledsh __sled__default 2', 'E1')):
         s.line(f'handle {handle}', 'done')
-        for line in ('insert a 2', 'set a 2', 'remove a', 'del a', 'cas a 1 2'):
+        for line in ('insert a 2', 'set a 2', 'remove a', 'del a', 'cas a 1 2', 'pop-min', 'pop-max', 'clear'):
             s.line(f'owned {line}', f'refused {error}')
         s.line('get a', f'refused {error}')
     s.line('owned flush', 'flushed 1')
@@ -98,7 +100,7 @@ def an_owned_call_of_a_tree_that_is_not_there_is_refused(s):
     s.line('dump', pair('a', '2'), 'end 1')
     s.note('Without a database every call is refused.')
     s.line('new refuse 1', 'refused E4')
-    for line in ('insert a 1', 'set a 1', 'remove a', 'del a', 'cas a 1 2', 'flush'):
+    for line in ('insert a 1', 'set a 1', 'remove a', 'del a', 'cas a 1 2', 'pop-min', 'pop-max', 'clear', 'flush'):
         s.line(f'owned {line}', 'refused E8')
     s.line('reopen', 'opened')
     s.line('owned insert a 1', 'old -')
@@ -200,3 +202,53 @@ def a_crash_after_owned_calls_keeps_a_beginning(s):
         s.line(f'owned remove {key(10)}', f'old {key(10)}')
         s.line(f'crash {keep}', 'recovered')
         s.holds(*below(10 if keep == 6 else 11))
+
+
+@case
+def owned_pops_take_the_pairs_from_both_ends(s):
+    """The database itself takes out the least and the greatest pair, and clears the tree, over one leaf and over several; a crash
+    keeps a beginning."""
+    for count in (6, 40):
+        s.new()
+        s.insert(*below(count))
+        s.begin(1, f'remove {key(3)}')
+        s.moves(1)
+        for n in range(2):
+            s.line('owned pop-min', f'found {key(n)} {key(n)}')
+            s.line('owned pop-max', f'found {key(count - 1 - n)} {key(count - 1 - n)}')
+        s.line('step 1', 'no slot')
+        s.holds(*below(count - 2, 2))
+        s.ask('flush')
+        s.line('owned flush', 'flushed 0')
+        s.line('owned clear', 'done')
+        for line in ('owned pop-min', 'owned pop-max'):
+            s.line(line, 'found -')
+        s.line('owned clear', 'done')
+        s.line('len', 'number 0')
+        s.line('crash 1', 'recovered')
+        s.holds(*below(count - 2, 3))
+    s.note('A merge that was left half done is gone on with.')
+    for steps in range(12):
+        s.new()
+        s.insert(*below(18))
+        s.remove(*below(18, 11)[::-1])
+        s.begin(1, f'remove {key(10)}')
+        s.moves(1, steps)
+        s.line('owned pop-max', f'found {key(10)} {key(10)}')
+        s.holds(*below(10))
+        s.pages((1, 1), (1, 10))
+    s.note('One that is refused changes nothing, but that a clear keeps what is gone.')
+    for line in ('pop-min', 'pop-max', 'clear'):
+        s.new(7)
+        s.insert('a', 'b', 'c')
+        s.line(f'owned {line}', 'refused E4')
+        s.holds('a', 'b', 'c')
+    s.new(8)
+    s.insert('a', 'b', 'c')
+    s.rows('''
+        owned clear    refused E4
+        len            number 2
+        first          found b b
+        owned clear    done
+        dump           end 0
+    ''')

@@ -477,7 +477,8 @@ reads; load N MOST ALL; find N PAGES; overtake N COUNT; handle DATABASE NAME N; 
 has K; read K; lt K; gt K; first; last; len; empty; range LO HI; range-back LO HI; range-ends LO HI
 keys LO HI; keys-back LO HI; values LO HI; values-back LO HI
 pop-min; pop-max; clear
-owned insert K V; owned set K V; owned remove K; owned del K; owned cas K OLD NEW; owned flush"""
+owned insert K V; owned set K V; owned remove K; owned del K; owned cas K OLD NEW; owned pop-min
+owned pop-max; owned clear; owned flush"""
 FORMS = [form.split(' ') for form in re.split('; |\n', FORMS)]
 POINT = ('insert', 'get', 'remove', 'cas')
 POPS = ('pop-min', 'pop-max', 'clear')

@@ -49,7 +49,7 @@ type Form = (&'static str, &'static str, Verb, &'static str);
 
 // What a command takes has words of its own: K, V, OLD, NEW, DATABASE and NAME are byte strings, LO and HI bounds, STEP a step of a
 // call in flight, and the others numbers; `..` stands for more of the word before it.
-const FORMS: [Form; 58] = [
+const FORMS: [Form; 61] = [
     (
         "insert",
         "K V",
@@ -344,6 +344,24 @@ const FORMS: [Form; 58] = [
         "K OLD NEW",
         Verb::Owned(Owned::Cas),
         "sets the value at a key to NEW where it is OLD; - is no value",
+    ),
+    (
+        "owned pop-min",
+        "",
+        Verb::Owned(Owned::PopMin),
+        "takes the pair with the least key out, and prints it",
+    ),
+    (
+        "owned pop-max",
+        "",
+        Verb::Owned(Owned::PopMax),
+        "takes the pair with the greatest key out, and prints it",
+    ),
+    (
+        "owned clear",
+        "",
+        Verb::Owned(Owned::Clear),
+        "takes all keys out, from the least up",
     ),
     (
         "owned flush",

@@ -116,7 +116,8 @@ fn tell_pair(out: &mut Vec<u8>, pair: (IVec, IVec)) -> Result<()> {
     first.and(second)
 }
 
-fn tell_found(out: &mut Vec<u8>, found: Answer<Option<(IVec, IVec)>>) -> Result<()> {
+/// Adds the pair that was found, if there was one.
+pub fn tell_found(out: &mut Vec<u8>, found: Answer<Option<(IVec, IVec)>>) -> Result<()> {
     match found {
         Ok(Some(pair)) => tell(out, &[Text(b"found ")]).and(tell_pair(out, pair)),
         Ok(None) => tell(out, &[Text(b"found -\n")]),

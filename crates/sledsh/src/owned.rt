@@ -2,6 +2,7 @@
 
 use crate::calls::{Result, bytes_of, tell, tell_outcome, tell_refused};
 use crate::counting::Counting;
+use crate::look::tell_found;
 use sled::{CompareAndSwapResult, Db};
 use sled_lines::input::Stopped;
 use sled_lines::print::Piece::{Number, Text, Word};
@@ -22,6 +23,9 @@ pub enum Owned {
     Remove,
     Del,
     Cas,
+    PopMin,
+    PopMax,
+    Clear,
     Flush,
 }
 
@@ -52,6 +56,13 @@ fn tell_swap(out: &mut Vec<u8>, swapped: CompareAndSwapResult) -> Result<()> {
 fn tell_flushed(out: &mut Vec<u8>, count: Answer<usize>) -> Result<()> {
     match count {
         Ok(count) => tell(out, &[Text(b"flushed "), Number(count as u64), Text(b"\n")]),
+        Err(e) => tell_refused(out, e),
+    }
+}
+
+fn tell_done(out: &mut Vec<u8>, done: Answer<()>) -> Result<()> {
+    match done {
+        Ok(()) => tell(out, &[Text(b"done\n")]),
         Err(e) => tell_refused(out, e),
     }
 }
@@ -170,6 +181,9 @@ fn make(
         Owned::Insert | Owned::Set => insert(alloc, db, tree, owned, words, out),
         Owned::Remove | Owned::Del => remove(alloc, db, tree, owned, words, out),
         Owned::Cas => swap(alloc, db, tree, words, out),
+        Owned::PopMin => tell_found(out, db.pop_min(tree)),
+        Owned::PopMax => tell_found(out, db.pop_max(tree)),
+        Owned::Clear => tell_done(out, db.clear(tree)),
         Owned::Flush => tell_flushed(out, db.flush()),
     }
 }
