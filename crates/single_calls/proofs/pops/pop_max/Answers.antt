@@ -1,0 +1,10 @@
+use Rattle.single_calls.proofs.pops.pop_max.Goals as goal
+
+pub returns-clause-ok : goal.returns-clause-ok
+returns-clause-ok c = assumption
+
+pub returns-clause-err : goal.returns-clause-err
+returns-clause-err c = assumption
+
+pub returns-clause-gives_up : goal.returns-clause-gives_up
+returns-clause-gives_up c = assumption

@@ -1,0 +1,44 @@
+//! Calls of a database that take pairs out of a tree.
+ghost use Rattle.std.specs.Prelude.{IfOk, IfErr, OnOk};
+ghost use Rattle.sled_model.specs.Maps.{IsLeast, IsGreatest};
+ghost use Rattle.sled_model.specs.declared.call.Whole.TheVariants.{PopMin, PopMax, Clear};
+ghost use Rattle.sled_model.specs.declared.reply.Reply.TheVariants.{Pair, Done};
+ghost use Rattle.tree_reads.specs.Walk.{once, for_each};
+ghost use Rattle.sled.specs.Direct.{WholeDecided, WholeRefused};
+ghost use Rattle.sled.specs.Pops.{GivesUpPop};
+
+use sled::Db;
+use sled_model::{MergeOperator, Tree};
+use sled_pages::{IVec, Pages, Result};
+
+/// Takes out the pair with the least key.
+pub fn pop_min<P: Pages, M: MergeOperator>(
+    db: &mut Db<P, M>,
+    tree: &Tree,
+) -> Result<Option<(IVec, IVec)>>
+    ensures ok { IfOk result (λ found. WholeDecided P.store M.meant db.old (PopMin tree.now) (Pair found) db.new) }
+    ensures err { IfErr result (λ e. WholeRefused P.store M.meant db.old (PopMin tree.now) e db.new) }
+    ensures gives_up { IfErr result (GivesUpPop P.store M.meant db.old tree.now IsLeast once) }
+{
+    db.pop_min(tree)
+}
+
+/// Takes out the pair with the greatest key.
+pub fn pop_max<P: Pages, M: MergeOperator>(
+    db: &mut Db<P, M>,
+    tree: &Tree,
+) -> Result<Option<(IVec, IVec)>>
+    ensures ok { IfOk result (λ found. WholeDecided P.store M.meant db.old (PopMax tree.now) (Pair found) db.new) }
+    ensures err { IfErr result (λ e. WholeRefused P.store M.meant db.old (PopMax tree.now) e db.new) }
+    ensures gives_up { IfErr result (GivesUpPop P.store M.meant db.old tree.now IsGreatest for_each) }
+{
+    db.pop_max(tree)
+}
+
+/// Takes out all keys.
+pub fn clear<P: Pages, M: MergeOperator>(db: &mut Db<P, M>, tree: &Tree) -> Result<()>
+    ensures ok { OnOk result (WholeDecided P.store M.meant db.old (Clear tree.now) Done db.new) }
+    ensures err { IfErr result (λ e. WholeRefused P.store M.meant db.old (Clear tree.now) e db.new) }
+{
+    db.clear(tree)
+}
