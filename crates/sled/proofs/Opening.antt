@@ -58,13 +58,18 @@ leaf_is_clean : (s : State) (name : Key) (p : ℕ) (n : Node) (es : List (Key ×
 leaf_is_clean s name p n es root live lo hi awake free leaf few key = record {
   root = p;
   is_root = root;
-  clean = (refl, n, record {
-    live = live;
-    under = (subst (λ l. is_up_to (Included key) l ≡ true) (sym lo) (begins_all key), inl hi);
-    is_open = record { awake = awake; free = free };
-    few = subst (λ c. count c ≤ 16) (sym leaf) few;
-    many = λ m. refl;
-  }, inl (es, leaf, refl));
+  clean = (
+    refl,
+    n,
+    record {
+      live = live;
+      under = (subst (λ l. is_up_to (Included key) l ≡ true) (sym lo) (begins_all key), inl hi);
+      is_open = record { awake = awake; free = free };
+      few = subst (λ c. count c ≤ 16) (sym leaf) few;
+      many = λ m. refl;
+    },
+    inl (es, leaf, refl),
+  );
 }
 
 -- a new page without a home
