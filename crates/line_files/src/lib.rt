@@ -2,15 +2,15 @@
 //! and says by a `Program` how it runs them.
 #![tactic(auto)]
 
+use sled_pages::{Error, Result};
 use std::alloc::Global;
 use std::fs;
 use std::io::{self, ErrorKind, Write};
 
 /// A program whose files of lines are checked.
 pub trait Program {
-    /// Runs lines from a fresh start, and adds what they print. An error is of a read or a write, or says that there was no
-    /// memory.
-    fn run(&self, alloc: Global, lines: &[u8], printed: &mut Vec<u8>) -> io::Result<()>;
+    /// Runs lines from a fresh start, and adds what they print. Refused with `NoMemory`, or where the bytes are no lines.
+    fn run(&self, alloc: Global, lines: &[u8], printed: &mut Vec<u8>) -> Result<()>;
 }
 
 // The bytes of the file of this name and ending, or `None` where it is missing.
@@ -92,6 +92,16 @@ fn compare<W: Write>(
     }
 }
 
+// What is told where lines could not be run.
+fn refused(error: Error) -> io::Error {
+    let kind = match &error {
+        Error::NoMemory => ErrorKind::OutOfMemory,
+        _ => ErrorKind::InvalidData,
+    };
+    drop(error);
+    io::Error::from(kind)
+}
+
 // Runs the file of lines of a name: whether it prints what is expected, which is told.
 fn check_name<P: Program, W: Write>(
     rt: &HostRuntime,
@@ -99,12 +109,14 @@ fn check_name<P: Program, W: Write>(
     name: &str,
     output: &mut W,
 ) -> io::Result<bool> {
+    let Some(lines) = bytes_of(rt, name, ".lines")? else {
+        return write_missing(output, name, ".lines").map(|()| false);
+    };
     let mut printed = Vec::new(rt.alloc());
-    match bytes_of(rt, name, ".lines")? {
-        Some(lines) => program.run(rt.alloc(), lines.as_slice(), &mut printed)?,
-        None => return write_missing(output, name, ".lines").map(|()| false),
+    match program.run(rt.alloc(), lines.as_slice(), &mut printed) {
+        Ok(()) => compare(rt, name, printed.as_slice(), output),
+        Err(error) => Err(refused(error)),
     }
-    compare(rt, name, printed.as_slice(), output)
 }
 
 /// Runs the file NAME.lines of each name from a fresh start, and compares what it prints with the file NAME.expected: whether

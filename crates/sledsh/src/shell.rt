@@ -18,7 +18,7 @@ use sled_lines::session::{Session, write};
 use sled_lines::words::first_word;
 use sled_pages::{Error, Pages};
 use std::alloc::Global;
-use std::io::{self, BufRead, ErrorKind, Write};
+use std::io::{BufRead, Write};
 use std::sync::atomic::{AtomicU64, Ordering};
 
 // The name that databases are opened under.
@@ -527,12 +527,12 @@ pub fn run<R: BufRead, W: Write>(
 pub struct Sessions;
 
 impl Program for Sessions {
-    fn run(&self, alloc: Global, lines: &[u8], printed: &mut Vec<u8>) -> io::Result<()> {
+    fn run(&self, alloc: Global, lines: &[u8], printed: &mut Vec<u8>) -> sled_pages::Result<()> {
         let mut input = lines;
         // Nothing is read or written but in memory, so it was that which was missing.
         match run(alloc, &mut input, printed, false) {
             Ok(_) => Ok(()),
-            Err(_) => Err(io::Error::from(ErrorKind::OutOfMemory)),
+            Err(_) => Err(Error::NoMemory),
         }
     }
 }

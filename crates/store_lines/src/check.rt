@@ -1,11 +1,11 @@
 //! Texts of lines, and what they print.
-use crate::line::{Line, named};
+use crate::line::Line;
 use crate::store::Store;
 use crate::text::Text;
-use crate::values::{KINDS, compare_values};
+use crate::values::{compare_values, kind_of};
 use line_files::Program;
+use sled_pages::{Error, Result};
 use std::alloc::Global;
-use std::io::{self, ErrorKind};
 use std::str;
 
 /// What the lines of a text print, from a fresh store on.
@@ -25,8 +25,11 @@ pub fn printed_by(alloc: Global, text: &str) -> Text {
 
 // Adds what the line of this number comes to.
 fn run_line(store: &mut Store, number: u64, text: &str, out: &mut Text) {
-    let mut line = Line::new(out.alloc(), text);
-    run_command(store, &mut line);
+    let mut line = Line::new(out.alloc());
+    match kind_of(text) {
+        Some((kind, items)) => compare_values(kind, items, &mut line),
+        None => run_command(store, text, &mut line),
+    }
     if line.is_bad() {
         line.out.clear();
         line.out.push_numbered("bad line", number);
@@ -35,27 +38,26 @@ fn run_line(store: &mut Store, number: u64, text: &str, out: &mut Text) {
     drop(line);
 }
 
-fn run_command(store: &mut Store, line: &mut Line<'_>) {
-    let name = line.word();
-    match named(&KINDS, name) {
-        Some(kind) => compare_values(kind, line),
-        None if name == "repeat" => repeat(store, line),
-        None => store.run(name, line),
+fn run_command(store: &mut Store, text: &str, line: &mut Line) {
+    line.start(text);
+    if line.takes("repeat") {
+        repeat(store, line);
+    } else {
+        store.run(line);
     }
 }
 
 // `repeat N COMMAND`: what the last of N times comes to.
-fn repeat(store: &mut Store, line: &mut Line<'_>) {
+fn repeat(store: &mut Store, line: &mut Line) {
     let count = line.number();
-    let name = line.word();
-    let words = line.rest();
+    let place = line.place();
     for _ in 0..count {
         if line.is_bad() {
             break;
         }
         line.out.clear();
-        line.read_on(words);
-        store.run(name, line);
+        line.read_from(place);
+        store.run(line);
     }
 }
 
@@ -64,9 +66,9 @@ fn repeat(store: &mut Store, line: &mut Line<'_>) {
 pub struct Texts;
 
 impl Program for Texts {
-    fn run(&self, alloc: Global, lines: &[u8], printed: &mut Vec<u8>) -> io::Result<()> {
+    fn run(&self, alloc: Global, lines: &[u8], printed: &mut Vec<u8>) -> Result<()> {
         let Ok(text) = str::from_utf8(lines) else {
-            return Err(io::Error::from(ErrorKind::InvalidData));
+            return Err(Error::Unsupported("lines that are no text"));
         };
         let answers = printed_by(alloc, text);
         let added = add(printed, &answers);
@@ -75,6 +77,9 @@ impl Program for Texts {
     }
 }
 
-fn add(printed: &mut Vec<u8>, answers: &Text) -> io::Result<()> {
-    Ok(printed.extend_from_slice(answers.text()?.as_bytes())?)
+fn add(printed: &mut Vec<u8>, answers: &Text) -> Result<()> {
+    match answers.text() {
+        Some(text) => Ok(printed.extend_from_slice(text.as_bytes())?),
+        None => Err(Error::NoMemory),
+    }
 }

@@ -5,12 +5,11 @@ use ordered_keys::{Kind, Part, key_of, parts_of};
 
 // A number stands behind `#`. So a text that begins with that byte has it by its digits.
 impl Word for Part {
-    fn read(line: &mut Line<'_>) -> Option<Part> {
-        let word = line.word();
-        match word.strip_prefix('#') {
-            Some(number) => Some(Part::Number(line.number_of(number))),
-            None => line.string_of(word).map(Part::Text),
+    fn read(line: &mut Line) -> Option<Part> {
+        if line.takes_mark('#') {
+            return Some(Part::Number(line.number()));
         }
+        line.string().map(Part::Text)
     }
 
     fn print(&self, out: &mut Text) {
@@ -35,7 +34,7 @@ fn push_text(out: &mut Text, text: &[u8]) {
 }
 
 /// Spells the key of these parts.
-pub fn spell(line: &mut Line<'_>) {
+pub fn spell(line: &mut Line) {
     let parts = line.list::<Part>();
     if line.is_read() {
         push_key(line, parts.as_slice());
@@ -43,7 +42,7 @@ pub fn spell(line: &mut Line<'_>) {
     drop(parts);
 }
 
-fn push_key(line: &mut Line<'_>, parts: &[Part]) {
+fn push_key(line: &mut Line, parts: &[Part]) {
     let key = key_of(line.alloc(), parts);
     if let Some(key) = line.out.kept(key) {
         line.out.push("key");
@@ -53,30 +52,30 @@ fn push_key(line: &mut Line<'_>, parts: &[Part]) {
 }
 
 // The kind of a part, by its letter.
-fn kind_of(letter: char) -> Option<Kind> {
+fn kind_of(letter: u8) -> Option<Kind> {
     match letter {
-        'n' => Some(Kind::Number),
-        't' => Some(Kind::Text),
+        b'n' => Some(Kind::Number),
+        b't' => Some(Kind::Text),
         _ => None,
     }
 }
 
-// The kinds of the parts of a key; `%` is none.
-fn read_shape(line: &mut Line<'_>) -> Vec<Kind> {
+// The kinds of the parts of a key, each by its letter in a byte string.
+fn read_shape(line: &mut Line) -> Vec<Kind> {
     let mut shape = Vec::new(line.alloc());
-    let word = line.word();
-    let letters = if word == "%" { "" } else { word };
-    for letter in letters.chars() {
-        match kind_of(letter) {
+    let letters = line.bytes();
+    for letter in letters.as_slice() {
+        match kind_of(*letter) {
             Some(kind) => line.out.keep(&mut shape, kind),
             None => line.fail(),
         }
     }
+    drop(letters);
     shape
 }
 
 // Adds the parts of a key of this shape.
-fn push_parts(line: &mut Line<'_>, shape: &[Kind], key: &[u8]) {
+fn push_parts(line: &mut Line, shape: &[Kind], key: &[u8]) {
     let parts = parts_of(line.alloc(), shape, key);
     match line.out.kept(parts) {
         Some(Some(parts)) => {
@@ -92,7 +91,7 @@ fn push_parts(line: &mut Line<'_>, shape: &[Kind], key: &[u8]) {
 }
 
 /// Reads the parts of a key by its shape.
-pub fn read_key(line: &mut Line<'_>) {
+pub fn read_key(line: &mut Line) {
     let shape = read_shape(line);
     let key = line.bytes();
     if line.is_read() {

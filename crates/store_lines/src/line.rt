@@ -6,9 +6,13 @@ use std::alloc::Global;
 /// A line that is read word by word, and what it prints. A word that is missing, or is not what is asked for, is taken for an
 /// empty one, and then the line cannot be read. Who acts asks `is_read` first.
 #[derive(Drop)]
-pub struct Line<'a> {
+pub struct Line {
     pub out: Text,
-    rest: Option<&'a str>,
+    words: Vec<String>,
+    // The place of the next word.
+    at: usize,
+    // What stands before what is read of that word.
+    mark: Option<char>,
     is_bad: bool,
 }
 
@@ -22,17 +26,46 @@ pub fn named<T: Copy>(table: &[(&str, T)], word: &str) -> Option<T> {
     None
 }
 
-impl<'a> Line<'a> {
-    pub fn new(alloc: Global, text: &'a str) -> Line<'a> {
+// The word of a place, behind a mark.
+fn word_at(words: &[String], at: usize, mark: Option<char>) -> &str {
+    let Some(word) = words.get(at) else {
+        return "";
+    };
+    match mark {
+        Some(mark) => word.as_str().strip_prefix(mark).unwrap_or(""),
+        None => word.as_str(),
+    }
+}
+
+impl Line {
+    pub fn new(alloc: Global) -> Line {
         Line {
             out: Text::new(alloc),
-            rest: Some(text),
+            words: Vec::new(alloc),
+            at: 0,
+            mark: None,
             is_bad: false,
         }
     }
 
     pub fn alloc(&self) -> Global {
         self.out.alloc()
+    }
+
+    /// Goes on with the words of this text.
+    pub fn start(&mut self, text: &str) {
+        self.words.clear();
+        self.at = 0;
+        for word in text.split(' ') {
+            self.add(word);
+        }
+    }
+
+    fn add(&mut self, word: &str) {
+        match String::from_str(self.alloc(), word) {
+            Ok(word) => self.out.keep(&mut self.words, word),
+            Err(_) => self.out.cut(),
+        }
     }
 
     /// The line cannot be read.
@@ -44,19 +77,24 @@ impl<'a> Line<'a> {
         self.is_bad
     }
 
-    /// What was not read yet, if there is more.
-    pub fn rest(&self) -> Option<&'a str> {
-        self.rest
+    /// The place of the next word.
+    pub fn place(&self) -> usize {
+        self.at
     }
 
-    /// Reads this text from here on.
-    pub fn read_on(&mut self, rest: Option<&'a str>) {
-        self.rest = rest;
+    /// Reads on from a place.
+    pub fn read_from(&mut self, place: usize) {
+        self.at = place;
+    }
+
+    /// Whether there is another word.
+    pub fn has_more(&self) -> bool {
+        self.at < self.words.len()
     }
 
     /// Whether the line ends here, could be read, and there was memory for it.
     pub fn is_read(&mut self) -> bool {
-        self.is_bad |= self.rest.is_some();
+        self.is_bad |= self.has_more();
         !self.is_bad && !self.out.is_cut()
     }
 
@@ -69,79 +107,73 @@ impl<'a> Line<'a> {
         None
     }
 
+    // Goes behind the next word.
+    fn go_on(&mut self) {
+        self.at = self.at.saturating_add(1);
+        self.mark = None;
+    }
+
+    /// Whether the next word is this one, which is read then.
+    pub fn takes(&mut self, word: &str) -> bool {
+        let takes = word_at(self.words.as_slice(), self.at, None) == word;
+        if takes {
+            self.go_on();
+        }
+        takes
+    }
+
+    /// Whether the next word begins with a mark, behind which it is read then.
+    pub fn takes_mark(&mut self, mark: char) -> bool {
+        let takes = word_at(self.words.as_slice(), self.at, None).starts_with(mark);
+        if takes {
+            self.mark = Some(mark);
+        }
+        takes
+    }
+
     /// The next word.
-    pub fn word(&mut self) -> &'a str {
-        let text = self.rest.unwrap_or("");
-        let word = match text.split_once(' ') {
-            Some((word, rest)) => {
-                self.rest = Some(rest);
-                word
-            }
-            None => {
-                self.rest = None;
-                text
-            }
-        };
+    pub fn word(&mut self) -> &str {
+        let word = word_at(self.words.as_slice(), self.at, None);
         self.is_bad |= word.is_empty();
+        self.at = self.at.saturating_add(1);
         word
     }
 
-    /// The number that a word is.
-    pub fn number_of(&mut self, word: &str) -> u64 {
-        match word.parse::<u64>() {
-            Ok(number) => number,
-            Err(_) => {
-                self.fail();
-                0
-            }
-        }
+    /// What stands beside the next word in a table.
+    pub fn named<T: Copy>(&mut self, table: &[(&str, T)]) -> Option<T> {
+        let found = named(table, self.word());
+        self.is_bad |= found.is_none();
+        found
     }
 
     pub fn number(&mut self) -> u64 {
-        let word = self.word();
-        self.number_of(word)
+        let number = word_at(self.words.as_slice(), self.at, self.mark).parse::<u64>();
+        self.is_bad |= number.is_err();
+        self.go_on();
+        number.unwrap_or(0)
     }
 
     /// The number of a page, or `-`, which is none.
     pub fn page(&mut self) -> Option<Pid> {
-        match self.word() {
-            "-" => None,
-            word => Some(Pid(self.number_of(word))),
+        if self.takes("-") {
+            return None;
         }
+        Some(Pid(self.number()))
     }
 
     /// The bytes that a word spells. `%` is the empty string; elsewhere a `%` and two digits stand for one byte, and all else
     /// for itself.
-    pub fn bytes_of(&mut self, word: &str) -> Vec<u8> {
+    pub fn bytes(&mut self) -> Vec<u8> {
         let mut bytes = Vec::new(self.alloc());
-        if word == "-" || word.is_empty() {
-            self.fail();
-        } else if word != "%" {
-            self.push_spelled(word.as_bytes(), &mut bytes);
-        }
+        let word = word_at(self.words.as_slice(), self.at, self.mark).as_bytes();
+        self.is_bad |= !push_spelled(word, &mut bytes, &mut self.out);
+        self.go_on();
         bytes
     }
 
-    pub fn bytes(&mut self) -> Vec<u8> {
-        let word = self.word();
-        self.bytes_of(word)
-    }
-
-    fn push_spelled(&mut self, word: &[u8], bytes: &mut Vec<u8>) {
-        let mut rest = word;
-        for _ in 0..word.len() {
-            let Some((byte, others)) = first_byte(rest) else {
-                break;
-            };
-            self.out.keep(bytes, byte);
-            rest = others;
-        }
-        self.is_bad |= !rest.is_empty();
-    }
-
     /// The byte string that a word spells.
-    pub fn string_of(&mut self, word: &str) -> Option<IVec> {
-        let bytes = self.bytes_of(word);
+    pub fn string(&mut self) -> Option<IVec> {
+        let bytes = self.bytes();
         let string = IVec::from_slice(self.alloc(), bytes.as_slice());
         drop(bytes);
         self.out.kept(string)
@@ -155,7 +187,7 @@ impl<'a> Line<'a> {
     pub fn list<W: Word>(&mut self) -> Vec<W> {
         let mut list = Vec::new(self.alloc());
         for _ in 0..u64::MAX {
-            if self.rest.is_none() {
+            if !self.has_more() {
                 break;
             }
             if let Some(item) = W::read(self) {
@@ -164,6 +196,22 @@ impl<'a> Line<'a> {
         }
         list
     }
+}
+
+// Adds the bytes that a word spells: whether it spells any.
+fn push_spelled(word: &[u8], bytes: &mut Vec<u8>, out: &mut Text) -> bool {
+    if word == b"%".as_slice() {
+        return true;
+    }
+    let mut rest = word;
+    for _ in 0..word.len() {
+        let Some((byte, others)) = first_byte(rest) else {
+            break;
+        };
+        out.keep(bytes, byte);
+        rest = others;
+    }
+    rest.is_empty() && !word.is_empty() && word != b"-".as_slice()
 }
 
 // The byte that a spelling begins with, and what follows it.
@@ -192,14 +240,14 @@ fn hex_value(digit: u8) -> Option<u8> {
 /// What a word stands for, or several words.
 pub trait Word: Drop {
     /// Reads it; `None` where the line cannot be read or there was no memory.
-    fn read(line: &mut Line<'_>) -> Option<Self>;
+    fn read(line: &mut Line) -> Option<Self>;
 
     /// Adds a space and the word.
     fn print(&self, out: &mut Text);
 }
 
 impl Word for u64 {
-    fn read(line: &mut Line<'_>) -> Option<u64> {
+    fn read(line: &mut Line) -> Option<u64> {
         Some(line.number())
     }
 
@@ -209,7 +257,7 @@ impl Word for u64 {
 }
 
 impl Word for Pid {
-    fn read(line: &mut Line<'_>) -> Option<Pid> {
+    fn read(line: &mut Line) -> Option<Pid> {
         Some(Pid(line.number()))
     }
 
@@ -219,9 +267,8 @@ impl Word for Pid {
 }
 
 impl Word for IVec {
-    fn read(line: &mut Line<'_>) -> Option<IVec> {
-        let word = line.word();
-        line.string_of(word)
+    fn read(line: &mut Line) -> Option<IVec> {
+        line.string()
     }
 
     fn print(&self, out: &mut Text) {
@@ -232,12 +279,10 @@ impl Word for IVec {
 
 // `-` is none.
 impl<W: Word> Word for Option<W> {
-    fn read(line: &mut Line<'_>) -> Option<Option<W>> {
-        let text = line.rest();
-        if line.word() == "-" {
+    fn read(line: &mut Line) -> Option<Option<W>> {
+        if line.takes("-") {
             return Some(None);
         }
-        line.read_on(text);
         W::read(line).map(Some)
     }
 
@@ -250,7 +295,7 @@ impl<W: Word> Word for Option<W> {
 }
 
 impl<A: Word, B: Word> Word for (A, B) {
-    fn read(line: &mut Line<'_>) -> Option<(A, B)> {
+    fn read(line: &mut Line) -> Option<(A, B)> {
         let first = A::read(line);
         first.zip(B::read(line))
     }

@@ -90,7 +90,10 @@ trees K K N, ..                       the database's name, the tree's own and it
 // Prints what a text of lines prints.
 fn run_text(rt: &HostRuntime, text: &str) -> io::Result<()> {
     let printed = printed_by(rt.alloc(), text);
-    rt.print(printed.text()?)
+    match printed.text() {
+        Some(text) => rt.print(text),
+        None => Err(io::Error::from(io::ErrorKind::OutOfMemory)),
+    }
 }
 
 fn run_files(rt: &HostRuntime, files: &[String]) -> io::Result<()> {

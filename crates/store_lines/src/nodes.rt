@@ -2,15 +2,15 @@
 ghost use Rattle.std.specs.Prelude.{◌≡◌};
 ghost use Rattle.sled_pages.specs.Node.{count};
 
-use crate::line::{Line, Word, named, push_all};
+use crate::line::{Line, Word, push_all};
 use crate::text::Text;
 use sled_pages::{Data, IVec, Index, Leaf, Link, Node, Pid, Result};
 use std::alloc::Global;
 use std::ops::Bound;
 
-// What gives a node a name.
+/// What gives a node a name.
 #[derive(Clone, Copy)]
-enum Make {
+pub enum Make {
     Leaf,
     Index,
     Clone,
@@ -18,17 +18,17 @@ enum Make {
     Split,
 }
 
-// What changes a node.
+/// What changes a node.
 #[derive(Clone, Copy)]
-enum Change {
+pub enum Change {
     Apply,
     Next,
     Post,
 }
 
-// What is asked of a node alone.
+/// What is asked of a node alone.
 #[derive(Clone, Copy)]
-enum Question {
+pub enum Question {
     Show,
     Len,
     ShouldSplit,
@@ -36,9 +36,9 @@ enum Question {
     CanMergeChild,
 }
 
-// What is sought in a node.
+/// What is sought in a node.
 #[derive(Clone, Copy)]
-enum Search {
+pub enum Search {
     Get,
     PointerBefore,
     Pointer,
@@ -46,40 +46,21 @@ enum Search {
     Predecessor,
 }
 
+/// What a line does with nodes.
 #[derive(Clone, Copy)]
-enum Call {
+pub enum Act {
     Make(Make),
     Change(Change),
     Ask(Question),
     Find(Search),
 }
 
-const CALLS: [(&str, Call); 18] = [
-    ("leaf", Call::Make(Make::Leaf)),
-    ("index", Call::Make(Make::Index)),
-    ("clone", Call::Make(Make::Clone)),
-    ("receive", Call::Make(Make::Receive)),
-    ("split", Call::Make(Make::Split)),
-    ("apply", Call::Change(Change::Apply)),
-    ("next", Call::Change(Change::Next)),
-    ("post", Call::Change(Change::Post)),
-    ("show", Call::Ask(Question::Show)),
-    ("len", Call::Ask(Question::Len)),
-    ("should-split", Call::Ask(Question::ShouldSplit)),
-    ("should-merge", Call::Ask(Question::ShouldMerge)),
-    ("can-merge-child", Call::Ask(Question::CanMergeChild)),
-    ("get", Call::Find(Search::Get)),
-    ("pointer-before", Call::Find(Search::PointerBefore)),
-    ("pointer", Call::Find(Search::Pointer)),
-    ("successor", Call::Find(Search::Successor)),
-    ("predecessor", Call::Find(Search::Predecessor)),
-];
-
 /// The nodes that have names.
 #[derive(Drop)]
 pub struct Nodes {
     alloc: Global,
-    named: Vec<(IVec, Node)>,
+    // Each name that was met, and its node, if it has one.
+    named: Vec<(IVec, Option<Node>)>,
 }
 
 impl Nodes {
@@ -90,27 +71,45 @@ impl Nodes {
         }
     }
 
-    fn get(&self, name: &str) -> Option<&Node> {
-        for (other, node) in self.named.as_slice() {
-            if other.as_ref() == name.as_bytes() {
-                return Some(node);
-            }
+    /// The place of the name that is the next word.
+    pub fn place(&mut self, line: &mut Line) -> usize {
+        let name = IVec::from_slice(self.alloc, line.word().as_bytes());
+        match line.out.kept(name) {
+            Some(name) => self.place_of(name, &mut line.out),
+            None => 0,
         }
-        None
     }
 
-    fn get_mut(&mut self, name: &str) -> Option<&mut Node> {
-        for (other, node) in self.named.as_mut_slice() {
-            if other.as_ref() == name.as_bytes() {
-                return Some(node);
+    // A name that was not met before comes last.
+    fn place_of(&mut self, name: IVec, out: &mut Text) -> usize {
+        for (place, (other, _)) in self.named.as_slice().iter().enumerate() {
+            if *other == name {
+                drop(name);
+                return place;
             }
         }
-        None
+        let place = self.named.len();
+        out.keep(&mut self.named, (name, None));
+        place
     }
 
-    // A copy of the node of a name.
-    fn copy(&self, name: &str, line: &mut Line<'_>) -> Option<Node> {
-        match self.get(name) {
+    fn get(&self, place: usize) -> Option<&Node> {
+        match self.named.get(place) {
+            Some((_, Some(node))) => Some(node),
+            _ => None,
+        }
+    }
+
+    fn get_mut(&mut self, place: usize) -> Option<&mut Node> {
+        match self.named.get_mut(place) {
+            Some((_, Some(node))) => Some(node),
+            _ => None,
+        }
+    }
+
+    // A copy of the node of a place, where the line ends.
+    fn copy(&self, place: usize, line: &mut Line) -> Option<Node> {
+        match self.get(place) {
             Some(node) if line.is_read() => line.out.kept(node.clone(self.alloc)),
             _ => {
                 line.fail();
@@ -120,60 +119,51 @@ impl Nodes {
     }
 
     /// A copy of the node that the last word of a line names.
-    pub fn last(&self, line: &mut Line<'_>) -> Option<Node> {
-        let name = line.word();
-        self.copy(name, line)
+    pub fn last(&mut self, line: &mut Line) -> Option<Node> {
+        let place = self.place(line);
+        self.copy(place, line)
     }
 
-    // Gives a node a name, in the place of another one of that name.
-    fn set(&mut self, name: &str, node: Node, out: &mut Text) {
-        match self.get_mut(name) {
-            Some(place) => {
-                let old = std::mem::replace(place, node);
-                drop(old);
-            }
-            None => self.add(name, node, out),
-        }
+    // Gives a node the name of a place, if there is one; what had the name before is let go.
+    fn set(&mut self, place: usize, node: Option<Node>) {
+        let old = match self.named.get_mut(place) {
+            Some(row) => std::mem::replace(&mut row.1, node),
+            None => node,
+        };
+        drop(old);
     }
 
-    fn add(&mut self, name: &str, node: Node, out: &mut Text) {
-        match IVec::from_slice(self.alloc, name.as_bytes()) {
-            Ok(name) => out.keep(&mut self.named, (name, node)),
-            Err(error) => {
-                drop(error);
-                drop(node);
-                out.cut();
-            }
-        }
-    }
-
-    /// Gives a node a name, if there was memory for it.
-    pub fn put(&mut self, name: &str, made: Result<Node>, out: &mut Text) {
-        if let Some(node) = out.kept(made) {
-            self.set(name, node, out);
+    /// The same, if there was memory for the node.
+    pub fn put(&mut self, place: usize, made: Result<Node>, out: &mut Text) {
+        let node = out.kept(made);
+        if node.is_some() {
+            self.set(place, node);
+        } else {
+            drop(node);
         }
     }
 
     // The same, and says so.
-    fn give(&mut self, name: &str, node: Option<Node>, line: &mut Line<'_>) {
-        if let Some(node) = node {
-            self.set(name, node, &mut line.out);
-            line.out.done();
+    fn give(&mut self, place: usize, node: Option<Node>, out: &mut Text) {
+        if node.is_some() {
+            self.set(place, node);
+            out.done();
+        } else {
+            drop(node);
         }
     }
 
-    /// Does what a line says whose first word is this one.
-    pub fn run(&mut self, name: &str, line: &mut Line<'_>) {
-        match named(&CALLS, name) {
-            Some(Call::Make(make)) => self.make(make, line),
-            Some(Call::Change(change)) => self.change(change, line),
-            Some(Call::Ask(question)) => self.ask(question, line),
-            Some(Call::Find(search)) => self.find(search, line),
-            None => line.fail(),
+    /// Does what a line says.
+    pub fn run(&mut self, act: Act, line: &mut Line) {
+        match act {
+            Act::Make(make) => self.make(make, line),
+            Act::Change(change) => self.change(change, line),
+            Act::Ask(question) => self.ask(question, line),
+            Act::Find(search) => self.find(search, line),
         }
     }
 
-    fn make(&mut self, make: Make, line: &mut Line<'_>) {
+    fn make(&mut self, make: Make, line: &mut Line) {
         match make {
             Make::Leaf => self.build(true, line),
             Make::Index => self.build(false, line),
@@ -184,21 +174,30 @@ impl Nodes {
     }
 
     // Builds a leaf or an index.
-    fn build(&mut self, is_leaf: bool, line: &mut Line<'_>) {
-        let name = line.word();
+    fn build(&mut self, is_leaf: bool, line: &mut Line) {
+        let name = self.place(line);
         let node = read_node(is_leaf, line);
-        self.give(name, node, line);
+        self.give(name, node, &mut line.out);
     }
 
-    fn keep_copy(&mut self, line: &mut Line<'_>) {
-        let (of, name) = (line.word(), line.word());
+    fn keep_copy(&mut self, line: &mut Line) {
+        let of = self.place(line);
+        let name = self.place(line);
         let copy = self.copy(of, line);
-        self.give(name, copy, line);
+        self.give(name, copy, &mut line.out);
     }
 
-    fn receive(&mut self, line: &mut Line<'_>) {
-        let (left, right, name) = (line.word(), line.word(), line.word());
-        let both = match (self.get(left), self.get(right)) {
+    fn receive(&mut self, line: &mut Line) {
+        let left = self.place(line);
+        let right = self.place(line);
+        let name = self.place(line);
+        let both = self.received(left, right, line);
+        self.give(name, both, &mut line.out);
+    }
+
+    // What a node is that received another one.
+    fn received(&self, left: usize, right: usize, line: &mut Line) -> Option<Node> {
+        match (self.get(left), self.get(right)) {
             (Some(left), Some(right)) if line.is_read() => {
                 line.out.kept(left.receive_merge(self.alloc, right))
             }
@@ -206,43 +205,47 @@ impl Nodes {
                 line.fail();
                 None
             }
-        };
-        self.give(name, both, line);
+        }
     }
 
-    fn split(&mut self, line: &mut Line<'_>) {
-        let (of, left_name, right_name) = (line.word(), line.word(), line.word());
-        let halves = match self.get(of) {
+    fn split(&mut self, line: &mut Line) {
+        let of = self.place(line);
+        let left_name = self.place(line);
+        let right_name = self.place(line);
+        if let Some((left, right)) = self.halves(of, line) {
+            self.set(left_name, Some(left));
+            self.give(right_name, Some(right), &mut line.out);
+        }
+    }
+
+    fn halves(&self, place: usize, line: &mut Line) -> Option<(Node, Node)> {
+        match self.get(place) {
             Some(node) if line.is_read() => halves_of(self.alloc, node, &mut line.out),
             _ => {
                 line.fail();
                 None
             }
-        };
-        if let Some((left, right)) = halves {
-            self.set(left_name, left, &mut line.out);
-            self.give(right_name, Some(right), line);
         }
     }
 
-    fn change(&mut self, change: Change, line: &mut Line<'_>) {
-        let name = line.word();
+    fn change(&mut self, change: Change, line: &mut Line) {
+        let name = self.place(line);
         match self.get_mut(name) {
             Some(node) => change_node(change, node, line),
             None => line.fail(),
         }
     }
 
-    fn ask(&self, question: Question, line: &mut Line<'_>) {
-        let name = line.word();
+    fn ask(&mut self, question: Question, line: &mut Line) {
+        let name = self.place(line);
         match self.get(name) {
             Some(node) if line.is_read() => ask_node(question, node, &mut line.out),
             _ => line.fail(),
         }
     }
 
-    fn find(&self, search: Search, line: &mut Line<'_>) {
-        let name = line.word();
+    fn find(&mut self, search: Search, line: &mut Line) {
+        let name = self.place(line);
         match self.get(name) {
             Some(node) => find_in(search, node, line),
             None => line.fail(),
@@ -259,7 +262,7 @@ fn halves_of(alloc: Global, node: &Node, out: &mut Text) -> Option<(Node, Node)>
     out.kept(node.split(alloc))
 }
 
-fn change_node(change: Change, node: &mut Node, line: &mut Line<'_>) {
+fn change_node(change: Change, node: &mut Node, line: &mut Line) {
     match change {
         Change::Apply => apply(node, line),
         Change::Next => lead_on(node, line),
@@ -267,7 +270,7 @@ fn change_node(change: Change, node: &mut Node, line: &mut Line<'_>) {
     }
 }
 
-fn apply(node: &mut Node, line: &mut Line<'_>) {
+fn apply(node: &mut Node, line: &mut Line) {
     if let Some(link) = read_link(line) {
         if line.out.kept(node.apply(link)).is_some() {
             line.out.done();
@@ -275,7 +278,7 @@ fn apply(node: &mut Node, line: &mut Line<'_>) {
     }
 }
 
-fn lead_on(node: &mut Node, line: &mut Line<'_>) {
+fn lead_on(node: &mut Node, line: &mut Line) {
     let next = line.page();
     if line.is_read() {
         node.next = next;
@@ -283,7 +286,7 @@ fn lead_on(node: &mut Node, line: &mut Line<'_>) {
     }
 }
 
-fn post(node: &mut Node, line: &mut Line<'_>) {
+fn post(node: &mut Node, line: &mut Line) {
     let pointer = line.read::<(IVec, Pid)>();
     if let Some((key, pid)) = line.whole(pointer) {
         if let Some(is) = line.out.kept(node.parent_split(key, pid)) {
@@ -304,7 +307,7 @@ fn ask_node(question: Question, node: &Node, out: &mut Text) {
 }
 
 // Finds what a word asks for.
-fn find_in(search: Search, node: &Node, line: &mut Line<'_>) {
+fn find_in(search: Search, node: &Node, line: &mut Line) {
     match search {
         Search::Get => find_value(node, line),
         Search::PointerBefore => find_before(node, line),
@@ -312,7 +315,7 @@ fn find_in(search: Search, node: &Node, line: &mut Line<'_>) {
     }
 }
 
-fn find_value(node: &Node, line: &mut Line<'_>) {
+fn find_value(node: &Node, line: &mut Line) {
     let key = line.bytes();
     if line.is_read() {
         push_value(&mut line.out, node.get(key.as_slice()));
@@ -328,43 +331,38 @@ fn push_value(out: &mut Text, value: Result<Option<IVec>>) {
     }
 }
 
-fn find_before(node: &Node, line: &mut Line<'_>) {
+fn find_before(node: &Node, line: &mut Line) {
     let pid = Pid(line.number());
     if line.is_read() {
         push_found(&mut line.out, "pointer", node.pointer_before(pid));
     }
 }
 
-// The word of the key of a bound that is `[K`, `(K` or `..`, which has the empty key; `-` where it is none of them.
-fn key_of(bound: &str) -> &str {
-    if bound == ".." {
-        return "%";
+// Finds what a word bounds: `[K`, `(K` or `..`.
+fn find_within(search: Search, node: &Node, line: &mut Line) {
+    if line.takes("..") {
+        return find_from(search, node, Bound::Unbounded, line);
     }
-    let included = bound.strip_prefix('[');
-    included.or(bound.strip_prefix('(')).unwrap_or("-")
-}
-
-fn bound_of<'a>(bound: &str, key: &'a [u8]) -> Bound<&'a [u8]> {
-    if bound.starts_with('[') {
-        Bound::Included(key)
-    } else if bound.starts_with('(') {
-        Bound::Excluded(key)
+    let is_included = line.takes_mark('[');
+    if !is_included && !line.takes_mark('(') {
+        line.fail();
+    }
+    let key = line.bytes();
+    if is_included {
+        find_from(search, node, Bound::Included(key.as_slice()), line);
     } else {
-        Bound::Unbounded
-    }
-}
-
-// Finds what a word bounds.
-fn find_within(search: Search, node: &Node, line: &mut Line<'_>) {
-    let bound = line.word();
-    let key = line.bytes_of(key_of(bound));
-    if line.is_read() {
-        find_from(search, node, bound_of(bound, key.as_slice()), &mut line.out);
+        find_from(search, node, Bound::Excluded(key.as_slice()), line);
     }
     drop(key);
 }
 
-fn find_from(search: Search, node: &Node, bound: Bound<&[u8]>, out: &mut Text) {
+fn find_from(search: Search, node: &Node, bound: Bound<&[u8]>, line: &mut Line) {
+    if line.is_read() {
+        find_at(search, node, bound, &mut line.out);
+    }
+}
+
+fn find_at(search: Search, node: &Node, bound: Bound<&[u8]>, out: &mut Text) {
     match search {
         Search::Successor => push_pair(out, node.successor(bound)),
         Search::Predecessor => push_pair(out, node.predecessor(bound)),
@@ -391,17 +389,16 @@ fn len(node: &Node) -> usize
 }
 
 // `merging` or `-`.
-fn read_merging(line: &mut Line<'_>) -> bool {
-    let word = line.word();
-    let merging = word == "merging";
-    if !merging && word != "-" {
+fn read_merging(line: &mut Line) -> bool {
+    let merging = line.takes("merging");
+    if !merging && !line.takes("-") {
         line.fail();
     }
     merging
 }
 
 // A node, but for its name.
-fn read_node(is_leaf: bool, line: &mut Line<'_>) -> Option<Node> {
+fn read_node(is_leaf: bool, line: &mut Line) -> Option<Node> {
     let bounds = line.read::<(IVec, IVec)>();
     let (next, merging_child) = (line.page(), line.page());
     let merging = read_merging(line);
@@ -421,7 +418,7 @@ fn read_node(is_leaf: bool, line: &mut Line<'_>) -> Option<Node> {
     })
 }
 
-fn read_leaf(line: &mut Line<'_>) -> Option<Data> {
+fn read_leaf(line: &mut Line) -> Option<Data> {
     let pairs = line.list::<(IVec, IVec)>();
     let leaf = Leaf::from_pairs(line.alloc(), pairs.as_slice());
     drop(pairs);
@@ -429,7 +426,7 @@ fn read_leaf(line: &mut Line<'_>) -> Option<Data> {
     line.whole(leaf).map(Data::Leaf)
 }
 
-fn read_index(line: &mut Line<'_>) -> Option<Data> {
+fn read_index(line: &mut Line) -> Option<Data> {
     let pointers = line.list::<(IVec, Pid)>();
     let index = Index::from_pairs(line.alloc(), pointers.as_slice());
     drop(pointers);
@@ -455,25 +452,24 @@ const KINDS: [(&str, Kind); 5] = [
     ("cap", Kind::Cap),
 ];
 
-fn read_set(line: &mut Line<'_>) -> Option<Link> {
+fn read_set(line: &mut Line) -> Option<Link> {
     let (key, value) = line.read()?;
     Some(Link::Set(key, value))
 }
 
+fn read_kind(kind: Kind, line: &mut Line) -> Option<Link> {
+    match kind {
+        Kind::Set => read_set(line),
+        Kind::Del => line.read().map(Link::Del),
+        Kind::Intend => Some(Link::ParentMergeIntention(Pid(line.number()))),
+        Kind::Confirm => Some(Link::ParentMergeConfirm),
+        Kind::Cap => Some(Link::ChildMergeCap),
+    }
+}
+
 /// A link, with which a line ends.
-pub fn read_link(line: &mut Line<'_>) -> Option<Link> {
-    let name = line.word();
-    let link = match named(&KINDS, name) {
-        Some(Kind::Set) => read_set(line),
-        Some(Kind::Del) => line.read().map(Link::Del),
-        Some(Kind::Intend) => Some(Link::ParentMergeIntention(Pid(line.number()))),
-        Some(Kind::Confirm) => Some(Link::ParentMergeConfirm),
-        Some(Kind::Cap) => Some(Link::ChildMergeCap),
-        None => {
-            line.fail();
-            None
-        }
-    };
+pub fn read_link(line: &mut Line) -> Option<Link> {
+    let link = read_kind(line.named(&KINDS)?, line);
     line.whole(link)
 }
 

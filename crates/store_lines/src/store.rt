@@ -1,7 +1,7 @@
 //! A store in memory, to which each line makes one call.
 use crate::keys::{read_key, spell};
-use crate::line::{Line, Word, named, push_all};
-use crate::nodes::{Nodes, push_node, read_link};
+use crate::line::{Line, Word, push_all};
+use crate::nodes::{Act, Change, Make, Nodes, Question, Search, push_node, read_link};
 use crate::text::Text;
 use sled_pages::{IVec, MemPages, Node, Pages, Pid, Result, Version, View};
 use std::alloc::Global;
@@ -45,6 +45,7 @@ enum Call {
     Alone(Alone),
     Numbered(Numbered),
     Versioned(Versioned),
+    Node(Act),
     Allocate,
     Read,
     Root,
@@ -56,7 +57,7 @@ enum Call {
     Parts,
 }
 
-const CALLS: [(&str, Call); 26] = [
+const CALLS: [(&str, Call); 44] = [
     ("roots", Call::Alone(Alone::Roots)),
     ("begin", Call::Alone(Alone::Begin)),
     ("seal", Call::Alone(Alone::Seal)),
@@ -81,6 +82,30 @@ const CALLS: [(&str, Call); 26] = [
     ("refuse", Call::Refuse),
     ("image-page", Call::ImagePage),
     ("image-root", Call::ImageRoot),
+    ("leaf", Call::Node(Act::Make(Make::Leaf))),
+    ("index", Call::Node(Act::Make(Make::Index))),
+    ("clone", Call::Node(Act::Make(Make::Clone))),
+    ("receive", Call::Node(Act::Make(Make::Receive))),
+    ("split", Call::Node(Act::Make(Make::Split))),
+    ("apply", Call::Node(Act::Change(Change::Apply))),
+    ("next", Call::Node(Act::Change(Change::Next))),
+    ("post", Call::Node(Act::Change(Change::Post))),
+    ("show", Call::Node(Act::Ask(Question::Show))),
+    ("len", Call::Node(Act::Ask(Question::Len))),
+    ("should-split", Call::Node(Act::Ask(Question::ShouldSplit))),
+    ("should-merge", Call::Node(Act::Ask(Question::ShouldMerge))),
+    (
+        "can-merge-child",
+        Call::Node(Act::Ask(Question::CanMergeChild)),
+    ),
+    ("get", Call::Node(Act::Find(Search::Get))),
+    (
+        "pointer-before",
+        Call::Node(Act::Find(Search::PointerBefore)),
+    ),
+    ("pointer", Call::Node(Act::Find(Search::Pointer))),
+    ("successor", Call::Node(Act::Find(Search::Successor))),
+    ("predecessor", Call::Node(Act::Find(Search::Predecessor))),
     ("spell", Call::Spell),
     ("parts", Call::Parts),
 ];
@@ -113,15 +138,14 @@ impl Store {
         }
     }
 
-    /// Does what a line says whose first word is this one, and adds what that comes to.
-    pub fn run(&mut self, name: &str, line: &mut Line<'_>) {
-        match named(&CALLS, name) {
-            Some(call) => self.call(call, line),
-            None => self.nodes.run(name, line),
+    /// Does what a line says, and adds what that comes to.
+    pub fn run(&mut self, line: &mut Line) {
+        if let Some(call) = line.named(&CALLS) {
+            self.call(call, line);
         }
     }
 
-    fn call(&mut self, call: Call, line: &mut Line<'_>) {
+    fn call(&mut self, call: Call, line: &mut Line) {
         match call {
             Call::Alone(call) => self.alone(call, line),
             Call::Numbered(call) => self.numbered(call, line),
@@ -133,12 +157,13 @@ impl Store {
             Call::Refuse => self.refuse(line),
             Call::ImagePage => self.image_page(line),
             Call::ImageRoot => self.image_root(line),
+            Call::Node(act) => self.nodes.run(act, line),
             Call::Spell => spell(line),
             Call::Parts => read_key(line),
         }
     }
 
-    fn alone(&mut self, call: Alone, line: &mut Line<'_>) {
+    fn alone(&mut self, call: Alone, line: &mut Line) {
         if line.is_read() {
             self.act(call, &mut line.out);
         }
@@ -161,7 +186,7 @@ impl Store {
         }
     }
 
-    fn numbered(&mut self, call: Numbered, line: &mut Line<'_>) {
+    fn numbered(&mut self, call: Numbered, line: &mut Line) {
         let number = line.number();
         if line.is_read() {
             self.act_on(call, number, &mut line.out);
@@ -178,7 +203,7 @@ impl Store {
         }
     }
 
-    fn versioned(&mut self, call: Versioned, line: &mut Line<'_>) {
+    fn versioned(&mut self, call: Versioned, line: &mut Line) {
         let pid = Pid(line.number());
         let version = self.version(line);
         match call {
@@ -188,14 +213,14 @@ impl Store {
         }
     }
 
-    fn link(&mut self, pid: Pid, version: Version, line: &mut Line<'_>) {
+    fn link(&mut self, pid: Pid, version: Version, line: &mut Line) {
         if let Some(link) = read_link(line) {
             let answer = self.pages.link(pid, version, link);
             self.push_changed(answer, &mut line.out);
         }
     }
 
-    fn replace(&mut self, pid: Pid, version: Version, line: &mut Line<'_>) {
+    fn replace(&mut self, pid: Pid, version: Version, line: &mut Line) {
         if let Some(node) = self.nodes.last(line) {
             let answer = self.pages.replace(pid, version, node);
             self.push_changed(answer, &mut line.out);
@@ -218,13 +243,12 @@ impl Store {
     }
 
     // The version of this place among those that were met; where there is none, the version of this number.
-    fn version(&self, line: &mut Line<'_>) -> Version {
+    fn version(&self, line: &mut Line) -> Version {
         let met = self.versions.as_slice();
-        let word = line.word();
-        if word == "last" {
+        if line.takes("last") {
             return last_of(met, line);
         }
-        let number = line.number_of(word);
+        let number = line.number();
         let place = usize::try_from(number).unwrap_or(usize::MAX);
         met.get(place).copied().unwrap_or(Version(number))
     }
@@ -264,7 +288,7 @@ impl Store {
         self.push_version(version, out);
     }
 
-    fn allocate(&mut self, line: &mut Line<'_>) {
+    fn allocate(&mut self, line: &mut Line) {
         let Some(node) = self.nodes.last(line) else {
             return;
         };
@@ -274,10 +298,10 @@ impl Store {
         }
     }
 
-    fn read(&mut self, line: &mut Line<'_>) {
+    fn read(&mut self, line: &mut Line) {
         let pid = Pid(line.number());
-        let name = if line.rest().is_some() {
-            Some(line.word())
+        let name = if line.has_more() {
+            Some(self.nodes.place(line))
         } else {
             None
         };
@@ -286,7 +310,7 @@ impl Store {
         }
     }
 
-    fn read_page(&mut self, pid: Pid, name: Option<&str>, out: &mut Text) {
+    fn read_page(&mut self, pid: Pid, name: Option<usize>, out: &mut Text) {
         match self.pages.read(self.alloc, pid) {
             Ok(Some(view)) => {
                 self.show(&view, name, out);
@@ -298,7 +322,7 @@ impl Store {
     }
 
     // Adds the line of a page, and keeps a copy of its node under the name.
-    fn show(&mut self, view: &View, name: Option<&str>, out: &mut Text) {
+    fn show(&mut self, view: &View, name: Option<usize>, out: &mut Text) {
         self.push_page(view.pid, view.version, out);
         out.push(" ");
         push_node(out, &view.node);
@@ -308,7 +332,7 @@ impl Store {
         }
     }
 
-    fn free(&mut self, pid: Pid, version: Version, line: &mut Line<'_>) {
+    fn free(&mut self, pid: Pid, version: Version, line: &mut Line) {
         if !line.is_read() {
             return;
         }
@@ -319,7 +343,7 @@ impl Store {
         }
     }
 
-    fn swap(&mut self, line: &mut Line<'_>) {
+    fn swap(&mut self, line: &mut Line) {
         let name = line.bytes();
         let (old, new) = (line.page(), line.page());
         if line.is_read() {
@@ -329,7 +353,7 @@ impl Store {
         drop(name);
     }
 
-    fn root(&self, line: &mut Line<'_>) {
+    fn root(&self, line: &mut Line) {
         let name = line.bytes();
         if line.is_read() {
             push_root(&mut line.out, "root", self.pages.root(name.as_slice()));
@@ -382,7 +406,7 @@ impl Store {
         self.put(pages.crash(keep), out);
     }
 
-    fn refuse(&mut self, line: &mut Line<'_>) {
+    fn refuse(&mut self, line: &mut Line) {
         let calls = line.list::<u64>();
         if line.is_read() {
             let answer = self.pages.refuse_at(calls.as_slice());
@@ -391,7 +415,7 @@ impl Store {
         drop(calls);
     }
 
-    fn image_page(&mut self, line: &mut Line<'_>) {
+    fn image_page(&mut self, line: &mut Line) {
         let pid = Pid(line.number());
         if let Some(node) = self.nodes.last(line) {
             line.out.keep(&mut self.image_pages, (pid, node));
@@ -399,7 +423,7 @@ impl Store {
         }
     }
 
-    fn image_root(&mut self, line: &mut Line<'_>) {
+    fn image_root(&mut self, line: &mut Line) {
         let root = line.read();
         if let Some(root) = line.whole(root) {
             line.out.keep(&mut self.image_roots, root);
@@ -430,7 +454,7 @@ impl Store {
 }
 
 // The version that was met last.
-fn last_of(met: &[Version], line: &mut Line<'_>) -> Version {
+fn last_of(met: &[Version], line: &mut Line) -> Version {
     match met.last() {
         Some(version) => *version,
         None => {

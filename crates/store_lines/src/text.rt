@@ -2,7 +2,6 @@
 use sled_model::CompareAndSwapError;
 use sled_pages::{Error, Result};
 use std::alloc::Global;
-use std::io::{self, ErrorKind};
 
 /// Text that is added to. Where there is no memory for a part of it, that is told at the end alone.
 #[derive(Drop)]
@@ -38,11 +37,11 @@ impl Text {
     }
 
     /// The text, if there was memory for all of it.
-    pub fn text(&self) -> io::Result<&str> {
+    pub fn text(&self) -> Option<&str> {
         if self.is_cut {
-            return Err(io::Error::from(ErrorKind::OutOfMemory));
+            return None;
         }
-        Ok(self.text.as_str())
+        Some(self.text.as_str())
     }
 
     pub fn push(&mut self, text: &str) {

@@ -16,8 +16,7 @@ pub enum Kind {
     Tree,
 }
 
-/// The words that lines of values begin with.
-pub const KINDS: [(&str, Kind); 7] = [
+const KINDS: [(&str, Kind); 7] = [
     ("strings", Kind::String),
     ("events", Kind::Event),
     ("conflicts", Kind::Conflict),
@@ -27,9 +26,15 @@ pub const KINDS: [(&str, Kind); 7] = [
     ("trees", Kind::Tree),
 ];
 
+/// The kind that a line of values begins with, and the values.
+pub fn kind_of(line: &str) -> Option<(Kind, &str)> {
+    let (name, items) = line.split_once(' ')?;
+    Some((named(&KINDS, name)?, items))
+}
+
 // Values that lines compare.
 trait Sample: PartialEq + Drop {
-    fn sample(line: &mut Line<'_>) -> Option<Self>;
+    fn sample(line: &mut Line) -> Option<Self>;
 
     fn copy(&self) -> Result<Self>;
 
@@ -47,7 +52,7 @@ fn sign_of<T: Ord>(value: &T, other: &T) -> &'static str {
 }
 
 impl Sample for IVec {
-    fn sample(line: &mut Line<'_>) -> Option<IVec> {
+    fn sample(line: &mut Line) -> Option<IVec> {
         line.read()
     }
 
@@ -65,7 +70,7 @@ impl Sample for IVec {
 }
 
 impl Sample for Event {
-    fn sample(line: &mut Line<'_>) -> Option<Event> {
+    fn sample(line: &mut Line) -> Option<Event> {
         let (key, value) = line.read::<(IVec, Option<IVec>)>()?;
         Some(match value {
             Some(value) => Event::Insert { key, value },
@@ -87,7 +92,7 @@ impl Sample for Event {
 }
 
 impl Sample for CompareAndSwapError {
-    fn sample(line: &mut Line<'_>) -> Option<CompareAndSwapError> {
+    fn sample(line: &mut Line) -> Option<CompareAndSwapError> {
         let (current, proposed) = line.read()?;
         Some(CompareAndSwapError { current, proposed })
     }
@@ -120,7 +125,7 @@ fn error_of(number: u64) -> Option<Error> {
 }
 
 impl Sample for Error {
-    fn sample(line: &mut Line<'_>) -> Option<Error> {
+    fn sample(line: &mut Line) -> Option<Error> {
         let number = line.number();
         if number == 1 {
             return line.read().map(Error::CollectionNotFound);
@@ -141,27 +146,39 @@ impl Sample for Error {
     }
 }
 
-fn read_insert(line: &mut Line<'_>) -> Option<Call> {
+// What a call does at its key.
+#[derive(Clone, Copy)]
+enum Point {
+    Get,
+    Insert,
+    Remove,
+    Swap,
+}
+
+const CALLS: [(&str, Point); 4] = [
+    ("get", Point::Get),
+    ("insert", Point::Insert),
+    ("remove", Point::Remove),
+    ("cas", Point::Swap),
+];
+
+fn read_insert(line: &mut Line) -> Option<Call> {
     let (key, value) = line.read()?;
     Some(Call::Insert(key, value))
 }
 
-fn read_swap(line: &mut Line<'_>) -> Option<Call> {
+fn read_swap(line: &mut Line) -> Option<Call> {
     let (key, (old, new)) = line.read()?;
     Some(Call::CompareAndSwap(key, old, new))
 }
 
 impl Sample for Call {
-    fn sample(line: &mut Line<'_>) -> Option<Call> {
-        match line.word() {
-            "get" => line.read().map(Call::Get),
-            "insert" => read_insert(line),
-            "remove" => line.read().map(Call::Remove),
-            "cas" => read_swap(line),
-            _ => {
-                line.fail();
-                None
-            }
+    fn sample(line: &mut Line) -> Option<Call> {
+        match line.named(&CALLS)? {
+            Point::Get => line.read().map(Call::Get),
+            Point::Insert => read_insert(line),
+            Point::Remove => line.read().map(Call::Remove),
+            Point::Swap => read_swap(line),
         }
     }
 
@@ -175,11 +192,12 @@ impl Sample for Call {
 }
 
 impl Sample for Whole {
-    fn sample(line: &mut Line<'_>) -> Option<Whole> {
-        if line.word() != "flush" {
-            line.fail();
+    fn sample(line: &mut Line) -> Option<Whole> {
+        if line.takes("flush") {
+            return Some(Whole::Flush);
         }
-        Some(Whole::Flush)
+        line.fail();
+        None
     }
 
     fn copy(&self) -> Result<Whole> {
@@ -192,7 +210,7 @@ impl Sample for Whole {
 }
 
 impl Sample for Tree {
-    fn sample(line: &mut Line<'_>) -> Option<Tree> {
+    fn sample(line: &mut Line) -> Option<Tree> {
         let ((database, name), number) = line.read()?;
         Some(Tree {
             database,
@@ -211,7 +229,7 @@ impl Sample for Tree {
 }
 
 // A value with its copy.
-fn sample_pair<T: Sample>(line: &mut Line<'_>) -> Option<(T, T)> {
+fn sample_pair<T: Sample>(line: &mut Line) -> Option<(T, T)> {
     let value = T::sample(line)?;
     let copy = line.out.kept(value.copy());
     Some(value).zip(copy)
@@ -236,10 +254,10 @@ fn push_samples<T: Sample>(all: &[(T, T)], out: &mut Text) {
     }
 }
 
-fn read_samples<T: Sample>(line: &mut Line<'_>) -> Vec<(T, T)> {
+fn read_samples<T: Sample>(items: &str, line: &mut Line) -> Vec<(T, T)> {
     let mut all = Vec::new(line.alloc());
-    for item in line.rest().unwrap_or("").split(", ") {
-        line.read_on(Some(item));
+    for item in items.split(", ") {
+        line.start(item);
         let pair = sample_pair(line);
         if let Some(pair) = line.whole(pair) {
             line.out.keep(&mut all, pair);
@@ -248,8 +266,8 @@ fn read_samples<T: Sample>(line: &mut Line<'_>) -> Vec<(T, T)> {
     all
 }
 
-fn compare_all<T: Sample>(line: &mut Line<'_>) {
-    let all: Vec<(T, T)> = read_samples(line);
+fn compare_all<T: Sample>(items: &str, line: &mut Line) {
+    let all: Vec<(T, T)> = read_samples(items, line);
     if line.is_read() {
         push_samples(all.as_slice(), &mut line.out);
     }
@@ -257,14 +275,14 @@ fn compare_all<T: Sample>(line: &mut Line<'_>) {
 }
 
 /// Compares the values of a line.
-pub fn compare_values(kind: Kind, line: &mut Line<'_>) {
+pub fn compare_values(kind: Kind, items: &str, line: &mut Line) {
     match kind {
-        Kind::String => compare_all::<IVec>(line),
-        Kind::Event => compare_all::<Event>(line),
-        Kind::Conflict => compare_all::<CompareAndSwapError>(line),
-        Kind::Error => compare_all::<Error>(line),
-        Kind::Call => compare_all::<Call>(line),
-        Kind::Whole => compare_all::<Whole>(line),
-        Kind::Tree => compare_all::<Tree>(line),
+        Kind::String => compare_all::<IVec>(items, line),
+        Kind::Event => compare_all::<Event>(items, line),
+        Kind::Conflict => compare_all::<CompareAndSwapError>(items, line),
+        Kind::Error => compare_all::<Error>(items, line),
+        Kind::Call => compare_all::<Call>(items, line),
+        Kind::Whole => compare_all::<Whole>(items, line),
+        Kind::Tree => compare_all::<Tree>(items, line),
     }
 }
