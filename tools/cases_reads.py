@@ -1,4 +1,5 @@
 """Reads that take no slot: single keys, neighbours, counts, and ranges from both ends."""
+from oracle import some_keys, word
 from script import case, expect, key, pair
 
 
@@ -120,6 +121,23 @@ def reads_count_few_pages(s):
     s.line('reads', 'reads 0')
     s.ask('lt %')
     s.line('reads', 'reads 0')
+
+
+@case
+def reads_to_the_left_in_a_tree_of_many_pages(s):
+    """A tree of 20,000 random keys has more than a thousand pages. To read the last pair, the pair below a key, or a hundred pairs
+    from the end looks at few of them, and is not refused for their number."""
+    s.line('load 20000 30 200000', 'yes')
+    keys = [word(key) for key in sorted(some_keys(20000))]
+    expect(int(s.ask('pages')[-2].split()[1]) > 1000, 'more than a thousand leaves')
+    s.line('len', 'number 20000')
+    s.line('last', f'found {keys[-1]} {keys[-1]}')
+    s.line('first', f'found {keys[0]} {keys[0]}')
+    for place in (1, 9_999, 19_999):
+        s.line(f'lt {keys[place]}', f'found {keys[place - 1]} {keys[place - 1]}')
+        s.line(f'gt {keys[place - 1]}', f'found {keys[place]} {keys[place]}')
+    s.line(f'range-back [{keys[-100]} ..', *at(*keys[:-101:-1]))
+    s.line(f'keys-back [{keys[9_950]} ({keys[10_000]}', *names(*keys[9_999:9_949:-1]))
 
 
 @case

@@ -7,7 +7,7 @@ answers, what each dump has, and that a crash leaves the pairs of some moment si
 import os
 import re
 import sys
-from oracle import GREATEST, LOOKS, POPS, Shell, in_line, is_from, is_up_to, read_line, word
+from oracle import GREATEST, LOOKS, POPS, Shell, in_line, is_from, is_up_to, read_line, some_keys, word
 
 DATA = os.path.join(os.path.dirname(os.path.abspath(__file__)), '..', 'crates', 'sledsh', 'data')
 CASES = []
@@ -151,6 +151,9 @@ class Plain:
                 # of a list of steps each value is told as one
                 old = line.startswith('value') and step[0] == 'step' and self.calls[step[1]][0] in ('insert', 'remove')
                 self.meets(step, [line.replace('value', 'old') if old else line], shell)
+        elif name == 'load':
+            for key in some_keys(words[1]):
+                self.answer(('insert', key, key))
         elif name in ('reopen', 'pages'):
             self.calls, self.changes = {}, []
 
