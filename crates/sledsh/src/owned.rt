@@ -4,7 +4,7 @@ use crate::calls::{Result, bytes_of, tell, tell_outcome, tell_refused};
 use crate::counting::Counting;
 use crate::look::tell_found;
 use sled::{CompareAndSwapResult, Db};
-use sled_lines::input::Stopped;
+use sled_lines::input::{Stopped, without_end};
 use sled_lines::print::Piece::{Number, Text, Word};
 use sled_lines::session::Session;
 use sled_lines::words::{first_word, read_value};
@@ -188,16 +188,23 @@ fn make(
     }
 }
 
-/// Takes a session apart, makes a call of its database, adds what it answers, and makes a session again, where the same tree
-/// is current. The calls in flight are given up.
+// The words of a line behind the two of the command's own.
+fn words_of(line: &[u8]) -> &[u8] {
+    let words = first_word(without_end(line)).1.unwrap_or(b"");
+    let (_, words) = first_word(words);
+    words.unwrap_or(b"")
+}
+
+/// Takes a session apart, makes the call of its database that a line says, adds what it answers, and makes a session again,
+/// where the same tree is current. The calls in flight are given up.
 pub fn tell_owned<'a>(
     alloc: Global,
     session: Session<Counting<'a>>,
     owned: Owned,
-    words: &[u8],
+    line: &[u8],
     out: &mut Vec<u8>,
 ) -> (Session<Counting<'a>>, Result<()>) {
     let (mut db, tree) = session.into_parts();
-    let told = make(alloc, &mut db, &tree, owned, words, out);
+    let told = make(alloc, &mut db, &tree, owned, words_of(line), out);
     (Session::with_tree(alloc, db, tree), told)
 }

@@ -214,23 +214,18 @@ impl<'a> Shell<'a> {
         )
     }
 
-    // Makes a call of the database itself, with the words behind its own.
-    fn make_owned(
-        &mut self,
-        session: Session<Counting<'a>>,
-        owned: Owned,
-    ) -> (Session<Counting<'a>>, Result<(), Stopped>) {
-        let line = first_word(without_end(self.line.as_slice())).1;
-        let words = first_word(line.unwrap_or(b"")).1.unwrap_or(b"");
-        tell_owned(self.alloc, session, owned, words, &mut self.out)
-    }
-
     // Answers a command that is a call of the database itself.
     fn owned(&mut self, state: &mut State<'a>, owned: Owned) -> Result<(), Stopped> {
         let shut = State::Shut(Kept::empty(self.alloc));
         let (next, told) = match std::mem::replace(state, shut) {
             State::Open(session) => {
-                let (session, told) = self.make_owned(session, owned);
+                let (session, told) = tell_owned(
+                    self.alloc,
+                    session,
+                    owned,
+                    self.line.as_slice(),
+                    &mut self.out,
+                );
                 (State::Open(session), told)
             }
             State::Shut(kept) => (
