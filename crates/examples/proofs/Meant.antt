@@ -5,17 +5,21 @@ use Rattle.std.specs.Ordering.{nat_cmp, eq_by_cmp}
 use Rattle.sled_pages.specs.Order.{Key}
 use Rattle.sled_pages.specs.Store.{Store, now}
 use Rattle.sled_model.specs.Maps.{Maps, Merge}
-use Rattle.sled_model.specs.State.{maps_of}
+use Rattle.sled_model.specs.State.{State, maps_of}
+use Rattle.sled_model.specs.Refusal.{must_refuse_of}
 use Rattle.sled_model.specs.Steps.{Instant, Steps}
 use Rattle.sled_model.specs.declared.outcome.Step.{Step}
+use Rattle.sled_model.specs.declared.outcome.Step.TheVariants as step
 use Rattle.sled_model.specs.declared.outcome.Outcome.{Outcome}
+use Rattle.sled_model.specs.declared.outcome.Outcome.TheVariants as outcome
+use Rattle.sled_model.specs.declared.tree.Tree.{Tree}
 use Rattle.tree_laws.specs.Contents.{trees_of}
 use Rattle.sled.specs.Opens.{Opens}
 use Rattle.sled.specs.Sound.{IsDb}
-use Rattle.sled.specs.Values.{DbValue, named, numbers_of}
+use Rattle.sled.specs.Values.{DbValue, named, numbers_of, db_state}
 use Rattle.sled_machine.specs.CrashMaps.{Leaves, kept_after}
-use Rattle.sled_machine.specs.Run.{RunsKeeping, KeepsAll, KeepsMore}
-use Rattle.sled_machine.specs.Step.{MachineStep}
+use Rattle.sled_machine.specs.Run.{RunsKeeping, KeepsAll, KeepsMore, ReachesAll, NoCalls, OneCall}
+use Rattle.sled_machine.specs.Step.{MachineStep, Reaches, acts_as, follows_as, passes_as, starts_as, leaves_at}
 use Rattle.sled_machine.specs.Values.{MachineValue, instant_of, slots_of}
 
 module _ {P M : Type 0} (store : P → Store) (number : P → ℕ) (meant : M → Merge) where
@@ -78,6 +82,71 @@ module _ {P M : Type 0} (store : P → Store) (number : P → ℕ) (meant : M �
       (subst (λ (y : Instant). RunsKeeping store number (λ m. m) (plain_machine m) (kept_after s o one.maps (maps_of y.state) kept) ss os (plain_machine b) last) (sym (same_instant m)) (plain_run m b _ ss os last run))
   plain_run a b kept [] (o ∷ os) last run = elim run [ ]
   plain_run a b kept (s ∷ ss) [] last run = elim run [ ]
+
+  same_state : (m : MachineValue P M) → (instant_of store number (λ o. o) (plain_machine m)).state ≡ (instant_of store number meant m).state
+  same_state m = ap (λ (i : Instant). i.state) (same_instant m)
+
+  same_tests : (d : DbValue P M) (trees : List Tree) → must_refuse_of (db_state store (λ o. o) (plain d)) trees ≡ must_refuse_of (db_state store meant d) trees
+  same_tests d trees = ap (λ (s : State). must_refuse_of s trees) (same_state (record { db = d; flights = []; slots_given = 0 }))
+
+  module _ (a b : MachineValue P M) where
+    plain_follows : (s : Step) (o : Outcome) → follows_as store meant a s o b → follows_as store (λ m. m) (plain_machine a) s o (plain_machine b)
+    plain_follows (step.Step slot) o h = λ f there must few. let k = h f there (sym (same_tests a.db (f.job.tree ∷ [])) ∙ must) few in record { went = k.went; next = k.next; outcome = k.outcome; there = k.there; follows = k.follows }
+    plain_follows (step.Begin tree call) o h = h
+    plain_follows (step.Abandon slot) o h = h
+    plain_follows (step.Whole whole) o h = h
+
+    plain_passes : (s : Step) (o : Outcome) → passes_as store a s o b → passes_as store (plain_machine a) s o (plain_machine b)
+    plain_passes (step.Step slot) outcome.Moved h = λ path ahead.
+        let k = h path (record { flight = ahead.flight; here = ahead.here; clean = ahead.clean }) in
+        (k.0, k.1, record { flight = k.2.flight; here = k.2.here; clean = k.2.clean })
+    plain_passes (step.Step slot) (outcome.Begun i) h = h
+    plain_passes (step.Step slot) (outcome.Decided reply) h = h
+    plain_passes (step.Step slot) (outcome.Refused e) h = h
+    plain_passes (step.Step slot) outcome.Abandoned h = h
+    plain_passes (step.Step slot) outcome.NoSuchSlot h = h
+    plain_passes (step.Begin tree call) o h = h
+    plain_passes (step.Abandon slot) o h = h
+    plain_passes (step.Whole whole) o h = h
+
+    plain_starts : (s : Step) (o : Outcome) → starts_as s o b → starts_as s o (plain_machine b)
+    plain_starts (step.Begin tree call) (outcome.Begun slot) h = h
+    plain_starts (step.Begin tree call) outcome.Moved h = h
+    plain_starts (step.Begin tree call) (outcome.Decided reply) h = h
+    plain_starts (step.Begin tree call) (outcome.Refused e) h = h
+    plain_starts (step.Begin tree call) outcome.Abandoned h = h
+    plain_starts (step.Begin tree call) outcome.NoSuchSlot h = h
+    plain_starts (step.Step slot) o h = h
+    plain_starts (step.Abandon slot) o h = h
+    plain_starts (step.Whole whole) o h = h
+
+    plain_leaves : (s : Step) (o : Outcome) → leaves_at store a s o b → leaves_at store (plain_machine a) s o (plain_machine b)
+    plain_leaves (step.Step slot) (outcome.Refused e) h = h
+    plain_leaves (step.Step slot) outcome.Moved h = h
+    plain_leaves (step.Step slot) (outcome.Begun i) h = h
+    plain_leaves (step.Step slot) (outcome.Decided reply) h = h
+    plain_leaves (step.Step slot) outcome.Abandoned h = h
+    plain_leaves (step.Step slot) outcome.NoSuchSlot h = h
+    plain_leaves (step.Begin tree call) o h = h
+    plain_leaves (step.Abandon slot) o h = h
+    plain_leaves (step.Whole whole) o h = h
+
+    plain_reaches : (s : Step) (o : Outcome) → Reaches store number meant a s o b → Reaches store number (λ m. m) (plain_machine a) s o (plain_machine b)
+    plain_reaches s o r = record {
+      step = plain_step a b s o r.step;
+      does = record { told = subst (λ (z : State). acts_as z s o (store a.db.pages) (store b.db.pages)) (sym (same_state a)) r.does.told };
+      follows = record { told = plain_follows s o r.follows.told };
+      passes = record { told = plain_passes s o r.passes.told };
+      slots = record { starts = plain_starts s o r.slots.starts; others = r.slots.others };
+      loses = record { none = r.loses.none };
+      leaves = record { told = plain_leaves s o r.leaves.told };
+    }
+
+  pub plain_all : (a b : MachineValue P M) (ss : List Step) (os : List Outcome) → ReachesAll store number meant a ss os b → ReachesAll store number (λ m. m) (plain_machine a) ss os (plain_machine b)
+  plain_all a b [] [] NoCalls = NoCalls
+  plain_all a b (s ∷ ss) (o ∷ os) (OneCall {m = m} one rest) = OneCall (plain_reaches a m s o one) (plain_all m b ss os rest)
+  plain_all a b [] (o ∷ os) run = elim run [ ]
+  plain_all a b (s ∷ ss) [] run = elim run [ ]
 
   pub plain_opens : (before : Store) (called : Key) (d : DbValue P M) → Opens store before called d → Opens store before called (plain d)
   plain_opens before called d o = record {

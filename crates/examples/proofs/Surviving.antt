@@ -15,10 +15,10 @@ use Rattle.tree_laws.specs.Crashes.{Repeats, Matches}
 use Rattle.sled.specs.Values.{DbValue}
 use Rattle.sled.specs.Opens.{Opens}
 use Rattle.sled_machine.specs.CrashMaps.{Leaves}
-use Rattle.sled_machine.specs.Run.{Performs}
+use Rattle.sled_machine.specs.Run.{Performs, ReachesAll}
 use Rattle.sled_machine.specs.Values.{MachineValue}
 use Rattle.examples.specs.Survive.{machine_over, Survives}
-use Rattle.examples.proofs.Meant.{plain, plain_machine, plain_run, plain_opens}
+use Rattle.examples.proofs.Meant.{plain, plain_machine, plain_run, plain_all, plain_opens}
 
 -- an element of a list is one of the list once repetitions are taken out
 once_has : {X : Type 0} (once xs : List X) (y : X) → Repeats once xs → In y xs → In y once
@@ -50,10 +50,10 @@ map_has f (z ∷ xs) x (inr i) = inr (map_has f xs x i)
 
 module _ {M : Type 0} (meant : M → Merge) (before : Store) (name : Key) where
   pub survives : (steps : List Step) (outcomes : List Outcome) (keep : ℕ) (start last : MachineValue MemPages M) (first : DbValue MemPages M) (pages left : MemPages) (again : DbValue MemPages M) (end : MemPages)
-      → Opens store_of before name first → start.db ≡ first → start.flights ≡ [] → start.slots_given ≡ 0 → Performs store_of flush_number_of meant start steps outcomes last → pages ≡ last.db.pages
+      → Opens store_of before name first → start.db ≡ first → start.flights ≡ [] → start.slots_given ≡ 0 → Performs store_of flush_number_of meant start steps outcomes last → ReachesAll store_of flush_number_of meant start steps outcomes last → pages ≡ last.db.pages
       → MayLeave (store_of pages) (store_of left).base → Crashes keep (store_of pages) (store_of left) → Opens store_of (store_of left) name again → end ≡ again.pages
       → Survives before name steps outcomes keep (store_of end)
-  survives steps outcomes keep start last first pages left again end o same none unused run p may crash reopens out =
+  survives steps outcomes keep start last first pages left again end o same none unused run each p may crash reopens out =
       let over : start ≡ machine_over first = λ i. record { db = same i; flights = none i; slots_given = unused i } in
       let leaves : Leaves (store_of first.pages) (trees_of (now (store_of first.pages)) ∷ []) = record { is = subst (λ l. Matches (map trees_of l) (trees_of (now (store_of first.pages)) ∷ [])) (sym o.left) (record { once = trees_of (now (store_of first.pages)) ∷ []; left = (refl, inl tt); right = (refl, inl tt) }) } in
       let k = (subst (λ (m : MachineValue MemPages M). Performs store_of flush_number_of meant m steps outcomes last) over run).keeps (trees_of (now (store_of first.pages)) ∷ []) leaves in
@@ -65,6 +65,7 @@ module _ {M : Type 0} (meant : M → Merge) (before : Store) (name : Key) where
         opens = plain_opens store_of flush_number_of meant before name first o;
         last = plain_machine store_of flush_number_of meant last;
         runs = record { last = k.last; run = plain_run store_of flush_number_of meant (machine_over first) last (trees_of (now (store_of first.pages)) ∷ []) steps outcomes k.last k.run; leaves = k.leaves };
+        each = plain_all store_of flush_number_of meant (machine_over first) last steps outcomes (subst (λ (m : MachineValue MemPages M). ReachesAll store_of flush_number_of meant m steps outcomes last) over each);
         left = store_of left;
         crashes = subst (λ (q : MemPages). Crashes keep (store_of q) (store_of left)) p crash;
         one = subst (λ (z : PageState). In (trees_of z) k.last) (sym base) one;

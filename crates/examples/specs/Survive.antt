@@ -12,7 +12,7 @@ use Rattle.sled_model.specs.declared.outcome.Outcome.{Outcome}
 use Rattle.tree_laws.specs.Contents.{trees_of}
 use Rattle.sled.specs.Opens.{with_default, Opens}
 use Rattle.sled.specs.Values.{DbValue}
-use Rattle.sled_machine.specs.Run.{Keeps}
+use Rattle.sled_machine.specs.Run.{Keeps, ReachesAll}
 use Rattle.sled_machine.specs.Values.{MachineValue}
 
 -- a machine over this database, on which no call is in flight
@@ -22,12 +22,13 @@ machine_over d = record { db = d; flights = []; slots_given = 0 }
 -- A merge operator is seen here by what it means.
 -- A database was opened, the steps were run on a machine over it, its store crashed and kept so many of the last actions, and what was
 -- left of it was opened again. The run keeps a list of maps: at first that of the opening, then the one at the last flush, and the one
--- after each call that was decided since. What is found is one of the list
+-- after each call that was decided since. What is found is one of the list. Of each step all holds that is said of one step
 pub record Survives (before : Store) (name : Key) (steps : List Step) (outcomes : List Outcome) (keep : ℕ) (found : Store) : Type 0 where
   pub first : DbValue MemPages Merge
   pub opens : Opens store_of before name first
   pub last : MachineValue MemPages Merge
   pub runs : Keeps store_of flush_number_of (λ m. m) (machine_over first) steps outcomes last (trees_of (now (store_of first.pages)) ∷ [])
+  pub each : ReachesAll store_of flush_number_of (λ m. m) (machine_over first) steps outcomes last
   pub left : Store
   pub crashes : Crashes keep (store_of last.db.pages) left
   pub one : In (trees_of (now left)) runs.last
