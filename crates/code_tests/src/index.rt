@@ -28,21 +28,36 @@ fn is(value: &IVec, bytes: &[u8]) -> bool {
     value.as_ref() == bytes
 }
 
-// Inserts four entries, two of them under one number, and reads these.
-fn fill_and_read(alloc: Global, machine: &mut Machine<MemPages>) -> Result<bool> {
-    let tree = machine.db().default_tree()?;
-    insert(alloc, machine, &tree, 7, b"b")?;
-    insert(alloc, machine, &tree, 8, b"a")?;
-    insert(alloc, machine, &tree, 7, b"a")?;
-    insert(alloc, machine, &tree, 6, b"c")?;
-    let found = entries_under(alloc, machine.db(), &tree, 7)?;
+// Entries, two of them under one number.
+const ENTRIES: [(u64, &str); 4] = [(7, "b"), (8, "a"), (7, "a"), (6, "c")];
+
+fn insert_all(alloc: Global, machine: &mut Machine<MemPages>, tree: &Tree) -> Result<()> {
+    for entry in &ENTRIES {
+        insert(alloc, machine, tree, entry.0, entry.1.as_bytes())?;
+    }
+    Ok(())
+}
+
+// Whether the two are read, in their order.
+fn reads_two(alloc: Global, machine: &Machine<MemPages>, tree: &Tree) -> Result<bool> {
+    let found = entries_under(alloc, machine.db(), tree, 7)?;
     let is_found = match found.as_slice() {
         [first, second] => is(&first.1, b"a") && is(&second.1, b"b"),
         _ => false,
     };
     drop(found);
-    drop(tree);
     Ok(is_found)
+}
+
+fn fill_and_read(alloc: Global, machine: &mut Machine<MemPages>) -> Result<bool> {
+    let tree = machine.db().default_tree()?;
+    let filled = insert_all(alloc, machine, &tree);
+    let is_found = match filled {
+        Ok(()) => reads_two(alloc, machine, &tree),
+        Err(e) => Err(e),
+    };
+    drop(tree);
+    is_found
 }
 
 /// Whether the entries of an index under a number are found, in their order.
