@@ -1,5 +1,5 @@
 -- What the steps of a call in flight do to the maps.
-use Rattle.std.proofs.Common.{◌≡◌, ◌≢◌, ℕ, zero, suc, ◌+◌, Bool, true, false, cond, nat_eq, List, [], ◌∷◌, Option, Some, None, option_map, map, Result, IfOk, sym, refl, ap, ◌∙◌, subst, inl, inr, ◌⊎◌, arith}
+use Rattle.std.proofs.Common.{◌≡◌, ◌≢◌, ℕ, zero, suc, ◌+◌, Bool, true, false, cond, nat_eq, List, [], ◌∷◌, Option, Some, None, option_map, map, Result, Ok, Err, IfOk, sym, refl, ap, ◌∙◌, subst, inl, inr, ◌⊎◌, arith}
 use Rattle.std.proofs.Math.Path.{fun_ext}
 use Rattle.std.proofs.lemmas.Bool.{eq-eqb, eqb-true}
 use Rattle.std.specs.Str.{bytes_eq}
@@ -126,6 +126,11 @@ maps_at trees name = option_map (λ (t : NamedTree). t.map) (trees name)
 -- what is said of a tree of one page is said of its name
 pub prompt_named : (s : PageState) (a b : Key) (r : Result Outcome Error) → a ≡ b → IfOk r (λ got. IsOnePage s a → HasTurns got) → IfOk r (λ got. IsOnePage s b → HasTurns got)
 prompt_named s a b r e h = subst (λ n. IfOk r (λ got. IsOnePage s n → HasTurns got)) e h
+
+-- what has turns where this is so has them, since it is so
+pub with_turns : {X : Type 0} (r : Result Outcome Error) → X → IfOk r (λ got. X → HasTurns got) → IfOk r HasTurns
+with_turns (Ok got) x h = h x
+with_turns (Err e) x h = tt
 
 -- an insert that was decided changes one value
 insert_puts : (old new : Trees) (tree : Tree) (key value : Key) (reply : Reply) → Answered old new tree (Insert key value) reply → PutsOne (maps_at old) (maps_at new) tree.name key value
