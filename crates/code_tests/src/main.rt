@@ -16,24 +16,27 @@ fn answer(is: bool) -> &'static str {
     if is { "yes" } else { "no" }
 }
 
-fn run(rt: &HostRuntime) -> Result<(), Stopped> {
-    println!(rt;
-        "what was inserted is read: {}",
-        answer(is_read(rt.alloc())?)
-    )?;
-    println!(rt;
-        "a new database survives a crash: {}",
-        answer(survives(rt.alloc())?)
-    )?;
-    println!(rt;
-        "the entries of an index under a number are found: {}",
-        answer(finds_entries(rt.alloc())?)
-    )?;
+// Prints whether it is so.
+fn tell(rt: &HostRuntime, what: &str, is: sled_pages::Result<bool>) -> Result<(), Stopped> {
+    println!(rt; "{what}: {}", answer(is?))?;
+    Ok(())
+}
+
+fn tell_streams(rt: &HostRuntime) -> Result<(), Stopped> {
     for case in &CASES {
         let (status, lines) = served(rt.alloc(), case)?;
         println!(rt; "{}: status {status} and {lines} lines", case.0)?;
     }
     Ok(())
+}
+
+fn run(rt: &HostRuntime) -> Result<(), Stopped> {
+    let alloc = rt.alloc();
+    tell(rt, "what was inserted is read", is_read(alloc))?;
+    tell(rt, "a new database survives a crash", survives(alloc))?;
+    let what = "the entries of an index under a number are found";
+    tell(rt, what, finds_entries(alloc))?;
+    tell_streams(rt)
 }
 
 fn main(rt: HostRuntime) -> ExitCode {
