@@ -67,6 +67,28 @@ def neighbours_of_every_key(s):
 
 
 @case
+def neighbours_of_keys_that_are_not_there(s):
+    """The pair above a number that is not there, in keys of two bytes, the higher one first; and a range that begins at a key that
+    is not there."""
+    for n in range(10):
+        s.insert(key(n))
+    high, above = word((499).to_bytes(2, 'big')), word((500).to_bytes(2, 'big'))
+    s.line(f'insert {above} {key(10)}', 'old -')
+    s.line(f'gt {high}', f'found {above} {key(10)}')
+    s.new()
+    before = word(b'a non-present key before yo!')
+    s.rows(f"""
+        insert yo! v1        old -
+        read yo!             value v1
+        cas yo! v1 v2        swapped
+        range [{before} ..   at yo! v2
+                             end 1
+        remove yo!           old v2
+        read yo!             value -
+    """)
+
+
+@case
 def a_range_has_the_pairs_within_its_bounds(s):
     """Every pair of bounds over six keys, taken from the front, from the back and from both ends."""
     s.insert(*(key(n) for n in range(6)))
