@@ -146,6 +146,26 @@ def reads_count_few_pages(s):
 
 
 @case
+def reads_of_a_hundred_thousand_keys(s):
+    """In a tree of 100,000 random keys a read of a key reads one page of each of five levels. A count of all pairs reads each leaf
+    once and one way down; the pairs of a range read no more than their leaves and one way down."""
+    s.line('load 100000 20 549999', 'yes')
+    before = s.store.reads
+    levels, leaves = len(s.shell.levels()), len(s.shell.levels()[-1])
+    s.store.reads = before
+    expect(levels == 5, levels)
+    keys = [word(key) for key in sorted(some_keys(100000))]
+    s.ask('reads')
+    for place in (0, 1, 31_415, 50_000, 99_999):
+        s.line(f'read {keys[place]}', f'value {keys[place]}')
+        s.line('reads', f'reads {levels}')
+    s.line('len', 'number 100000')
+    s.line('reads', f'reads {leaves + levels - 1}')
+    s.line(f'keys [{keys[70_000]} ({keys[70_100]}', *names(*keys[70_000:70_100]))
+    expect(int(s.ask('reads')[0].split()[1]) <= 100 // 8 + 2 + levels, 'a range of a hundred pairs')
+
+
+@case
 def reads_to_the_left_in_a_tree_of_many_pages(s):
     """A tree of 20,000 random keys has more than a thousand pages. To read the last pair, the pair below a key, or a hundred pairs
     from the end looks at few of them, and is not refused for their number."""

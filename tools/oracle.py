@@ -694,7 +694,7 @@ class Shell:
         """How many pages a call reads."""
         self.reads()
         self.advance([fly(self.store, call), 0], True)
-        return self.reads()
+        return self.store.reads
 
     def perform(self, step):
         """What a step of a list prints: each value is told as one. Slots are those of lines, so no other calls may have come
