@@ -422,16 +422,16 @@ pub record IsClearing {P M : Type 0} (store : P → Store) (meant : M → Merge)
   pub removes : (slots : ℕ → Option Flying) (given : ℕ) → RemovesLeast tree (state_of store meant old slots given) parts (state_of store meant mid slots given) maps
   pub conducts : Conducts store maps None old mid
   -- it did nothing yet, or the tests let it pass
-  pub tested : (mid ≡ old) ⊎ (must_refuse_of (db_state store meant old) (tree ∷ []) ≡ None)
+  pub tested : ((mid ≡ old) × (parts ≡ zero)) ⊎ (must_refuse_of (db_state store meant old) (tree ∷ []) ≡ None)
 
 module _ {P M : Type 0} (store : P → Store) (meant : M → Merge) (old : DbValue P M) (tree : Tree) where
   pub clearing_first : IsClearing store meant old tree old
-  clearing_first = record { parts = 0; maps = []; removes = λ slots given. RemovesNone; conducts = conducts_none store meant old; tested = inl refl }
+  clearing_first = record { parts = 0; maps = []; removes = λ slots given. RemovesNone; conducts = conducts_none store meant old; tested = inl (refl, refl) }
 
   module _ (mid : DbValue P M) (k : IsClearing store meant old tree mid) where
     passed : must_refuse_of (db_state store meant mid) (tree ∷ []) ≡ None → must_refuse_of (db_state store meant old) (tree ∷ []) ≡ None
     passed now_passed = elim k.tested [
-      | inl same ↦ subst (λ (z : DbValue P M). must_refuse_of (db_state store meant z) (tree ∷ []) ≡ None) same now_passed
+      | inl same ↦ subst (λ (z : DbValue P M). must_refuse_of (db_state store meant z) (tree ∷ []) ≡ None) same.0 now_passed
       | inr before ↦ before
     ]
 
@@ -460,6 +460,10 @@ module _ {P M : Type 0} (store : P → Store) (meant : M → Merge) (old : DbVal
       refuses = λ slots given.
           let r = w.refuses slots given in record {
             parts = k.parts;
+            tested = elim k.tested [
+              | inl same ↦ inl same.1
+              | inr before ↦ inr (first_alone (must_refuse_of (state_of store meant old slots given) (tree ∷ [])) ∙ before)
+            ];
             removes = subst (λ (s : State). RemovesLeast tree (state_of store meant old slots given) k.parts s k.maps) (sym r.1) (k.removes slots given);
             may = as_clear (state_of store meant new slots given) (store old.pages) (store mid.pages) (store new.pages) tree e (often_faults k.conducts.acts) (often_readable k.conducts.acts)
                 (subst (λ (s : State). MayRefuse s (store mid.pages) (store new.pages) (ToCall (PopMin tree)) e) (sym r.1) r.0);

@@ -1,5 +1,5 @@
 -- What whole calls on one tree make of the state.
-use Rattle.std.specs.Prelude.{◌≡◌, ℕ, zero, suc, List, [], ◌∷◌, Option, Some, None}
+use Rattle.std.specs.Prelude.{◌≡◌, ℕ, zero, suc, ◌⊎◌, List, [], ◌∷◌, Option, Some, None}
 use Rattle.sled_pages.specs.Order.{Key}
 use Rattle.sled_pages.specs.Store.{Store}
 use Rattle.sled_pages.specs.declared.error.Error.{Error}
@@ -60,8 +60,9 @@ pub record Clears (old : State) (tree : Tree) (new : State) (maps : List Maps) :
   pub there : new.trees tree.name ≡ Some named
   pub none : named.map ≡ []
 
--- refused midway, it has removed the first ones, and the next part was refused
+-- refused midway, it has removed the first ones, and the next part was refused. Nothing is removed where a test refuses it at its begin
 pub record StopsClearing (old : State) (a b : Store) (tree : Tree) (e : Error) (new : State) (maps : List Maps) : Type 0 where
   pub parts : ℕ
+  pub tested : (parts ≡ zero) ⊎ (must_refuse old (ToCall (Clear tree)) ≡ None)
   pub removes : RemovesLeast tree old parts new maps
   pub may : MayRefuse new a b (ToCall (Clear tree)) e
