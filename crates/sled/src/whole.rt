@@ -14,7 +14,7 @@ impl<P: Pages, M: MergeOperator> Db<P, M> {
     ghost use Rattle.sled.specs.Pops.{TakesOut, RefusesToTake, GivesUpPop};
 
     // Takes out a pair that was read just now.
-    fn take_out(&mut self, tree: &Tree, pair: (IVec, IVec)) -> Result<Option<(IVec, IVec)>>
+    fn pop_pair(&mut self, tree: &Tree, pair: (IVec, IVec)) -> Result<Option<(IVec, IVec)>>
         ensures ok { IfOk result (λ found. TakesOut P.store M.meant self.old tree.now pair found self.new) }
         ensures err { IfErr result (λ e. RefusesToTake P.store M.meant self.old tree.now pair e self.new) }
     {
@@ -45,7 +45,7 @@ impl<P: Pages, M: MergeOperator> Db<P, M> {
         ensures gives_up { IfErr result (GivesUpPop P.store M.meant self.old tree.now IsLeast once) }
     {
         match self.first(tree) {
-            Ok(Some(pair)) => self.take_out(tree, pair),
+            Ok(Some(pair)) => self.pop_pair(tree, pair),
             Ok(None) => {
                 self.audit();
                 Ok(None)
@@ -61,7 +61,7 @@ impl<P: Pages, M: MergeOperator> Db<P, M> {
         ensures gives_up { IfErr result (GivesUpPop P.store M.meant self.old tree.now IsGreatest for_each) }
     {
         match self.last(tree) {
-            Ok(Some(pair)) => self.take_out(tree, pair),
+            Ok(Some(pair)) => self.pop_pair(tree, pair),
             Ok(None) => {
                 self.audit();
                 Ok(None)

@@ -138,10 +138,10 @@ impl<V: Drop> Entries<V> {
     }
 
     /// Takes the entries of a key out.
-    pub fn take_out(&mut self, key: &IVec)
+    pub fn remove_key(&mut self, key: &IVec)
         ensures { self.new ≡ where_key (slice_cmp nat_cmp) (λ x. not (eq_by_cmp (slice_cmp nat_cmp) key.now x)) self.old }
     {
-        pairs::take_out(&mut self.list, key);
+        pairs::remove_key(&mut self.list, key);
     }
 
     /// Puts the old value back at a place, or takes what was put there out.

@@ -23,7 +23,7 @@ use crate::node::copy_pointers;
 use crate::pairs::value_at;
 use crate::{Error, Fault, IVec, Link, Node, Page, Pages, Pid, Shared, Version, View};
 use back::{forget, greatest_root, set_root, sorted_roots, take_all_back};
-use slots::{Slot, Slots, push_reserved, reserve_one};
+use slots::{Slot, Slots, reserve_one};
 use std::alloc::Global;
 use undo::Undo;
 
@@ -285,7 +285,7 @@ impl MemPages {
         ensures { store_of self.new ≡ acted (PageBecomes pid (option_map page_of slot)) (store_of self.old) }
     {
         let old = self.slots.put(pid, slot);
-        push_reserved(&mut self.log, Undo::UndoSlot(pid, old));
+        self.log.push_reserved(Undo::UndoSlot(pid, old));
         self.actions += 1;
     }
 
@@ -307,7 +307,7 @@ impl MemPages {
         requires room { HasRoom self.old }
         ensures { store_of self.new ≡ acted (if begins then GroupBegins else GroupEnds) (store_of self.old) }
     {
-        push_reserved(&mut self.log, Undo::UndoGroup(self.in_group));
+        self.log.push_reserved(Undo::UndoGroup(self.in_group));
         self.in_group = begins;
         self.actions += 1;
     }
@@ -323,7 +323,7 @@ impl MemPages {
         let key = IVec::from_slice(self.alloc, name)?;
         let undo = IVec::from_slice(self.alloc, name)?;
         set_root(&mut self.roots, key, new)?;
-        push_reserved(&mut self.log, Undo::UndoRoot(undo, old));
+        self.log.push_reserved(Undo::UndoRoot(undo, old));
         self.actions += 1;
         Ok(())
     }
@@ -370,7 +370,7 @@ impl Pages for MemPages {
         let version = Version(self.next_version);
         self.next_version += 1;
         let pid = self.slots.add(Slot { version, node });
-        push_reserved(&mut self.log, Undo::UndoSlot(pid, None));
+        self.log.push_reserved(Undo::UndoSlot(pid, None));
         self.actions += 1;
         Ok((pid, version))
     }
@@ -394,7 +394,7 @@ impl Pages for MemPages {
             Ok(told) => {
                 let (before, back) = told;
                 self.next_version += 1;
-                push_reserved(&mut self.log, Undo::UndoLink(pid, before, back));
+                self.log.push_reserved(Undo::UndoLink(pid, before, back));
                 self.actions += 1;
                 Ok(Ok(given))
             }

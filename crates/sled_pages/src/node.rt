@@ -312,7 +312,7 @@ impl Leaf {
     fn del(&mut self, key: &IVec)
         ensures { self.new ≡ without key.now self.old }
     {
-        self.pairs.take_out(key);
+        self.pairs.remove_key(key);
     }
 }
 

@@ -171,8 +171,8 @@ pub fn take_pointers(pointers: &mut Vec<(IVec, Pid)>, to: Pid)
     pointers.retain(|pointer| pointer.1 != to);
 }
 
-// Takes the pair of a key out.
-pub fn take_out<V: Drop>(pairs: &mut Vec<(IVec, V)>, key: &IVec)
+// Takes the pairs of a key out.
+pub fn remove_key<V: Drop>(pairs: &mut Vec<(IVec, V)>, key: &IVec)
     ensures { pairs.new.items ≡ where_key (slice_cmp nat_cmp) (λ x. not (eq_by_cmp (slice_cmp nat_cmp) key.now x)) pairs.old.items }
 {
     pairs.retain(|pair| !key.cmp(&pair.0).is_eq());

@@ -214,14 +214,14 @@ pub(crate) fn unlist(lists: &mut BTreeMap<u64, Vec<u64>>, tree: u64, number: u64
     let Some(list) = lists.get_mut(&tree) else {
         return;
     };
-    if take_out(list, number) {
+    if remove_number(list, number) {
         let none = lists.remove(&tree);
         drop(none);
     }
 }
 
 // Takes a number out of a list, and says whether none is left.
-fn take_out(list: &mut Vec<u64>, number: u64) -> bool
+fn remove_number(list: &mut Vec<u64>, number: u64) -> bool
     ensures rest { list.new.items ≡ without number list.old.items }
     ensures empty { IsTrue result → list.new.items ≡ [] }
 {

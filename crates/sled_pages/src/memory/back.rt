@@ -12,7 +12,7 @@ ghost use Rattle.std.specs.List.{list_all};
 use super::slots::Slots;
 use super::undo::Undo;
 use crate::error::Result;
-use crate::pairs::{put_pair, take_out};
+use crate::pairs::{put_pair, remove_key};
 use crate::{IVec, Pid};
 use std::alloc::Global;
 
@@ -27,7 +27,7 @@ pub fn set_root(roots: &mut Vec<(IVec, Pid)>, name: IVec, root: Option<Pid>) -> 
     match root {
         Some(pid) => put_pair(roots, name, pid, false),
         None => {
-            take_out(roots, &name);
+            remove_key(roots, &name);
             Ok(())
         }
     }

@@ -1,5 +1,5 @@
 //! Pages by number, as the store in memory keeps them.
-ghost use Rattle.std.specs.Prelude.{◌≡◌, ◌+◌, ◌^◌, ◌<◌, ◌++◌, ◌∷◌, [], Some, None, true, false, IfOk, IfErr, OnOk, IsTrue, ◌↔◌, length, OnErr, is_some};
+ghost use Rattle.std.specs.Prelude.{◌≡◌, ◌+◌, ◌^◌, ◌<◌, Some, None, true, false, IfOk, IfErr, OnOk, IsTrue, ◌↔◌, length, OnErr, is_some};
 ghost use Rattle.std.specs.Option.{option_copied};
 ghost use Rattle.std.specs.Vec.{vec_len, vec_capacity};
 ghost use Rattle.sled_pages.specs.declared.error.Error.TheVariants.{NoMemory};
@@ -42,16 +42,6 @@ pub fn reserve_one<T>(list: &mut Vec<T>) -> Result<()>
         list.reserve_exact(len / 8 + 8)?;
     }
     Ok(())
-}
-
-// Adds to a list that has room.
-pub fn push_reserved<T: Drop>(list: &mut Vec<T>, item: T)
-    requires { vec_len list.old < vec_capacity list.old }
-    ensures { list.new.items ≡ list.old.items ++ item ∷ [] }
-{
-    let pushed = list.push(item);
-    let full = pushed.is_err();
-    prove!(!full);
 }
 
 impl Slots {
@@ -275,7 +265,7 @@ impl Slots {
         ensures given { given_of self.new ≡ put_at (given_of self.old) result true }
     {
         let pid = Pid(self.last + self.own.len() as u64 + 1);
-        push_reserved(&mut self.own, Some(slot));
+        self.own.push_reserved(Some(slot));
         pid
     }
 }

@@ -2,13 +2,13 @@ use Rattle.sled.proofs.Popping.{min_none, min_found, min_unread, min_untaken, mi
 use Rattle.sled.proofs.db.Db.pop_min.Goals as goal
 
 pub returns-in-Ok-Some-clause-ok : goal.returns-in-Ok-Some-clause-ok
-returns-in-Ok-Some-clause-ok g c = min_found g.P.Pages.store g.M.MergeOperator.meant _ _ c.take_out.new.self _ _ c.in-Ok-Some.field-0-is c.take_out.result c.in-Ok-Some.ensures.ok c.take_out.ensures.ok
+returns-in-Ok-Some-clause-ok g c = min_found g.P.Pages.store g.M.MergeOperator.meant _ _ c.pop_pair.new.self _ _ c.in-Ok-Some.field-0-is c.pop_pair.result c.in-Ok-Some.ensures.ok c.pop_pair.ensures.ok
 
 pub returns-in-Ok-Some-clause-err : goal.returns-in-Ok-Some-clause-err
-returns-in-Ok-Some-clause-err g c = min_untaken g.P.Pages.store g.M.MergeOperator.meant _ _ c.take_out.new.self _ _ c.in-Ok-Some.field-0-is c.take_out.result c.in-Ok-Some.ensures.ok c.take_out.ensures.err
+returns-in-Ok-Some-clause-err g c = min_untaken g.P.Pages.store g.M.MergeOperator.meant _ _ c.pop_pair.new.self _ _ c.in-Ok-Some.field-0-is c.pop_pair.result c.in-Ok-Some.ensures.ok c.pop_pair.ensures.err
 
 pub returns-in-Ok-Some-clause-gives_up : goal.returns-in-Ok-Some-clause-gives_up
-returns-in-Ok-Some-clause-gives_up g c = min_gives_up_later g.P.Pages.store g.M.MergeOperator.meant _ _ c.take_out.new.self _ _ c.in-Ok-Some.field-0-is c.take_out.result c.in-Ok-Some.ensures.ok c.take_out.ensures.err
+returns-in-Ok-Some-clause-gives_up g c = min_gives_up_later g.P.Pages.store g.M.MergeOperator.meant _ _ c.pop_pair.new.self _ _ c.in-Ok-Some.field-0-is c.pop_pair.result c.in-Ok-Some.ensures.ok c.pop_pair.ensures.err
 
 pub returns-in-Ok-None-clause-ok : goal.returns-in-Ok-None-clause-ok
 returns-in-Ok-None-clause-ok g c = min_none g.P.Pages.store g.M.MergeOperator.meant _ _ c.audit.ensures _ c.in-Ok-None.field-0-is c.in-Ok-None.ensures.ok

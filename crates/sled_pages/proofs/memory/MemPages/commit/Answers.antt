@@ -6,13 +6,13 @@ use Rattle.sled_pages.proofs.memory.MemPages.commit.Goals as goal
 pub returns : goal.returns
 returns c = let m = c.args.self.now in
     page_commits (slots_of m.slots) _ (roots_of m.roots.items) m.in_group m.log.items _ c.args.pid c.args.slot _ m.actions m.faults m.unreadable.items m.mark m.recovered (given_of m.slots) _ m.next_version
-    c.put-old.ensures.slots c.put-old.ensures.was c.push_reserved.ensures c.put-old.ensures.given
+    c.put-old.ensures.slots c.put-old.ensures.was c.push_reserved.ensures.items c.put-old.ensures.given
 
 pub invariant_of-self-clause-kept : goal.invariant_of-self-clause-kept
 invariant_of-self-clause-kept c = let m = c.args.self.now in
     page_keeps (slots_of m.slots) _ (roots_of m.roots.items) m.in_group m.log.items _ c.args.pid c.args.slot _ (places_of m.slots) _
-    c.put-old.ensures.slots c.put-old.ensures.was c.push_reserved.ensures c.put-old.ensures.places c.requires.placed m.kept
+    c.put-old.ensures.slots c.put-old.ensures.was c.push_reserved.ensures.items c.put-old.ensures.places c.requires.placed m.kept
 
 pub invariant_of-self-clause-below : goal.invariant_of-self-clause-below
 invariant_of-self-clause-below c = let m = c.args.self.now in
-    page_below m.next_version (slots_of m.slots) _ m.log.items _ c.args.pid c.args.slot _ c.put-old.ensures.slots c.put-old.ensures.was c.push_reserved.ensures c.requires.below m.below
+    page_below m.next_version (slots_of m.slots) _ m.log.items _ c.args.pid c.args.slot _ c.put-old.ensures.slots c.put-old.ensures.was c.push_reserved.ensures.items c.requires.below m.below

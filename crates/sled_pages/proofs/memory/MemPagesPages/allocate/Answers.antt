@@ -10,16 +10,16 @@ returns-clause-ok c = let m = c.start_version.new.self in rw (← c.in-Ok.ensure
     allocates (slots_of m.slots) _ (roots_of m.roots.items) m.in_group m.log.items _ c.add-pid.result c.in-Ok.node m.actions m.faults m.unreadable.items m.mark m.recovered (given_of m.slots) _ m.next_version _
     c.in_default.ensures.same c.add-pid.ensures.positive (ap (λ f. f c.add-pid.result) (sym c.reserve.ensures.given) ∙ c.add-pid.ensures.fresh) (given_here m.slots)
     (c.add-pid.ensures.slots ∙ ap (λ f. put_at f c.add-pid.result (Some (record { version = m.next_version; node = c.in-Ok.node }))) c.reserve.ensures.slots)
-    (c.add-pid.ensures.given ∙ ap (λ f. put_at f c.add-pid.result true) c.reserve.ensures.given) c.push_reserved.ensures)
+    (c.add-pid.ensures.given ∙ ap (λ f. put_at f c.add-pid.result true) c.reserve.ensures.given) c.push_reserved.ensures.items)
 
 pub invariant_of-self-2-clause-kept : goal.invariant_of-self-2-clause-kept
 invariant_of-self-2-clause-kept c = let m = c.start_version.new.self in
     allocate_keeps (slots_of m.slots) _ (roots_of m.roots.items) m.in_group m.log.items _ c.add-pid.result (Some (record { version = m.next_version; node = c.in-Ok.node })) (places_of m.slots) _
     (not_placed m.slots c.add-pid.result (ap (λ f. f c.add-pid.result) (sym c.reserve.ensures.given) ∙ c.add-pid.ensures.fresh)) (placed_here m.slots)
     (c.add-pid.ensures.slots ∙ ap (λ f. put_at f c.add-pid.result (Some (record { version = m.next_version; node = c.in-Ok.node }))) c.reserve.ensures.slots)
-    (c.add-pid.ensures.places ∙ ap (λ f. put_at f c.add-pid.result true) c.reserve.ensures.places) c.push_reserved.ensures m.kept
+    (c.add-pid.ensures.places ∙ ap (λ f. put_at f c.add-pid.result true) c.reserve.ensures.places) c.push_reserved.ensures.items m.kept
 
 pub invariant_of-self-2-clause-below : goal.invariant_of-self-2-clause-below
 invariant_of-self-2-clause-below c = let m = c.start_version.new.self in
     allocate_below m.next_version (slots_of m.slots) _ m.log.items _ c.add-pid.result c.in-Ok.node
-    (c.add-pid.ensures.slots ∙ ap (λ f. put_at f c.add-pid.result (Some (record { version = m.next_version; node = c.in-Ok.node }))) c.reserve.ensures.slots) c.push_reserved.ensures m.below
+    (c.add-pid.ensures.slots ∙ ap (λ f. put_at f c.add-pid.result (Some (record { version = m.next_version; node = c.in-Ok.node }))) c.reserve.ensures.slots) c.push_reserved.ensures.items m.below

@@ -10,10 +10,10 @@ pub returns-in-Some-clause-ok : goal.returns-in-Some-clause-ok
 returns-in-Some-clause-ok c = rw c.in-Some.is (on_ok_weaker c.put_pair.result (λ e. ap roots_of e ∙ root_put c.args.name c.in-Some.pid c.args.roots.now.items) c.put_pair.ensures.ok)
 
 pub returns-in-None-clause-ok : goal.returns-in-None-clause-ok
-returns-in-None-clause-ok c = rw c.in-None.is (ap roots_of c.take_out.ensures ∙ root_out _ _)
+returns-in-None-clause-ok c = rw c.in-None.is (ap roots_of c.remove_key.ensures ∙ root_out _ _)
 
 pub returns-in-Some-clause-ascends : goal.returns-in-Some-clause-ascends
 returns-in-Some-clause-ascends c h = put_told _ _ _ _ c.put_pair.result c.put_pair.ensures.ok c.put_pair.ensures.err h
 
 pub returns-in-None-clause-ascends : goal.returns-in-None-clause-ascends
-returns-in-None-clause-ascends c h = out_ascends (λ n. not (eq_by_cmp (slice_cmp nat_cmp) c.args.name n)) _ _ c.take_out.ensures h
+returns-in-None-clause-ascends c h = out_ascends (λ n. not (eq_by_cmp (slice_cmp nat_cmp) c.args.name n)) _ _ c.remove_key.ensures h
