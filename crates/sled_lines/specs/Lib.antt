@@ -2,3 +2,4 @@ pub mod Words
 pub mod Command
 pub mod Print
 pub mod Serve
+pub mod Session

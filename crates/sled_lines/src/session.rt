@@ -1,7 +1,16 @@
 //! A session: a database from its opening to a crash or the end.
-ghost use Rattle.std.specs.Prelude.{IfErr};
+ghost use Rattle.std.specs.Prelude.{◌≡◌, ◌++◌, [], IfOk, IfErr, OnOk, OnErr};
 ghost use Rattle.sled_pages.specs.Store.{now};
+ghost use Rattle.sled_model.specs.declared.call.Whole.TheVariants.{Flush};
+ghost use Rattle.sled_model.specs.declared.outcome.Step.TheVariants as step;
 ghost use Rattle.tree_laws.specs.Crashes.{IsWhole, IsCrashWhole};
+ghost use Rattle.sled_machine.specs.Step.{Reaches};
+ghost use Rattle.sled_machine.specs.Run.{Performs, ReachesAll};
+ghost use Rattle.sled_machine.specs.Finish.{Completes};
+ghost use Rattle.sled_lines.specs.Print.{shown_of, outcome_line};
+ghost use Rattle.sled_lines.specs.declared.print.Shown.{Shown};
+ghost use Rattle.sled_lines.specs.declared.session.Act.TheVariants as act;
+ghost use Rattle.sled_lines.specs.Session.{slot_at, acts_at, begins_as};
 
 use crate::command::Command;
 use crate::input::Stopped;
@@ -38,6 +47,9 @@ impl<P: Pages, M: MergeOperator> Session<P, M> {
     pub fn over(alloc: Global, db: Db<P, M>) -> Result<Session<P, M>, (P, Error)>
         ensures whole { IfErr result (λ e. IsCrashWhole (P.store e.0)) }
         ensures well { IfErr result (λ e. IsWhole (now (P.store e.0))) }
+        ensures db { IfOk result (λ s. s.machine.db ≡ db) }
+        ensures flights { IfOk result (λ s. s.machine.flights ≡ []) }
+        ensures slots { IfOk result (λ s. s.slots.items ≡ []) }
     {
         match db.default_tree() {
             Ok(tree) => Ok(Session {
@@ -50,7 +62,12 @@ impl<P: Pages, M: MergeOperator> Session<P, M> {
     }
 
     /// A session over a database, where this tree is current.
-    pub fn with_tree(alloc: Global, db: Db<P, M>, tree: Tree) -> Session<P, M> {
+    pub fn with_tree(alloc: Global, db: Db<P, M>, tree: Tree) -> Session<P, M>
+        ensures db { result.machine.db ≡ db }
+        ensures tree { result.tree ≡ tree }
+        ensures flights { result.machine.flights ≡ [] }
+        ensures slots { result.slots.items ≡ [] }
+    {
         Session {
             machine: Machine::new(db),
             tree,
@@ -59,23 +76,32 @@ impl<P: Pages, M: MergeOperator> Session<P, M> {
     }
 
     /// The database.
-    pub fn db(&self) -> &Db<P, M> {
+    pub fn db(&self) -> &Db<P, M>
+        ensures { result.now ≡ self.now.machine.db }
+    {
         self.machine.db()
     }
 
     /// The current tree.
-    pub fn tree(&self) -> &Tree {
+    pub fn tree(&self) -> &Tree
+        ensures { result.now ≡ self.now.tree }
+    {
         &self.tree
     }
 
     /// Makes a tree current, whether or not the database has it.
-    pub fn set_tree(&mut self, tree: Tree) {
+    pub fn set_tree(&mut self, tree: Tree)
+        ensures { self.new ≡ record self.old { tree = tree } }
+    {
         let old = std::mem::replace(&mut self.tree, tree);
         drop(old);
     }
 
     /// The database and the current tree. The calls in flight are given up.
-    pub fn into_parts(self) -> (Db<P, M>, Tree) {
+    pub fn into_parts(self) -> (Db<P, M>, Tree)
+        ensures db { result.0 ≡ self.machine.db }
+        ensures tree { result.1 ≡ self.tree }
+    {
         let Session {
             machine,
             tree,
@@ -86,7 +112,9 @@ impl<P: Pages, M: MergeOperator> Session<P, M> {
     }
 
     /// The database. The calls in flight are given up.
-    pub fn into_db(self) -> Db<P, M> {
+    pub fn into_db(self) -> Db<P, M>
+        ensures { result ≡ self.machine.db }
+    {
         let (db, tree) = self.into_parts();
         drop(tree);
         db
@@ -99,43 +127,76 @@ impl<P: Pages, M: MergeOperator> Session<P, M> {
     }
 
     // The slot that the `begin` of this number took, and what the value in its reply is.
-    fn slot(&self, number: u64) -> Option<(Slot, Shown)> {
+    fn slot(&self, number: u64) -> Option<(Slot, Shown)>
+        ensures { result ≡ slot_at self.now.slots.items number }
+    {
         let place = usize::try_from(number.checked_sub(1)?).ok()?;
         self.slots.get(place).copied()
     }
 
     /// A call on the current tree from its begin to its end.
-    pub fn complete(&mut self, call: Call) -> Outcome {
+    pub fn complete(&mut self, call: Call) -> Outcome
+        ensures completes { Completes P.store P.flush_number M.meant self.old.machine self.old.tree call result self.new.machine }
+        ensures tree { self.new.tree ≡ self.old.tree }
+        ensures slots { self.new.slots ≡ self.old.slots }
+    {
         self.machine.complete(&self.tree, call)
     }
 
     /// A step of the call of this number.
-    pub fn step(&mut self, number: u64) -> Outcome {
+    pub fn step(&mut self, number: u64) -> Outcome
+        ensures acts { (shown : Shown) × acts_at P.store P.flush_number M.meant self.old.machine act.Step (slot_at self.old.slots.items number) shown result self.new.machine }
+        ensures tree { self.new.tree ≡ self.old.tree }
+        ensures slots { self.new.slots ≡ self.old.slots }
+    {
         self.act(number, Act::Step).1
     }
 
     /// Makes all durable.
-    pub fn flush(&mut self) -> Outcome {
+    pub fn flush(&mut self) -> Outcome
+        ensures reaches { Reaches P.store P.flush_number M.meant self.old.machine (step.Whole Flush) result self.new.machine }
+        ensures tree { self.new.tree ≡ self.old.tree }
+        ensures slots { self.new.slots ≡ self.old.slots }
+    {
         self.whole(Whole::Flush)
     }
 
     /// A whole call, in one step.
-    pub fn whole(&mut self, whole: Whole) -> Outcome {
+    pub fn whole(&mut self, whole: Whole) -> Outcome
+        ensures reaches { Reaches P.store P.flush_number M.meant self.old.machine (step.Whole whole) result self.new.machine }
+        ensures tree { self.new.tree ≡ self.old.tree }
+        ensures slots { self.new.slots ≡ self.old.slots }
+    {
         self.machine.whole(whole)
     }
 
     /// Does a list of steps. They name slots by the machine's numbers.
-    pub fn perform(&mut self, steps: &[Step]) -> sled_pages::Result<Vec<Outcome>> {
+    pub fn perform(&mut self, steps: &[Step]) -> sled_pages::Result<Vec<Outcome>>
+        ensures ok { IfOk result (λ outcomes. Performs P.store P.flush_number M.meant self.old.machine steps.now outcomes.items self.new.machine) }
+        ensures each { IfOk result (λ outcomes. ReachesAll P.store P.flush_number M.meant self.old.machine steps.now outcomes.items self.new.machine) }
+        ensures err { OnErr result (self.new.machine ≡ self.old.machine) }
+        ensures tree { self.new.tree ≡ self.old.tree }
+        ensures slots { self.new.slots ≡ self.old.slots }
+    {
         self.machine.run(steps)
     }
 
     // A call from its begin to its end, and what the value in its reply is.
-    fn point(&mut self, call: Call) -> (Shown, Outcome) {
+    fn point(&mut self, call: Call) -> (Shown, Outcome)
+        ensures shown { result.0 ≡ shown_of call }
+        ensures completes { Completes P.store P.flush_number M.meant self.old.machine self.old.tree call result.1 self.new.machine }
+        ensures tree { self.new.tree ≡ self.old.tree }
+        ensures slots { self.new.slots ≡ self.old.slots }
+    {
         (Shown::of(&call), self.complete(call))
     }
 
     // A call takes a slot, which is printed by its number among those that lines began.
-    fn begin(&mut self, call: Call) -> Result<(Shown, Outcome), Stopped> {
+    fn begin(&mut self, call: Call) -> Result<(Shown, Outcome), Stopped>
+        ensures begins { IfOk result (λ told. begins_as P.store P.flush_number M.meant self.old.machine self.old.tree call self.old.slots.items told.1 self.new.slots.items self.new.machine) }
+        ensures shown { IfOk result (λ told. told.0 ≡ shown_of call) }
+        ensures tree { self.new.tree ≡ self.old.tree }
+    {
         let shown = Shown::of(&call);
         if self.slots.reserve(1).is_err() {
             drop(call);
@@ -152,7 +213,11 @@ impl<P: Pages, M: MergeOperator> Session<P, M> {
     }
 
     // Does something with the call in the slot of this number.
-    fn act(&mut self, number: u64, act: Act) -> (Shown, Outcome) {
+    fn act(&mut self, number: u64, act: Act) -> (Shown, Outcome)
+        ensures acts { acts_at P.store P.flush_number M.meant self.old.machine act (slot_at self.old.slots.items number) result.0 result.1 self.new.machine }
+        ensures tree { self.new.tree ≡ self.old.tree }
+        ensures slots { self.new.slots ≡ self.old.slots }
+    {
         let Some((slot, shown)) = self.slot(number) else {
             return (Shown::Value, Outcome::NoSuchSlot);
         };
@@ -194,7 +259,9 @@ impl<P: Pages, M: MergeOperator> Session<P, M> {
 }
 
 // Adds the line of an outcome.
-fn show(out: &mut Vec<u8>, shown: Shown, outcome: Outcome) -> Result<(), Stopped> {
+fn show(out: &mut Vec<u8>, shown: Shown, outcome: Outcome) -> Result<(), Stopped>
+    ensures { OnOk result (out.new.items ≡ out.old.items ++ outcome_line shown outcome) }
+{
     let pushed = push_outcome(out, shown, &outcome);
     drop(outcome);
     Ok(pushed?)

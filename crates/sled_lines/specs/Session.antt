@@ -1,0 +1,39 @@
+-- A session: what a command does to its machine, and what is printed.
+use Rattle.std.specs.Prelude.{◌≡◌, ℕ, zero, suc, List, [], ◌∷◌, ◌++◌, length, Option, Some, None, slice_get}
+use Rattle.sled_pages.specs.Store.{Store}
+use Rattle.sled_model.specs.Maps.{Merge}
+use Rattle.sled_model.specs.declared.call.Call.{Call}
+use Rattle.sled_model.specs.declared.outcome.Step.TheVariants as step
+use Rattle.sled_model.specs.declared.outcome.Outcome.{Outcome}
+use Rattle.sled_model.specs.declared.outcome.Outcome.TheVariants.{Begun, Refused, NoSuchSlot}
+use Rattle.sled_model.specs.declared.tree.Tree.{Tree}
+use Rattle.sled_machine.specs.Step.{Reaches}
+use Rattle.sled_machine.specs.Finish.{Finishes}
+use Rattle.sled_machine.specs.Values.{MachineValue}
+use Rattle.sled_lines.specs.Print.{shown_of}
+use Rattle.sled_lines.specs.declared.print.Shown.{Shown}
+use Rattle.sled_lines.specs.declared.session.Act.{Act}
+use Rattle.sled_lines.specs.declared.session.Act.TheVariants as act
+
+-- the slot that the `begin` of a number took, and what the value in its reply is; the first is number 1
+abbrev pub slot_at : List (ℕ × Shown) → ℕ → Option (ℕ × Shown)
+slot_at slots zero = None
+slot_at slots (suc n) = slice_get slots n
+
+-- what is done with the call in a slot
+abbrev pub acts_on : {P M : Type 0} → (P → Store) → (P → ℕ) → (M → Merge) → MachineValue P M → Act → ℕ → Outcome → MachineValue P M → Type 0
+acts_on store flush_number meant old act.Step slot o new = Reaches store flush_number meant old (step.Step slot) o new
+acts_on store flush_number meant old act.Finish slot o new = Finishes store flush_number meant old slot o new
+acts_on store flush_number meant old act.Abandon slot o new = Reaches store flush_number meant old (step.Abandon slot) o new
+
+-- the same for the slot of a number, if there is one, and what is shown of its reply
+abbrev pub acts_at : {P M : Type 0} → (P → Store) → (P → ℕ) → (M → Merge) → MachineValue P M → Act → Option (ℕ × Shown) → Shown → Outcome → MachineValue P M → Type 0
+acts_at store flush_number meant old act None shown o new = (o ≡ NoSuchSlot) × (new ≡ old)
+acts_at store flush_number meant old act (Some at) shown o new = (shown ≡ at.1) × acts_on store flush_number meant old act at.0 o new
+
+-- what a call that begins does to the machine and to the slots that lines began; printed is the number of its slot among them
+abbrev pub begins_as : {P M : Type 0} → (P → Store) → (P → ℕ) → (M → Merge) → MachineValue P M → Tree → Call → List (ℕ × Shown) → Outcome → List (ℕ × Shown) → MachineValue P M → Type 0
+begins_as store flush_number meant old tree call slots (Begun n) after new = (slot : ℕ) × (after ≡ slots ++ ((slot, shown_of call) ∷ [])) × (n ≡ length after)
+    × Reaches store flush_number meant old (step.Begin tree call) (Begun slot) new
+begins_as store flush_number meant old tree call slots (Refused e) after new = (after ≡ slots) × Reaches store flush_number meant old (step.Begin tree call) (Refused e) new
+begins_as store flush_number meant old tree call slots o after new = ⊥
