@@ -1,25 +1,29 @@
 -- Databases with the meanings of their operators in place of the operators: they stand for the same states.
-use Rattle.std.proofs.Common.{◌≡◌, ℕ, Bool, true, false, cond, List, [], ◌∷◌, map, Option, Some, None, option_map, sym, refl, ap, ◌∙◌, subst}
+use Rattle.std.proofs.Common.{◌≡◌, ℕ, Bool, true, false, cond, List, [], ◌∷◌, map, Option, Some, None, option_map, sym, refl, ap, ◌∙◌, subst, inl, inr}
 use Rattle.std.specs.FinMap.Entries.{find}
 use Rattle.std.specs.Ordering.{nat_cmp, eq_by_cmp}
 use Rattle.sled_pages.specs.Order.{Key}
 use Rattle.sled_pages.specs.Store.{Store, now}
-use Rattle.sled_model.specs.Maps.{Maps, Merge}
+use Rattle.sled_pages.specs.declared.error.Error.{Error}
+use Rattle.sled_model.specs.Maps.{Map, Maps, Merge, IsLeast, IsGreatest}
 use Rattle.sled_model.specs.State.{State, maps_of}
 use Rattle.sled_model.specs.Refusal.{must_refuse_of}
 use Rattle.sled_model.specs.Steps.{Instant, Steps}
+use Rattle.sled_model.specs.declared.call.Whole.TheVariants.{Flush, PopMin, PopMax, Clear}
 use Rattle.sled_model.specs.declared.outcome.Step.{Step}
 use Rattle.sled_model.specs.declared.outcome.Step.TheVariants as step
 use Rattle.sled_model.specs.declared.outcome.Outcome.{Outcome}
 use Rattle.sled_model.specs.declared.outcome.Outcome.TheVariants as outcome
 use Rattle.sled_model.specs.declared.tree.Tree.{Tree}
 use Rattle.tree_laws.specs.Contents.{trees_of}
+use Rattle.tree_reads.specs.Walk.{once, for_each}
 use Rattle.sled.specs.Opens.{Opens}
+use Rattle.sled.specs.Pops.{IsLongWay, GivesUpPop}
 use Rattle.sled.specs.Sound.{IsDb}
 use Rattle.sled.specs.Values.{DbValue, named, numbers_of, db_state}
 use Rattle.sled_machine.specs.CrashMaps.{Leaves, kept_after}
 use Rattle.sled_machine.specs.Run.{RunsKeeping, KeepsAll, KeepsMore, ReachesAll, NoCalls, OneCall}
-use Rattle.sled_machine.specs.Step.{MachineStep, Reaches, acts_as, follows_as, passes_as, starts_as, leaves_at}
+use Rattle.sled_machine.specs.Step.{MachineStep, Reaches, acts_as, follows_as, passes_as, starts_as, leaves_at, gives_up_as}
 use Rattle.sled_machine.specs.Values.{MachineValue, instant_of, slots_of}
 
 module _ {P M : Type 0} (store : P → Store) (number : P → ℕ) (meant : M → Merge) where
@@ -71,7 +75,6 @@ module _ {P M : Type 0} (store : P → Store) (number : P → ℕ) (meant : M �
     maps = r.maps;
     step = subst (λ (x : Instant). Steps x s o (instant_of store number (λ m. m) (plain_machine b)) r.maps) (sym (same_instant a)) (subst (λ (y : Instant). Steps (instant_of store number meant a) s o y r.maps) (sym (same_instant b)) r.step);
     keeps = λ kept l. subst (λ (y : Instant). Leaves (store b.db.pages) (kept_after s o r.maps (maps_of y.state) kept)) (sym (same_instant b)) (r.keeps kept l);
-    sound = λ d. plain_sound b.db (r.sound (meant_sound a.db d));
   }
 
   pub plain_run : (a b : MachineValue P M) (kept : List Maps) (ss : List Step) (os : List Outcome) (last : List Maps) → RunsKeeping store number meant a kept ss os b last → RunsKeeping store number (λ m. m) (plain_machine a) kept ss os (plain_machine b) last
@@ -85,6 +88,9 @@ module _ {P M : Type 0} (store : P → Store) (number : P → ℕ) (meant : M �
 
   same_state : (m : MachineValue P M) → (instant_of store number (λ o. o) (plain_machine m)).state ≡ (instant_of store number meant m).state
   same_state m = ap (λ (i : Instant). i.state) (same_instant m)
+
+  same_db : (d : DbValue P M) → db_state store (λ o. o) (plain d) ≡ db_state store meant d
+  same_db d = same_state (record { db = d; flights = []; slots_given = 0 })
 
   same_tests : (d : DbValue P M) (trees : List Tree) → must_refuse_of (db_state store (λ o. o) (plain d)) trees ≡ must_refuse_of (db_state store meant d) trees
   same_tests d trees = ap (λ (s : State). must_refuse_of s trees) (same_state (record { db = d; flights = []; slots_given = 0 }))
@@ -131,15 +137,40 @@ module _ {P M : Type 0} (store : P → Store) (number : P → ℕ) (meant : M �
     plain_leaves (step.Abandon slot) o h = h
     plain_leaves (step.Whole whole) o h = h
 
+    plain_long : (tree : Tree) (is_end : Map → Option (Key × Key) → Type 0) → IsLongWay store meant a.db tree is_end → IsLongWay store (λ m. m) (plain a.db) tree is_end
+    plain_long tree is_end h = record { named = h.named; there = ap (λ (s : State). s.trees tree.name) (same_db a.db) ∙ h.there; pair = h.pair; ends = h.ends; long = h.long }
+
+    plain_pop : (tree : Tree) (is_end : Map → Option (Key × Key) → Type 0) (of : ℕ → ℕ) (e : Error) → GivesUpPop store meant a.db tree is_end of e → GivesUpPop store (λ m. m) (plain a.db) tree is_end of e
+    plain_pop tree is_end of e h = record { told = λ turns. elim (h.told turns) [
+      | inl many ↦ inl many
+      | inr long ↦ inr (plain_long tree is_end long)
+    ] }
+
+    plain_gives_up : (s : Step) (o : Outcome) → gives_up_as store meant a.db s o → gives_up_as store (λ m. m) (plain a.db) s o
+    plain_gives_up (step.Whole (PopMin tree)) (outcome.Refused e) h = plain_pop tree IsLeast once e h
+    plain_gives_up (step.Whole (PopMax tree)) (outcome.Refused e) h = plain_pop tree IsGreatest for_each e h
+    plain_gives_up (step.Whole Flush) (outcome.Refused e) h = h
+    plain_gives_up (step.Whole (Clear tree)) (outcome.Refused e) h = h
+    plain_gives_up (step.Whole whole) (outcome.Begun slot) h = h
+    plain_gives_up (step.Whole whole) outcome.Moved h = h
+    plain_gives_up (step.Whole whole) (outcome.Decided reply) h = h
+    plain_gives_up (step.Whole whole) outcome.Abandoned h = h
+    plain_gives_up (step.Whole whole) outcome.NoSuchSlot h = h
+    plain_gives_up (step.Begin tree call) o h = h
+    plain_gives_up (step.Step slot) o h = h
+    plain_gives_up (step.Abandon slot) o h = h
+
     plain_reaches : (s : Step) (o : Outcome) → Reaches store number meant a s o b → Reaches store number (λ m. m) (plain_machine a) s o (plain_machine b)
     plain_reaches s o r = record {
       step = plain_step a b s o r.step;
+      sound = record { keeps = λ d. plain_sound b.db (r.sound.keeps (meant_sound a.db d)) };
       does = record { told = subst (λ (z : State). acts_as z s o (store a.db.pages) (store b.db.pages)) (sym (same_state a)) r.does.told };
       follows = record { told = plain_follows s o r.follows.told };
       passes = record { told = plain_passes s o r.passes.told };
       slots = record { starts = plain_starts s o r.slots.starts; others = r.slots.others };
       loses = record { none = r.loses.none };
       leaves = record { told = plain_leaves s o r.leaves.told };
+      gives_up = record { told = plain_gives_up s o r.gives_up.told };
     }
 
   pub plain_all : (a b : MachineValue P M) (ss : List Step) (os : List Outcome) → ReachesAll store number meant a ss os b → ReachesAll store number (λ m. m) (plain_machine a) ss os (plain_machine b)

@@ -9,7 +9,7 @@ ghost use Rattle.sled.specs.Calls.{IsHandle, MustBeRefused};
 ghost use Rattle.sled.specs.Export.{collections};
 ghost use Rattle.sled_tree.specs.Known.{IsKnown};
 ghost use Rattle.sled_tree.specs.Passing.{GoesFurther};
-ghost use Rattle.sled.specs.Flights.{DbStep, DbActs, DbFollows, DbLeaves, DbKnows, LosesNone, FliesToEnd};
+ghost use Rattle.sled.specs.Flights.{DbStep, DbSound, DbActs, DbFollows, DbLeaves, DbKnows, LosesNone, FliesToEnd};
 ghost use Rattle.sled.specs.Flush.{FlushesDb};
 ghost use Rattle.sled.specs.Opens.{Opens};
 ghost use Rattle.sled.specs.Values.{db_state, default_name, moment_of_db};
@@ -83,6 +83,7 @@ pub fn export<P: Pages, M: MergeOperator>(db: &Db<P, M>) -> Result<Vec<Collectio
 pub fn fly<P: Pages, M: MergeOperator>(db: &mut Db<P, M>, flight: &mut Flight) -> Went
     requires { IsKnown (moment_of_db P.store db.old) flight.old }
     ensures step { DbStep P.store M.meant db.old flight.old result db.new flight.new }
+    ensures sound { DbSound P.store db.old db.new }
     ensures does { DbActs P.store M.meant db.old flight.old result db.new }
     ensures follows { DbFollows P.store M.meant db.old flight.old result db.new flight.new }
     ensures passes { GoesFurther (now (P.store db.old.pages)) flight.old result (now (P.store db.new.pages)) flight.new }

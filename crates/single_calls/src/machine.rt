@@ -5,7 +5,7 @@ ghost use Rattle.sled_pages.specs.declared.error.Error.TheVariants.{NoMemory};
 ghost use Rattle.sled_model.specs.declared.outcome.Outcome.TheVariants as outcome;
 ghost use Rattle.sled_model.specs.declared.outcome.Step.TheVariants as step;
 ghost use Rattle.sled_machine.specs.Values.{slots_of};
-ghost use Rattle.sled_machine.specs.Step.{MachineStep, MachineActs, MachineFollows, MachinePasses, MachineSlots, MachineLoses, MachineLeaves, Reaches};
+ghost use Rattle.sled_machine.specs.Step.{MachineStep, MachineSound, MachineActs, MachineFollows, MachinePasses, MachineSlots, MachineLoses, MachineLeaves, Reaches};
 ghost use Rattle.sled_machine.specs.Run.{Performs, ReachesAll};
 ghost use Rattle.sled_machine.specs.Finish.{Finishes, Completes};
 
@@ -38,6 +38,7 @@ pub fn begin<P: Pages, M: MergeOperator>(
 /// One step of the call in the slot.
 pub fn step<P: Pages, M: MergeOperator>(machine: &mut Machine<P, M>, slot: Slot) -> Outcome
     ensures step { MachineStep P.store P.flush_number M.meant machine.old (step.Step slot) result machine.new }
+    ensures sound { MachineSound P.store machine.old machine.new }
     ensures does { MachineActs P.store M.meant machine.old (step.Step slot) result machine.new }
     ensures follows { MachineFollows P.store M.meant machine.old (step.Step slot) result machine.new }
     ensures passes { MachinePasses P.store machine.old (step.Step slot) result machine.new }

@@ -212,7 +212,7 @@ module _ {P M : Type 0} (store : P → Store) (meant : M → Merge) where
       loses_then (moment_of_db store old) (moment_of_db store mid) (moment_of_db store new) db.forest db.is (loses_once (moment_of_db store old) (moment_of_db store mid) flies.loses) (walk_loses n mid new h g went rest)
 
   walk_sound : (n : ℕ) (old new : DbValue P M) (f g : Flight) (went : Went) → FliesTimes store meant n old f went new g → IsDb store old → IsDb store new
-  walk_sound zero old new f g went (Ends flies off) d = flies.step.sound d
+  walk_sound zero old new f g went (Ends flies off) d = flies.sound.keeps d
   walk_sound (suc n) old new f g went (GoesOn {mid = mid} {h = h} flies db rest) d = walk_sound n mid new h g went rest db
 
   walk_same : (n : ℕ) (old new : DbValue P M) (f g : Flight) (went : Went) → FliesTimes store meant n old f went new g → new ≡ record old { pages = new.pages }

@@ -158,9 +158,9 @@ module _ {P M : Type 0} (store : P → Store) (meant : M → Merge) (old : DbVal
     step = record {
       steps = λ slots given slot before after here. record { told = (record { flying = flying_of f; here = here; may = may slots given; limit = λ none all. limit (sym (must_step (state_of store meant old slots given) (flying_of f)) ∙ none) all; is = refl }, refl) };
       extends = extends_same (store old.pages);
-      sound = λ d. d;
       same = refl;
     };
+    sound = record { keeps = λ d. d };
     does = record { does = quiet_untold e (store old.pages) off; quiet = λ q. refl; loud = λ event b. absurd (silent b.reply b.decided) };
     follows = λ must few. absurd (stopped must few);
     passes = record { told = tt };
@@ -318,9 +318,9 @@ module _ {P M : Type 0} (store : P → Store) (meant : M → Merge) (old : DbVal
               );
             };
             extends = moved_extends;
-            sound = λ d. moved_db;
             same = refl;
           };
+          sound = record { keeps = λ d. moved_db };
           does = record { does = moves.touches; quiet = λ k. absurd (apart k.reply k.decided); loud = λ event k. absurd (apart k.reply k.decided) };
           follows = λ must few. follows;
           passes = further;
@@ -368,9 +368,9 @@ module _ {P M : Type 0} (store : P → Store) (meant : M → Merge) (old : DbVal
               );
             };
             extends = refused_extends;
-            sound = λ d. refused_db;
             same = refl;
           };
+          sound = record { keeps = λ d. refused_db };
           does = record { does = refuses_quietly e (store old.pages) (store q) moves.touches; quiet = λ k. absurd (apart k.reply k.decided); loud = λ event k. absurd (apart k.reply k.decided) };
           follows = λ must few. follows;
           passes = record { told = tt };
@@ -464,9 +464,9 @@ module _ {P M : Type 0} (store : P → Store) (meant : M → Merge) (old : DbVal
               );
             };
             extends = subst (λ m. Extends (m ∷ []) (store old.pages) (store q)) (sym same_maps) done_extends;
-            sound = λ d. decided_db;
             same = refl;
           };
+          sound = record { keeps = λ d. decided_db };
           does = record {
             does = moves.touches;
             quiet = λ k. done.2.quiet (brought k.tree k.there ∙ k.is);

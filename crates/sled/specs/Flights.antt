@@ -95,14 +95,16 @@ does_as (Decided reply) old new = ActsAtMostOnce old new
 does_as (Refused e) old new = RefusesQuietly e old new
 
 -- One step of a call in flight: in whatever slot the call is, the machine makes this step; what a crash may leave grows by the map
--- after the call, if it was decided; the pages stay well formed, now and after every crash; and nothing of the database changes but its
--- pages
+-- after the call, if it was decided; and nothing of the database changes but its pages
 pub record DbStep {P M : Type 0} (store : P → Store) (meant : M → Merge) (old : DbValue P M) (f : Flight) (went : Went) (new : DbValue P M) (g : Flight) : Type 0 where
   pub steps : (slots : ℕ → Option Flying) (slots_given slot before after : ℕ) → slots slot ≡ Some (flying_of f)
       → Steps (instant_of store meant old slots slots_given before) (step.Step slot) (outcome_of went) (instant_of store meant new (put_at slots slot (slot_after went g)) slots_given after) (maps_added went (maps_of (db_state store meant new)))
   pub extends : Extends (maps_added went (maps_of (db_state store meant new))) (store old.pages) (store new.pages)
-  pub sound : IsDb store old → IsDb store new
   pub same : new ≡ record old { pages = new.pages }
+
+-- The pages stay well formed, now and after every crash
+pub record DbSound {P M : Type 0} (store : P → Store) (old new : DbValue P M) : Type 0 where
+  pub keeps : IsDb store old → IsDb store new
 
 -- At most one changing action is done: none where the call is refused or was decided without an event, and one where it was decided
 -- with one
@@ -128,6 +130,7 @@ pub record DbKnows {P M : Type 0} (store : P → Store) (old : DbValue P M) (f :
 -- All that is said of one step
 pub record Flies {P M : Type 0} (store : P → Store) (meant : M → Merge) (old : DbValue P M) (f : Flight) (went : Went) (new : DbValue P M) (g : Flight) : Type 0 where
   pub step : DbStep store meant old f went new g
+  pub sound : DbSound store old new
   pub does : DbActs store meant old f went new
   pub follows : DbFollows store meant old f went new g
   -- on a clean path the call goes one page further, or ends

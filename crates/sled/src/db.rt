@@ -62,7 +62,7 @@ impl<P: Pages, M: MergeOperator> Db<P, M> {
     ghost use Rattle.sled.specs.Values.{db_state, moment_of_db, default_name};
     ghost use Rattle.sled_tree.specs.Known.{IsKnown};
     ghost use Rattle.sled_tree.specs.Passing.{GoesFurther};
-    ghost use Rattle.sled.specs.Flights.{DbStep, DbActs, DbFollows, DbLeaves, DbKnows, LosesNone, Flies, FliesToEnd};
+    ghost use Rattle.sled.specs.Flights.{DbStep, DbSound, DbActs, DbFollows, DbLeaves, DbKnows, LosesNone, Flies, FliesToEnd};
     ghost use Rattle.sled.specs.Flush.{FlushesDb, RefusesFlush};
 
     /// What holds of every database: its pages are well formed now and in every state that a crash may leave, and its trees
@@ -138,6 +138,7 @@ impl<P: Pages, M: MergeOperator> Db<P, M> {
     pub fn fly(&mut self, flight: &mut Flight) -> Went
         requires { IsKnown (moment_of_db P.store self.old) flight.old }
         ensures step { DbStep P.store M.meant self.old flight.old result self.new flight.new }
+        ensures sound { DbSound P.store self.old self.new }
         ensures does { DbActs P.store M.meant self.old flight.old result self.new }
         ensures follows { DbFollows P.store M.meant self.old flight.old result self.new flight.new }
         ensures passes { GoesFurther (now (P.store self.old.pages)) flight.old result (now (P.store self.new.pages)) flight.new }

@@ -105,30 +105,33 @@ module _ {P M : Type 0} (store : P → Store) (number : P → ℕ) (meant : M �
     maps = [];
     step = told;
     keeps = λ kept l. subst (Leaves (store w.db.pages)) (sym (keeps kept)) (leaves_same (store w.db.pages) kept (subst (λ (d : DbValue P M). Leaves (store d.pages) kept) (sym same) l));
-    sound = λ d. subst (λ (z : DbValue P M). IsDb store z) (sym same) d;
   }
 
   -- no call has the slot
   pub missing_step : (slot : ℕ) → kept_at v.flights slot ≡ None → Reaches store number meant v (step.Step slot) outcome.NoSuchSlot v
   missing_step slot e = record {
     step = idle (step.Step slot) outcome.NoSuchSlot v refl (record { told = (record { free = ap (option_map flying_of) e; is = refl }, refl) }) (λ kept. refl);
+    sound = record { keeps = λ d. d };
     does = record { told = refl };
     follows = record { told = λ f there. none_some (sym e ∙ there) };
     passes = record { told = tt };
     slots = record { starts = tt; others = λ q off. refl };
     loses = record { none = loses_nothing None (moment_of_db store v.db) };
     leaves = record { told = λ w is. subst (λ o. LeavesNone (owned_by o) (owned_by o) (now (store v.db.pages)) (now (store v.db.pages)) w) (sym e) (leaves_same_pages [] [] (now (store v.db.pages)) w (λ q i. i)) };
+    gives_up = record { told = tt };
   }
 
   pub missing_abandon : (slot : ℕ) → kept_at v.flights slot ≡ None → Reaches store number meant v (step.Abandon slot) outcome.NoSuchSlot v
   missing_abandon slot e = record {
     step = idle (step.Abandon slot) outcome.NoSuchSlot v refl (record { told = (record { free = ap (option_map flying_of) e; is = refl }, refl) }) (λ kept. refl);
+    sound = record { keeps = λ d. d };
     does = record { told = refl };
     follows = record { told = tt };
     passes = record { told = tt };
     slots = record { starts = tt; others = λ q off. refl };
     loses = record { none = loses_nothing None (moment_of_db store v.db) };
     leaves = record { told = tt };
+    gives_up = record { told = tt };
   }
 
   -- a call is given up
@@ -138,12 +141,14 @@ module _ {P M : Type 0} (store : P → Store) (number : P → ℕ) (meant : M �
       step = idle (step.Abandon slot) outcome.Abandoned (record v { flights = gs }) refl
           (record { told = (record { flying = flying_of f; here = ap (option_map flying_of) there; is = ap (λ z. state_of store meant v.db z v.slots_given) (slots_put v.flights gs slot None gone) }, refl) })
           (λ kept. refl);
+      sound = record { keeps = λ d. d };
       does = record { told = refl };
       follows = record { told = tt };
       passes = record { told = tt };
       slots = record { starts = tt; others = elsewhere v.flights gs slot None gone };
       loses = record { none = loses_nothing None (moment_of_db store v.db) };
       leaves = record { told = tt };
+      gives_up = record { told = tt };
     }
 
     pub abandoned_machine : IsMachine (moment_of_db store v.db) gs v.slots_given
@@ -170,8 +175,8 @@ module _ {P M : Type 0} (store : P → Store) (number : P → ℕ) (meant : M �
         step = subst (λ z. Steps (instant_of store number meant v) (step.Step slot) (outcome_of went) (instant_of_db store meant db z v.slots_given (number db.pages)) (maps_added went (maps_of (db_state store meant db)))) (sym (slots_put v.flights gs slot kept are ∙ ap (put_at (slots_of v.flights) slot) is))
             (flies.step.steps (slots_of v.flights) v.slots_given slot (number v.db.pages) (number db.pages) (ap (option_map flying_of) there));
         keeps = λ before l. extended (maps_added went (maps_of (db_state store meant db))) (store v.db.pages) (store db.pages) flies.step.extends before l;
-        sound = flies.step.sound;
       };
+      sound = record { keeps = flies.sound.keeps };
       does = record { told = acts_flying went flies };
       follows = record {
         told = λ g here must few. let same : g ≡ f = some_is (sym here ∙ there) in record {
@@ -187,6 +192,7 @@ module _ {P M : Type 0} (store : P → Store) (number : P → ℕ) (meant : M �
       slots = record { starts = tt; others = elsewhere v.flights gs slot kept are };
       loses = record { none = flies.loses };
       leaves = record { told = leaves };
+      gives_up = record { told = tt };
     }
       where
         here : slots_of v.flights slot ≡ Some (flying_of f)
@@ -264,12 +270,14 @@ module _ {P M : Type 0} (store : P → Store) (number : P → ℕ) (meant : M �
   pub begin_refused : (tree : Tree) (call : Call) (e : Error) → MayRefuse (state_of store meant v.db (slots_of v.flights) v.slots_given) (store v.db.pages) (store v.db.pages) (ToBegin tree call) e → Reaches store number meant v (step.Begin tree call) (outcome.Refused e) v
   begin_refused tree call e may = record {
     step = idle (step.Begin tree call) (outcome.Refused e) v refl (record { told = (may, refl, refl) }) (λ kept. refl);
+    sound = record { keeps = λ d. d };
     does = record { told = refl };
     follows = record { told = tt };
     passes = record { told = tt };
     slots = record { starts = tt; others = λ q off. refl };
     loses = record { none = loses_nothing None (moment_of_db store v.db) };
     leaves = record { told = tt };
+    gives_up = record { told = tt };
   }
 
   pub begin_untested : (tree : Tree) (call : Call) (e : Error) → MustBeRefused (must_refuse_of (db_state store meant v.db) (tree ∷ [])) e → Reaches store number meant v (step.Begin tree call) (outcome.Refused e) v
@@ -308,12 +316,14 @@ module _ {P M : Type 0} (store : P → Store) (number : P → ℕ) (meant : M �
               );
             })
             (λ kept. refl);
+        sound = record { keeps = λ d. d };
         does = record { told = refl };
         follows = record { told = tt };
         passes = record { told = tt };
         slots = record { starts = added_kept slot ∙ put_here (kept_at v.flights) slot (Some f) ∙ ap Some is; others = elsewhere v.flights gs slot (Some f) added_kept };
         loses = record { none = loses_nothing None (moment_of_db store v.db) };
         leaves = record { told = tt };
+        gives_up = record { told = tt };
       }
 
       pub begun_machine : IsMachine (moment_of_db store v.db) gs slot
@@ -350,14 +360,15 @@ module _ {P M : Type 0} (store : P → Store) (number : P → ℕ) (meant : M �
       maps = [];
       step = record { told = (f.free, ap Number f.told, stays_state store meant v.db db f.same (flushed_now f.is) (slots_of v.flights) v.slots_given, refl) };
       keeps = λ kept l. record { is = subst (λ z. Matches z (maps_of (db_state store meant db) ∷ [])) (sym (ap (map trees_of) f.left ∙ ap (λ z. z ∷ []) f.maps)) (matches_same _) };
-      sound = f.sound;
     };
+    sound = record { keeps = f.sound };
     does = record { told = f.is };
     follows = record { told = tt };
     passes = record { told = tt };
     slots = record { starts = tt; others = λ q off. refl };
     loses = flush_loses db f.same (flushed_now f.is);
     leaves = record { told = tt };
+    gives_up = record { told = tt };
   }
 
   pub flushed_machine : (db : DbValue P M) (n : ℕ) → FlushesDb store number meant v.db n db → IsMachine (moment_of_db store db) v.flights v.slots_given
@@ -369,14 +380,15 @@ module _ {P M : Type 0} (store : P → Store) (number : P → ℕ) (meant : M �
       maps = [];
       step = record { told = (f.may (slots_of v.flights) v.slots_given, stays_state store meant v.db db f.same (rests_now rests) (slots_of v.flights) v.slots_given, refl) };
       keeps = λ kept l. extended [] (store v.db.pages) (store db.pages) (rests_extends rests) kept l;
-      sound = f.sound;
     };
+    sound = record { keeps = f.sound };
     does = record { told = f.is };
     follows = record { told = tt };
     passes = record { told = tt };
     slots = record { starts = tt; others = λ q off. refl };
     loses = flush_loses db f.same (rests_now rests);
     leaves = record { told = tt };
+    gives_up = record { told = tt };
   }
 
   pub refused_machine : (db : DbValue P M) (e : Error) → RefusesFlush store meant v.db db e → IsMachine (moment_of_db store db) v.flights v.slots_given

@@ -14,7 +14,7 @@ use Rattle.sled.specs.Values.{DbValue, moment_of_db}
 use Rattle.sled.specs.Direct.{acts_till, LosesNoPage, Conducts, WholeDecided, WholeRefused}
 use Rattle.sled_machine.specs.CrashMaps.{Leaves, kept_after_whole}
 use Rattle.sled_machine.specs.Sound.{IsMachine}
-use Rattle.sled_machine.specs.Step.{Reaches, whole_acts, whole_loses}
+use Rattle.sled_machine.specs.Step.{Reaches, whole_acts, whole_loses, whole_gives_up}
 use Rattle.sled_machine.specs.Values.{MachineValue, slots_of, instant_of}
 use Rattle.sled_machine.proofs.Runs.{extended}
 
@@ -56,30 +56,32 @@ module _ {P M : Type 0} (store : P → Store) (number : P → ℕ) (meant : M �
       maps = d.maps;
       step = record { told = d.decides (slots_of v.flights) v.slots_given (number v.db.pages) };
       keeps = λ kept l. subst (Leaves (store db.pages)) (sym (kept_other (kind_of w) off d.maps (maps_of (instant_of store number meant (record v { db = db })).state) kept)) (extended d.maps (store v.db.pages) (store db.pages) d.conducts.extends kept l);
-      sound = d.conducts.sound;
     };
+    sound = record { keeps = d.conducts.sound };
     does = record { told = acts_other (kind_of w) off reply (store v.db.pages) (store db.pages) d.conducts.acts };
     follows = record { told = tt };
     passes = record { told = tt };
     slots = record { starts = tt; others = λ q other. refl };
     loses = record { none = loses_other (kind_of w) off (moment_of_db store v.db) (moment_of_db store db) d.conducts.loses };
     leaves = record { told = tt };
+    gives_up = record { told = tt };
   }
 
-  refused : (e : Error) → WholeRefused store meant v.db w e db → Reaches store number meant v (step.Whole w) (outcome.Refused e) (record v { db = db })
-  refused e d = record {
+  refused : (e : Error) → WholeRefused store meant v.db w e db → whole_gives_up store meant v.db w e → Reaches store number meant v (step.Whole w) (outcome.Refused e) (record v { db = db })
+  refused e d up = record {
     step = record {
       maps = d.maps;
       step = record { told = d.refuses (slots_of v.flights) v.slots_given };
       keeps = λ kept l. extended d.maps (store v.db.pages) (store db.pages) d.conducts.extends kept l;
-      sound = d.conducts.sound;
     };
+    sound = record { keeps = d.conducts.sound };
     does = record { told = stops_other (kind_of w) off e (store v.db.pages) (store db.pages) d.conducts.acts };
     follows = record { told = tt };
     passes = record { told = tt };
     slots = record { starts = tt; others = λ q other. refl };
     loses = record { none = loses_other (kind_of w) off (moment_of_db store v.db) (moment_of_db store db) d.conducts.loses };
     leaves = record { told = tt };
+    gives_up = record { told = up };
   }
 
 -- the same, where a method knows the machine by its fields
@@ -91,8 +93,8 @@ module _ {P M : Type 0} (store : P → Store) (number : P → ℕ) (meant : M �
   pub whole_decided : (reply : Reply) → WholeDecided store meant inside.db w reply db → Reaches store number meant old (step.Whole w) (outcome.Decided reply) (record inside { db = db })
   whole_decided reply d = subst (λ z. Reaches store number meant z (step.Whole w) (outcome.Decided reply) (record inside { db = db })) e (decided store number meant inside w off db reply d)
 
-  pub whole_refused : (r : Error) → WholeRefused store meant inside.db w r db → Reaches store number meant old (step.Whole w) (outcome.Refused r) (record inside { db = db })
-  whole_refused r d = subst (λ z. Reaches store number meant z (step.Whole w) (outcome.Refused r) (record inside { db = db })) e (refused store number meant inside w off db r d)
+  pub whole_refused : (r : Error) → WholeRefused store meant inside.db w r db → whole_gives_up store meant inside.db w r → Reaches store number meant old (step.Whole w) (outcome.Refused r) (record inside { db = db })
+  whole_refused r d up = subst (λ z. Reaches store number meant z (step.Whole w) (outcome.Refused r) (record inside { db = db })) e (refused store number meant inside w off db r d up)
 
   pub decided_machine : (reply : Reply) → WholeDecided store meant inside.db w reply db → IsMachine (moment_of_db store db) inside.flights inside.slots_given
   decided_machine reply d = conducted d.maps None d.conducts

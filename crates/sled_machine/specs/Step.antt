@@ -1,11 +1,14 @@
 -- One step of the machine.
 use Rattle.std.specs.Prelude.{◌≡◌, ◌≢◌, ℕ, suc, ◌<◌, List, [], ◌∷◌, length, Option, Some, None}
 use Rattle.sled_pages.specs.Store.{Store, now, flushed}
-use Rattle.sled_model.specs.Maps.{Maps, Merge}
+use Rattle.sled_model.specs.Maps.{Maps, Merge, IsLeast, IsGreatest}
 use Rattle.sled_model.specs.Answer.{answer_of}
 use Rattle.sled_model.specs.Refusal.{must_refuse_of, turns_limit}
 use Rattle.sled_model.specs.State.{State, NamedTree, Flying, maps_of}
 use Rattle.sled_model.specs.Steps.{Steps, Kind, Flushing, kind_of}
+use Rattle.sled_pages.specs.declared.error.Error.{Error}
+use Rattle.sled_model.specs.declared.call.Whole.{Whole}
+use Rattle.sled_model.specs.declared.call.Whole.TheVariants.{PopMin, PopMax}
 use Rattle.sled_model.specs.declared.outcome.Step.{Step}
 use Rattle.sled_model.specs.declared.outcome.Step.TheVariants as step
 use Rattle.sled_model.specs.declared.outcome.Outcome.{Outcome}
@@ -22,23 +25,28 @@ use Rattle.sled_tree.specs.declared.flight.Aim.TheVariants.{OwnKey}
 use Rattle.sled_tree.specs.declared.flight.Flight.{Flight}
 use Rattle.tree_laws.specs.declared.flight.Stage.TheVariants.{Root}
 use Rattle.sled_tree.specs.declared.flight.Went.{Went}
+use Rattle.tree_reads.specs.Walk.{once, for_each}
 use Rattle.sled.specs.Sound.{IsDb}
-use Rattle.sled.specs.Values.{db_state, moment_of_db}
+use Rattle.sled.specs.Values.{DbValue, db_state, moment_of_db}
 use Rattle.sled.specs.Flights.{RefusesQuietly, LosesNone, outcome_of}
 use Rattle.sled.specs.Flush.{only_faults}
 use Rattle.sled.specs.Direct.{acts_till, LosesNoPage}
+use Rattle.sled.specs.Pops.{GivesUpPop}
 use Rattle.sled_machine.specs.CrashMaps.{Leaves, kept_after}
 use Rattle.sled_machine.specs.Fly.{flight_after}
 use Rattle.sled_machine.specs.Slots.{kept_at}
 use Rattle.sled_machine.specs.Values.{MachineValue, instant_of}
 
 -- One step of the machine is a step of the model, which adds these maps to those after each decided call; and whatever maps a crash
--- might leave before it, after it they are those that the step makes of them. The pages stay well formed, now and after every crash
+-- might leave before it, after it they are those that the step makes of them
 pub record MachineStep {P M : Type 0} (store : P → Store) (flush_number : P → ℕ) (meant : M → Merge) (old : MachineValue P M) (s : Step) (o : Outcome) (new : MachineValue P M) : Type 0 where
   pub maps : List Maps
   pub step : Steps (instant_of store flush_number meant old) s o (instant_of store flush_number meant new) maps
   pub keeps : (kept : List Maps) → Leaves (store old.db.pages) kept → Leaves (store new.db.pages) (kept_after s o maps (maps_of (instant_of store flush_number meant new).state) kept)
-  pub sound : IsDb store old.db → IsDb store new.db
+
+-- The pages stay well formed, now and after every crash
+pub record MachineSound {P M : Type 0} (store : P → Store) (old new : MachineValue P M) : Type 0 where
+  pub keeps : IsDb store old.db → IsDb store new.db
 
 -- the call in the slot brings this event by the map now, or none
 pub record BringsAt (s : State) (slot : ℕ) (event : Option Event) : Type 0 where
@@ -155,12 +163,27 @@ leaves_at store old s o new = Unit {0}
 pub record MachineLeaves {P M : Type 0} (store : P → Store) (old : MachineValue P M) (s : Step) (o : Outcome) (new : MachineValue P M) : Type 0 where
   pub told : leaves_at store old s o new
 
+-- when a whole call may be told that its turns were used up: a pop only where the tree is large or its way to the key is long
+abbrev pub whole_gives_up : {P M : Type 0} → (P → Store) → (M → Merge) → DbValue P M → Whole → Error → Type 0
+whole_gives_up store meant old (PopMin tree) e = GivesUpPop store meant old tree IsLeast once e
+whole_gives_up store meant old (PopMax tree) e = GivesUpPop store meant old tree IsGreatest for_each e
+whole_gives_up store meant old whole e = Unit {0}
+
+abbrev pub gives_up_as : {P M : Type 0} → (P → Store) → (M → Merge) → DbValue P M → Step → Outcome → Type 0
+gives_up_as store meant old (step.Whole whole) (Refused e) = whole_gives_up store meant old whole e
+gives_up_as store meant old s o = Unit {0}
+
+pub record MachineGivesUp {P M : Type 0} (store : P → Store) (meant : M → Merge) (old : MachineValue P M) (s : Step) (o : Outcome) : Type 0 where
+  pub told : gives_up_as store meant old.db s o
+
 -- All that is said of one step
 pub record Reaches {P M : Type 0} (store : P → Store) (flush_number : P → ℕ) (meant : M → Merge) (old : MachineValue P M) (s : Step) (o : Outcome) (new : MachineValue P M) : Type 0 where
   pub step : MachineStep store flush_number meant old s o new
+  pub sound : MachineSound store old new
   pub does : MachineActs store meant old s o new
   pub follows : MachineFollows store meant old s o new
   pub passes : MachinePasses store old s o new
   pub slots : MachineSlots old s o new
   pub loses : MachineLoses store old s new
   pub leaves : MachineLeaves store old s o new
+  pub gives_up : MachineGivesUp store meant old s o

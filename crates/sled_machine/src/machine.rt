@@ -44,7 +44,7 @@ impl<P: Pages, M: MergeOperator> Machine<P, M> {
     ghost use Rattle.sled.specs.Sound.{IsDb};
     ghost use Rattle.sled_machine.specs.Values.{slots_of};
     ghost use Rattle.sled.specs.Values.{db_state};
-    ghost use Rattle.sled_machine.specs.Step.{MachineStep, MachineActs, MachineFollows, MachinePasses, MachineSlots, MachineLoses, MachineLeaves, Reaches};
+    ghost use Rattle.sled_machine.specs.Step.{MachineStep, MachineSound, MachineActs, MachineFollows, MachinePasses, MachineSlots, MachineLoses, MachineLeaves, Reaches};
     ghost use Rattle.sled_machine.specs.Run.{Performs, ReachesAll};
     ghost use Rattle.sled_machine.specs.Finish.{Finishes, Completes};
 
@@ -123,6 +123,7 @@ impl<P: Pages, M: MergeOperator> Machine<P, M> {
     /// Does the next page action of the call in the slot, if there is one.
     pub fn step(&mut self, slot: Slot) -> Outcome
         ensures step { MachineStep P.store P.flush_number M.meant self.old (step.Step slot) result self.new }
+        ensures sound { MachineSound P.store self.old self.new }
         ensures does { MachineActs P.store M.meant self.old (step.Step slot) result self.new }
         ensures follows { MachineFollows P.store M.meant self.old (step.Step slot) result self.new }
         ensures passes { MachinePasses P.store self.old (step.Step slot) result self.new }

@@ -3,6 +3,9 @@ use Rattle.single_calls.proofs.database.fly.Goals as goal
 pub returns-clause-step : goal.returns-clause-step
 returns-clause-step c = assumption
 
+pub returns-clause-sound : goal.returns-clause-sound
+returns-clause-sound c = assumption
+
 pub returns-clause-does : goal.returns-clause-does
 returns-clause-does c = assumption
 

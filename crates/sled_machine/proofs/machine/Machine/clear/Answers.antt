@@ -3,7 +3,7 @@ use Rattle.sled_machine.proofs.Wholes.{whole_decided, whole_refused, decided_mac
 use Rattle.sled_machine.proofs.machine.Machine.clear.Goals as goal
 
 pub returns-in-Err : goal.returns-in-Err
-returns-in-Err g c = whole_refused g.P.Pages.store g.P.Pages.flush_number g.M.MergeOperator.meant _ _ c.self.view_is c.self.invariant.0 (Clear c.args.tree.now) tt _ _ c.in-Err.ensures.err
+returns-in-Err g c = whole_refused g.P.Pages.store g.P.Pages.flush_number g.M.MergeOperator.meant _ _ c.self.view_is c.self.invariant.0 (Clear c.args.tree.now) tt _ _ c.in-Err.ensures.err tt
 
 pub returns : goal.returns
 returns g c = whole_decided g.P.Pages.store g.P.Pages.flush_number g.M.MergeOperator.meant _ _ c.self.view_is c.self.invariant.0 (Clear c.args.tree.now) tt _ _ c.in_default.ensures.ok
