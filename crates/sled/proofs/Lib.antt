@@ -10,3 +10,4 @@ pub mod Reopening
 pub mod Reading
 pub mod Scanning
 pub mod Popping
+pub mod Naming

@@ -3,6 +3,7 @@ pub mod Sound
 pub mod Opens
 pub mod Export
 pub mod Calls
+pub mod Names
 pub mod Reads
 pub mod Flights
 pub mod Direct

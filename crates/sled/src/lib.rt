@@ -12,6 +12,7 @@ mod db;
 mod direct;
 mod export;
 mod memory;
+mod names;
 mod open;
 mod read;
 mod whole;
