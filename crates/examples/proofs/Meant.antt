@@ -1,5 +1,5 @@
 -- Databases with the meanings of their operators in place of the operators: they stand for the same states.
-use Rattle.std.proofs.Common.{◌≡◌, ℕ, Bool, true, false, cond, List, [], ◌∷◌, map, Option, Some, None, option_map, sym, refl, ap, ◌∙◌, subst, inl, inr}
+use Rattle.std.proofs.Common.{◌≡◌, ◌≢◌, ℕ, Bool, true, false, cond, List, [], ◌∷◌, map, Option, Some, None, option_map, sym, refl, ap, ◌∙◌, subst, inl, inr}
 use Rattle.std.specs.FinMap.Entries.{find}
 use Rattle.std.specs.Ordering.{nat_cmp, eq_by_cmp}
 use Rattle.sled_pages.specs.Order.{Key}
@@ -7,7 +7,7 @@ use Rattle.sled_pages.specs.Store.{Store, now}
 use Rattle.sled_pages.specs.declared.error.Error.{Error}
 use Rattle.sled_model.specs.Maps.{Map, Maps, Merge, IsLeast, IsGreatest}
 use Rattle.sled_model.specs.State.{State, maps_of}
-use Rattle.sled_model.specs.Refusal.{must_refuse_of}
+use Rattle.sled_model.specs.Refusal.{Asked, ToCall, must_refuse, must_refuse_of}
 use Rattle.sled_model.specs.Steps.{Instant, Steps}
 use Rattle.sled_model.specs.declared.call.Whole.TheVariants.{Flush, PopMin, PopMax, Clear}
 use Rattle.sled_model.specs.declared.outcome.Step.{Step}
@@ -23,7 +23,7 @@ use Rattle.sled.specs.Sound.{IsDb}
 use Rattle.sled.specs.Values.{DbValue, named, numbers_of, db_state}
 use Rattle.sled_machine.specs.CrashMaps.{Leaves, kept_after}
 use Rattle.sled_machine.specs.Run.{RunsKeeping, KeepsAll, KeepsMore, ReachesAll, NoCalls, OneCall}
-use Rattle.sled_machine.specs.Step.{MachineStep, Reaches, acts_as, follows_as, passes_as, starts_as, leaves_at, gives_up_as}
+use Rattle.sled_machine.specs.Step.{MachineStep, Reaches, acts_as, follows_as, passes_as, starts_as, leaves_at, gives_up_as, tested_as}
 use Rattle.sled_machine.specs.Values.{MachineValue, instant_of, slots_of}
 
 module _ {P M : Type 0} (store : P → Store) (number : P → ℕ) (meant : M → Merge) where
@@ -160,6 +160,23 @@ module _ {P M : Type 0} (store : P → Store) (number : P → ℕ) (meant : M �
     plain_gives_up (step.Step slot) o h = h
     plain_gives_up (step.Abandon slot) o h = h
 
+    plain_untouched : (asked : Asked) → (must_refuse (db_state store meant a.db) asked ≢ None → b ≡ a) → must_refuse (db_state store (λ m. m) (plain a.db)) asked ≢ None → plain_machine b ≡ plain_machine a
+    plain_untouched asked h must = ap plain_machine (h (subst (λ (s : State). must_refuse s asked ≢ None) (same_db a.db) must))
+
+    plain_tested : (s : Step) (o : Outcome) → tested_as store meant a s o b → tested_as store (λ m. m) (plain_machine a) s o (plain_machine b)
+    plain_tested (step.Whole Flush) (outcome.Refused e) h = h
+    plain_tested (step.Whole (PopMin tree)) (outcome.Refused e) h = plain_untouched (ToCall (PopMin tree)) h
+    plain_tested (step.Whole (PopMax tree)) (outcome.Refused e) h = plain_untouched (ToCall (PopMax tree)) h
+    plain_tested (step.Whole (Clear tree)) (outcome.Refused e) h = plain_untouched (ToCall (Clear tree)) h
+    plain_tested (step.Whole whole) (outcome.Begun slot) h = h
+    plain_tested (step.Whole whole) outcome.Moved h = h
+    plain_tested (step.Whole whole) (outcome.Decided reply) h = h
+    plain_tested (step.Whole whole) outcome.Abandoned h = h
+    plain_tested (step.Whole whole) outcome.NoSuchSlot h = h
+    plain_tested (step.Begin tree call) o h = h
+    plain_tested (step.Step slot) o h = h
+    plain_tested (step.Abandon slot) o h = h
+
     plain_reaches : (s : Step) (o : Outcome) → Reaches store number meant a s o b → Reaches store number (λ m. m) (plain_machine a) s o (plain_machine b)
     plain_reaches s o r = record {
       step = plain_step a b s o r.step;
@@ -171,6 +188,7 @@ module _ {P M : Type 0} (store : P → Store) (number : P → ℕ) (meant : M �
       loses = record { none = r.loses.none };
       leaves = record { told = plain_leaves s o r.leaves.told };
       gives_up = record { told = plain_gives_up s o r.gives_up.told };
+      tested = record { told = plain_tested s o r.tested.told };
     }
 
   pub plain_all : (a b : MachineValue P M) (ss : List Step) (os : List Outcome) → ReachesAll store number meant a ss os b → ReachesAll store number (λ m. m) (plain_machine a) ss os (plain_machine b)

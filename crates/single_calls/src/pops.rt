@@ -5,7 +5,7 @@ ghost use Rattle.sled_model.specs.declared.call.Whole.TheVariants.{PopMin, PopMa
 ghost use Rattle.sled_model.specs.declared.reply.Reply.TheVariants.{Pair, Done};
 ghost use Rattle.tree_reads.specs.Walk.{once, for_each};
 ghost use Rattle.sled.specs.Direct.{WholeDecided, WholeRefused};
-ghost use Rattle.sled.specs.Pops.{GivesUpPop};
+ghost use Rattle.sled.specs.Pops.{PopsBySteps, PopRefusedBySteps, GivesUpPop, ClearsBySteps, ClearRefusedBySteps};
 
 use sled::Db;
 use sled_model::{MergeOperator, Tree};
@@ -19,6 +19,8 @@ pub fn pop_min<P: Pages, M: MergeOperator>(
     ensures ok { IfOk result (λ found. WholeDecided P.store M.meant db.old (PopMin tree.now) (Pair found) db.new) }
     ensures err { IfErr result (λ e. WholeRefused P.store M.meant db.old (PopMin tree.now) e db.new) }
     ensures gives_up { IfErr result (GivesUpPop P.store M.meant db.old tree.now IsLeast once) }
+    ensures steps { IfOk result (λ found. PopsBySteps P.store M.meant db.old tree.now IsLeast found db.new) }
+    ensures refused { IfErr result (λ e. PopRefusedBySteps P.store M.meant db.old tree.now IsLeast e db.new) }
 {
     db.pop_min(tree)
 }
@@ -31,6 +33,8 @@ pub fn pop_max<P: Pages, M: MergeOperator>(
     ensures ok { IfOk result (λ found. WholeDecided P.store M.meant db.old (PopMax tree.now) (Pair found) db.new) }
     ensures err { IfErr result (λ e. WholeRefused P.store M.meant db.old (PopMax tree.now) e db.new) }
     ensures gives_up { IfErr result (GivesUpPop P.store M.meant db.old tree.now IsGreatest for_each) }
+    ensures steps { IfOk result (λ found. PopsBySteps P.store M.meant db.old tree.now IsGreatest found db.new) }
+    ensures refused { IfErr result (λ e. PopRefusedBySteps P.store M.meant db.old tree.now IsGreatest e db.new) }
 {
     db.pop_max(tree)
 }
@@ -39,6 +43,8 @@ pub fn pop_max<P: Pages, M: MergeOperator>(
 pub fn clear<P: Pages, M: MergeOperator>(db: &mut Db<P, M>, tree: &Tree) -> Result<()>
     ensures ok { OnOk result (WholeDecided P.store M.meant db.old (Clear tree.now) Done db.new) }
     ensures err { IfErr result (λ e. WholeRefused P.store M.meant db.old (Clear tree.now) e db.new) }
+    ensures steps { OnOk result (ClearsBySteps P.store M.meant tree.now db.old db.new) }
+    ensures refused { IfErr result (λ e. ClearRefusedBySteps P.store M.meant db.old tree.now e db.new) }
 {
     db.clear(tree)
 }

@@ -37,7 +37,7 @@ use Rattle.sled.specs.Sound.{IsDb}
 use Rattle.sled.specs.Flights.{RefusesQuietly}
 use Rattle.sled.specs.Reads.{ReadsMap, RefusesReading, refuses_reading_as, stops_reading}
 use Rattle.sled.specs.Direct.{ActsOften, NoAction, OneAction, Conducts, PointDecided, PointRefused, WholeDecided, WholeRefused}
-use Rattle.sled.specs.Pops.{TakesOut, RefusesToTake, IsLongWay, GivesUpPop}
+use Rattle.sled.specs.Pops.{TakesOut, RefusesToTake, IsAtEnd, PopsBySteps, PopRefusedBySteps, IsLongWay, GivesUpPop, ClearsBySteps, ClearsNone, ClearsMore, ClearRefusedBySteps}
 use Rattle.sled.proofs.Conducting.{conducts_then, conducts_none, conducts_refused}
 use Rattle.sled.proofs.Testing.{no_group}
 use Rattle.sled.proofs.Trees.{maps_are}
@@ -235,17 +235,18 @@ module _ {P M : Type 0} (store : P → Store) (meant : M → Merge) (old : DbVal
   read_quiet of (error.Corruption fault) o k = refl
   read_quiet of error.Closed o k = refl
 
-  refused : (e : Error) (new : DbValue P M) → ((slots : ℕ → Option Flying) (given : ℕ) → MayRefuse (state_of store meant old slots given) (store old.pages) (store new.pages) (ToCall whole) e) → db_state store meant new ≡ db_state store meant old → Conducts store [] (Some e) old new
+  refused : (e : Error) (new : DbValue P M) → ((slots : ℕ → Option Flying) (given : ℕ) → MayRefuse (state_of store meant old slots given) (store old.pages) (store new.pages) (ToCall whole) e) → db_state store meant new ≡ db_state store meant old → Conducts store [] (Some e) old new → (must_refuse (db_state store meant old) (ToCall whole) ≢ None → new ≡ old)
       → WholeRefused store meant old whole e new
-  refused e new may is conducts = record {
+  refused e new may is conducts tested = record {
     maps = [];
     refuses = λ slots given. pop.refuses (state_of store meant old slots given) (store old.pages) (store new.pages) e (state_of store meant new slots given) (may slots given) (ap (with_slots slots given) is);
     conducts = conducts;
+    tested = tested;
   }
 
   -- the read was refused
   pub pop_unread : (of : ℕ → ℕ) (e : Error) → RefusesReading store meant old tree of e → WholeRefused store meant old whole e old
-  pop_unread of e r = refused e old (read_may of e r) refl (conducts_refused store meant old e (read_quiet of e (must_refuse_of (db_state store meant old) (tree ∷ [])) r.told))
+  pop_unread of e r = refused e old (read_may of e r) refl (conducts_refused store meant old e (read_quiet of e (must_refuse_of (db_state store meant old) (tree ∷ [])) r.told)) (λ must. refl)
 
   -- the tree has no pair
   pub pop_none : IsDb store old → ReadsMap store meant old tree (λ map. is_end map None) → WholeDecided store meant old whole (Pair None) old
@@ -308,11 +309,20 @@ module _ {P M : Type 0} (store : P → Store) (meant : M → Merge) (old : DbVal
     pop_untaken e new t = elim t.told [
       | inl p ↦ refused e new
           (λ slots given. may_end slots given (store new.pages) e (take_cause slots given (store new.pages) e (subst (λ o. may_refuse_as o (db_state store meant old) (store old.pages) (store new.pages) (ToPoint tree (Remove pair.0)) e) (first_alone (must_refuse_of (db_state store meant old) (tree ∷ [])) ∙ r.tested) p.refuses.may.told)))
-          p.refuses.is p.conducts
+          p.refuses.is p.conducts (λ must. absurd (must (pop.must (db_state store meant old) ∙ r.tested)))
       | inr m ↦ subst (λ (z : DbValue P M). WholeRefused store meant old whole e z) (sym m.1)
           (subst (λ x. WholeRefused store meant old whole x old) (sym m.0)
-          (refused error.NoMemory old (λ slots given. may_end slots given (store old.pages) error.NoMemory tt) refl (conducts_refused store meant old error.NoMemory refl)))
+          (refused error.NoMemory old (λ slots given. may_end slots given (store old.pages) error.NoMemory tt) refl (conducts_refused store meant old error.NoMemory refl) (λ must. refl)))
     ]
+
+    at_end : IsAtEnd store meant old tree is_end pair
+    at_end = record { named = r.named; there = r.there; ends = r.told }
+
+    pub taken_steps : (found : Option (Key × Key)) (new : DbValue P M) → TakesOut store meant old tree pair found new → PopsBySteps store meant old tree is_end found new
+    taken_steps found new t = record { told = inr (pair, at_end, t) }
+
+    pub untaken_steps : (e : Error) (new : DbValue P M) → RefusesToTake store meant old tree pair e new → PopRefusedBySteps store meant old tree is_end e new
+    untaken_steps e new t = record { told = inr (pair, at_end, t) }
 
     pub gives_up_untaken : (of : ℕ → ℕ) (e : Error) (new : DbValue P M) → RefusesToTake store meant old tree pair e new → GivesUpPop store meant old tree is_end of e
     gives_up_untaken of e new t = elim t.told [
@@ -376,6 +386,12 @@ module _ {P M : Type 0} (store : P → Store) (meant : M → Merge) (old : DbVal
   pub max_gives_up : (e : Error) → RefusesReading store meant old tree for_each e → GivesUpPop store meant old tree IsGreatest for_each e
   max_gives_up e r = gives_up_unread store meant old tree IsGreatest (PopMax tree) (max_is tree) for_each e r
 
+  pub none_steps : (is_end : Map → Option (Key × Key) → Type 0) → PopsBySteps store meant old tree is_end None old
+  none_steps is_end = record { told = inl (refl, refl) }
+
+  pub unread_steps : (is_end : Map → Option (Key × Key) → Type 0) (e : Error) → PopRefusedBySteps store meant old tree is_end e old
+  unread_steps is_end e = record { told = inl refl }
+
   -- what comes of taking out the pair that was read
   module _ (new : DbValue P M) (pair : Key × Key) (read : Option (Key × Key)) (e : read ≡ Some pair) (result : Result (Option (Key × Key)) Error) where
     pub min_found : ReadsMap store meant old tree (λ map. IsSuccessor Unbounded map read) → IfOk result (λ found. TakesOut store meant old tree pair found new) → IfOk result (λ found. WholeDecided store meant old (PopMin tree) (Pair found) new)
@@ -389,6 +405,18 @@ module _ {P M : Type 0} (store : P → Store) (meant : M → Merge) (old : DbVal
 
     pub max_untaken : ReadsMap store meant old tree (λ map. IsPredecessor Unbounded map read) → IfErr result (λ e. RefusesToTake store meant old tree pair e new) → IfErr result (λ e. WholeRefused store meant old (PopMax tree) e new)
     max_untaken r t = err_weaker _ _ (λ x k. pop_untaken store meant old tree IsGreatest (PopMax tree) (max_is tree) pair (at_greatest read (Some pair) e r) x new k) result t
+
+    pub min_steps : ReadsMap store meant old tree (λ map. IsSuccessor Unbounded map read) → IfOk result (λ found. TakesOut store meant old tree pair found new) → IfOk result (λ found. PopsBySteps store meant old tree IsLeast found new)
+    min_steps r t = ok_weaker _ _ (λ found k. taken_steps store meant old tree IsLeast (PopMin tree) (min_is tree) pair (at_least read (Some pair) e r) found new k) result t
+
+    pub max_steps : ReadsMap store meant old tree (λ map. IsPredecessor Unbounded map read) → IfOk result (λ found. TakesOut store meant old tree pair found new) → IfOk result (λ found. PopsBySteps store meant old tree IsGreatest found new)
+    max_steps r t = ok_weaker _ _ (λ found k. taken_steps store meant old tree IsGreatest (PopMax tree) (max_is tree) pair (at_greatest read (Some pair) e r) found new k) result t
+
+    pub min_stopped : ReadsMap store meant old tree (λ map. IsSuccessor Unbounded map read) → IfErr result (λ e. RefusesToTake store meant old tree pair e new) → IfErr result (λ e. PopRefusedBySteps store meant old tree IsLeast e new)
+    min_stopped r t = err_weaker _ _ (λ x k. untaken_steps store meant old tree IsLeast (PopMin tree) (min_is tree) pair (at_least read (Some pair) e r) x new k) result t
+
+    pub max_stopped : ReadsMap store meant old tree (λ map. IsPredecessor Unbounded map read) → IfErr result (λ e. RefusesToTake store meant old tree pair e new) → IfErr result (λ e. PopRefusedBySteps store meant old tree IsGreatest e new)
+    max_stopped r t = err_weaker _ _ (λ x k. untaken_steps store meant old tree IsGreatest (PopMax tree) (max_is tree) pair (at_greatest read (Some pair) e r) x new k) result t
 
     pub min_gives_up_later : ReadsMap store meant old tree (λ map. IsSuccessor Unbounded map read) → IfErr result (λ e. RefusesToTake store meant old tree pair e new) → IfErr result (GivesUpPop store meant old tree IsLeast once)
     min_gives_up_later r t = err_weaker _ _ (λ x k. gives_up_untaken store meant old tree IsLeast (PopMin tree) (min_is tree) pair (at_least read (Some pair) e r) once x new k) result t
@@ -421,12 +449,13 @@ pub record IsClearing {P M : Type 0} (store : P → Store) (meant : M → Merge)
   pub maps : List Maps
   pub removes : (slots : ℕ → Option Flying) (given : ℕ) → RemovesLeast tree (state_of store meant old slots given) parts (state_of store meant mid slots given) maps
   pub conducts : Conducts store maps None old mid
+  pub clears : ClearsBySteps store meant tree old mid
   -- it did nothing yet, or the tests let it pass
   pub tested : ((mid ≡ old) × (parts ≡ zero)) ⊎ (must_refuse_of (db_state store meant old) (tree ∷ []) ≡ None)
 
 module _ {P M : Type 0} (store : P → Store) (meant : M → Merge) (old : DbValue P M) (tree : Tree) where
   pub clearing_first : IsClearing store meant old tree old
-  clearing_first = record { parts = 0; maps = []; removes = λ slots given. RemovesNone; conducts = conducts_none store meant old; tested = inl (refl, refl) }
+  clearing_first = record { parts = 0; maps = []; removes = λ slots given. RemovesNone; conducts = conducts_none store meant old; clears = ClearsNone; tested = inl (refl, refl) }
 
   module _ (mid : DbValue P M) (k : IsClearing store meant old tree mid) where
     passed : must_refuse_of (db_state store meant mid) (tree ∷ []) ≡ None → must_refuse_of (db_state store meant old) (tree ∷ []) ≡ None
@@ -470,14 +499,27 @@ module _ {P M : Type 0} (store : P → Store) (meant : M → Merge) (old : DbVal
           };
       conducts = subst (λ m. Conducts store m (Some e) old new) (append-nil k.maps)
           (conducts_then store meant k.maps [] (Some e) old mid new k.conducts db (subst (λ m. Conducts store m (Some e) mid new) (w.refuses (λ n. None) 0).2 w.conducts));
+      tested = λ must. elim k.tested [
+        | inl same ↦ w.tested (subst (λ (z : DbValue P M). must_refuse (db_state store meant z) (ToCall (Clear tree)) ≢ None) (sym same.0) must) ∙ same.0
+        | inr before ↦ absurd (must (first_alone (must_refuse_of (db_state store meant old) (tree ∷ [])) ∙ before))
+      ];
     }
 
     pub clearing_unread : IsDb store mid → (e : Error) → RefusesReading store meant mid tree once e → WholeRefused store meant old (Clear tree) e mid
     clearing_unread db e r = clearing_stops db e mid (min_unread store meant mid tree e r)
 
+    pub clearing_unread_steps : (e : Error) → ClearRefusedBySteps store meant old tree e mid
+    clearing_unread_steps e = record { mid = mid; clears = k.clears; refused = record { told = inl refl } }
+
     module _ (pair : Key × Key) (read : Option (Key × Key)) (e : read ≡ Some pair) (r : ReadsMap store meant mid tree (λ map. IsSuccessor Unbounded map read)) where
       pub clearing_untaken : IsDb store mid → (x : Error) (new : DbValue P M) → PointRefused store meant mid tree (Remove pair.0) x new → WholeRefused store meant old (Clear tree) x new
       clearing_untaken db x new p = clearing_stops db x new (pop_untaken store meant mid tree IsLeast (PopMin tree) (min_is tree) pair (at_least store meant mid tree read (Some pair) e r) x new (record { told = inl p }))
+
+      at : IsAtEnd store meant mid tree IsLeast pair
+      at = let l = at_least store meant mid tree read (Some pair) e r in record { named = l.named; there = l.there; ends = l.told }
+
+      pub clearing_untaken_steps : (x : Error) (new : DbValue P M) → PointRefused store meant mid tree (Remove pair.0) x new → ClearRefusedBySteps store meant old tree x new
+      clearing_untaken_steps x new p = record { mid = mid; clears = k.clears; refused = record { told = inr (pair, at, record { told = inl p }) } }
 
       -- a part is done
       module _ (reply : Reply) (new : DbValue P M) (p : PointDecided store meant mid tree (Remove pair.0) reply new) where
@@ -497,6 +539,7 @@ module _ {P M : Type 0} (store : P → Store) (meant : M → Merge) (old : DbVal
           removes = λ slots given. subst (λ (s : State). RemovesLeast tree (state_of store meant old slots given) (suc k.parts) s (k.maps ++ maps_of s ∷ [])) (sym (state_now slots given))
               (removes_more tree k.parts (state_of store meant old slots given) (state_of store meant mid slots given) k.maps (k.removes slots given) named pair first.0 p.decides.there first.1);
           conducts = conducts_then store meant k.maps (maps_of (db_state store meant new) ∷ []) None old mid new k.conducts db p.conducts;
+          clears = ClearsMore k.clears at p;
           tested = inr (passed r.tested);
         }
 

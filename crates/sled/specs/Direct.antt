@@ -1,5 +1,5 @@
 -- Calls that are made at once, in no slot.
-use Rattle.std.specs.Prelude.{◌≡◌, ℕ, ◌≤◌, ◌⊎◌, true, List, [], ◌∷◌, length, Option, Some, None, Result}
+use Rattle.std.specs.Prelude.{◌≡◌, ◌≢◌, ℕ, ◌≤◌, ◌⊎◌, true, List, [], ◌∷◌, length, Option, Some, None, Result}
 use Rattle.sled_pages.specs.In.{In}
 use Rattle.sled_pages.specs.Order.{Key}
 use Rattle.std.specs.declared.ops.Bound.TheVariants.{Included}
@@ -11,7 +11,7 @@ use Rattle.sled_model.specs.Answer.{key_of}
 use Rattle.sled_model.specs.State.{Flying, maps_of}
 use Rattle.sled_model.specs.Steps.{WholeDecides, WholeRefuses}
 use Rattle.sled_model.specs.Whole.{DecidesPoint, RefusesPoint}
-use Rattle.sled_model.specs.Refusal.{TellsTurns, turns_limit}
+use Rattle.sled_model.specs.Refusal.{ToCall, must_refuse, TellsTurns, turns_limit}
 use Rattle.sled_model.specs.declared.call.Call.{Call}
 use Rattle.sled_model.specs.declared.call.Whole.{Whole}
 use Rattle.sled_model.specs.declared.tree.Tree.{Tree}
@@ -103,3 +103,5 @@ module _ {P M : Type 0} (store : P → Store) (meant : M → Merge) where
     pub maps : List Maps
     pub refuses : (slots : ℕ → Option Flying) (slots_given : ℕ) → WholeRefuses (state_of store meant old slots slots_given) (store old.pages) (store new.pages) whole e (state_of store meant new slots slots_given) maps
     pub conducts : Conducts store maps (Some e) old new
+    -- by a test, and then it did nothing
+    pub tested : must_refuse (db_state store meant old) (ToCall whole) ≢ None → new ≡ old

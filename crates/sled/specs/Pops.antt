@@ -1,11 +1,11 @@
 -- What taking the pair at an end of a tree comes to, step by step, and when it is given up.
-use Rattle.std.specs.Prelude.{◌≡◌, ℕ, ◌≤◌, ◌⊎◌, List, length, Option, Some}
+use Rattle.std.specs.Prelude.{◌≡◌, ℕ, ◌≤◌, ◌⊎◌, List, length, Option, Some, None}
 use Rattle.std.specs.declared.ops.Bound.TheVariants.{Included}
 use Rattle.sled_pages.specs.Order.{Key}
 use Rattle.sled_pages.specs.Store.{Store, now}
 use Rattle.sled_pages.specs.declared.error.Error.{Error}
 use Rattle.sled_pages.specs.declared.error.Error.TheVariants.{NoMemory}
-use Rattle.sled_model.specs.Maps.{Map, Merge}
+use Rattle.sled_model.specs.Maps.{Map, Merge, IsLeast}
 use Rattle.sled_model.specs.State.{NamedTree}
 use Rattle.sled_model.specs.Refusal.{TellsTurns, turns_limit}
 use Rattle.sled_model.specs.declared.call.Call.TheVariants.{Remove}
@@ -27,6 +27,20 @@ module _ {P M : Type 0} (store : P → Store) (meant : M → Merge) (old : DbVal
   pub record RefusesToTake (pair : Key × Key) (e : Error) (new : DbValue P M) : Type 0 where
     pub told : PointRefused store meant old tree (Remove pair.0) e new ⊎ ((e ≡ NoMemory) × (new ≡ old))
 
+  -- the pair stands at this end of the tree's map
+  pub record IsAtEnd (is_end : Map → Option (Key × Key) → Type 0) (pair : Key × Key) : Type 0 where
+    pub named : NamedTree
+    pub there : (db_state store meant old).trees tree.name ≡ Some named
+    pub ends : is_end named.map (Some pair)
+
+  -- A pop found no pair and did nothing, or did the steps of the removal of the pair at this end, and no others
+  pub record PopsBySteps (is_end : Map → Option (Key × Key) → Type 0) (found : Option (Key × Key)) (new : DbValue P M) : Type 0 where
+    pub told : ((found ≡ None) × (new ≡ old)) ⊎ ((pair : Key × Key) × IsAtEnd is_end pair × TakesOut pair found new)
+
+  -- .. or it was refused: it did nothing, or the steps of that removal until one was refused
+  pub record PopRefusedBySteps (is_end : Map → Option (Key × Key) → Type 0) (e : Error) (new : DbValue P M) : Type 0 where
+    pub told : (new ≡ old) ⊎ ((pair : Key × Key) × IsAtEnd is_end pair × RefusesToTake pair e new)
+
   -- the way to the key of the pair at this end is not clean, or it has as many levels as a call has turns
   pub record IsLongWay (is_end : Map → Option (Key × Key) → Type 0) : Type 0 where
     pub named : NamedTree
@@ -39,3 +53,15 @@ module _ {P M : Type 0} (store : P → Store) (meant : M → Merge) (old : DbVal
   -- limit of a read, or where there was something to repair on the way to the key, or the way has so many levels
   pub record GivesUpPop (is_end : Map → Option (Key × Key) → Type 0) (of : ℕ → ℕ) (e : Error) : Type 0 where
     pub told : TellsTurns e → (MOST_PAGES ≤ of (tree_pages (now (store old.pages)) tree.name)) ⊎ IsLongWay is_end
+
+-- Keys of a tree were removed one after the other, each the least of those that were left, and each by the steps of its removal
+pub data ClearsBySteps {P M : Type 0} (store : P → Store) (meant : M → Merge) (tree : Tree) : DbValue P M → DbValue P M → Type 0 where
+  ClearsNone : {db : DbValue P M} → ClearsBySteps store meant tree db db
+  ClearsMore : {old mid new : DbValue P M} {pair : Key × Key} {reply : Reply}
+      → ClearsBySteps store meant tree old mid → IsAtEnd store meant mid tree IsLeast pair → PointDecided store meant mid tree (Remove pair.0) reply new → ClearsBySteps store meant tree old new
+
+-- A clear removed some so, and the next removal was refused
+pub record ClearRefusedBySteps {P M : Type 0} (store : P → Store) (meant : M → Merge) (old : DbValue P M) (tree : Tree) (e : Error) (new : DbValue P M) : Type 0 where
+  pub mid : DbValue P M
+  pub clears : ClearsBySteps store meant tree old mid
+  pub refused : PopRefusedBySteps store meant mid tree IsLeast e new

@@ -11,7 +11,7 @@ use sled_pages::{IVec, Pages, Result};
 
 impl<P: Pages, M: MergeOperator> Db<P, M> {
     ghost use Rattle.sled.specs.Direct.{WholeDecided, WholeRefused};
-    ghost use Rattle.sled.specs.Pops.{TakesOut, RefusesToTake, GivesUpPop};
+    ghost use Rattle.sled.specs.Pops.{TakesOut, RefusesToTake, PopsBySteps, PopRefusedBySteps, GivesUpPop, ClearsBySteps, ClearRefusedBySteps};
 
     // Takes out a pair that was read just now.
     fn pop_pair(&mut self, tree: &Tree, pair: (IVec, IVec)) -> Result<Option<(IVec, IVec)>>
@@ -43,6 +43,8 @@ impl<P: Pages, M: MergeOperator> Db<P, M> {
         ensures ok { IfOk result (λ found. WholeDecided P.store M.meant self.old (PopMin tree.now) (Pair found) self.new) }
         ensures err { IfErr result (λ e. WholeRefused P.store M.meant self.old (PopMin tree.now) e self.new) }
         ensures gives_up { IfErr result (GivesUpPop P.store M.meant self.old tree.now IsLeast once) }
+        ensures steps { IfOk result (λ found. PopsBySteps P.store M.meant self.old tree.now IsLeast found self.new) }
+        ensures refused { IfErr result (λ e. PopRefusedBySteps P.store M.meant self.old tree.now IsLeast e self.new) }
     {
         match self.first(tree) {
             Ok(Some(pair)) => self.pop_pair(tree, pair),
@@ -59,6 +61,8 @@ impl<P: Pages, M: MergeOperator> Db<P, M> {
         ensures ok { IfOk result (λ found. WholeDecided P.store M.meant self.old (PopMax tree.now) (Pair found) self.new) }
         ensures err { IfErr result (λ e. WholeRefused P.store M.meant self.old (PopMax tree.now) e self.new) }
         ensures gives_up { IfErr result (GivesUpPop P.store M.meant self.old tree.now IsGreatest for_each) }
+        ensures steps { IfOk result (λ found. PopsBySteps P.store M.meant self.old tree.now IsGreatest found self.new) }
+        ensures refused { IfErr result (λ e. PopRefusedBySteps P.store M.meant self.old tree.now IsGreatest e self.new) }
     {
         match self.last(tree) {
             Ok(Some(pair)) => self.pop_pair(tree, pair),
@@ -75,6 +79,8 @@ impl<P: Pages, M: MergeOperator> Db<P, M> {
     pub fn clear(&mut self, tree: &Tree) -> Result<()>
         ensures ok { OnOk result (WholeDecided P.store M.meant self.old (Clear tree.now) Done self.new) }
         ensures err { IfErr result (λ e. WholeRefused P.store M.meant self.old (Clear tree.now) e self.new) }
+        ensures steps { OnOk result (ClearsBySteps P.store M.meant tree.now self.old self.new) }
+        ensures refused { IfErr result (λ e. ClearRefusedBySteps P.store M.meant self.old tree.now e self.new) }
     {
         'parts: loop {
             self.audit();

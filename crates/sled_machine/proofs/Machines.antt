@@ -119,6 +119,7 @@ module _ {P M : Type 0} (store : P → Store) (number : P → ℕ) (meant : M �
     loses = record { none = loses_nothing None (moment_of_db store v.db) };
     leaves = record { told = λ w is. subst (λ o. LeavesNone (owned_by o) (owned_by o) (now (store v.db.pages)) (now (store v.db.pages)) w) (sym e) (leaves_same_pages [] [] (now (store v.db.pages)) w (λ q i. i)) };
     gives_up = record { told = tt };
+    tested = record { told = tt };
   }
 
   pub missing_abandon : (slot : ℕ) → kept_at v.flights slot ≡ None → Reaches store number meant v (step.Abandon slot) outcome.NoSuchSlot v
@@ -132,6 +133,7 @@ module _ {P M : Type 0} (store : P → Store) (number : P → ℕ) (meant : M �
     loses = record { none = loses_nothing None (moment_of_db store v.db) };
     leaves = record { told = tt };
     gives_up = record { told = tt };
+    tested = record { told = tt };
   }
 
   -- a call is given up
@@ -149,6 +151,7 @@ module _ {P M : Type 0} (store : P → Store) (number : P → ℕ) (meant : M �
       loses = record { none = loses_nothing None (moment_of_db store v.db) };
       leaves = record { told = tt };
       gives_up = record { told = tt };
+      tested = record { told = tt };
     }
 
     pub abandoned_machine : IsMachine (moment_of_db store v.db) gs v.slots_given
@@ -193,6 +196,7 @@ module _ {P M : Type 0} (store : P → Store) (number : P → ℕ) (meant : M �
       loses = record { none = flies.loses };
       leaves = record { told = leaves };
       gives_up = record { told = tt };
+      tested = record { told = tt };
     }
       where
         here : slots_of v.flights slot ≡ Some (flying_of f)
@@ -278,6 +282,7 @@ module _ {P M : Type 0} (store : P → Store) (number : P → ℕ) (meant : M �
     loses = record { none = loses_nothing None (moment_of_db store v.db) };
     leaves = record { told = tt };
     gives_up = record { told = tt };
+    tested = record { told = tt };
   }
 
   pub begin_untested : (tree : Tree) (call : Call) (e : Error) → MustBeRefused (must_refuse_of (db_state store meant v.db) (tree ∷ [])) e → Reaches store number meant v (step.Begin tree call) (outcome.Refused e) v
@@ -324,6 +329,7 @@ module _ {P M : Type 0} (store : P → Store) (number : P → ℕ) (meant : M �
         loses = record { none = loses_nothing None (moment_of_db store v.db) };
         leaves = record { told = tt };
         gives_up = record { told = tt };
+        tested = record { told = tt };
       }
 
       pub begun_machine : IsMachine (moment_of_db store v.db) gs slot
@@ -369,6 +375,7 @@ module _ {P M : Type 0} (store : P → Store) (number : P → ℕ) (meant : M �
     loses = flush_loses db f.same (flushed_now f.is);
     leaves = record { told = tt };
     gives_up = record { told = tt };
+    tested = record { told = tt };
   }
 
   pub flushed_machine : (db : DbValue P M) (n : ℕ) → FlushesDb store number meant v.db n db → IsMachine (moment_of_db store db) v.flights v.slots_given
@@ -389,6 +396,7 @@ module _ {P M : Type 0} (store : P → Store) (number : P → ℕ) (meant : M �
     loses = flush_loses db f.same (rests_now rests);
     leaves = record { told = tt };
     gives_up = record { told = tt };
+    tested = record { told = tt };
   }
 
   pub refused_machine : (db : DbValue P M) (e : Error) → RefusesFlush store meant v.db db e → IsMachine (moment_of_db store db) v.flights v.slots_given

@@ -1,5 +1,5 @@
 -- Whole calls but the flush: what the database says of one is what the machine promises.
-use Rattle.std.proofs.Common.{◌≡◌, ℕ, List, [], ◌∷◌, ◌++◌, Option, Some, None, sym, refl, subst}
+use Rattle.std.proofs.Common.{◌≡◌, ℕ, List, [], ◌∷◌, ◌++◌, Option, Some, None, sym, refl, ap, subst}
 use Rattle.sled_pages.specs.Store.{Store}
 use Rattle.sled_pages.specs.declared.error.Error.{Error}
 use Rattle.sled_model.specs.Maps.{Maps, Merge}
@@ -14,7 +14,7 @@ use Rattle.sled.specs.Values.{DbValue, moment_of_db}
 use Rattle.sled.specs.Direct.{acts_till, LosesNoPage, Conducts, WholeDecided, WholeRefused}
 use Rattle.sled_machine.specs.CrashMaps.{Leaves, kept_after_whole}
 use Rattle.sled_machine.specs.Sound.{IsMachine}
-use Rattle.sled_machine.specs.Step.{Reaches, whole_acts, whole_loses, whole_gives_up}
+use Rattle.sled_machine.specs.Step.{Reaches, whole_acts, whole_loses, whole_gives_up, whole_tested}
 use Rattle.sled_machine.specs.Values.{MachineValue, slots_of, instant_of}
 use Rattle.sled_machine.proofs.Runs.{extended}
 
@@ -49,6 +49,12 @@ loses_other Telling off a b l = l
 loses_other Changing off a b l = l
 loses_other InParts off a b l = l
 
+tested_other : (k : Kind) → IsOther k → (T : Type 0) → T → whole_tested k T
+tested_other Flushing off T t = absurd off
+tested_other Telling off T t = t
+tested_other Changing off T t = t
+tested_other InParts off T t = t
+
 module _ {P M : Type 0} (store : P → Store) (number : P → ℕ) (meant : M → Merge) (v : MachineValue P M) (w : Whole) (off : IsOther (kind_of w)) (db : DbValue P M) where
   decided : (reply : Reply) → WholeDecided store meant v.db w reply db → Reaches store number meant v (step.Whole w) (outcome.Decided reply) (record v { db = db })
   decided reply d = record {
@@ -65,6 +71,7 @@ module _ {P M : Type 0} (store : P → Store) (number : P → ℕ) (meant : M �
     loses = record { none = loses_other (kind_of w) off (moment_of_db store v.db) (moment_of_db store db) d.conducts.loses };
     leaves = record { told = tt };
     gives_up = record { told = tt };
+    tested = record { told = tt };
   }
 
   refused : (e : Error) → WholeRefused store meant v.db w e db → whole_gives_up store meant v.db w e → Reaches store number meant v (step.Whole w) (outcome.Refused e) (record v { db = db })
@@ -82,6 +89,7 @@ module _ {P M : Type 0} (store : P → Store) (number : P → ℕ) (meant : M �
     loses = record { none = loses_other (kind_of w) off (moment_of_db store v.db) (moment_of_db store db) d.conducts.loses };
     leaves = record { told = tt };
     gives_up = record { told = up };
+    tested = record { told = tested_other (kind_of w) off _ (λ must. ap (λ (z : DbValue P M). record v { db = z }) (d.tested must)) };
   }
 
 -- the same, where a method knows the machine by its fields

@@ -3,7 +3,7 @@ use Rattle.std.specs.Prelude.{◌≡◌, ◌≢◌, ℕ, suc, ◌<◌, List, [],
 use Rattle.sled_pages.specs.Store.{Store, now, flushed}
 use Rattle.sled_model.specs.Maps.{Maps, Merge, IsLeast, IsGreatest}
 use Rattle.sled_model.specs.Answer.{answer_of}
-use Rattle.sled_model.specs.Refusal.{must_refuse_of, turns_limit}
+use Rattle.sled_model.specs.Refusal.{ToCall, must_refuse, must_refuse_of, turns_limit}
 use Rattle.sled_model.specs.State.{State, NamedTree, Flying, maps_of}
 use Rattle.sled_model.specs.Steps.{Steps, Kind, Flushing, kind_of}
 use Rattle.sled_pages.specs.declared.error.Error.{Error}
@@ -176,6 +176,18 @@ gives_up_as store meant old s o = Unit {0}
 pub record MachineGivesUp {P M : Type 0} (store : P → Store) (meant : M → Merge) (old : MachineValue P M) (s : Step) (o : Outcome) : Type 0 where
   pub told : gives_up_as store meant old.db s o
 
+-- a whole call but the flush that a test refuses does nothing
+abbrev pub whole_tested : Kind → Type 0 → Type 0
+whole_tested Flushing told = Unit {0}
+whole_tested kind told = told
+
+abbrev pub tested_as : {P M : Type 0} → (P → Store) → (M → Merge) → MachineValue P M → Step → Outcome → MachineValue P M → Type 0
+tested_as store meant old (step.Whole whole) (Refused e) new = whole_tested (kind_of whole) (must_refuse (db_state store meant old.db) (ToCall whole) ≢ None → new ≡ old)
+tested_as store meant old s o new = Unit {0}
+
+pub record MachineTested {P M : Type 0} (store : P → Store) (meant : M → Merge) (old : MachineValue P M) (s : Step) (o : Outcome) (new : MachineValue P M) : Type 0 where
+  pub told : tested_as store meant old s o new
+
 -- All that is said of one step
 pub record Reaches {P M : Type 0} (store : P → Store) (flush_number : P → ℕ) (meant : M → Merge) (old : MachineValue P M) (s : Step) (o : Outcome) (new : MachineValue P M) : Type 0 where
   pub step : MachineStep store flush_number meant old s o new
@@ -187,3 +199,4 @@ pub record Reaches {P M : Type 0} (store : P → Store) (flush_number : P → �
   pub loses : MachineLoses store old s new
   pub leaves : MachineLeaves store old s o new
   pub gives_up : MachineGivesUp store meant old s o
+  pub tested : MachineTested store meant old s o new

@@ -5,3 +5,9 @@ returns-clause-ok c = assumption
 
 pub returns-clause-err : goal.returns-clause-err
 returns-clause-err c = assumption
+
+pub returns-clause-steps : goal.returns-clause-steps
+returns-clause-steps c = assumption
+
+pub returns-clause-refused : goal.returns-clause-refused
+returns-clause-refused c = assumption

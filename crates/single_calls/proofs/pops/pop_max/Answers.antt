@@ -8,3 +8,9 @@ returns-clause-err c = assumption
 
 pub returns-clause-gives_up : goal.returns-clause-gives_up
 returns-clause-gives_up c = assumption
+
+pub returns-clause-steps : goal.returns-clause-steps
+returns-clause-steps c = assumption
+
+pub returns-clause-refused : goal.returns-clause-refused
+returns-clause-refused c = assumption

@@ -1,4 +1,4 @@
-use Rattle.sled.proofs.Popping.{clearing_first, clearing_ends, clearing_unread, clearing_untaken, clearing_more, clearing_smaller}
+use Rattle.sled.proofs.Popping.{clearing_first, clearing_ends, clearing_unread, clearing_untaken, clearing_more, clearing_smaller, clearing_unread_steps, clearing_untaken_steps}
 use Rattle.sled.proofs.db.Db.clear.Goals as goal
 
 pub parts-init : goal.parts-init
@@ -18,3 +18,12 @@ parts-preserved g c = clearing_more g.P.Pages.store g.M.MergeOperator.meant c.ar
 
 pub returns-in-Err-point-clause-err : goal.returns-in-Err-point-clause-err
 returns-in-Err-point-clause-err g c = clearing_untaken g.P.Pages.store g.M.MergeOperator.meant c.args.self.now c.args.tree.now c.parts.self c.parts.invariant _ _ c.in-Ok-Some.field-0-is c.in-Ok-Some.ensures.ok c.audit.ensures _ _ c.in-Err-point.ensures.err
+
+pub returns-in-Ok-None-clause-steps : goal.returns-in-Ok-None-clause-steps
+returns-in-Ok-None-clause-steps g c = c.parts.invariant.clears
+
+pub returns-in-Err-clause-refused : goal.returns-in-Err-clause-refused
+returns-in-Err-clause-refused g c = clearing_unread_steps g.P.Pages.store g.M.MergeOperator.meant _ _ c.parts.self c.parts.invariant _
+
+pub returns-in-Err-point-clause-refused : goal.returns-in-Err-point-clause-refused
+returns-in-Err-point-clause-refused g c = clearing_untaken_steps g.P.Pages.store g.M.MergeOperator.meant c.args.self.now c.args.tree.now c.parts.self c.parts.invariant _ _ c.in-Ok-Some.field-0-is c.in-Ok-Some.ensures.ok _ _ c.in-Err-point.ensures.err

@@ -1,4 +1,5 @@
-use Rattle.sled.proofs.Popping.{max_none, max_found, max_unread, max_untaken, max_gives_up, max_gives_up_later}
+use Rattle.sled_model.specs.Maps.{IsGreatest}
+use Rattle.sled.proofs.Popping.{max_none, max_found, max_unread, max_untaken, max_gives_up, max_gives_up_later, max_steps, max_stopped, none_steps, unread_steps}
 use Rattle.sled.proofs.db.Db.pop_max.Goals as goal
 
 pub returns-in-Ok-Some-clause-ok : goal.returns-in-Ok-Some-clause-ok
@@ -18,3 +19,15 @@ returns-in-Err-clause-err g c = max_unread g.P.Pages.store g.M.MergeOperator.mea
 
 pub returns-in-Err-clause-gives_up : goal.returns-in-Err-clause-gives_up
 returns-in-Err-clause-gives_up g c = max_gives_up g.P.Pages.store g.M.MergeOperator.meant _ _ _ c.in-Err.ensures.err
+
+pub returns-in-Ok-Some-clause-steps : goal.returns-in-Ok-Some-clause-steps
+returns-in-Ok-Some-clause-steps g c = max_steps g.P.Pages.store g.M.MergeOperator.meant _ _ c.take_out.new.self _ _ c.in-Ok-Some.field-0-is c.take_out.result c.in-Ok-Some.ensures.ok c.take_out.ensures.ok
+
+pub returns-in-Ok-Some-clause-refused : goal.returns-in-Ok-Some-clause-refused
+returns-in-Ok-Some-clause-refused g c = max_stopped g.P.Pages.store g.M.MergeOperator.meant _ _ c.take_out.new.self _ _ c.in-Ok-Some.field-0-is c.take_out.result c.in-Ok-Some.ensures.ok c.take_out.ensures.err
+
+pub returns-in-Ok-None-clause-steps : goal.returns-in-Ok-None-clause-steps
+returns-in-Ok-None-clause-steps g c = none_steps g.P.Pages.store g.M.MergeOperator.meant _ _ IsGreatest
+
+pub returns-in-Err-clause-refused : goal.returns-in-Err-clause-refused
+returns-in-Err-clause-refused g c = unread_steps g.P.Pages.store g.M.MergeOperator.meant _ _ IsGreatest _
