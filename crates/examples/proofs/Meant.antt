@@ -65,10 +65,10 @@ module _ {P M : Type 0} (store : P → Store) (number : P → ℕ) (meant : M �
 
   -- what holds of a database holds of it whatever its operators are
   plain_sound : (d : DbValue P M) → IsDb store d → IsDb store (plain d)
-  plain_sound d s = record { forest = s.forest; is = s.is; sized = s.sized; safe = s.safe; ascends = s.ascends; default = s.default; unwatched = s.unwatched }
+  plain_sound d s = record { forest = s.forest; is = s.is; sized = s.sized; safe = s.safe; ascends = s.ascends; default = s.default; unwatched = s.unwatched; ids = s.ids }
 
   meant_sound : (d : DbValue P M) → IsDb store (plain d) → IsDb store d
-  meant_sound d s = record { forest = s.forest; is = s.is; sized = s.sized; safe = s.safe; ascends = s.ascends; default = s.default; unwatched = s.unwatched }
+  meant_sound d s = record { forest = s.forest; is = s.is; sized = s.sized; safe = s.safe; ascends = s.ascends; default = s.default; unwatched = s.unwatched; ids = s.ids }
 
   plain_step : (a b : MachineValue P M) (s : Step) (o : Outcome) → (r : MachineStep store number meant a s o b) → MachineStep store number (λ m. m) (plain_machine a) s o (plain_machine b)
   plain_step a b s o r = record {

@@ -117,7 +117,7 @@ loses_once m n l w v was now =
       last = s.last;
     }
 
-loses_same : (m : Moment) → LosesNoPage m m
+pub loses_same : (m : Moment) → LosesNoPage m m
 loses_same m = loses_once m m (loses_nothing None m)
 
 -- ---- the causes of a refusal

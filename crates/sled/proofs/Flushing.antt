@@ -1,5 +1,5 @@
 -- A flush changes what a crash may leave, and nothing else.
-use Rattle.std.proofs.Common.{◌≡◌, ℕ, ◌+◌, ◌<◌, true, false, not, [], ◌∷◌, Option, sym, refl, ap, ◌∙◌, subst, arith, option_map}
+use Rattle.std.proofs.Common.{◌≡◌, ℕ, ◌+◌, ◌<◌, ◌≤◌, true, false, not, [], ◌∷◌, Option, sym, refl, ap, ◌∙◌, subst, arith, option_map}
 use Rattle.std.specs.FinMap.Entries.{find}
 use Rattle.std.specs.Ordering.{nat_cmp}
 use Rattle.sled_pages.specs.In.{In}
@@ -65,6 +65,7 @@ module _ {P M : Type 0} (store : P → Store) (meant : M → Merge) (old : DbVal
       ascends = db.ascends;
       default = db.default;
       unwatched = db.unwatched;
+      ids = subst (λ (z : Store). old.greatest_id ≤ z.mark) (sym e) db.ids;
     }
 
     pub flush_done : (flush_number : P → ℕ) (number : ℕ) → number ≡ flush_number old.pages → (now (store old.pages)).in_group ≡ false → store q ≡ flushed (store old.pages) → FlushesDb store flush_number meant old number (record old { pages = q })
@@ -90,6 +91,7 @@ module _ {P M : Type 0} (store : P → Store) (meant : M → Merge) (old : DbVal
       ascends = db.ascends;
       default = db.default;
       unwatched = db.unwatched;
+      ids = subst (λ m. old.greatest_id ≤ m) (sym rests.mark) db.ids;
     }
 
   -- refused by the store

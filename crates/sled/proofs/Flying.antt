@@ -249,8 +249,8 @@ module _ {P M : Type 0} (store : P → Store) (meant : M → Merge) (old : DbVal
       new = record old { pages = q }
 
       -- the database is as it should be
-      is_db : (v : Forest) {mine own : List ℕ} → Acts mine own at db.forest after v → IsCrashWhole (store q) → IsDb store new
-      is_db v a safe = record { forest = v; is = a.is; sized = a.sized db.sized; safe = safe; ascends = db.ascends; default = db.default; unwatched = db.unwatched }
+      is_db : (v : Forest) {mine own : List ℕ} → Acts mine own at db.forest after v → IsCrashWhole (store q) → (store q).mark ≡ (store old.pages).mark → IsDb store new
+      is_db v a safe mark = record { forest = v; is = a.is; sized = a.sized db.sized; safe = safe; ascends = db.ascends; default = db.default; unwatched = db.unwatched; ids = subst (λ m. old.greatest_id ≤ m) (sym mark) db.ids }
 
       -- no group is open
       calm : (now (store old.pages)).in_group ≡ false
@@ -279,7 +279,7 @@ module _ {P M : Type 0} (store : P → Store) (meant : M → Merge) (old : DbVal
         moved_extends = extends_unseen (store old.pages) (store q) moves.touches calm (moved_touches.calm ∙ calm) (well moved.0 moved.1) moved_trees
 
         pub moved_db : IsDb store (record old { pages = q })
-        moved_db = is_db moved.0 moved.1 (whole moved.0 moved.1 moves.touches)
+        moved_db = is_db moved.0 moved.1 (whole moved.0 moved.1 moves.touches) moved_touches.mark
 
         flying_more : flying_of g ≡ record (flying_of f) { turns = f.turns + 1 }
         flying_more = λ i. record { tree = (job i).tree; call = (job i).call; turns = turns i; waiting = []; rest = None }
@@ -350,7 +350,7 @@ module _ {P M : Type 0} (store : P → Store) (meant : M → Merge) (old : DbVal
         refused_calm = ap (λ (s : Rattle.sled_pages.specs.State.State). s.in_group) (now_rests rests)
 
         pub refused_db : IsDb store (record old { pages = q })
-        refused_db = is_db refused.0 refused.1 (record { whole = λ x i. db.safe.whole x (subst (In x) (rests_left rests) i) })
+        refused_db = is_db refused.0 refused.1 (record { whole = λ x i. db.safe.whole x (subst (In x) (rests_left rests) i) }) rests.mark
 
         pub flies_refused : Flies store meant old f (Refused e) new g
         flies_refused = record {
@@ -408,7 +408,7 @@ module _ {P M : Type 0} (store : P → Store) (meant : M → Merge) (old : DbVal
         done_extends = extends_seen (store old.pages) (store q) moves.touches (done_touches.calm ∙ calm) (well done.0 done.1)
 
         pub decided_db : IsDb store (record old { pages = q })
-        decided_db = is_db done.0 done.1 (whole done.0 done.1 moves.touches)
+        decided_db = is_db done.0 done.1 (whole done.0 done.1 moves.touches) done_touches.mark
 
         -- the trees of the state, where that of the call is another
         named_trees : (t : Key) → named (numbers_of old.trees t) (trees_of (now (store q)) t) (λ n. option_map meant (find nat_cmp n old.operators))

@@ -11,3 +11,4 @@ pub mod Reading
 pub mod Scanning
 pub mod Popping
 pub mod Naming
+pub mod Numbering

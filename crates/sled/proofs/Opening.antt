@@ -410,8 +410,8 @@ module _ (s : Store) {trees : List (Key × ℕ)} (all : AreNumbered (now s) tree
       within : (n m given : ℕ) → 0 < n → n ≤ 0 + m → given ≡ m → given_to given n ≡ true
       within n m given p q e = grind (arith, nat_tests)
 
-  pub opened_db : {P M : Type 0} (store : P → Store) (d : DbValue P M) → d.trees ≡ trees → d.trees_given ≡ length trees → d.queues ≡ [] → AreGiven s → (a : Store) → HasTree default_name a s → store d.pages ≡ flushed s → IsDb store d
-  opened_db store d same count queues are a h e =
+  pub opened_db : {P M : Type 0} (store : P → Store) (d : DbValue P M) → d.trees ≡ trees → d.trees_given ≡ length trees → d.queues ≡ [] → d.greatest_id ≡ (store d.pages).mark → AreGiven s → (a : Store) → HasTree default_name a s → store d.pages ≡ flushed s → IsDb store d
+  opened_db store d same count queues ids are a h e =
       let well = h.again.well in record {
         forest = well.forest;
         is = subst (λ (m : Moment). IsMoment m well.forest) (sym at) (moment_here d.trees_given count are well.forest well.formed);
@@ -420,8 +420,12 @@ module _ (s : Store) {trees : List (Key × ℕ)} (all : AreNumbered (now s) tree
         ascends = ap (is_sorted key_cmp) same ∙ ascends;
         default = subst (λ ts. (n : ℕ) × (numbers_of ts default_name ≡ Some n)) (sym same) (none_no (numbers_of trees default_name) (is_number default_name ∙ there));
         unwatched = queues;
+        ids = at_most d.greatest_id (store d.pages).mark ids;
       }
     where
+      at_most : (x y : ℕ) → x ≡ y → x ≤ y
+      at_most x y e = omega arith
+
       at : moment_of_db store d ≡ moment_of s (numbers_of trees) (given_to d.trees_given)
       at = λ i. moment_of (e i) (numbers_of (same i)) (given_to d.trees_given)
 

@@ -26,10 +26,10 @@ pub record Rests (a b : Store) : Type 0 where
   pub pids : b.pids ≡ a.pids
   pub versions : b.versions ≡ a.versions
 
-rests_same : {a b : Store} → b ≡ a → Rests a b
+pub rests_same : {a b : Store} → b ≡ a → Rests a b
 rests_same e = record { base = ap (λ (s : Store). s.base) e; recent = ap (λ (s : Store). s.recent) e; actions = ap (λ (s : Store). s.actions) e; mark = ap (λ (s : Store). s.mark) e; pids = ap (λ (s : Store). s.pids) e; versions = ap (λ (s : Store). s.versions) e }
 
-rests_faulted : {a b : Store} (n : ℕ) → b ≡ record a { faults = n } → Rests a b
+pub rests_faulted : {a b : Store} (n : ℕ) → b ≡ record a { faults = n } → Rests a b
 rests_faulted n e = record { base = ap (λ (s : Store). s.base) e; recent = ap (λ (s : Store). s.recent) e; actions = ap (λ (s : Store). s.actions) e; mark = ap (λ (s : Store). s.mark) e; pids = ap (λ (s : Store). s.pids) e; versions = ap (λ (s : Store). s.versions) e }
 
 pub rests_only_faults : (e : Error) (a b : Store) → only_faults e a b → Rests a b

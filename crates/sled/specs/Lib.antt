@@ -9,3 +9,4 @@ pub mod Flights
 pub mod Direct
 pub mod Pops
 pub mod Flush
+pub mod Ids

@@ -1,5 +1,5 @@
 -- What holds of a database between two calls.
-use Rattle.std.specs.Prelude.{◌≡◌, ℕ, true, [], Some}
+use Rattle.std.specs.Prelude.{◌≡◌, ◌≤◌, ℕ, true, [], Some}
 use Rattle.std.specs.FinMap.Entries.{is_sorted}
 use Rattle.sled_pages.specs.Order.{key_cmp}
 use Rattle.sled_pages.specs.Store.{Store}
@@ -20,3 +20,5 @@ pub record IsDb {P M : Type 0} (store : P → Store) (d : DbValue P M) : Type 0 
   pub default : (n : ℕ) × (numbers_of d.trees default_name ≡ Some n)
   -- nobody has subscribed yet
   pub unwatched : d.queues ≡ []
+  -- the ids that were given were set aside
+  pub ids : d.greatest_id ≤ (store d.pages).mark

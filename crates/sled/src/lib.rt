@@ -11,6 +11,7 @@
 mod db;
 mod direct;
 mod export;
+mod ids;
 mod memory;
 mod names;
 mod open;
