@@ -3,3 +3,4 @@ mod Numbers
 mod Lines
 mod Shortest
 mod Reading
+mod Printing

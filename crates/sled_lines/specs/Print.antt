@@ -1,5 +1,6 @@
 -- Lines: how outcomes are printed.
-use Rattle.std.specs.Prelude.{ℕ, List, [], ◌∷◌, ◌++◌, Some, None, Ok, Err, codes, decimal}
+use Rattle.std.specs.Prelude.{ℕ, List, [], ◌∷◌, ◌++◌, Option, Some, None, Ok, Err, codes, decimal}
+use Rattle.std.specs.Io.KnownBytes.{Appends, append_known}
 use Rattle.sled_pages.specs.Order.{Key}
 use Rattle.sled_pages.specs.declared.error.Error.{Error}
 use Rattle.sled_pages.specs.declared.error.Error.TheVariants.{CollectionNotFound, Unsupported, ReportableBug, Io, Corruption, NoMemory, FullQueue, Closed}
@@ -88,3 +89,7 @@ recovered_line = codes "recovered" ++ end
 
 abbrev pub bad_line : ℕ → List ℕ
 bad_line n = codes "bad line " ++ decimal n ++ end
+
+-- These bytes came behind those that a writer holds and those gathered for it, where the former are known
+pub record Prints (held : Option (List ℕ)) (gathered : List ℕ) (held_then : Option (List ℕ)) (gathered_then : List ℕ) (bytes : List ℕ) : Type 0 where
+  pub is : Appends (append_known held gathered) (append_known held_then gathered_then) bytes

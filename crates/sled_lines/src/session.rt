@@ -1,5 +1,6 @@
 //! A session: a database from its opening to a crash or the end.
 ghost use Rattle.std.specs.Prelude.{◌≡◌, ◌++◌, [], IfOk, IfErr, OnOk, OnErr};
+ghost use Rattle.std.specs.List.{flat_map};
 ghost use Rattle.sled_pages.specs.Store.{now};
 ghost use Rattle.sled_model.specs.declared.call.Whole.TheVariants.{Flush};
 ghost use Rattle.sled_model.specs.declared.outcome.Step.TheVariants as step;
@@ -7,7 +8,7 @@ ghost use Rattle.tree_laws.specs.Crashes.{IsWhole, IsCrashWhole};
 ghost use Rattle.sled_machine.specs.Step.{Reaches};
 ghost use Rattle.sled_machine.specs.Run.{Performs, ReachesAll};
 ghost use Rattle.sled_machine.specs.Finish.{Completes};
-ghost use Rattle.sled_lines.specs.Print.{shown_of, outcome_line};
+ghost use Rattle.sled_lines.specs.Print.{shown_of, outcome_line, pair_line, Prints};
 ghost use Rattle.sled_lines.specs.declared.print.Shown.{Shown};
 ghost use Rattle.sled_lines.specs.declared.session.Act.TheVariants as act;
 ghost use Rattle.sled_lines.specs.Session.{slot_at, acts_at, begins_as};
@@ -229,6 +230,7 @@ impl<P: Pages, M: MergeOperator> Session<P, M> {
         (shown, outcome)
     }
 
+    // Prints all pairs.
     fn dump<W: Write>(&self, output: &mut W, out: &mut Vec<u8>) -> Result<(), Stopped> {
         match self.machine.db().export() {
             Ok(trees) => write_trees(output, out, trees.as_slice()),
@@ -268,10 +270,29 @@ fn show(out: &mut Vec<u8>, shown: Shown, outcome: Outcome) -> Result<(), Stopped
 }
 
 /// Writes the lines that were gathered.
-pub fn write<W: Write>(output: &mut W, out: &mut Vec<u8>) -> Result<(), Stopped> {
+pub fn write<W: Write>(output: &mut W, out: &mut Vec<u8>) -> Result<(), Stopped>
+    ensures prints { OnOk result (Prints (W.contents output.old) out.old.items (W.contents output.new) out.new.items []) }
+    ensures written { OnOk result (out.new.items ≡ []) }
+{
     output.write_all(out.as_slice())?;
     out.clear();
     Ok(())
+}
+
+// Adds the line of a pair, and writes the lines where many were gathered.
+fn write_pair<W: Write>(
+    output: &mut W,
+    out: &mut Vec<u8>,
+    tree: &[u8],
+    pair: &(IVec, IVec),
+) -> Result<(), Stopped>
+    ensures { OnOk result (Prints (W.contents output.old) out.old.items (W.contents output.new) out.new.items (pair_line tree.now pair.now.0 pair.now.1)) }
+{
+    push_pair(out, tree, pair.0.as_ref(), pair.1.as_ref())?;
+    if out.len() < GATHERED {
+        return Ok(());
+    }
+    write(output, out)
 }
 
 // Adds the lines of a tree's pairs.
@@ -280,12 +301,11 @@ fn write_pairs<W: Write>(
     out: &mut Vec<u8>,
     tree: &[u8],
     pairs: &[(IVec, IVec)],
-) -> Result<(), Stopped> {
+) -> Result<(), Stopped>
+    ensures { OnOk result (Prints (W.contents output.old) out.old.items (W.contents output.new) out.new.items (flat_map (λ pair. pair_line tree.now pair.0 pair.1) pairs.now)) }
+{
     for pair in pairs {
-        push_pair(out, tree, pair.0.as_ref(), pair.1.as_ref())?;
-        if out.len() >= GATHERED {
-            write(output, out)?;
-        }
+        write_pair(output, out, tree, pair)?;
     }
     Ok(())
 }
