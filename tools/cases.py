@@ -17,6 +17,7 @@ import cases_prefixes
 import cases_rare
 import cases_reads
 import cases_refusals
+import cases_trees
 import cases_values
 import script
 

@@ -484,7 +484,7 @@ has K; read K; lt K; gt K; first; last; len; empty; range LO HI; range-back LO H
 keys LO HI; keys-back LO HI; values LO HI; values-back LO HI
 pop-min; pop-max; clear
 owned insert K V; owned set K V; owned remove K; owned del K; owned cas K OLD NEW; owned pop-min
-owned pop-max; owned clear; owned flush"""
+owned pop-max; owned clear; owned flush; owned id; names"""
 FORMS = [form.split(' ') for form in re.split('; |\n', FORMS)]
 POINT = ('insert', 'get', 'remove', 'cas')
 POPS = ('pop-min', 'pop-max', 'clear')
@@ -569,7 +569,7 @@ class Shell:
         if TREE not in self.store.roots:
             self.store.swap_root(None, self.store.allocate(Node()).pid)
         self.store.flush()
-        self.opened = True
+        self.greatest_id, self.opened = self.store.mark, True
 
     def run(self, text):
         """What a line prints, as a list of lines."""
@@ -628,6 +628,10 @@ class Shell:
             return ['yes' if set(reads) == {words[1]} else 'no']
         if name == 'flush':
             return [f'flushed {store.flush()}']
+        if name == 'names':
+            return [f'name {word(name)}' for name in sorted(store.roots)] + [f'end {len(store.roots)}']
+        if name == 'id':
+            return [f'number {self.next_id()}']
         if name == 'recovered':
             return ['yes' if store.recovered else 'no']
         if name == 'dump':
@@ -641,6 +645,15 @@ class Shell:
         finally:
             self.open()
         return [f'level {len(level)} {max(len(n.entries) for n in level)}' for level in levels] + [f'end {len(levels)}']
+
+    def next_id(self):
+        """One above the greatest id that was given. Where none is set aside, 4096 more are, or as many as are left."""
+        if self.greatest_id == self.store.mark:
+            if self.store.mark == GREATEST:
+                raise Refused(2)
+            self.store.set_aside(min(self.store.mark + 4096, GREATEST))
+        self.greatest_id += 1
+        return self.greatest_id
 
     def popped(self, name):
         """Takes out the pair at an end, or all pairs from the least up. Each is read, and then removed as by a removal."""

@@ -49,7 +49,7 @@ type Form = (&'static str, &'static str, Verb, &'static str);
 
 // What a command takes has words of its own: K, V, P, OLD, NEW, DATABASE and NAME are byte strings, LO and HI bounds, STEP a step of a
 // call in flight, and the others numbers; `..` stands for more of the word before it.
-const FORMS: [Form; 63] = [
+const FORMS: [Form; 65] = [
     (
         "insert",
         "K V",
@@ -256,6 +256,12 @@ const FORMS: [Form; 63] = [
         "prints whether there is no pair",
     ),
     (
+        "names",
+        "",
+        Verb::Look(Look::Names),
+        "prints the names of all trees, in order",
+    ),
+    (
         "range",
         "LO HI",
         Verb::Look(Look::Pairs(Side::Front)),
@@ -380,6 +386,12 @@ const FORMS: [Form; 63] = [
         "",
         Verb::Owned(Owned::Flush),
         "makes all durable",
+    ),
+    (
+        "owned id",
+        "",
+        Verb::Owned(Owned::Id),
+        "gives the next id, which never came before",
     ),
     ("help", "", Verb::Help, "prints these lines"),
     ("quit", "", Verb::Quit, "ends"),

@@ -35,6 +35,7 @@ pub enum Look {
     Last,
     Len,
     Empty,
+    Names,
     Pairs(Side),
     Keys(Side),
     Values(Side),
@@ -93,6 +94,25 @@ fn tell_is(out: &mut Vec<u8>, is: Answer<bool>) -> Result<()> {
 fn tell_count(out: &mut Vec<u8>, count: Answer<usize>) -> Result<()> {
     match count {
         Ok(count) => tell(out, &[Text(b"number "), Number(count as u64), Text(b"\n")]),
+        Err(e) => tell_refused(out, e),
+    }
+}
+
+// Adds names, each on a line, and how many they are.
+fn push_names(out: &mut Vec<u8>, names: &[IVec]) -> Result<()> {
+    for name in names {
+        tell(out, &[Text(b"name "), Word(name.as_ref()), Text(b"\n")])?;
+    }
+    tell(out, &[Text(b"end "), Number(names.len() as u64), Text(b"\n")])
+}
+
+fn tell_names(out: &mut Vec<u8>, names: Answer<Vec<IVec>>) -> Result<()> {
+    match names {
+        Ok(names) => {
+            let told = push_names(out, names.as_slice());
+            drop(names);
+            told
+        }
         Err(e) => tell_refused(out, e),
     }
 }
@@ -282,6 +302,7 @@ pub fn tell_look(
         Look::Last => tell_found(out, db.last(tree)),
         Look::Len => tell_count(out, db.len(tree)),
         Look::Empty => tell_is(out, db.is_empty(tree)),
+        Look::Names => tell_names(out, db.tree_names()),
         Look::Has | Look::Read | Look::Below | Look::Above | Look::Prefix(_) => {
             let key = key_of(alloc, words.0)?;
             let told = look_at(db, tree, look, key.as_ref(), out);

@@ -27,6 +27,7 @@ pub enum Owned {
     PopMax,
     Clear,
     Flush,
+    Id,
 }
 
 fn tell_old(out: &mut Vec<u8>, stood: Answer<Option<IVec>>) -> Result<()> {
@@ -49,6 +50,13 @@ fn tell_swap(out: &mut Vec<u8>, swapped: CompareAndSwapResult) -> Result<()> {
             drop(outcome);
             told
         }
+        Err(e) => tell_refused(out, e),
+    }
+}
+
+fn tell_id(out: &mut Vec<u8>, id: Answer<u64>) -> Result<()> {
+    match id {
+        Ok(id) => tell(out, &[Text(b"number "), Number(id), Text(b"\n")]),
         Err(e) => tell_refused(out, e),
     }
 }
@@ -185,6 +193,7 @@ fn make(
         Owned::PopMax => tell_found(out, db.pop_max(tree)),
         Owned::Clear => tell_done(out, db.clear(tree)),
         Owned::Flush => tell_flushed(out, db.flush()),
+        Owned::Id => tell_id(out, db.generate_id()),
     }
 }
 
