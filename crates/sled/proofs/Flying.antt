@@ -44,7 +44,7 @@ use Rattle.sled.specs.Calls.{MustBeRefused, must_be_refused_as}
 use Rattle.sled.specs.Flights.{flying_of, PagesLast, StillStands, LosesNone, RefusesQuietly, Flies, FliesTimes, Ends, GoesOn, has_turns, IsPrompt, FliesToEnd}
 use Rattle.sled_tree.proofs.Known.{not_own, known_kept}
 use Rattle.sled.proofs.Resting.{Rests, rests_refused, now_rests, rests_extends, rests_left}
-use Rattle.sled.proofs.Testing.{must_step, limit_is, no_group}
+use Rattle.sled.proofs.Testing.{must_step, limit_is, tested_calm}
 use Rattle.sled.proofs.Trees.{trees_at, trees_same, trees_put, maps_are, current, numbered}
 
 none_some : {P X : Type 0} {x : X} → None ≡ Some x → P
@@ -254,7 +254,7 @@ module _ {P M : Type 0} (store : P → Store) (meant : M → Merge) (old : DbVal
 
       -- no group is open
       calm : (now (store old.pages)).in_group ≡ false
-      calm = no_group store meant old f.job.tree must
+      calm = tested_calm store meant old f.job.tree must
 
       -- after an action the state now, and every state that a crash may leave, is as it should be
       well : (v : Forest) {mine own : List ℕ} → Acts mine own at db.forest after v → IsWhole (now (store q))

@@ -39,7 +39,7 @@ use Rattle.sled.specs.Reads.{ReadsMap, RefusesReading, refuses_reading_as, stops
 use Rattle.sled.specs.Direct.{ActsOften, NoAction, OneAction, Conducts, PointDecided, PointRefused, WholeDecided, WholeRefused}
 use Rattle.sled.specs.Pops.{TakesOut, RefusesToTake, IsAtEnd, PopsBySteps, PopRefusedBySteps, IsLongWay, GivesUpPop, ClearsBySteps, ClearsNone, ClearsMore, ClearRefusedBySteps}
 use Rattle.sled.proofs.Conducting.{conducts_then, conducts_none, conducts_refused}
-use Rattle.sled.proofs.Testing.{no_group}
+use Rattle.sled.proofs.Testing.{tested_calm}
 use Rattle.sled.proofs.Trees.{maps_are}
 
 none_some : {P X : Type 0} {x : X} → None ≡ Some x → P
@@ -256,7 +256,7 @@ module _ {P M : Type 0} (store : P → Store) (meant : M → Merge) (old : DbVal
         (record { free = pop.must (state_of store meant old slots given) ∙ r.tested; named = r.named; there = r.there; found = None; ends = r.told; replies = refl; is = refl; added = refl });
     conducts = let none = conducts_none store meant old in record {
       acts = none.acts;
-      extends = subst (λ m. Rattle.tree_laws.specs.Crashes.Extends (m ∷ []) (store old.pages) (store old.pages)) (sym (maps_are store meant old db.forest db.is)) (extends_again none.extends (no_group store meant old tree r.tested));
+      extends = subst (λ m. Rattle.tree_laws.specs.Crashes.Extends (m ∷ []) (store old.pages) (store old.pages)) (sym (maps_are store meant old db.forest db.is)) (extends_again none.extends (tested_calm store meant old tree r.tested));
       others = none.others;
       loses = none.loses;
       sound = λ d. d;

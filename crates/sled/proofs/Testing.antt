@@ -56,8 +56,8 @@ not_true true e = absurd (apart e)
 
 module _ {P M : Type 0} (store : P → Store) (meant : M → Merge) (old : DbValue P M) where
   -- .. and so no group is open
-  pub no_group : (t : Tree) → must_refuse_of (db_state store meant old) (t ∷ []) ≡ None → (now (store old.pages)).in_group ≡ false
-  no_group t must = not_true (now (store old.pages)).in_group (tested_open (db_state store meant old) t must)
+  pub tested_calm : (t : Tree) → must_refuse_of (db_state store meant old) (t ∷ []) ≡ None → (now (store old.pages)).in_group ≡ false
+  tested_calm t must = not_true (now (store old.pages)).in_group (tested_open (db_state store meant old) t must)
 
   pub open_now : (now (store old.pages)).in_group ≡ false → must_refuse (db_state store meant old) (ToCall Flush) ≡ None
   open_now e = ap (λ b. first_of (first_of (cond (not b) None (Some IsClosed)) None) None) e

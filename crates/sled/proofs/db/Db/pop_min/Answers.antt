@@ -21,10 +21,10 @@ pub returns-in-Err-clause-gives_up : goal.returns-in-Err-clause-gives_up
 returns-in-Err-clause-gives_up g c = min_gives_up g.P.Pages.store g.M.MergeOperator.meant _ _ _ c.in-Err.ensures.err
 
 pub returns-in-Ok-Some-clause-steps : goal.returns-in-Ok-Some-clause-steps
-returns-in-Ok-Some-clause-steps g c = min_steps g.P.Pages.store g.M.MergeOperator.meant _ _ c.take_out.new.self _ _ c.in-Ok-Some.field-0-is c.take_out.result c.in-Ok-Some.ensures.ok c.take_out.ensures.ok
+returns-in-Ok-Some-clause-steps g c = min_steps g.P.Pages.store g.M.MergeOperator.meant _ _ c.pop_pair.new.self _ _ c.in-Ok-Some.field-0-is c.pop_pair.result c.in-Ok-Some.ensures.ok c.pop_pair.ensures.ok
 
 pub returns-in-Ok-Some-clause-refused : goal.returns-in-Ok-Some-clause-refused
-returns-in-Ok-Some-clause-refused g c = min_stopped g.P.Pages.store g.M.MergeOperator.meant _ _ c.take_out.new.self _ _ c.in-Ok-Some.field-0-is c.take_out.result c.in-Ok-Some.ensures.ok c.take_out.ensures.err
+returns-in-Ok-Some-clause-refused g c = min_stopped g.P.Pages.store g.M.MergeOperator.meant _ _ c.pop_pair.new.self _ _ c.in-Ok-Some.field-0-is c.pop_pair.result c.in-Ok-Some.ensures.ok c.pop_pair.ensures.err
 
 pub returns-in-Ok-None-clause-steps : goal.returns-in-Ok-None-clause-steps
 returns-in-Ok-None-clause-steps g c = none_steps g.P.Pages.store g.M.MergeOperator.meant _ _ IsLeast
