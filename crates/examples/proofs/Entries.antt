@@ -109,11 +109,11 @@ goes_first found entries e going = (ap (λ m. m ++ entries.pairs) e, going, subs
 module _ {P : Type 0} (store : P → Store) (all found : Map) (old new : Coming P) where
   pub goes_on : (entry : Key × Key) (more : Map) → Goes all found old → TakesFirst store whole old (Some (Ok entry)) new → IsBytes entry.0 → more ≡ found ++ entry ∷ [] → Goes all more new
   goes_on entry more i takes bytes is =
-      let p = takes.told.1 in
-      let same : entry ≡ p = takes.told.2 in
-      let rest = takes.told.3 in
-      let splits : old.pairs ≡ p ∷ rest = takes.told.4 in
-      let left : new ≡ record old { pairs = rest } = takes.told.5 in (
+      let p = takes.is.1 in
+      let same : entry ≡ p = takes.is.2 in
+      let rest = takes.is.3 in
+      let splits : old.pairs ≡ p ∷ rest = takes.is.4 in
+      let left : new ≡ record old { pairs = rest } = takes.is.5 in (
         ap (λ (c : Coming P). more ++ c.pairs) left
             ∙ ap (λ m. m ++ rest) is
             ∙ append_assoc found (entry ∷ []) rest
@@ -125,13 +125,13 @@ module _ {P : Type 0} (store : P → Store) (all found : Map) (old new : Coming 
       )
 
   pub goes_to_end : Goes all found old → TakesFirst store whole old None new → found ≡ all
-  goes_to_end i takes = sym (append-nil found) ∙ ap (λ pairs. found ++ pairs) (sym (nothing_left old.pairs old.ended i.1 takes.told.0)) ∙ i.0
+  goes_to_end i takes = sym (append-nil found) ∙ ap (λ pairs. found ++ pairs) (sym (nothing_left old.pairs old.ended i.1 takes.is.0)) ∙ i.0
 
 module _ {P M : Type 0} (store : P → Store) (meant : M → Merge) (d : DbValue P M) (tree : Tree) (law : KeepsPrefixes) (number : ℕ) (fits : number < 2 ^ 64) (prefix : Key) (entries : Coming P) where
   found_all : (found : Map) → prefix ≡ spelled (Number number ∷ []) → Reads.BeginsWith store meant d tree prefix entries → found ≡ entries.pairs → AllByRecursion (λ e. IsBytes e.0) found → ReadsMap store meant d tree (λ map. FindsUnder number map found)
   found_all found same b is bytes =
       let r = b.beginning (subst (λ m. AllByRecursion (λ e. IsBytes e.0) m) is bytes) in
-      record { tested = r.tested; named = r.named; there = r.there; told = finds_under law number fits r.named.map prefix found same (is ∙ r.told) }
+      record { tested = r.tested; named = r.named; there = r.there; is = finds_under law number fits r.named.map prefix found same (is ∙ r.is) }
 
   -- all of a scan of the number's bytes
   pub found_all_as : {V E : Type 0} (items : V → Map) (result : Result V E) → prefix ≡ spelled (Number number ∷ []) → Reads.BeginsWith store meant d tree prefix entries → IfOk result (λ found. items found ≡ entries.pairs)

@@ -8,7 +8,7 @@ use Rattle.sled_pages.specs.declared.error.Error.{Error}
 use Rattle.sled_model.specs.Maps.{Map, Maps, Merge, IsLeast, IsGreatest}
 use Rattle.sled_model.specs.State.{State, maps_of}
 use Rattle.sled_model.specs.Refusal.{Asked, ToCall, must_refuse, must_refuse_of}
-use Rattle.sled_model.specs.Steps.{Instant, Steps}
+use Rattle.sled_model.specs.Transition.{Configuration, Transition}
 use Rattle.sled_model.specs.declared.call.Whole.TheVariants.{Flush, PopMin, PopMax, Clear}
 use Rattle.sled_model.specs.declared.outcome.Step.{Step}
 use Rattle.sled_model.specs.declared.outcome.Step.TheVariants as step
@@ -21,10 +21,10 @@ use Rattle.sled.specs.Opens.{Opens}
 use Rattle.sled.specs.Pops.{IsLongWay, GivesUpPop}
 use Rattle.sled.specs.Sound.{IsDb}
 use Rattle.sled.specs.Values.{DbValue, named, numbers_of, db_state}
-use Rattle.sled_machine.specs.CrashMaps.{Leaves, kept_after}
-use Rattle.sled_machine.specs.Run.{RunsKeeping, KeepsAll, KeepsMore, ReachesAll, NoCalls, OneCall}
-use Rattle.sled_machine.specs.Step.{MachineStep, Reaches, acts_as, follows_as, passes_as, starts_as, leaves_at, gives_up_as, tested_as}
-use Rattle.sled_machine.specs.Values.{MachineValue, instant_of, slots_of}
+use Rattle.sled_machine.specs.CrashMaps.{AreCrashMaps, crash_maps_after}
+use Rattle.sled_machine.specs.Run.{RunsWithCrashMaps, KeepsAll, KeepsMore, MachineSteps, NoCalls, OneCall}
+use Rattle.sled_machine.specs.Step.{MachineStep, MachineStepContract, effect_of_machine_step, follows_stage_as, advances_on_path_as, starts_as, leaks_no_page_at, gives_up_as, tested_as}
+use Rattle.sled_machine.specs.Values.{MachineValue, configuration_of, slots_of}
 
 module _ {P M : Type 0} (store : P → Store) (number : P → ℕ) (meant : M → Merge) where
   -- the operators by what they mean
@@ -45,7 +45,7 @@ module _ {P M : Type 0} (store : P → Store) (number : P → ℕ) (meant : M �
     | false ↦ found os n
   ]
 
-  pub same_instant : (m : MachineValue P M) → instant_of store number (λ o. o) (plain_machine m) ≡ instant_of store number meant m
+  pub same_instant : (m : MachineValue P M) → configuration_of store number (λ o. o) (plain_machine m) ≡ configuration_of store number meant m
   same_instant m i = record {
     state = record {
       name = m.db.name;
@@ -73,21 +73,21 @@ module _ {P M : Type 0} (store : P → Store) (number : P → ℕ) (meant : M �
   plain_step : (a b : MachineValue P M) (s : Step) (o : Outcome) → (r : MachineStep store number meant a s o b) → MachineStep store number (λ m. m) (plain_machine a) s o (plain_machine b)
   plain_step a b s o r = record {
     maps = r.maps;
-    step = subst (λ (x : Instant). Steps x s o (instant_of store number (λ m. m) (plain_machine b)) r.maps) (sym (same_instant a)) (subst (λ (y : Instant). Steps (instant_of store number meant a) s o y r.maps) (sym (same_instant b)) r.step);
-    keeps = λ kept l. subst (λ (y : Instant). Leaves (store b.db.pages) (kept_after s o r.maps (maps_of y.state) kept)) (sym (same_instant b)) (r.keeps kept l);
+    step = subst (λ (x : Configuration). Transition x s o (configuration_of store number (λ m. m) (plain_machine b)) r.maps) (sym (same_instant a)) (subst (λ (y : Configuration). Transition (configuration_of store number meant a) s o y r.maps) (sym (same_instant b)) r.step);
+    keeps = λ kept l. subst (λ (y : Configuration). AreCrashMaps (store b.db.pages) (crash_maps_after s o r.maps (maps_of y.state) kept)) (sym (same_instant b)) (r.keeps kept l);
   }
 
-  pub plain_run : (a b : MachineValue P M) (kept : List Maps) (ss : List Step) (os : List Outcome) (last : List Maps) → RunsKeeping store number meant a kept ss os b last → RunsKeeping store number (λ m. m) (plain_machine a) kept ss os (plain_machine b) last
+  pub plain_run : (a b : MachineValue P M) (kept : List Maps) (ss : List Step) (os : List Outcome) (last : List Maps) → RunsWithCrashMaps store number meant a kept ss os b last → RunsWithCrashMaps store number (λ m. m) (plain_machine a) kept ss os (plain_machine b) last
   unfolding plain_step
   plain_run a b kept [] [] last KeepsAll = KeepsAll
   plain_run a b kept (s ∷ ss) (o ∷ os) last (KeepsMore {m = m} one run) =
       KeepsMore (plain_step a m s o one)
-      (subst (λ (y : Instant). RunsKeeping store number (λ m. m) (plain_machine m) (kept_after s o one.maps (maps_of y.state) kept) ss os (plain_machine b) last) (sym (same_instant m)) (plain_run m b _ ss os last run))
+      (subst (λ (y : Configuration). RunsWithCrashMaps store number (λ m. m) (plain_machine m) (crash_maps_after s o one.maps (maps_of y.state) kept) ss os (plain_machine b) last) (sym (same_instant m)) (plain_run m b _ ss os last run))
   plain_run a b kept [] (o ∷ os) last run = elim run [ ]
   plain_run a b kept (s ∷ ss) [] last run = elim run [ ]
 
-  same_state : (m : MachineValue P M) → (instant_of store number (λ o. o) (plain_machine m)).state ≡ (instant_of store number meant m).state
-  same_state m = ap (λ (i : Instant). i.state) (same_instant m)
+  same_state : (m : MachineValue P M) → (configuration_of store number (λ o. o) (plain_machine m)).state ≡ (configuration_of store number meant m).state
+  same_state m = ap (λ (i : Configuration). i.state) (same_instant m)
 
   same_db : (d : DbValue P M) → db_state store (λ o. o) (plain d) ≡ db_state store meant d
   same_db d = same_state (record { db = d; flights = []; slots_given = 0 })
@@ -96,13 +96,13 @@ module _ {P M : Type 0} (store : P → Store) (number : P → ℕ) (meant : M �
   same_tests d trees = ap (λ (s : State). must_refuse_of s trees) (same_state (record { db = d; flights = []; slots_given = 0 }))
 
   module _ (a b : MachineValue P M) where
-    plain_follows : (s : Step) (o : Outcome) → follows_as store meant a s o b → follows_as store (λ m. m) (plain_machine a) s o (plain_machine b)
-    plain_follows (step.Step slot) o h = λ f there must few. let k = h f there (sym (same_tests a.db (f.job.tree ∷ [])) ∙ must) few in record { went = k.went; next = k.next; outcome = k.outcome; there = k.there; follows = k.follows }
+    plain_follows : (s : Step) (o : Outcome) → follows_stage_as store meant a s o b → follows_stage_as store (λ m. m) (plain_machine a) s o (plain_machine b)
+    plain_follows (step.Step slot) o h = λ f there must fits. let k = h f there (sym (same_tests a.db (f.job.tree ∷ [])) ∙ must) fits in record { went = k.went; next = k.next; outcome = k.outcome; there = k.there; follows = k.follows }
     plain_follows (step.Begin tree call) o h = h
     plain_follows (step.Abandon slot) o h = h
     plain_follows (step.Whole whole) o h = h
 
-    plain_passes : (s : Step) (o : Outcome) → passes_as store a s o b → passes_as store (plain_machine a) s o (plain_machine b)
+    plain_passes : (s : Step) (o : Outcome) → advances_on_path_as store a s o b → advances_on_path_as store (plain_machine a) s o (plain_machine b)
     plain_passes (step.Step slot) outcome.Moved h = λ path ahead.
         let k = h path (record { flight = ahead.flight; here = ahead.here; clean = ahead.clean }) in
         (k.0, k.1, record { flight = k.2.flight; here = k.2.here; clean = k.2.clean })
@@ -126,7 +126,7 @@ module _ {P M : Type 0} (store : P → Store) (number : P → ℕ) (meant : M �
     plain_starts (step.Abandon slot) o h = h
     plain_starts (step.Whole whole) o h = h
 
-    plain_leaves : (s : Step) (o : Outcome) → leaves_at store a s o b → leaves_at store (plain_machine a) s o (plain_machine b)
+    plain_leaves : (s : Step) (o : Outcome) → leaks_no_page_at store a s o b → leaks_no_page_at store (plain_machine a) s o (plain_machine b)
     plain_leaves (step.Step slot) (outcome.Refused e) h = h
     plain_leaves (step.Step slot) outcome.Moved h = h
     plain_leaves (step.Step slot) (outcome.Begun i) h = h
@@ -141,7 +141,7 @@ module _ {P M : Type 0} (store : P → Store) (number : P → ℕ) (meant : M �
     plain_long tree is_end h = record { named = h.named; there = ap (λ (s : State). s.trees tree.name) (same_db a.db) ∙ h.there; pair = h.pair; ends = h.ends; long = h.long }
 
     plain_pop : (tree : Tree) (is_end : Map → Option (Key × Key) → Type 0) (of : ℕ → ℕ) (e : Error) → GivesUpPop store meant a.db tree is_end of e → GivesUpPop store (λ m. m) (plain a.db) tree is_end of e
-    plain_pop tree is_end of e h = record { told = λ turns. elim (h.told turns) [
+    plain_pop tree is_end of e h = record { is = λ turns. elim (h.is turns) [
       | inl many ↦ inl many
       | inr long ↦ inr (plain_long tree is_end long)
     ] }
@@ -177,21 +177,21 @@ module _ {P M : Type 0} (store : P → Store) (number : P → ℕ) (meant : M �
     plain_tested (step.Step slot) o h = h
     plain_tested (step.Abandon slot) o h = h
 
-    plain_reaches : (s : Step) (o : Outcome) → Reaches store number meant a s o b → Reaches store number (λ m. m) (plain_machine a) s o (plain_machine b)
+    plain_reaches : (s : Step) (o : Outcome) → MachineStepContract store number meant a s o b → MachineStepContract store number (λ m. m) (plain_machine a) s o (plain_machine b)
     plain_reaches s o r = record {
       step = plain_step a b s o r.step;
       sound = record { keeps = λ d. plain_sound b.db (r.sound.keeps (meant_sound a.db d)) };
-      does = record { told = subst (λ (z : State). acts_as z s o (store a.db.pages) (store b.db.pages)) (sym (same_state a)) r.does.told };
-      follows = record { told = plain_follows s o r.follows.told };
-      passes = record { told = plain_passes s o r.passes.told };
+      does = record { is = subst (λ (z : State). effect_of_machine_step z s o (store a.db.pages) (store b.db.pages)) (sym (same_state a)) r.does.is };
+      follows = record { is = plain_follows s o r.follows.is };
+      passes = record { is = plain_passes s o r.passes.is };
       slots = record { starts = plain_starts s o r.slots.starts; others = r.slots.others };
       loses = record { none = r.loses.none };
-      leaves = record { told = plain_leaves s o r.leaves.told };
-      gives_up = record { told = plain_gives_up s o r.gives_up.told };
-      tested = record { told = plain_tested s o r.tested.told };
+      leaves = record { is = plain_leaves s o r.leaves.is };
+      gives_up = record { is = plain_gives_up s o r.gives_up.is };
+      tested = record { is = plain_tested s o r.tested.is };
     }
 
-  pub plain_all : (a b : MachineValue P M) (ss : List Step) (os : List Outcome) → ReachesAll store number meant a ss os b → ReachesAll store number (λ m. m) (plain_machine a) ss os (plain_machine b)
+  pub plain_all : (a b : MachineValue P M) (ss : List Step) (os : List Outcome) → MachineSteps store number meant a ss os b → MachineSteps store number (λ m. m) (plain_machine a) ss os (plain_machine b)
   plain_all a b [] [] NoCalls = NoCalls
   plain_all a b (s ∷ ss) (o ∷ os) (OneCall {m = m} one rest) = OneCall (plain_reaches a m s o one) (plain_all m b ss os rest)
   plain_all a b [] (o ∷ os) run = elim run [ ]

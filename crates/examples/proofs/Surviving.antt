@@ -4,24 +4,24 @@ use Rattle.sled_pages.specs.Order.{Key}
 use Rattle.sled_pages.specs.In.{In}
 use Rattle.sled_pages.specs.State.{State as PageState}
 use Rattle.sled_pages.specs.Store.{Store, now}
-use Rattle.sled_pages.specs.Crash.{states_left, MayLeave, Crashes}
+use Rattle.sled_pages.specs.Crash.{crash_states, IsCrashState, Crashes}
 use Rattle.sled_pages.specs.Memory.{store_of, flush_number_of}
 use Rattle.sled_pages.specs.declared.memory.MemPages.{MemPages}
 use Rattle.sled_model.specs.Maps.{Merge}
 use Rattle.sled_model.specs.declared.outcome.Step.{Step}
 use Rattle.sled_model.specs.declared.outcome.Outcome.{Outcome}
 use Rattle.tree_laws.specs.Contents.{trees_of}
-use Rattle.tree_laws.specs.Crashes.{Repeats, Matches}
+use Rattle.tree_laws.specs.Crashes.{Stutters, StutterEquivalent}
 use Rattle.sled.specs.Values.{DbValue}
 use Rattle.sled.specs.Opens.{Opens}
-use Rattle.sled_machine.specs.CrashMaps.{Leaves}
-use Rattle.sled_machine.specs.Run.{Performs, ReachesAll}
+use Rattle.sled_machine.specs.CrashMaps.{AreCrashMaps}
+use Rattle.sled_machine.specs.Run.{MachineRun, MachineSteps}
 use Rattle.sled_machine.specs.Values.{MachineValue}
 use Rattle.examples.specs.Survive.{machine_over, Survives}
 use Rattle.examples.proofs.Meant.{plain, plain_machine, plain_run, plain_all, plain_opens}
 
 -- an element of a list is one of the list once repetitions are taken out
-once_has : {X : Type 0} (once xs : List X) (y : X) → Repeats once xs → In y xs → In y once
+once_has : {X : Type 0} (once xs : List X) (y : X) → Stutters once xs → In y xs → In y once
 once_has [] [] y r i = i
 once_has [] (x ∷ xs) y r i = absurd r
 once_has (a ∷ once) [] y r i = absurd r
@@ -30,7 +30,7 @@ once_has (a ∷ once) (x ∷ xs) y (e, inl r) (inr i) = inr (once_has once xs y 
 once_has (a ∷ once) (x ∷ xs) y (e, inr r) (inl q) = inl (q ∙ sym e)
 once_has (a ∷ once) (x ∷ xs) y (e, inr r) (inr i) = once_has (a ∷ once) xs y r i
 
-has_once : {X : Type 0} (once xs : List X) (y : X) → Repeats once xs → In y once → In y xs
+has_once : {X : Type 0} (once xs : List X) (y : X) → Stutters once xs → In y once → In y xs
 has_once [] [] y r i = i
 has_once [] (x ∷ xs) y r i = absurd r
 has_once (a ∷ once) [] y r i = absurd r
@@ -40,7 +40,7 @@ has_once (a ∷ once) (x ∷ xs) y (e, inr r) (inl q) = inl (q ∙ e)
 has_once (a ∷ once) (x ∷ xs) y (e, inr r) (inr i) = inr (has_once (a ∷ once) xs y r (inr i))
 
 -- lists that are the same once repetitions are taken out have the same elements
-matches_has : {X : Type 0} (xs ys : List X) (y : X) → Matches xs ys → In y xs → In y ys
+matches_has : {X : Type 0} (xs ys : List X) (y : X) → StutterEquivalent xs ys → In y xs → In y ys
 matches_has xs ys y m i = has_once m.once ys y m.right (once_has m.once xs y m.left i)
 
 map_has : {X Y : Type 0} (f : X → Y) (xs : List X) (x : X) → In x xs → In (f x) (map f xs)
@@ -50,22 +50,22 @@ map_has f (z ∷ xs) x (inr i) = inr (map_has f xs x i)
 
 module _ {M : Type 0} (meant : M → Merge) (before : Store) (name : Key) where
   pub survives : (steps : List Step) (outcomes : List Outcome) (keep : ℕ) (start last : MachineValue MemPages M) (first : DbValue MemPages M) (pages left : MemPages) (again : DbValue MemPages M) (end : MemPages)
-      → Opens store_of before name first → start.db ≡ first → start.flights ≡ [] → start.slots_given ≡ 0 → Performs store_of flush_number_of meant start steps outcomes last → ReachesAll store_of flush_number_of meant start steps outcomes last → pages ≡ last.db.pages
-      → MayLeave (store_of pages) (store_of left).base → Crashes keep (store_of pages) (store_of left) → Opens store_of (store_of left) name again → end ≡ again.pages
+      → Opens store_of before name first → start.db ≡ first → start.flights ≡ [] → start.slots_given ≡ 0 → MachineRun store_of flush_number_of meant start steps outcomes last → MachineSteps store_of flush_number_of meant start steps outcomes last → pages ≡ last.db.pages
+      → IsCrashState (store_of pages) (store_of left).base → Crashes keep (store_of pages) (store_of left) → Opens store_of (store_of left) name again → end ≡ again.pages
       → Survives before name steps outcomes keep (store_of end)
   survives steps outcomes keep start last first pages left again end o same none unused run each p may crash reopens out =
       let over : start ≡ machine_over first = λ i. record { db = same i; flights = none i; slots_given = unused i } in
-      let leaves : Leaves (store_of first.pages) (trees_of (now (store_of first.pages)) ∷ []) = record { is = subst (λ l. Matches (map trees_of l) (trees_of (now (store_of first.pages)) ∷ [])) (sym o.left) (record { once = trees_of (now (store_of first.pages)) ∷ []; left = (refl, inl tt); right = (refl, inl tt) }) } in
-      let k = (subst (λ (m : MachineValue MemPages M). Performs store_of flush_number_of meant m steps outcomes last) over run).keeps (trees_of (now (store_of first.pages)) ∷ []) leaves in
-      let here : In (store_of left).base (states_left (store_of last.db.pages)) = subst (λ (q : MemPages). In (store_of left).base (states_left (store_of q))) p may.is in
+      let leaves : AreCrashMaps (store_of first.pages) (trees_of (now (store_of first.pages)) ∷ []) = record { is = subst (λ l. StutterEquivalent (map trees_of l) (trees_of (now (store_of first.pages)) ∷ [])) (sym o.left) (record { once = trees_of (now (store_of first.pages)) ∷ []; left = (refl, inl tt); right = (refl, inl tt) }) } in
+      let k = (subst (λ (m : MachineValue MemPages M). MachineRun store_of flush_number_of meant m steps outcomes last) over run).keeps (trees_of (now (store_of first.pages)) ∷ []) leaves in
+      let here : In (store_of left).base (crash_states (store_of last.db.pages)) = subst (λ (q : MemPages). In (store_of left).base (crash_states (store_of q))) p may.is in
       let base : now (store_of left) ≡ (store_of left).base = ap now crash.is ∙ sym (ap (λ (s : Store). s.base) crash.is) in
-      let one : In (trees_of (store_of left).base) k.last = matches_has (map trees_of (states_left (store_of last.db.pages))) k.last (trees_of (store_of left).base) k.leaves.is (map_has trees_of (states_left (store_of last.db.pages)) (store_of left).base here) in
+      let one : In (trees_of (store_of left).base) k.last = matches_has (map trees_of (crash_states (store_of last.db.pages))) k.last (trees_of (store_of left).base) k.leaves.is (map_has trees_of (crash_states (store_of last.db.pages)) (store_of left).base here) in
       record {
         first = plain store_of flush_number_of meant first;
         opens = plain_opens store_of flush_number_of meant before name first o;
         last = plain_machine store_of flush_number_of meant last;
         runs = record { last = k.last; run = plain_run store_of flush_number_of meant (machine_over first) last (trees_of (now (store_of first.pages)) ∷ []) steps outcomes k.last k.run; leaves = k.leaves };
-        each = plain_all store_of flush_number_of meant (machine_over first) last steps outcomes (subst (λ (m : MachineValue MemPages M). ReachesAll store_of flush_number_of meant m steps outcomes last) over each);
+        each = plain_all store_of flush_number_of meant (machine_over first) last steps outcomes (subst (λ (m : MachineValue MemPages M). MachineSteps store_of flush_number_of meant m steps outcomes last) over each);
         left = store_of left;
         crashes = subst (λ (q : MemPages). Crashes keep (store_of q) (store_of left)) p crash;
         one = subst (λ (z : PageState). In (trees_of z) k.last) (sym base) one;

@@ -18,7 +18,7 @@ waiting store meant d queue = jobs_of (maps_now store meant d queue.name)
 
 -- a job whose ticket is above all others waits behind them
 pub record Adds (before : Map) (ticket job : Key) (after : Map) : Type 0 where
-  pub told : AllByRecursion (λ e. Below e.0 ticket) before → after ≡ before ++ (ticket, job) ∷ []
+  pub is : AllByRecursion (λ e. Below e.0 ticket) before → after ≡ before ++ (ticket, job) ∷ []
 
 abbrev pub takes_as : Map → Option (Key × Key) → Map → Type 0
 takes_as before None after = (before ≡ []) × (after ≡ [])
@@ -26,4 +26,4 @@ takes_as before (Some job) after = before ≡ job ∷ after
 
 -- the job at the front is taken out, if one waits, and the others wait as before
 pub record Takes (before : Map) (job : Option (Key × Key)) (after : Map) : Type 0 where
-  pub told : takes_as before job after
+  pub is : takes_as before job after

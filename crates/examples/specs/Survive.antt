@@ -12,7 +12,7 @@ use Rattle.sled_model.specs.declared.outcome.Outcome.{Outcome}
 use Rattle.tree_laws.specs.Contents.{trees_of}
 use Rattle.sled.specs.Opens.{with_default, Opens}
 use Rattle.sled.specs.Values.{DbValue}
-use Rattle.sled_machine.specs.Run.{Keeps, ReachesAll}
+use Rattle.sled_machine.specs.Run.{KeepsCrashMaps, MachineSteps}
 use Rattle.sled_machine.specs.Values.{MachineValue}
 
 -- a machine over this database, on which no call is in flight
@@ -27,8 +27,8 @@ pub record Survives (before : Store) (name : Key) (steps : List Step) (outcomes 
   pub first : DbValue MemPages Merge
   pub opens : Opens store_of before name first
   pub last : MachineValue MemPages Merge
-  pub runs : Keeps store_of flush_number_of (λ m. m) (machine_over first) steps outcomes last (trees_of (now (store_of first.pages)) ∷ [])
-  pub each : ReachesAll store_of flush_number_of (λ m. m) (machine_over first) steps outcomes last
+  pub runs : KeepsCrashMaps store_of flush_number_of (λ m. m) (machine_over first) steps outcomes last (trees_of (now (store_of first.pages)) ∷ [])
+  pub each : MachineSteps store_of flush_number_of (λ m. m) (machine_over first) steps outcomes last
   pub left : Store
   pub crashes : Crashes keep (store_of last.db.pages) left
   pub one : In (trees_of (now left)) runs.last

@@ -4,7 +4,7 @@ ghost use Rattle.sled_pages.specs.Store.{now};
 ghost use Rattle.sled_pages.specs.Crash.{Crashes};
 ghost use Rattle.sled_pages.specs.Memory.{store_of};
 ghost use Rattle.tree_laws.specs.Contents.{trees_of};
-ghost use Rattle.tree_laws.specs.Crashes.{IsWhole};
+ghost use Rattle.tree_laws.specs.Crashes.{IsValid};
 ghost use Rattle.sled_model.specs.declared.call.Call.TheVariants as call;
 ghost use Rattle.sled.specs.Values.{default_name};
 ghost use Rattle.sled.specs.Opens.{IsOnePage};
@@ -204,8 +204,8 @@ pub fn reopen_then_get<P: Pages, M: MergeOperator>(
 /// Ends a database, and crashes its pages so that they keep this many actions at most: what is left can be opened again. It may be
 /// that a group is open.
 pub fn crash<M: MergeOperator>(db: Db<MemPages, M>, keep: usize) -> Result<MemPages>
-    ensures well { IfOk result (λ left. IsWhole (now (store_of left))) }
-    ensures calm { IfOk result (λ left. (now (store_of left)).in_group ≡ false) }
+    ensures well { IfOk result (λ left. IsValid (now (store_of left))) }
+    ensures no_group { IfOk result (λ left. (now (store_of left)).in_group ≡ false) }
     ensures crashes { IfOk result (λ left. Crashes keep (store_of db.pages) (store_of left)) }
 {
     crash_pages(db.into_pages(), keep)

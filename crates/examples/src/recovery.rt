@@ -2,7 +2,7 @@
 ghost use Rattle.std.specs.Prelude.{◌≡◌, false, IfOk};
 ghost use Rattle.sled_pages.specs.Store.{now};
 ghost use Rattle.sled_pages.specs.Memory.{store_of};
-ghost use Rattle.tree_laws.specs.Crashes.{IsWhole};
+ghost use Rattle.tree_laws.specs.Crashes.{IsValid};
 ghost use Rattle.examples.specs.Survive.{Survives};
 
 use sled::{Db, crash_pages};
@@ -20,11 +20,11 @@ pub fn survive(
     steps: &[Step],
     keep: usize,
 ) -> Result<(Vec<Outcome>, MemPages)>
-    requires well { IsWhole (now (store_of pages)) }
-    requires calm { (now (store_of pages)).in_group ≡ false }
+    requires well { IsValid (now (store_of pages)) }
+    requires no_group { (now (store_of pages)).in_group ≡ false }
     ensures ok { IfOk result (λ r. Survives (store_of pages) name.now steps.now r.0.items keep (store_of r.1)) }
-    ensures well { IfOk result (λ r. IsWhole (now (store_of r.1))) }
-    ensures calm { IfOk result (λ r. (now (store_of r.1)).in_group ≡ false) }
+    ensures well { IfOk result (λ r. IsValid (now (store_of r.1))) }
+    ensures no_group { IfOk result (λ r. (now (store_of r.1)).in_group ≡ false) }
 {
     let db = match Db::open(alloc, pages, name) {
         Ok(db) => db,

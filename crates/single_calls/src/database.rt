@@ -4,21 +4,21 @@ ghost use Rattle.sled_pages.specs.Store.{now};
 ghost use Rattle.sled_model.specs.Answer.{decision_of};
 ghost use Rattle.sled_model.specs.Refusal.{must_refuse_of};
 ghost use Rattle.tree_laws.specs.Contents.{trees_of};
-ghost use Rattle.tree_laws.specs.Crashes.{Flushes, IsWhole};
+ghost use Rattle.tree_laws.specs.Crashes.{Flushes, IsValid};
 ghost use Rattle.sled.specs.Calls.{IsHandle, MustBeRefused};
 ghost use Rattle.sled.specs.Export.{collections};
 ghost use Rattle.sled_tree.specs.Known.{IsKnown};
-ghost use Rattle.sled_tree.specs.Passing.{GoesFurther};
-ghost use Rattle.sled.specs.Flights.{DbStep, DbSound, DbActs, DbFollows, DbLeaves, DbKnows, LosesNone, FliesToEnd};
+ghost use Rattle.sled_tree.specs.Passing.{StepsOnPath};
+ghost use Rattle.sled.specs.Flights.{DbStep, DbSound, DbActs, DbFollows, DbLeaksNoPage, DbKnows, KeepsTreePages, DbRunsToEnd};
 ghost use Rattle.sled.specs.Flush.{FlushesDb};
 ghost use Rattle.sled.specs.Opens.{Opens};
-ghost use Rattle.sled.specs.Values.{db_state, default_name, moment_of_db};
+ghost use Rattle.sled.specs.Values.{db_state, default_name, snapshot_of_db};
 
 use sled::{Collection, Db, empty_pages};
 use sled_machine::Machine;
 use sled_model::{Call, Decision, MergeOperator, Tree};
 use sled_pages::{IVec, Pages, Result};
-use sled_tree::{Flight, Went};
+use sled_tree::{InFlight, Went};
 use std::alloc::Global;
 
 /// The default tree of a new database of this name.
@@ -80,26 +80,26 @@ pub fn export<P: Pages, M: MergeOperator>(db: &Db<P, M>) -> Result<Vec<Collectio
 }
 
 /// One step of a call in flight, without a machine.
-pub fn fly<P: Pages, M: MergeOperator>(db: &mut Db<P, M>, flight: &mut Flight) -> Went
-    requires { IsKnown (moment_of_db P.store db.old) flight.old }
+pub fn advance<P: Pages, M: MergeOperator>(db: &mut Db<P, M>, flight: &mut InFlight) -> Went
+    requires { IsKnown (snapshot_of_db P.store db.old) flight.old }
     ensures step { DbStep P.store M.meant db.old flight.old result db.new flight.new }
     ensures sound { DbSound P.store db.old db.new }
     ensures does { DbActs P.store M.meant db.old flight.old result db.new }
     ensures follows { DbFollows P.store M.meant db.old flight.old result db.new flight.new }
-    ensures passes { GoesFurther (now (P.store db.old.pages)) flight.old result (now (P.store db.new.pages)) flight.new }
-    ensures loses { LosesNone None (moment_of_db P.store db.old) (moment_of_db P.store db.new) }
-    ensures leaves { DbLeaves P.store db.old flight.old result db.new flight.new }
+    ensures passes { StepsOnPath (now (P.store db.old.pages)) flight.old result (now (P.store db.new.pages)) flight.new }
+    ensures loses { KeepsTreePages None (snapshot_of_db P.store db.old) (snapshot_of_db P.store db.new) }
+    ensures leaves { DbLeaksNoPage P.store db.old flight.old result db.new flight.new }
     ensures knows { DbKnows P.store db.old flight.old result db.new flight.new }
 {
-    db.fly(flight)
+    db.advance(flight)
 }
 
 /// All steps of a call in flight, to its end, without a machine.
-pub fn fly_to_end<P: Pages, M: MergeOperator>(db: &mut Db<P, M>, flight: &mut Flight) -> Went
-    requires { IsKnown (moment_of_db P.store db.old) flight.old }
-    ensures { FliesToEnd P.store M.meant db.old flight.old result db.new flight.new }
+pub fn advance_to_end<P: Pages, M: MergeOperator>(db: &mut Db<P, M>, flight: &mut InFlight) -> Went
+    requires { IsKnown (snapshot_of_db P.store db.old) flight.old }
+    ensures { DbRunsToEnd P.store M.meant db.old flight.old result db.new flight.new }
 {
-    db.fly_to_end(flight)
+    db.advance_to_end(flight)
 }
 
 /// What a call comes to where this value stands at its key.

@@ -5,9 +5,9 @@ ghost use Rattle.sled_pages.specs.declared.error.Error.TheVariants.{NoMemory};
 ghost use Rattle.sled_model.specs.declared.outcome.Outcome.TheVariants as outcome;
 ghost use Rattle.sled_model.specs.declared.outcome.Step.TheVariants as step;
 ghost use Rattle.sled_machine.specs.Values.{slots_of};
-ghost use Rattle.sled_machine.specs.Step.{MachineStep, MachineSound, MachineActs, MachineFollows, MachinePasses, MachineSlots, MachineLoses, MachineLeaves, Reaches};
-ghost use Rattle.sled_machine.specs.Run.{Performs, ReachesAll};
-ghost use Rattle.sled_machine.specs.Finish.{Finishes, Completes};
+ghost use Rattle.sled_machine.specs.Step.{MachineStep, MachineSound, MachineActs, MachineFollows, MachinePasses, MachineSlots, MachineKeepsTreePages, MachineLeaksNoPage, MachineStepContract};
+ghost use Rattle.sled_machine.specs.Run.{MachineRun, MachineSteps};
+ghost use Rattle.sled_machine.specs.Finish.{RunsToEnd, Completes};
 
 use sled::Db;
 use sled_machine::Machine;
@@ -29,8 +29,8 @@ pub fn begin<P: Pages, M: MergeOperator>(
     tree: &Tree,
     call: Call,
 ) -> Result<Slot>
-    ensures ok { IfOk result (λ slot. Reaches P.store P.flush_number M.meant machine.old (step.Begin tree.now call) (outcome.Begun slot) machine.new) }
-    ensures err { IfErr result (λ e. Reaches P.store P.flush_number M.meant machine.old (step.Begin tree.now call) (outcome.Refused e) machine.new) }
+    ensures ok { IfOk result (λ slot. MachineStepContract P.store P.flush_number M.meant machine.old (step.Begin tree.now call) (outcome.Begun slot) machine.new) }
+    ensures err { IfErr result (λ e. MachineStepContract P.store P.flush_number M.meant machine.old (step.Begin tree.now call) (outcome.Refused e) machine.new) }
 {
     machine.begin(tree, call)
 }
@@ -43,15 +43,15 @@ pub fn step<P: Pages, M: MergeOperator>(machine: &mut Machine<P, M>, slot: Slot)
     ensures follows { MachineFollows P.store M.meant machine.old (step.Step slot) result machine.new }
     ensures passes { MachinePasses P.store machine.old (step.Step slot) result machine.new }
     ensures slots { MachineSlots machine.old (step.Step slot) result machine.new }
-    ensures loses { MachineLoses P.store machine.old (step.Step slot) machine.new }
-    ensures leaves { MachineLeaves P.store machine.old (step.Step slot) result machine.new }
+    ensures loses { MachineKeepsTreePages P.store machine.old (step.Step slot) machine.new }
+    ensures leaves { MachineLeaksNoPage P.store machine.old (step.Step slot) result machine.new }
 {
     machine.step(slot)
 }
 
 /// The call in the slot is given up.
 pub fn abandon<P: Pages, M: MergeOperator>(machine: &mut Machine<P, M>, slot: Slot) -> Outcome
-    ensures { Reaches P.store P.flush_number M.meant machine.old (step.Abandon slot) result machine.new }
+    ensures { MachineStepContract P.store P.flush_number M.meant machine.old (step.Abandon slot) result machine.new }
 {
     machine.abandon(slot)
 }
@@ -65,7 +65,7 @@ pub fn turns<P: Pages, M: MergeOperator>(machine: &Machine<P, M>, slot: Slot) ->
 
 /// All steps of the call in the slot, to its end.
 pub fn finish<P: Pages, M: MergeOperator>(machine: &mut Machine<P, M>, slot: Slot) -> Outcome
-    ensures { Finishes P.store P.flush_number M.meant machine.old slot result machine.new }
+    ensures { RunsToEnd P.store P.flush_number M.meant machine.old slot result machine.new }
 {
     machine.finish(slot)
 }
@@ -83,7 +83,7 @@ pub fn complete<P: Pages, M: MergeOperator>(
 
 /// A whole call, in one step.
 pub fn whole<P: Pages, M: MergeOperator>(machine: &mut Machine<P, M>, whole: Whole) -> Outcome
-    ensures { Reaches P.store P.flush_number M.meant machine.old (step.Whole whole) result machine.new }
+    ensures { MachineStepContract P.store P.flush_number M.meant machine.old (step.Whole whole) result machine.new }
 {
     machine.whole(whole)
 }
@@ -93,8 +93,8 @@ pub fn run<P: Pages, M: MergeOperator>(
     machine: &mut Machine<P, M>,
     steps: &[Step],
 ) -> Result<Vec<Outcome>>
-    ensures ok { IfOk result (λ outcomes. Performs P.store P.flush_number M.meant machine.old steps.now outcomes.items machine.new) }
-    ensures each { IfOk result (λ outcomes. ReachesAll P.store P.flush_number M.meant machine.old steps.now outcomes.items machine.new) }
+    ensures ok { IfOk result (λ outcomes. MachineRun P.store P.flush_number M.meant machine.old steps.now outcomes.items machine.new) }
+    ensures each { IfOk result (λ outcomes. MachineSteps P.store P.flush_number M.meant machine.old steps.now outcomes.items machine.new) }
     ensures err { OnErr result (machine.new ≡ machine.old) }
     ensures cause { IfErr result (λ e. e ≡ NoMemory) }
 {

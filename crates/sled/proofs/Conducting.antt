@@ -9,29 +9,29 @@ use Rattle.sled_pages.specs.declared.page.Page.{Page}
 use Rattle.sled_pages.specs.declared.error.Error.{Error}
 use Rattle.sled_pages.specs.declared.error.Error.TheVariants as error
 use Rattle.sled_model.specs.Maps.{Maps, Merge}
-use Rattle.sled_model.specs.State.{State, Flying, maps_of}
+use Rattle.sled_model.specs.State.{State, CallInFlight, maps_of}
 use Rattle.sled_model.specs.Refusal.{MustRefuse, IsClosed, IsForeign, IsDropped, HasNoOperator, ToStep, ToPoint, must_refuse, must_refuse_of, MayRefuse, MeetsFullQueue, TellsTurns, cause_of, may_refuse_as, turns_limit}
-use Rattle.sled_model.specs.Steps.{Decides, RefusesStep}
+use Rattle.sled_model.specs.Transition.{Decide, RefuseStep}
 use Rattle.sled_model.specs.Whole.{DecidesPoint, RefusesPoint}
 use Rattle.sled_model.specs.declared.call.Call.{Call}
 use Rattle.sled_model.specs.declared.reply.Reply.{Reply}
 use Rattle.sled_model.specs.declared.tree.Tree.{Tree}
 use Rattle.tree_laws.specs.Forest.{Place, Forest}
-use Rattle.tree_laws.specs.Moment.{Moment, nodes_at, IsMoment}
+use Rattle.tree_laws.specs.Snapshot.{Snapshot, nodes_at, HasForest}
 use Rattle.tree_laws.specs.Paths.{IsClean}
-use Rattle.tree_laws.specs.Crashes.{Extends}
+use Rattle.tree_laws.specs.Crashes.{AddsCrashStates}
 use Rattle.tree_laws.proofs.Crashing.{extends_same, extends_then}
 use Rattle.sled_tree.specs.Known.{IsKnown, AreApart}
-use Rattle.sled_tree.specs.Moves.{ActsOnce, ActsAtMostOnce}
-use Rattle.sled_tree.specs.declared.flight.Flight.{Flight}
+use Rattle.sled_tree.specs.StageAction.{ActsOnce, ActsAtMostOnce}
+use Rattle.sled_tree.specs.declared.flight.InFlight.{InFlight}
 use Rattle.sled_tree.specs.declared.flight.Job.{Job}
 use Rattle.sled_tree.specs.declared.flight.Went.{Went}
 use Rattle.sled_tree.specs.declared.flight.Went.TheVariants.{Moved, Decided, Refused}
-use Rattle.sled.specs.Values.{DbValue, state_of, db_state, moment_of_db}
+use Rattle.sled.specs.Values.{DbValue, state_of, db_state, snapshot_of_db}
 use Rattle.sled.specs.Sound.{IsDb}
 use Rattle.sled.specs.Calls.{MustBeRefused, must_be_refused_as}
-use Rattle.sled.specs.Flights.{flying_of, maps_added, PagesLast, LosesNone, does_as, RefusesQuietly, Flies, FliesTimes, Ends, GoesOn, FliesToEnd}
-use Rattle.sled.specs.Direct.{ActsOften, NoAction, OneAction, acts_till, StandsOrWent, LosesNoPage, Conducts, begun_flight, PointDecided, PointRefused}
+use Rattle.sled.specs.Flights.{call_in_flight_of, maps_added, PagesLast, KeepsTreePages, effect_of_step, IsStepRefused, DbStepContract, DbSteps, Ends, GoesOn, DbRunsToEnd}
+use Rattle.sled.specs.Direct.{ActsOften, NoAction, OneAction, effects_until, StaysInChainOrWent, KeepsOrFreesTreePages, Conducts, begun_flight, PointDecided, PointRefused}
 use Rattle.sled.proofs.Testing.{must_point}
 use Rattle.sled.proofs.Flying.{loses_nothing, quiet_untold, everywhere, went_on}
 
@@ -57,11 +57,11 @@ often_once : (a b : Store) → ActsAtMostOnce a b → ActsOften a b
 often_once a b (inl e) = subst (λ (s : Store). ActsOften a s) (sym e) NoAction
 often_once a b (inr o) = OneAction o NoAction
 
-acts_then : (r : Option Error) (a b c : Store) → ActsOften a b → acts_till r b c → acts_till r a c
+acts_then : (r : Option Error) (a b c : Store) → ActsOften a b → effects_until r b c → effects_until r a c
 acts_then None a b c first rest = often_then first rest
 acts_then (Some e) a b c first rest = (rest.0, often_then first rest.1, rest.2)
 
-acts_of_step : (went : Went) (a b : Store) → does_as went a b → acts_till (error_of went) a b
+acts_of_step : (went : Went) (a b : Store) → effect_of_step went a b → effects_until (error_of went) a b
 acts_of_step Moved a b d = often_once a b d
 acts_of_step (Decided reply) a b d = often_once a b d
 acts_of_step (Refused e) a b d = (a, NoAction, d)
@@ -76,10 +76,10 @@ page_there s p n e = go (s.pages p) refl e
     go (Some g) is e = (g, is)
 
 -- a page that is there has a number that was given
-number_given : (m : Moment) (w : Forest) → IsMoment m w → (p : ℕ) (n : Node) → nodes_at m p ≡ Some n → m.pids p ≡ true
+number_given : (m : Snapshot) (w : Forest) → HasForest m w → (p : ℕ) (n : Node) → nodes_at m p ≡ Some n → m.pids p ≡ true
 number_given m w is p n live = let g = page_there m.state p n live in is.pids p g.0 g.1
 
-module _ (m n o : Moment) (w : Forest) (was : IsMoment m w) where
+module _ (m n o : Snapshot) (w : Forest) (was : HasForest m w) where
   lasts_then : PagesLast m n → PagesLast n o → PagesLast m o
   lasts_then a b = record {
     pids = λ p e. b.pids p (a.pids p e);
@@ -91,33 +91,33 @@ module _ (m n o : Moment) (w : Forest) (was : IsMoment m w) where
       go p g on given (inl same) = b.merges p g same on
       go p g on given (inr none) = inr (b.gone p (a.pids p given) none)
 
-loses_then : (m n o : Moment) (u : Forest) → IsMoment n u → LosesNoPage m n → LosesNoPage n o → LosesNoPage m o
+loses_then : (m n o : Snapshot) (u : Forest) → HasForest n u → KeepsOrFreesTreePages m n → KeepsOrFreesTreePages n o → KeepsOrFreesTreePages m o
 loses_then m n o u is one two w v was now =
     let a = one w u was is in let b = two u v is now in record {
-      told = λ x p i. let here = was.formed.page x p (was.formed.homed x p i) in go a b x p (number_given m w was p here.0 here.1.live) (a.told x p i);
+      is = λ x p i. let here = was.formed.page x p (was.formed.homed x p i) in go a b x p (number_given m w was p here.0 here.1.live) (a.is x p i);
       last = lasts_then m n o w was a.last b.last;
     }
   where
-    go : StandsOrWent m w n u → StandsOrWent n u o v → (x : Place) (p : ℕ) → m.pids p ≡ true → In p (u.chain x) ⊎ (((d : Node) × (nodes_at n p ≡ Some d) × (d.merging ≡ true)) ⊎ (nodes_at n p ≡ None))
+    go : StaysInChainOrWent m w n u → StaysInChainOrWent n u o v → (x : Place) (p : ℕ) → m.pids p ≡ true → In p (u.chain x) ⊎ (((d : Node) × (nodes_at n p ≡ Some d) × (d.merging ≡ true)) ⊎ (nodes_at n p ≡ None))
         → In p (v.chain x) ⊎ (((d : Node) × (nodes_at o p ≡ Some d) × (d.merging ≡ true)) ⊎ (nodes_at o p ≡ None))
-    go a b x p given (inl here) = b.told x p here
+    go a b x p given (inl here) = b.is x p here
     go a b x p given (inr (inl (d, live, on))) = elim (b.last.merges p d live on) [
       | inl same ↦ inr (inl (d, same, on))
       | inr none ↦ inr (inr none)
     ]
     go a b x p given (inr (inr none)) = inr (inr (b.last.gone p (a.last.pids p given) none))
 
-loses_once : (m n : Moment) → LosesNone None m n → LosesNoPage m n
+loses_once : (m n : Snapshot) → KeepsTreePages None m n → KeepsOrFreesTreePages m n
 loses_once m n l w v was now =
     let s = l w v was now in record {
-      told = λ x p i. elim (s.told x p (λ e. none_some e) i) [
+      is = λ x p i. elim (s.is x p (λ e. none_some e) i) [
         | inl here ↦ inl here
         | inr merging ↦ inr (inl merging)
       ];
       last = s.last;
     }
 
-pub loses_same : (m : Moment) → LosesNoPage m m
+pub loses_same : (m : Snapshot) → KeepsOrFreesTreePages m m
 loses_same m = loses_once m m (loses_nothing None m)
 
 -- ---- the causes of a refusal
@@ -143,14 +143,14 @@ cause_alike s a m b tree call error.FullQueue r t = t
 cause_alike s a m b tree call error.Closed r t = t
 
 may_alike : (s : State) (a m b : Store) (tree : Tree) (call : Call) (e : Error) → ReadsAlike a m → MayRefuse s m b (ToPoint tree call) e → MayRefuse s a b (ToPoint tree call) e
-may_alike s a m b tree call e r may = record { told = go (must_refuse s (ToPoint tree call)) may.told }
+may_alike s a m b tree call e r may = record { is = go (must_refuse s (ToPoint tree call)) may.is }
   where
     go : (o : Option MustRefuse) → may_refuse_as o s m b (ToPoint tree call) e → may_refuse_as o s a b (ToPoint tree call) e
     go None t = cause_alike s a m b tree call e r t
     go (Some must) t = t
 
 -- the cause of a step is one of the call
-module _ {P M : Type 0} (store : P → Store) (meant : M → Merge) (old : DbValue P M) (slots : ℕ → Option Flying) (f : Flying) (a b : Store) where
+module _ {P M : Type 0} (store : P → Store) (meant : M → Merge) (old : DbValue P M) (slots : ℕ → Option CallInFlight) (f : CallInFlight) (a b : Store) where
   cause_at : (e : Error) → cause_of (state_of store meant old slots 0) a b (ToStep f) e → cause_of (db_state store meant old) a b (ToPoint f.tree f.call) e
   cause_at error.NoMemory t = tt
   cause_at (error.Io fault) t = t
@@ -162,7 +162,7 @@ module _ {P M : Type 0} (store : P → Store) (meant : M → Merge) (old : DbVal
   cause_at error.Closed t = t
 
   may_at : (e : Error) → MayRefuse (state_of store meant old slots 0) a b (ToStep f) e → MayRefuse (db_state store meant old) a b (ToPoint f.tree f.call) e
-  may_at e may = record { told = go (must_refuse (db_state store meant old) (ToPoint f.tree f.call)) may.told }
+  may_at e may = record { is = go (must_refuse (db_state store meant old) (ToPoint f.tree f.call)) may.is }
     where
       go : (o : Option MustRefuse) → may_refuse_as o (state_of store meant old slots 0) a b (ToStep f) e → may_refuse_as o (db_state store meant old) a b (ToPoint f.tree f.call) e
       go None t = cause_at e t
@@ -181,67 +181,67 @@ module _ {P M : Type 0} (store : P → Store) (meant : M → Merge) where
     acts = acts_then r (store old.pages) (store mid.pages) (store new.pages) a.acts b.acts;
     extends = extends_then a.extends b.extends;
     others = λ h known. b.others h (a.others h known);
-    loses = loses_then (moment_of_db store old) (moment_of_db store mid) (moment_of_db store new) db.forest db.is a.loses b.loses;
+    loses = loses_then (snapshot_of_db store old) (snapshot_of_db store mid) (snapshot_of_db store new) db.forest db.is a.loses b.loses;
     sound = λ d. b.sound (a.sound d);
     same = b.same ∙ ap (λ (z : DbValue P M). record z { pages = new.pages }) a.same;
   }
 
   -- a call that does nothing, and one that is refused at its begin for no fault
   pub conducts_none : (old : DbValue P M) → Conducts store [] None old old
-  conducts_none old = record { acts = NoAction; extends = extends_same (store old.pages); others = λ h known. known; loses = loses_same (moment_of_db store old); sound = λ d. d; same = refl }
+  conducts_none old = record { acts = NoAction; extends = extends_same (store old.pages); others = λ h known. known; loses = loses_same (snapshot_of_db store old); sound = λ d. d; same = refl }
 
-  pub conducts_refused : (old : DbValue P M) (e : Error) → RefusesQuietly e (store old.pages) (store old.pages) → Conducts store [] (Some e) old old
-  conducts_refused old e quiet = record { acts = (store old.pages, NoAction, quiet); extends = extends_same (store old.pages); others = λ h known. known; loses = loses_same (moment_of_db store old); sound = λ d. d; same = refl }
+  pub conducts_refused : (old : DbValue P M) (e : Error) → IsStepRefused e (store old.pages) (store old.pages) → Conducts store [] (Some e) old old
+  conducts_refused old e quiet = record { acts = (store old.pages, NoAction, quiet); extends = extends_same (store old.pages); others = λ h known. known; loses = loses_same (snapshot_of_db store old); sound = λ d. d; same = refl }
 
   -- the steps of a call
-  walk_acts : (n : ℕ) (old new : DbValue P M) (f g : Flight) (went : Went) → FliesTimes store meant n old f went new g → acts_till (error_of went) (store old.pages) (store new.pages)
+  walk_acts : (n : ℕ) (old new : DbValue P M) (f g : InFlight) (went : Went) → DbSteps store meant n old f went new g → effects_until (error_of went) (store old.pages) (store new.pages)
   walk_acts zero old new f g went (Ends flies off) = acts_of_step went (store old.pages) (store new.pages) flies.does.does
   walk_acts (suc n) old new f g went (GoesOn {mid = mid} {h = h} flies db rest) = acts_then (error_of went) (store old.pages) (store mid.pages) (store new.pages) (often_once (store old.pages) (store mid.pages) flies.does.does) (walk_acts n mid new h g went rest)
 
-  walk_extends : (n : ℕ) (old new : DbValue P M) (f g : Flight) (went : Went) → FliesTimes store meant n old f went new g → Extends (maps_added went (maps_of (db_state store meant new))) (store old.pages) (store new.pages)
+  walk_extends : (n : ℕ) (old new : DbValue P M) (f g : InFlight) (went : Went) → DbSteps store meant n old f went new g → AddsCrashStates (maps_added went (maps_of (db_state store meant new))) (store old.pages) (store new.pages)
   walk_extends zero old new f g went (Ends flies off) = flies.step.extends
   walk_extends (suc n) old new f g went (GoesOn {mid = mid} {h = h} flies db rest) = extends_then flies.step.extends (walk_extends n mid new h g went rest)
 
-  walk_others : (n : ℕ) (old new : DbValue P M) (f g : Flight) (went : Went) → FliesTimes store meant n old f went new g → (k : Flight) → AreApart f k → IsKnown (moment_of_db store old) k → IsKnown (moment_of_db store new) k
+  walk_others : (n : ℕ) (old new : DbValue P M) (f g : InFlight) (went : Went) → DbSteps store meant n old f went new g → (k : InFlight) → AreApart f k → IsKnown (snapshot_of_db store old) k → IsKnown (snapshot_of_db store new) k
   walk_others zero old new f g went (Ends flies off) k apart known = (flies.knows.others k apart known).0
   walk_others (suc n) old new f g went (GoesOn {mid = mid} {h = h} flies db rest) k apart known = let o = flies.knows.others k apart known in walk_others n mid new h g went rest k (o.1 refl) o.0
 
-  walk_loses : (n : ℕ) (old new : DbValue P M) (f g : Flight) (went : Went) → FliesTimes store meant n old f went new g → LosesNoPage (moment_of_db store old) (moment_of_db store new)
-  walk_loses zero old new f g went (Ends flies off) = loses_once (moment_of_db store old) (moment_of_db store new) flies.loses
+  walk_loses : (n : ℕ) (old new : DbValue P M) (f g : InFlight) (went : Went) → DbSteps store meant n old f went new g → KeepsOrFreesTreePages (snapshot_of_db store old) (snapshot_of_db store new)
+  walk_loses zero old new f g went (Ends flies off) = loses_once (snapshot_of_db store old) (snapshot_of_db store new) flies.loses
   walk_loses (suc n) old new f g went (GoesOn {mid = mid} {h = h} flies db rest) =
-      loses_then (moment_of_db store old) (moment_of_db store mid) (moment_of_db store new) db.forest db.is (loses_once (moment_of_db store old) (moment_of_db store mid) flies.loses) (walk_loses n mid new h g went rest)
+      loses_then (snapshot_of_db store old) (snapshot_of_db store mid) (snapshot_of_db store new) db.forest db.is (loses_once (snapshot_of_db store old) (snapshot_of_db store mid) flies.loses) (walk_loses n mid new h g went rest)
 
-  walk_sound : (n : ℕ) (old new : DbValue P M) (f g : Flight) (went : Went) → FliesTimes store meant n old f went new g → IsDb store old → IsDb store new
+  walk_sound : (n : ℕ) (old new : DbValue P M) (f g : InFlight) (went : Went) → DbSteps store meant n old f went new g → IsDb store old → IsDb store new
   walk_sound zero old new f g went (Ends flies off) d = flies.sound.keeps d
   walk_sound (suc n) old new f g went (GoesOn {mid = mid} {h = h} flies db rest) d = walk_sound n mid new h g went rest db
 
-  walk_same : (n : ℕ) (old new : DbValue P M) (f g : Flight) (went : Went) → FliesTimes store meant n old f went new g → new ≡ record old { pages = new.pages }
+  walk_same : (n : ℕ) (old new : DbValue P M) (f g : InFlight) (went : Went) → DbSteps store meant n old f went new g → new ≡ record old { pages = new.pages }
   walk_same zero old new f g went (Ends flies off) = flies.step.same
   walk_same (suc n) old new f g went (GoesOn {mid = mid} {h = h} flies db rest) = walk_same n mid new h g went rest ∙ ap (λ (z : DbValue P M). record z { pages = new.pages }) flies.step.same
 
   -- a step that goes on changes no state
-  moved_state : (old mid : DbValue P M) (f h : Flight) → Flies store meant old f Moved mid h → db_state store meant mid ≡ db_state store meant old
+  moved_state : (old mid : DbValue P M) (f h : InFlight) → DbStepContract store meant old f Moved mid h → db_state store meant mid ≡ db_state store meant old
   moved_state old mid f h flies = ap no_slots (went_on store meant old mid f h flies).is
 
-  decided_now : (old new : DbValue P M) (f g : Flight) (reply : Reply) → Flies store meant old f (Decided reply) new g → DecidesPoint (db_state store meant old) f.job.tree f.job.call reply (db_state store meant new)
-  decided_now old new f g reply flies = subst (λ (z : Flying). DecidesPoint (db_state store meant old) z.tree z.call reply (db_state store meant new)) (sym (some_is step.here)) (record { free = step.free; named = step.tree; there = step.there; replies = step.replies; is = ap no_slots step.is })
+  decided_now : (old new : DbValue P M) (f g : InFlight) (reply : Reply) → DbStepContract store meant old f (Decided reply) new g → DecidesPoint (db_state store meant old) f.job.tree f.job.call reply (db_state store meant new)
+  decided_now old new f g reply flies = subst (λ (z : CallInFlight). DecidesPoint (db_state store meant old) z.tree z.call reply (db_state store meant new)) (sym (some_is step.here)) (record { free = step.free; named = step.tree; there = step.there; replies = step.replies; is = ap no_slots step.is })
     where
-      step : Decides (state_of store meant old (everywhere f) 0) 0 reply (state_of store meant new (Rattle.sled_pages.specs.Update.put_at (everywhere f) 0 None) 0)
-      step = (flies.step.steps (everywhere f) 0 0 0 0 refl).told.0
+      step : Decide (state_of store meant old (everywhere f) 0) 0 reply (state_of store meant new (Rattle.sled_pages.specs.Update.put_at (everywhere f) 0 None) 0)
+      step = (flies.step.steps (everywhere f) 0 0 0 0 refl).is.0
 
-  refused_now : (old new : DbValue P M) (f g : Flight) (e : Error) → Flies store meant old f (Refused e) new g → RefusesPoint (db_state store meant old) (store old.pages) (store new.pages) f.job.tree f.job.call e (db_state store meant new)
-  refused_now old new f g e flies = subst (λ (z : Flying). RefusesPoint (db_state store meant old) (store old.pages) (store new.pages) z.tree z.call e (db_state store meant new)) (sym (some_is step.here)) (record { may = may_at store meant old (everywhere f) step.flying (store old.pages) (store new.pages) e step.may; is = ap no_slots step.is })
+  refused_now : (old new : DbValue P M) (f g : InFlight) (e : Error) → DbStepContract store meant old f (Refused e) new g → RefusesPoint (db_state store meant old) (store old.pages) (store new.pages) f.job.tree f.job.call e (db_state store meant new)
+  refused_now old new f g e flies = subst (λ (z : CallInFlight). RefusesPoint (db_state store meant old) (store old.pages) (store new.pages) z.tree z.call e (db_state store meant new)) (sym (some_is step.here)) (record { may = may_at store meant old (everywhere f) step.flying (store old.pages) (store new.pages) e step.may; is = ap no_slots step.is })
     where
-      step : RefusesStep (state_of store meant old (everywhere f) 0) (store old.pages) (store new.pages) 0 e (state_of store meant new (Rattle.sled_pages.specs.Update.put_at (everywhere f) 0 None) 0)
-      step = (flies.step.steps (everywhere f) 0 0 0 0 refl).told.0
+      step : RefuseStep (state_of store meant old (everywhere f) 0) (store old.pages) (store new.pages) 0 e (state_of store meant new (Rattle.sled_pages.specs.Update.put_at (everywhere f) 0 None) 0)
+      step = (flies.step.steps (everywhere f) 0 0 0 0 refl).is.0
 
-  walk_decides : (n : ℕ) (old new : DbValue P M) (f g : Flight) (reply : Reply) → FliesTimes store meant n old f (Decided reply) new g → DecidesPoint (db_state store meant old) f.job.tree f.job.call reply (db_state store meant new)
+  walk_decides : (n : ℕ) (old new : DbValue P M) (f g : InFlight) (reply : Reply) → DbSteps store meant n old f (Decided reply) new g → DecidesPoint (db_state store meant old) f.job.tree f.job.call reply (db_state store meant new)
   walk_decides zero old new f g reply (Ends flies off) = decided_now old new f g reply flies
   walk_decides (suc n) old new f g reply (GoesOn {mid = mid} {h = h} flies db rest) =
       subst (λ (s : State). DecidesPoint s f.job.tree f.job.call reply (db_state store meant new)) (moved_state old mid f h flies)
       (subst (λ (j : Job). DecidesPoint (db_state store meant mid) j.tree j.call reply (db_state store meant new)) (flies.knows.goes_on refl).0 (walk_decides n mid new h g reply rest))
 
-  walk_refuses : (n : ℕ) (old new : DbValue P M) (f g : Flight) (e : Error) → FliesTimes store meant n old f (Refused e) new g → RefusesPoint (db_state store meant old) (store old.pages) (store new.pages) f.job.tree f.job.call e (db_state store meant new)
+  walk_refuses : (n : ℕ) (old new : DbValue P M) (f g : InFlight) (e : Error) → DbSteps store meant n old f (Refused e) new g → RefusesPoint (db_state store meant old) (store old.pages) (store new.pages) f.job.tree f.job.call e (db_state store meant new)
   walk_refuses zero old new f g e (Ends flies off) = refused_now old new f g e flies
   walk_refuses (suc n) old new f g e (GoesOn {mid = mid} {h = h} flies db rest) =
       let r = subst (λ (s : State). RefusesPoint s (store mid.pages) (store new.pages) f.job.tree f.job.call e (db_state store meant new)) (moved_state old mid f h flies)
@@ -252,8 +252,8 @@ module _ {P M : Type 0} (store : P → Store) (meant : M → Merge) where
 
   -- ---- a call from its begin to its end
 
-  module _ (old new : DbValue P M) (tree : Tree) (call : Call) (g : Flight) where
-    begun_conducts : (went : Went) → FliesToEnd store meant old (begun_flight tree call) went new g → Conducts store (maps_added went (maps_of (db_state store meant new))) (error_of went) old new
+  module _ (old new : DbValue P M) (tree : Tree) (call : Call) (g : InFlight) where
+    begun_conducts : (went : Went) → DbRunsToEnd store meant old (begun_flight tree call) went new g → Conducts store (maps_added went (maps_of (db_state store meant new))) (error_of went) old new
     begun_conducts went flies =
         let n = flies.moves in let f = begun_flight tree call in record {
           acts = walk_acts n old new f g went flies.flies;
@@ -264,7 +264,7 @@ module _ {P M : Type 0} (store : P → Store) (meant : M → Merge) where
           same = walk_same n old new f g went flies.flies;
         }
 
-    begun_decided : (reply : Reply) → FliesToEnd store meant old (begun_flight tree call) (Decided reply) new g → PointDecided store meant old tree call reply new
+    begun_decided : (reply : Reply) → DbRunsToEnd store meant old (begun_flight tree call) (Decided reply) new g → PointDecided store meant old tree call reply new
     begun_decided reply flies = record {
       decides = walk_decides flies.moves old new (begun_flight tree call) g reply flies.flies;
       conducts = begun_conducts (Decided reply) flies;
@@ -272,30 +272,30 @@ module _ {P M : Type 0} (store : P → Store) (meant : M → Merge) where
       steps = flies;
     }
 
-    begun_refused : (e : Error) → FliesToEnd store meant old (begun_flight tree call) (Refused e) new g → PointRefused store meant old tree call e new
+    begun_refused : (e : Error) → DbRunsToEnd store meant old (begun_flight tree call) (Refused e) new g → PointRefused store meant old tree call e new
     begun_refused e flies = record {
       refuses = walk_refuses flies.moves old new (begun_flight tree call) g e flies.flies;
       conducts = begun_conducts (Refused e) flies;
       steps = inr (g, flies);
       turns = λ tells path clean. elim (cases_lt (length path) turns_limit) [
-        | inl few ↦ absurd ((flies.passes path clean (unused (length path) few)).unlimited tells)
+        | inl fits ↦ absurd ((flies.passes path clean (unused (length path) fits)).unlimited tells)
         | inr many ↦ many
       ];
     }
       where
         unused : (n : ℕ) → n < turns_limit → 0 + n < turns_limit
-        unused n few = omega arith
+        unused n fits = omega arith
 
     -- the same of a call that was made of a copy of the tree
-    module _ (copy : Tree) (f : Flight) (is : f ≡ begun_flight copy call) (same : copy ≡ tree) where
+    module _ (copy : Tree) (f : InFlight) (is : f ≡ begun_flight copy call) (same : copy ≡ tree) where
       begun : f ≡ begun_flight tree call
       begun = is ∙ ap (λ t. begun_flight t call) same
 
-      pub point_decided : (reply : Reply) (went : Went) → went ≡ Decided reply → FliesToEnd store meant old f went new g → PointDecided store meant old tree call reply new
-      point_decided reply went out flies = begun_decided reply (subst (λ z. FliesToEnd store meant old z (Decided reply) new g) begun (subst (λ z. FliesToEnd store meant old f z new g) out flies))
+      pub point_decided : (reply : Reply) (went : Went) → went ≡ Decided reply → DbRunsToEnd store meant old f went new g → PointDecided store meant old tree call reply new
+      point_decided reply went out flies = begun_decided reply (subst (λ z. DbRunsToEnd store meant old z (Decided reply) new g) begun (subst (λ z. DbRunsToEnd store meant old f z new g) out flies))
 
-      pub point_refused : (e : Error) (went : Went) → went ≡ Refused e → FliesToEnd store meant old f went new g → PointRefused store meant old tree call e new
-      point_refused e went out flies = begun_refused e (subst (λ z. FliesToEnd store meant old z (Refused e) new g) begun (subst (λ z. FliesToEnd store meant old f z new g) out flies))
+      pub point_refused : (e : Error) (went : Went) → went ≡ Refused e → DbRunsToEnd store meant old f went new g → PointRefused store meant old tree call e new
+      point_refused e went out flies = begun_refused e (subst (λ z. DbRunsToEnd store meant old z (Refused e) new g) begun (subst (λ z. DbRunsToEnd store meant old f z new g) out flies))
 
 -- ---- a call that is refused before its first step
 
@@ -333,10 +333,10 @@ module _ {P M : Type 0} (store : P → Store) (meant : M → Merge) (old : DbVal
   -- by the tests
   pub point_untested : MustBeRefused (must_refuse_of (db_state store meant old) (tree ∷ [])) e → PointRefused store meant old tree call e old
   point_untested tested = record {
-    refuses = record { may = record { told = subst (λ o. may_refuse_as o (db_state store meant old) (store old.pages) (store old.pages) (ToPoint tree call) e) (sym (must_point (db_state store meant old) tree call)) (go (must_refuse_of (db_state store meant old) (tree ∷ [])) tested.told) }; is = refl };
-    conducts = conducts_refused store meant old e (quiet_untold e (store old.pages) (untold_fault (must_refuse_of (db_state store meant old) (tree ∷ [])) e tested.told));
+    refuses = record { may = record { is = subst (λ o. may_refuse_as o (db_state store meant old) (store old.pages) (store old.pages) (ToPoint tree call) e) (sym (must_point (db_state store meant old) tree call)) (go (must_refuse_of (db_state store meant old) (tree ∷ [])) tested.is) }; is = refl };
+    conducts = conducts_refused store meant old e (quiet_untold e (store old.pages) (untold_fault (must_refuse_of (db_state store meant old) (tree ∷ [])) e tested.is));
     steps = inl refl;
-    turns = λ tells path clean. absurd (untold_turns (must_refuse_of (db_state store meant old) (tree ∷ [])) e tested.told tells);
+    turns = λ tells path clean. absurd (untold_turns (must_refuse_of (db_state store meant old) (tree ∷ [])) e tested.is tells);
   }
     where
       go : (o : Option MustRefuse) → must_be_refused_as o e → may_refuse_as o (db_state store meant old) (store old.pages) (store old.pages) (ToPoint tree call) e
@@ -346,15 +346,15 @@ module _ {P M : Type 0} (store : P → Store) (meant : M → Merge) (old : DbVal
   -- for want of memory
   pub point_short : must_refuse_of (db_state store meant old) (tree ∷ []) ≡ None → e ≡ error.NoMemory → PointRefused store meant old tree call e old
   point_short must short = subst (λ z. PointRefused store meant old tree call z old) (sym short) (record {
-    refuses = record { may = record { told = subst (λ o. may_refuse_as o (db_state store meant old) (store old.pages) (store old.pages) (ToPoint tree call) error.NoMemory) (sym (must_point (db_state store meant old) tree call ∙ must)) tt }; is = refl };
+    refuses = record { may = record { is = subst (λ o. may_refuse_as o (db_state store meant old) (store old.pages) (store old.pages) (ToPoint tree call) error.NoMemory) (sym (must_point (db_state store meant old) tree call ∙ must)) tt }; is = refl };
     conducts = conducts_refused store meant old error.NoMemory refl;
     steps = inl refl;
     turns = λ tells path clean. absurd tells;
   })
 
   -- a call that begins knows nothing of the pages
-  pub point_known : (copy : Tree) (f : Flight) → f ≡ begun_flight copy call → IsKnown (moment_of_db store old) f
-  point_known copy f is = subst (λ z. IsKnown (moment_of_db store old) z) (sym is) (record { told = λ w m. (tt, tt, refl); few = omega arith; begins = λ none. refl; aimed = refl })
+  pub point_known : (copy : Tree) (f : InFlight) → f ≡ begun_flight copy call → IsKnown (snapshot_of_db store old) f
+  point_known copy f is = subst (λ z. IsKnown (snapshot_of_db store old) z) (sym is) (record { is = λ w m. (tt, tt, refl); fits = omega arith; begins = λ none. refl; aimed = refl })
 
-  pub point_tested : (copy : Tree) (f : Flight) → f ≡ begun_flight copy call → copy ≡ tree → must_refuse_of (db_state store meant old) (tree ∷ []) ≡ None → must_refuse_of (db_state store meant old) (f.job.tree ∷ []) ≡ None
-  point_tested copy f is same must = ap (λ (z : Flight). must_refuse_of (db_state store meant old) (z.job.tree ∷ [])) is ∙ ap (λ t. must_refuse_of (db_state store meant old) (t ∷ [])) same ∙ must
+  pub point_tested : (copy : Tree) (f : InFlight) → f ≡ begun_flight copy call → copy ≡ tree → must_refuse_of (db_state store meant old) (tree ∷ []) ≡ None → must_refuse_of (db_state store meant old) (f.job.tree ∷ []) ≡ None
+  point_tested copy f is same must = ap (λ (z : InFlight). must_refuse_of (db_state store meant old) (z.job.tree ∷ [])) is ∙ ap (λ t. must_refuse_of (db_state store meant old) (t ∷ [])) same ∙ must

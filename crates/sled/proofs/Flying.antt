@@ -14,34 +14,34 @@ use Rattle.sled_pages.specs.declared.error.Error.{Error}
 use Rattle.sled_pages.specs.declared.error.Error.TheVariants as error
 use Rattle.sled_model.specs.Maps.{Map, Merge}
 use Rattle.sled_model.specs.Answer.{Answer, answer_of}
-use Rattle.sled_model.specs.State.{State, NamedTree, Queue, Flying, maps_of, delivered, decided}
+use Rattle.sled_model.specs.State.{State, NamedTree, Queue, CallInFlight, maps_of, queues_after, after_decision}
 use Rattle.sled_model.specs.Refusal.{MustRefuse, IsClosed, IsForeign, IsDropped, HasNoOperator, must_refuse, must_refuse_of, MayRefuse, ToStep, TellsTurns, cause_of, may_refuse_as, turns_limit}
 use Rattle.sled_model.specs.declared.event.Event.{Event}
 use Rattle.sled_model.specs.declared.reply.Reply.{Reply}
 use Rattle.sled_model.specs.declared.TheConstants.{MAX_LOOPS}
 use Rattle.tree_laws.specs.Forest.{Tree, Forest, contents}
 use Rattle.tree_laws.specs.Contents.{trees_of}
-use Rattle.tree_laws.specs.Crashes.{IsWhole, IsCrashWhole, Extends, Adds}
-use Rattle.tree_laws.specs.Moment.{Moment, nodes_at, IsMoment, Acts}
+use Rattle.tree_laws.specs.Crashes.{IsValid, IsCrashConsistent, AddsCrashStates, AddsAction}
+use Rattle.tree_laws.specs.Snapshot.{Snapshot, nodes_at, HasForest, KeepsForest}
 use Rattle.tree_laws.proofs.Crashing.{adds_extends, adds_unseen, extends_same, extends_again, whole_law}
 use Rattle.tree_laws.proofs.Reading.{one_law}
 use Rattle.sled_tree.specs.Course.{Course, course, course_of, IsAimed}
 use Rattle.sled_tree.specs.declared.flight.Aim.{Aim}
 use Rattle.sled_tree.specs.declared.flight.Job.{Job}
-use Rattle.sled_tree.specs.declared.flight.Flight.{Flight}
+use Rattle.sled_tree.specs.declared.flight.InFlight.{InFlight}
 use Rattle.sled_tree.specs.declared.flight.Next.TheVariants as next
 use Rattle.sled_tree.specs.declared.flight.Went.{Went}
 use Rattle.sled_tree.specs.declared.flight.Went.TheVariants.{Moved, Decided, Refused}
 use Rattle.tree_laws.specs.Stages.{owned}
 use Rattle.sled_tree.specs.Stages.{Knows}
 use Rattle.sled_tree.specs.Known.{IsKnown}
-use Rattle.sled_tree.specs.Passing.{IsOnPath, GoesFurther}
+use Rattle.sled_tree.specs.Passing.{IsOnPath, StepsOnPath}
 use Rattle.sled_tree.specs.Follows.{FollowsOn}
-use Rattle.sled_tree.specs.Moves.{Moves, ActsOnce, ActsAtMostOnce, Same, Decides, LeavesNone, refuses_as, Advances}
-use Rattle.sled.specs.Values.{DbValue, numbers_of, given_to, named, state_of, db_state, moment_of_db}
+use Rattle.sled_tree.specs.StageAction.{StageAction, ActsOnce, ActsAtMostOnce, KeepsContents, DecidesAs, LeaksNoPage, is_action_refused_as, FlightStep}
+use Rattle.sled.specs.Values.{DbValue, numbers_of, given_to, named, state_of, db_state, snapshot_of_db}
 use Rattle.sled.specs.Sound.{IsDb}
 use Rattle.sled.specs.Calls.{MustBeRefused, must_be_refused_as}
-use Rattle.sled.specs.Flights.{flying_of, PagesLast, StillStands, LosesNone, RefusesQuietly, Flies, FliesTimes, Ends, GoesOn, has_turns, IsPrompt, FliesToEnd}
+use Rattle.sled.specs.Flights.{call_in_flight_of, PagesLast, StaysInChain, KeepsTreePages, IsStepRefused, DbStepContract, DbSteps, Ends, GoesOn, has_turns, TakesAtMost, DbRunsToEnd}
 use Rattle.sled_tree.proofs.Known.{not_own, known_kept}
 use Rattle.sled.proofs.Resting.{Rests, rests_refused, now_rests, rests_extends, rests_left}
 use Rattle.sled.proofs.Testing.{must_step, limit_is, tested_calm}
@@ -59,25 +59,25 @@ page_gone s p e = go (s.pages p) e
     go (Some g) e = none_some (sym e)
 
 -- what an action leaves of the trees, at the forests that fit
-lasts_same : (m : Moment) → PagesLast m m
+lasts_same : (m : Snapshot) → PagesLast m m
 lasts_same m = record { pids = λ p e. e; merges = λ p n live on. inl live; gone = λ p e none. none }
 
-lasts_acting : {mine own : List ℕ} (m n : Moment) (w v : Forest) → Acts mine own m w n v → PagesLast m n
+lasts_acting : {mine own : List ℕ} (m n : Snapshot) (w v : Forest) → KeepsForest mine own m w n v → PagesLast m n
 lasts_acting m n w v a = record {
   pids = a.goes.pids;
   merges = a.goes.keeps.capped;
   gone = λ p given none. ap (option_map (λ (g : Page). g.node)) (a.goes.gone p given (page_gone m.state p none));
 }
 
-pub loses_nothing : (lost : Option Tree) (m : Moment) → LosesNone lost m m
-loses_nothing lost m w v was is = subst (λ (z : Forest). StillStands lost m w m z) (one_law (nodes_at m) m.state.roots w v was.formed is.formed) (record { told = λ x p on i. inl i; last = lasts_same m })
+pub loses_nothing : (lost : Option Tree) (m : Snapshot) → KeepsTreePages lost m m
+loses_nothing lost m w v was is = subst (λ (z : Forest). StaysInChain lost m w m z) (one_law (nodes_at m) m.state.roots w v was.formed is.formed) (record { is = λ x p on i. inl i; last = lasts_same m })
 
-loses_acting : {mine own : List ℕ} (m n : Moment) (w v : Forest) → IsMoment m w → Acts mine own m w n v → LosesNone None m n
+loses_acting : {mine own : List ℕ} (m n : Snapshot) (w v : Forest) → HasForest m w → KeepsForest mine own m w n v → KeepsTreePages None m n
 loses_acting m n w v is a u z was is_now =
-    subst (λ (f : Forest). StillStands None m f n z) (one_law (nodes_at m) m.state.roots w u is.formed was.formed)
-    (subst (λ (f : Forest). StillStands None m w n f) (one_law (nodes_at n) n.state.roots v z a.is.formed is_now.formed)
+    subst (λ (f : Forest). StaysInChain None m f n z) (one_law (nodes_at m) m.state.roots w u is.formed was.formed)
+    (subst (λ (f : Forest). StaysInChain None m w n f) (one_law (nodes_at n) n.state.roots v z a.is.formed is_now.formed)
     (record {
-      told = λ x p on i.
+      is = λ x p on i.
           let here = is.formed.page x p (is.formed.homed x p i) in let s = a.goes.keeps.stood x p here.0 on i here.1.live in elim s.3 [
             | inl c ↦ inl c
             | inr b ↦ inr (s.0, s.1, b)
@@ -88,14 +88,14 @@ loses_acting m n w v is a u z was is_now =
 -- what an action leaves of the store
 pub record Touches (a b : Store) : Type 0 where
   pub mark : b.mark ≡ a.mark
-  pub calm : (now b).in_group ≡ (now a).in_group
+  pub no_group : (now b).in_group ≡ (now a).in_group
 
 touches_acting : (a b : Store) → ActsAtMostOnce a b → Touches a b
-touches_acting a b (inl e) = record { mark = ap (λ (s : Store). s.mark) e; calm = ap (λ (s : Store). (now s).in_group) e }
-touches_acting a b (inr o) = record { mark = ap (λ (s : Store). s.mark) o.is; calm = o.calm }
+touches_acting a b (inl e) = record { mark = ap (λ (s : Store). s.mark) e; no_group = ap (λ (s : Store). (now s).in_group) e }
+touches_acting a b (inr o) = record { mark = ap (λ (s : Store). s.mark) o.is; no_group = o.no_group }
 
 -- for a fault alone one is counted
-refuses_quietly : (e : Error) (a b : Store) → refuses_as e a b → RefusesQuietly e a b
+refuses_quietly : (e : Error) (a b : Store) → is_action_refused_as e a b → IsStepRefused e a b
 refuses_quietly error.NoMemory a b t = t
 refuses_quietly (error.Io fault) a b t = t
 refuses_quietly (error.CollectionNotFound name) a b t = absurd t
@@ -106,7 +106,7 @@ refuses_quietly error.FullQueue a b t = absurd t
 refuses_quietly error.Closed a b t = absurd t
 
 -- no test and no limit tells `Io`
-pub quiet_untold : (e : Error) (a : Store) → ((fault : Fault) → e ≡ error.Io fault → ⊥) → RefusesQuietly e a a
+pub quiet_untold : (e : Error) (a : Store) → ((fault : Fault) → e ≡ error.Io fault → ⊥) → IsStepRefused e a a
 quiet_untold error.NoMemory a off = refl
 quiet_untold (error.Io fault) a off = absurd (off fault refl)
 quiet_untold (error.CollectionNotFound name) a off = refl
@@ -117,19 +117,19 @@ quiet_untold error.FullQueue a off = refl
 quiet_untold error.Closed a off = refl
 
 -- what an action adds to what a crash may leave
-once_adds : {a b : Store} (o : ActsOnce a b) → Adds o.action a b
+once_adds : {a b : Store} (o : ActsOnce a b) → AddsAction o.action a b
 once_adds o = record { base = ap (λ (s : Store). s.base) o.is; recent = ap (λ (s : Store). s.recent) o.is; actions = ap (λ (s : Store). s.actions) o.is }
 
-extends_unseen : (a b : Store) → ActsAtMostOnce a b → (now a).in_group ≡ false → (now b).in_group ≡ false → IsWhole (now b) → trees_of (now b) ≡ trees_of (now a) → Extends [] a b
-extends_unseen a b (inl e) out calm well same = subst (λ (s : Store). Extends [] a s) (sym e) (extends_same a)
-extends_unseen a b (inr o) out calm well same = adds_unseen (once_adds o) out calm well same
+extends_unseen : (a b : Store) → ActsAtMostOnce a b → (now a).in_group ≡ false → (now b).in_group ≡ false → IsValid (now b) → trees_of (now b) ≡ trees_of (now a) → AddsCrashStates [] a b
+extends_unseen a b (inl e) out no_group well same = subst (λ (s : Store). AddsCrashStates [] a s) (sym e) (extends_same a)
+extends_unseen a b (inr o) out no_group well same = adds_unseen (once_adds o) out no_group well same
 
-extends_seen : (a b : Store) → ActsAtMostOnce a b → (now b).in_group ≡ false → IsWhole (now b) → Extends (trees_of (now b) ∷ []) a b
-extends_seen a b (inl e) calm well = extends_again (subst (λ (s : Store). Extends [] a s) (sym e) (extends_same a)) calm
-extends_seen a b (inr o) calm well = adds_extends (once_adds o) calm well
+extends_seen : (a b : Store) → ActsAtMostOnce a b → (now b).in_group ≡ false → IsValid (now b) → AddsCrashStates (trees_of (now b) ∷ []) a b
+extends_seen a b (inl e) no_group well = extends_again (subst (λ (s : Store). AddsCrashStates [] a s) (sym e) (extends_same a)) no_group
+extends_seen a b (inr o) no_group well = adds_extends (once_adds o) no_group well
 
 -- a cause of a refusal of the store is one of the model
-cause_is : (s : State) (f : Flying) (e : Error) (a b : Store) → refuses_as e a b → cause_of s a b (ToStep f) e
+cause_is : (s : State) (f : CallInFlight) (e : Error) (a b : Store) → is_action_refused_as e a b → cause_of s a b (ToStep f) e
 cause_is s f error.NoMemory a b t = tt
 cause_is s f (error.Io fault) a b (inl t) = inl (more (ap (λ (z : Store). z.faults) t))
   where
@@ -144,27 +144,27 @@ cause_is s f error.FullQueue a b t = absurd t
 cause_is s f error.Closed a b t = absurd t
 
 -- no queue is there, so none is filled
-no_queue : (queues : List (ℕ × Queue)) (n : ℕ) (event : Option Event) (k : ℕ) → queues ≡ [] → find nat_cmp k queues ≡ delivered n event (λ i. find nat_cmp i queues) k
-no_queue queues n event k e = subst (λ (z : List (ℕ × Queue)). find nat_cmp k z ≡ delivered n event (λ i. find nat_cmp i z) k) (sym e) (go event)
+no_queue : (queues : List (ℕ × Queue)) (n : ℕ) (event : Option Event) (k : ℕ) → queues ≡ [] → find nat_cmp k queues ≡ queues_after n event (λ i. find nat_cmp i queues) k
+no_queue queues n event k e = subst (λ (z : List (ℕ × Queue)). find nat_cmp k z ≡ queues_after n event (λ i. find nat_cmp i z) k) (sym e) (go event)
   where
-    go : (event : Option Event) → None ≡ delivered n event (λ i. None) k
+    go : (event : Option Event) → None ≡ queues_after n event (λ i. None) k
     go None = refl
     go (Some e) = refl
 
 -- a call that is refused before it touches a page
 module _ {P M : Type 0} (store : P → Store) (meant : M → Merge) (old : DbValue P M) where
-  untouched : (f g : Flight) (e : Error) → ((fault : Fault) → e ≡ error.Io fault → ⊥) → (must_refuse_of (db_state store meant old) (f.job.tree ∷ []) ≡ None → f.turns < turns_limit → ⊥) → (must_refuse_of (db_state store meant old) (f.job.tree ∷ []) ≡ None → f.turns ≡ turns_limit → TellsTurns e) → ((slots : ℕ → Option Flying) (given : ℕ) → MayRefuse (state_of store meant old slots given) (store old.pages) (store old.pages) (ToStep (flying_of f)) e) → Flies store meant old f (Refused e) old g
+  untouched : (f g : InFlight) (e : Error) → ((fault : Fault) → e ≡ error.Io fault → ⊥) → (must_refuse_of (db_state store meant old) (f.job.tree ∷ []) ≡ None → f.turns < turns_limit → ⊥) → (must_refuse_of (db_state store meant old) (f.job.tree ∷ []) ≡ None → f.turns ≡ turns_limit → TellsTurns e) → ((slots : ℕ → Option CallInFlight) (given : ℕ) → MayRefuse (state_of store meant old slots given) (store old.pages) (store old.pages) (ToStep (call_in_flight_of f)) e) → DbStepContract store meant old f (Refused e) old g
   untouched f g e off stopped limit may = record {
     step = record {
-      steps = λ slots given slot before after here. record { told = (record { flying = flying_of f; here = here; may = may slots given; limit = λ none all. limit (sym (must_step (state_of store meant old slots given) (flying_of f)) ∙ none) all; is = refl }, refl) };
+      steps = λ slots given slot before after here. record { is = (record { flying = call_in_flight_of f; here = here; may = may slots given; limit = λ none all. limit (sym (must_step (state_of store meant old slots given) (call_in_flight_of f)) ∙ none) all; is = refl }, refl) };
       extends = extends_same (store old.pages);
       same = refl;
     };
     sound = record { keeps = λ d. d };
     does = record { does = quiet_untold e (store old.pages) off; quiet = λ q. refl; loud = λ event b. absurd (silent b.reply b.decided) };
-    follows = λ must few. absurd (stopped must few);
-    passes = record { told = tt };
-    loses = loses_nothing None (moment_of_db store old);
+    follows = λ must fits. absurd (stopped must fits);
+    passes = record { is = tt };
+    loses = loses_nothing None (snapshot_of_db store old);
     leaves = λ v is. tt;
     knows = record { goes_on = λ e. absurd (apart e); others = λ h off k. (k, λ e. absurd (apart e)) };
   }
@@ -176,10 +176,10 @@ module _ {P M : Type 0} (store : P → Store) (meant : M → Merge) (old : DbVal
       silent r e = cc
 
   -- the tests refuse the call
-  pub flies_untested : (f g : Flight) (e : Error) → MustBeRefused (must_refuse_of (db_state store meant old) (f.job.tree ∷ [])) e → Flies store meant old f (Refused e) old g
-  flies_untested f g e tested = untouched f g e (λ fault io. untold fault (must_refuse_of (db_state store meant old) (f.job.tree ∷ [])) (subst (λ z. must_be_refused_as (must_refuse_of (db_state store meant old) (f.job.tree ∷ [])) z) io tested.told)) (λ none few. absurd (subst (λ o. must_be_refused_as o e) none tested.told)) (λ none all. absurd (subst (λ o. must_be_refused_as o e) none tested.told)) (λ slots given. record { told = subst (λ o. may_refuse_as o (state_of store meant old slots given) (store old.pages) (store old.pages) (ToStep (flying_of f)) e) (sym (must_step (state_of store meant old slots given) (flying_of f))) (go slots given (must_refuse_of (db_state store meant old) (f.job.tree ∷ [])) tested.told) })
+  pub flies_untested : (f g : InFlight) (e : Error) → MustBeRefused (must_refuse_of (db_state store meant old) (f.job.tree ∷ [])) e → DbStepContract store meant old f (Refused e) old g
+  flies_untested f g e tested = untouched f g e (λ fault io. untold fault (must_refuse_of (db_state store meant old) (f.job.tree ∷ [])) (subst (λ z. must_be_refused_as (must_refuse_of (db_state store meant old) (f.job.tree ∷ [])) z) io tested.is)) (λ none fits. absurd (subst (λ o. must_be_refused_as o e) none tested.is)) (λ none all. absurd (subst (λ o. must_be_refused_as o e) none tested.is)) (λ slots given. record { is = subst (λ o. may_refuse_as o (state_of store meant old slots given) (store old.pages) (store old.pages) (ToStep (call_in_flight_of f)) e) (sym (must_step (state_of store meant old slots given) (call_in_flight_of f))) (go slots given (must_refuse_of (db_state store meant old) (f.job.tree ∷ [])) tested.is) })
     where
-      go : (slots : ℕ → Option Flying) (given : ℕ) (o : Option MustRefuse) → must_be_refused_as o e → may_refuse_as o (state_of store meant old slots given) (store old.pages) (store old.pages) (ToStep (flying_of f)) e
+      go : (slots : ℕ → Option CallInFlight) (given : ℕ) (o : Option MustRefuse) → must_be_refused_as o e → may_refuse_as o (state_of store meant old slots given) (store old.pages) (store old.pages) (ToStep (call_in_flight_of f)) e
       go slots given None t = absurd t
       go slots given (Some m) t = t
 
@@ -192,30 +192,30 @@ module _ {P M : Type 0} (store : P → Store) (meant : M → Merge) (old : DbVal
       untold fault (Some HasNoOperator) t = t
 
   -- the tests let the call pass
-  module _ (f : Flight) (must : must_refuse_of (db_state store meant old) (f.job.tree ∷ []) ≡ None) where
-    may_refuse : (slots : ℕ → Option Flying) (given : ℕ) (a b : Store) (e : Error) → cause_of (state_of store meant old slots given) a b (ToStep (flying_of f)) e → MayRefuse (state_of store meant old slots given) a b (ToStep (flying_of f)) e
-    may_refuse slots given a b e cause = record { told = subst (λ o. may_refuse_as o (state_of store meant old slots given) a b (ToStep (flying_of f)) e) (sym (must_step (state_of store meant old slots given) (flying_of f) ∙ must)) cause }
+  module _ (f : InFlight) (must : must_refuse_of (db_state store meant old) (f.job.tree ∷ []) ≡ None) where
+    may_refuse : (slots : ℕ → Option CallInFlight) (given : ℕ) (a b : Store) (e : Error) → cause_of (state_of store meant old slots given) a b (ToStep (call_in_flight_of f)) e → MayRefuse (state_of store meant old slots given) a b (ToStep (call_in_flight_of f)) e
+    may_refuse slots given a b e cause = record { is = subst (λ o. may_refuse_as o (state_of store meant old slots given) a b (ToStep (call_in_flight_of f)) e) (sym (must_step (state_of store meant old slots given) (call_in_flight_of f) ∙ must)) cause }
 
     -- its turns are the limit
-    pub flies_limit : (g : Flight) (e : Error) → f.turns ≡ turns_limit → TellsTurns e → ((slots : ℕ → Option Flying) (given : ℕ) → cause_of (state_of store meant old slots given) (store old.pages) (store old.pages) (ToStep (flying_of f)) e) → Flies store meant old f (Refused e) old g
-    flies_limit g e all tells cause = untouched f g e (λ fault io. subst TellsTurns io tells) (λ none few. below f.turns all few) (λ none all. tells) (λ slots given. may_refuse slots given (store old.pages) (store old.pages) e (cause slots given))
+    pub flies_limit : (g : InFlight) (e : Error) → f.turns ≡ turns_limit → TellsTurns e → ((slots : ℕ → Option CallInFlight) (given : ℕ) → cause_of (state_of store meant old slots given) (store old.pages) (store old.pages) (ToStep (call_in_flight_of f)) e) → DbStepContract store meant old f (Refused e) old g
+    flies_limit g e all tells cause = untouched f g e (λ fault io. subst TellsTurns io tells) (λ none fits. below f.turns all fits) (λ none all. tells) (λ slots given. may_refuse slots given (store old.pages) (store old.pages) e (cause slots given))
       where
         below : (n : ℕ) → n ≡ turns_limit → n < turns_limit → ⊥
-        below n all few = omega arith
+        below n all fits = omega arith
 
 module _ {P M : Type 0} (store : P → Store) (meant : M → Merge) (old : DbValue P M) (db : IsDb store old) where
-  abbrev at : Moment
-  at = moment_of_db store old
+  abbrev at : Snapshot
+  at = snapshot_of_db store old
 
   -- the state over other pages
-  state_over : (p : P) (slots after : ℕ → Option Flying) (given : ℕ) → ((name : Key) → trees_of (now (store p)) name ≡ trees_of (now (store old.pages)) name) → (now (store p)).in_group ≡ (now (store old.pages)).in_group → (store p).mark ≡ (store old.pages).mark
+  state_over : (p : P) (slots after : ℕ → Option CallInFlight) (given : ℕ) → ((name : Key) → trees_of (now (store p)) name ≡ trees_of (now (store old.pages)) name) → (now (store p)).in_group ≡ (now (store old.pages)).in_group → (store p).mark ≡ (store old.pages).mark
       → state_of store meant (record old { pages = p }) after given ≡ record (state_of store meant old slots given) { slots = after }
-  state_over p slots after given trees calm mark = λ i. record {
+  state_over p slots after given trees no_group mark = λ i. record {
     name = old.name;
     trees = λ t. named (numbers_of old.trees t) (trees t i) (λ n. option_map meant (find nat_cmp n old.operators));
     queues = λ n. find nat_cmp n old.queues;
     slots = after;
-    is_open = not (calm i);
+    is_open = not (no_group i);
     greatest_id = old.greatest_id;
     mark = mark i;
     trees_given = old.trees_given;
@@ -223,11 +223,11 @@ module _ {P M : Type 0} (store : P → Store) (meant : M → Merge) (old : DbVal
     subscribers_given = old.subscribers_given;
   }
 
-  same_store : (slots after : ℕ → Option Flying) (given : ℕ) → state_of store meant old after given ≡ record (state_of store meant old slots given) { slots = after }
+  same_store : (slots after : ℕ → Option CallInFlight) (given : ℕ) → state_of store meant old after given ≡ record (state_of store meant old slots given) { slots = after }
   same_store slots after given = refl
 
   -- the tests let the call pass
-  module _ (f : Flight) (must : must_refuse_of (db_state store meant old) (f.job.tree ∷ []) ≡ None) where
+  module _ (f : InFlight) (must : must_refuse_of (db_state store meant old) (f.job.tree ∷ []) ≡ None) where
     named_now : numbers_of old.trees f.job.tree.name ≡ Some f.job.tree.number
     named_now = numbered f.job.tree.number (numbers_of old.trees f.job.tree.name) (trees_of (now (store old.pages)) f.job.tree.name) _ (current (db_state store meant old) f.job.tree must)
 
@@ -242,32 +242,32 @@ module _ {P M : Type 0} (store : P → Store) (meant : M → Merge) (old : DbVal
         (trees_at (store old.pages) (numbers_of old.trees) (given_to old.trees_given) db.forest db.is f.job.tree.name ∙ ap (option_map (λ _. contents (nodes_at at) db.forest f.job.tree.name)) named_now)
 
     module _ (q : P) (known : IsKnown at f) where
-      abbrev after : Moment
-      after = moment_of_db store (record old { pages = q })
+      abbrev after : Snapshot
+      after = snapshot_of_db store (record old { pages = q })
 
       abbrev new : DbValue P M
       new = record old { pages = q }
 
       -- the database is as it should be
-      is_db : (v : Forest) {mine own : List ℕ} → Acts mine own at db.forest after v → IsCrashWhole (store q) → (store q).mark ≡ (store old.pages).mark → IsDb store new
+      is_db : (v : Forest) {mine own : List ℕ} → KeepsForest mine own at db.forest after v → IsCrashConsistent (store q) → (store q).mark ≡ (store old.pages).mark → IsDb store new
       is_db v a safe mark = record { forest = v; is = a.is; sized = a.sized db.sized; safe = safe; ascends = db.ascends; default = db.default; unwatched = db.unwatched; ids = subst (λ m. old.greatest_id ≤ m) (sym mark) db.ids }
 
       -- no group is open
-      calm : (now (store old.pages)).in_group ≡ false
-      calm = tested_calm store meant old f.job.tree must
+      no_group : (now (store old.pages)).in_group ≡ false
+      no_group = tested_calm store meant old f.job.tree must
 
       -- after an action the state now, and every state that a crash may leave, is as it should be
-      well : (v : Forest) {mine own : List ℕ} → Acts mine own at db.forest after v → IsWhole (now (store q))
+      well : (v : Forest) {mine own : List ℕ} → KeepsForest mine own at db.forest after v → IsValid (now (store q))
       well v a = record { forest = v; formed = a.is.formed; sized = a.sized db.sized }
 
-      whole : (v : Forest) {mine own : List ℕ} → Acts mine own at db.forest after v → ActsAtMostOnce (store old.pages) (store q) → IsCrashWhole (store q)
-      whole v a (inl e) = subst IsCrashWhole (sym e) db.safe
-      whole v a (inr o) = whole_law o.action (store old.pages) (store q) (once_adds o) db.safe (λ calm. well v a)
+      whole : (v : Forest) {mine own : List ℕ} → KeepsForest mine own at db.forest after v → ActsAtMostOnce (store old.pages) (store q) → IsCrashConsistent (store q)
+      whole v a (inl e) = subst IsCrashConsistent (sym e) db.safe
+      whole v a (inr o) = whole_law o.action (store old.pages) (store q) (once_adds o) db.safe (λ no_group. well v a)
 
       -- the call goes on
-      module _ (few : f.turns < turns_limit) (g : Flight) (job : g.job ≡ f.job) (aim : g.aim ≡ f.aim) (turns : g.turns ≡ f.turns + 1) (moves : Moves (course_of f) (store old.pages) f.stage (next.Go g.stage) (store q)) (further : GoesFurther (now (store old.pages)) f Moved (now (store q)) g) (follows : FollowsOn (store old.pages) f Moved (store q) g) where
-        moved : (v : Forest) × Acts (owned f.stage) (owned g.stage) at db.forest after v × (Knows after v (course_of f) g.stage × Same at db.forest after v) × LeavesNone (owned f.stage) (owned g.stage) (now (store old.pages)) (now (store q)) v
-        moved = moves.told (numbers_of old.trees) (given_to old.trees_given) db.forest db.is named_now (known.told db.forest db.is)
+      module _ (fits : f.turns < turns_limit) (g : InFlight) (job : g.job ≡ f.job) (aim : g.aim ≡ f.aim) (turns : g.turns ≡ f.turns + 1) (moves : StageAction (course_of f) (store old.pages) f.stage (next.Go g.stage) (store q)) (further : StepsOnPath (now (store old.pages)) f Moved (now (store q)) g) (follows : FollowsOn (store old.pages) f Moved (store q) g) where
+        moved : (v : Forest) × KeepsForest (owned f.stage) (owned g.stage) at db.forest after v × (Knows after v (course_of f) g.stage × KeepsContents at db.forest after v) × LeaksNoPage (owned f.stage) (owned g.stage) (now (store old.pages)) (now (store q)) v
+        moved = moves.is (numbers_of old.trees) (given_to old.trees_given) db.forest db.is named_now (known.is db.forest db.is)
 
         moved_touches : Touches (store old.pages) (store q)
         moved_touches = touches_acting (store old.pages) (store q) moves.touches
@@ -275,20 +275,20 @@ module _ {P M : Type 0} (store : P → Store) (meant : M → Merge) (old : DbVal
         moved_trees : trees_of (now (store q)) ≡ trees_of (now (store old.pages))
         moved_trees = trees_same (store old.pages) (store q) (numbers_of old.trees) (given_to old.trees_given) db.forest moved.0 db.is moved.1.is moved.2.1.same
 
-        moved_extends : Extends [] (store old.pages) (store q)
-        moved_extends = extends_unseen (store old.pages) (store q) moves.touches calm (moved_touches.calm ∙ calm) (well moved.0 moved.1) moved_trees
+        moved_extends : AddsCrashStates [] (store old.pages) (store q)
+        moved_extends = extends_unseen (store old.pages) (store q) moves.touches no_group (moved_touches.no_group ∙ no_group) (well moved.0 moved.1) moved_trees
 
         pub moved_db : IsDb store (record old { pages = q })
         moved_db = is_db moved.0 moved.1 (whole moved.0 moved.1 moves.touches) moved_touches.mark
 
-        flying_more : flying_of g ≡ record (flying_of f) { turns = f.turns + 1 }
+        flying_more : call_in_flight_of g ≡ record (call_in_flight_of f) { turns = f.turns + 1 }
         flying_more = λ i. record { tree = (job i).tree; call = (job i).call; turns = turns i; waiting = []; rest = None }
 
         moved_known : IsKnown after g
         moved_known = record {
-          told = λ u is. on_course (λ j. Knows after u j g.stage) (subst (λ (z : Forest). Knows after z (course_of f) g.stage) (one_law (nodes_at after) after.state.roots moved.0 u moved.1.is.formed is.formed) moved.2.0);
+          is = λ u is. on_course (λ j. Knows after u j g.stage) (subst (λ (z : Forest). Knows after z (course_of f) g.stage) (one_law (nodes_at after) after.state.roots moved.0 u moved.1.is.formed is.formed) moved.2.0);
           aimed = on_course (λ j. IsAimed j) known.aimed;
-          few = more f.turns g.turns few turns;
+          fits = more f.turns g.turns fits turns;
           begins = λ none. absurd (some f.turns g.turns turns none);
         }
           where
@@ -301,18 +301,18 @@ module _ {P M : Type 0} (store : P → Store) (meant : M → Merge) (old : DbVal
             more : (a b : ℕ) → a < turns_limit → b ≡ a + 1 → b ≤ MAX_LOOPS
             more a b h e = let l = limit_is in omega arith
 
-        pub flies_moved : Flies store meant old f Moved new g
+        pub flies_moved : DbStepContract store meant old f Moved new g
         flies_moved = record {
           step = record {
             steps = λ slots given slot before after here. record {
-              told = (
+              is = (
                 record {
-                  flying = flying_of f;
+                  flying = call_in_flight_of f;
                   here = here;
-                  free = must_step (state_of store meant old slots given) (flying_of f) ∙ must;
-                  few = few;
-                  is = state_over q slots (put_at slots slot (Some (flying_of g))) given (λ t i. moved_trees i t) moved_touches.calm moved_touches.mark
-                      ∙ ap (λ (z : Flying). record (state_of store meant old slots given) { slots = put_at slots slot (Some z) }) flying_more;
+                  free = must_step (state_of store meant old slots given) (call_in_flight_of f) ∙ must;
+                  fits = fits;
+                  is = state_over q slots (put_at slots slot (Some (call_in_flight_of g))) given (λ t i. moved_trees i t) moved_touches.no_group moved_touches.mark
+                      ∙ ap (λ (z : CallInFlight). record (state_of store meant old slots given) { slots = put_at slots slot (Some z) }) flying_more;
                 },
                 refl,
               );
@@ -322,10 +322,10 @@ module _ {P M : Type 0} (store : P → Store) (meant : M → Merge) (old : DbVal
           };
           sound = record { keeps = λ d. moved_db };
           does = record { does = moves.touches; quiet = λ k. absurd (apart k.reply k.decided); loud = λ event k. absurd (apart k.reply k.decided) };
-          follows = λ must few. follows;
+          follows = λ must fits. follows;
           passes = further;
           loses = loses_acting at after db.forest moved.0 db.is moved.1;
-          leaves = λ u is. subst (λ (z : Forest). LeavesNone (owned f.stage) (owned g.stage) (now (store old.pages)) (now (store q)) z) (one_law (nodes_at after) after.state.roots moved.0 u moved.1.is.formed is.formed) moved.3;
+          leaves = λ u is. subst (λ (z : Forest). LeaksNoPage (owned f.stage) (owned g.stage) (now (store old.pages)) (now (store q)) z) (one_law (nodes_at after) after.state.roots moved.0 u moved.1.is.formed is.formed) moved.3;
           knows = record {
             goes_on = λ e. (job, moved_known);
             others = λ h apart k. (known_kept db.is moved.1 h k apart.off, λ e. record { off = λ p i j. not_own db.is moved.1 h k apart.off p j i });
@@ -336,14 +336,14 @@ module _ {P M : Type 0} (store : P → Store) (meant : M → Merge) (old : DbVal
             apart r e = cc
 
       -- the call is refused by the store
-      module _ (few : f.turns < turns_limit) (g : Flight) (e : Error) (moves : Moves (course_of f) (store old.pages) f.stage (next.Refused e) (store q)) (follows : FollowsOn (store old.pages) f (Refused e) (store q) g) where
-        refused : (v : Forest) × Acts (owned f.stage) [] at db.forest after v × Same at db.forest after v × Unit {0}
-        refused = moves.told (numbers_of old.trees) (given_to old.trees_given) db.forest db.is named_now (known.told db.forest db.is)
+      module _ (fits : f.turns < turns_limit) (g : InFlight) (e : Error) (moves : StageAction (course_of f) (store old.pages) f.stage (next.Refused e) (store q)) (follows : FollowsOn (store old.pages) f (Refused e) (store q) g) where
+        refused : (v : Forest) × KeepsForest (owned f.stage) [] at db.forest after v × KeepsContents at db.forest after v × Unit {0}
+        refused = moves.is (numbers_of old.trees) (given_to old.trees_given) db.forest db.is named_now (known.is db.forest db.is)
 
         rests : Rests (store old.pages) (store q)
         rests = rests_refused e (store old.pages) (store q) moves.touches
 
-        refused_extends : Extends [] (store old.pages) (store q)
+        refused_extends : AddsCrashStates [] (store old.pages) (store q)
         refused_extends = rests_extends rests
 
         refused_calm : (now (store q)).in_group ≡ (now (store old.pages)).in_group
@@ -352,16 +352,16 @@ module _ {P M : Type 0} (store : P → Store) (meant : M → Merge) (old : DbVal
         pub refused_db : IsDb store (record old { pages = q })
         refused_db = is_db refused.0 refused.1 (record { whole = λ x i. db.safe.whole x (subst (In x) (rests_left rests) i) }) rests.mark
 
-        pub flies_refused : Flies store meant old f (Refused e) new g
+        pub flies_refused : DbStepContract store meant old f (Refused e) new g
         flies_refused = record {
           step = record {
             steps = λ slots given slot before after here. record {
-              told = (
+              is = (
                 record {
-                  flying = flying_of f;
+                  flying = call_in_flight_of f;
                   here = here;
-                  may = may_refuse store meant old f must slots given (store old.pages) (store q) e (cause_is (state_of store meant old slots given) (flying_of f) e (store old.pages) (store q) moves.touches);
-                  limit = λ none all. absurd (below f.turns few all);
+                  may = may_refuse store meant old f must slots given (store old.pages) (store q) e (cause_is (state_of store meant old slots given) (call_in_flight_of f) e (store old.pages) (store q) moves.touches);
+                  limit = λ none all. absurd (below f.turns fits all);
                   is = state_over q slots (put_at slots slot None) given (λ t. ap (λ (s : Rattle.sled_pages.specs.State.State). trees_of s t) (now_rests rests)) refused_calm rests.mark;
                 },
                 refl,
@@ -372,8 +372,8 @@ module _ {P M : Type 0} (store : P → Store) (meant : M → Merge) (old : DbVal
           };
           sound = record { keeps = λ d. refused_db };
           does = record { does = refuses_quietly e (store old.pages) (store q) moves.touches; quiet = λ k. absurd (apart k.reply k.decided); loud = λ event k. absurd (apart k.reply k.decided) };
-          follows = λ must few. follows;
-          passes = record { told = tt };
+          follows = λ must fits. follows;
+          passes = record { is = tt };
           loses = loses_acting at after db.forest refused.0 db.is refused.1;
           leaves = λ v is. tt;
           knows = record { goes_on = λ e. absurd (off e); others = λ h a k. (known_kept db.is refused.1 h k a.off, λ e. absurd (off e)) };
@@ -389,9 +389,9 @@ module _ {P M : Type 0} (store : P → Store) (meant : M → Merge) (old : DbVal
             below n h e = omega arith
 
       -- the call is decided
-      module _ (few : f.turns < turns_limit) (g : Flight) (reply : Reply) (moves : Moves (course_of f) (store old.pages) f.stage (next.Decided reply) (store q)) (follows : FollowsOn (store old.pages) f (Decided reply) (store q) g) where
-        done : (v : Forest) × Acts (owned f.stage) [] at db.forest after v × Decides (course_of f) reply (store old.pages) (store q) at db.forest after v × LeavesNone (owned f.stage) [] (now (store old.pages)) (now (store q)) v
-        done = moves.told (numbers_of old.trees) (given_to old.trees_given) db.forest db.is named_now (known.told db.forest db.is)
+      module _ (fits : f.turns < turns_limit) (g : InFlight) (reply : Reply) (moves : StageAction (course_of f) (store old.pages) f.stage (next.Decided reply) (store q)) (follows : FollowsOn (store old.pages) f (Decided reply) (store q) g) where
+        done : (v : Forest) × KeepsForest (owned f.stage) [] at db.forest after v × DecidesAs (course_of f) reply (store old.pages) (store q) at db.forest after v × LeaksNoPage (owned f.stage) [] (now (store old.pages)) (now (store q)) v
+        done = moves.is (numbers_of old.trees) (given_to old.trees_given) db.forest db.is named_now (known.is db.forest db.is)
 
         done_touches : Touches (store old.pages) (store q)
         done_touches = touches_acting (store old.pages) (store q) moves.touches
@@ -404,8 +404,8 @@ module _ {P M : Type 0} (store : P → Store) (meant : M → Merge) (old : DbVal
             trees_put (store old.pages) (store q) (numbers_of old.trees) (given_to old.trees_given) db.forest done.0 db.is done.1.is f.job.tree.name f.job.tree.number named_now done.2.others
             ∙ ap (λ m. put_name (trees_of (now (store old.pages))) f.job.tree.name (Some m)) done.2.here
 
-        done_extends : Extends (trees_of (now (store q)) ∷ []) (store old.pages) (store q)
-        done_extends = extends_seen (store old.pages) (store q) moves.touches (done_touches.calm ∙ calm) (well done.0 done.1)
+        done_extends : AddsCrashStates (trees_of (now (store q)) ∷ []) (store old.pages) (store q)
+        done_extends = extends_seen (store old.pages) (store q) moves.touches (done_touches.no_group ∙ no_group) (well done.0 done.1)
 
         pub decided_db : IsDb store (record old { pages = q })
         decided_db = is_db done.0 done.1 (whole done.0 done.1 moves.touches) done_touches.mark
@@ -428,13 +428,13 @@ module _ {P M : Type 0} (store : P → Store) (meant : M → Merge) (old : DbVal
                 ap (λ b. named (numbers_of old.trees t) (cond b (Some answer.map) (trees_of (now (store old.pages)) t)) (λ n. option_map meant (find nat_cmp n old.operators))) e
                 ∙ ap (λ b. cond b (Some (record tree_now { map = answer.map })) (named (numbers_of old.trees t) (trees_of (now (store old.pages)) t) (λ n. option_map meant (find nat_cmp n old.operators)))) (sym e)
 
-        done_state : (slots : ℕ → Option Flying) (given slot : ℕ) → state_of store meant new (put_at slots slot None) given ≡ decided (state_of store meant old slots given) slot f.job.tree.name tree_now answer
+        done_state : (slots : ℕ → Option CallInFlight) (given slot : ℕ) → state_of store meant new (put_at slots slot None) given ≡ after_decision (state_of store meant old slots given) slot f.job.tree.name tree_now answer
         done_state slots given slot = λ i. record {
           name = old.name;
           trees = λ t. named_trees t i;
           queues = λ n. no_queue old.queues f.job.tree.number answer.event n db.unwatched i;
           slots = put_at slots slot None;
-          is_open = not (done_touches.calm i);
+          is_open = not (done_touches.no_group i);
           greatest_id = old.greatest_id;
           mark = done_touches.mark i;
           trees_given = old.trees_given;
@@ -445,16 +445,16 @@ module _ {P M : Type 0} (store : P → Store) (meant : M → Merge) (old : DbVal
         same_maps : maps_of (db_state store meant new) ≡ trees_of (now (store q))
         same_maps = maps_are store meant new done.0 done.1.is
 
-        pub flies_decided : Flies store meant old f (Decided reply) new g
+        pub flies_decided : DbStepContract store meant old f (Decided reply) new g
         flies_decided = record {
           step = record {
             steps = λ slots given slot before after here. record {
-              told = (
+              is = (
                 record {
-                  flying = flying_of f;
+                  flying = call_in_flight_of f;
                   here = here;
-                  free = must_step (state_of store meant old slots given) (flying_of f) ∙ must;
-                  few = few;
+                  free = must_step (state_of store meant old slots given) (call_in_flight_of f) ∙ must;
+                  fits = fits;
                   tree = tree_now;
                   there = there;
                   replies = done.2.replies;
@@ -463,7 +463,7 @@ module _ {P M : Type 0} (store : P → Store) (meant : M → Merge) (old : DbVal
                 refl,
               );
             };
-            extends = subst (λ m. Extends (m ∷ []) (store old.pages) (store q)) (sym same_maps) done_extends;
+            extends = subst (λ m. AddsCrashStates (m ∷ []) (store old.pages) (store q)) (sym same_maps) done_extends;
             same = refl;
           };
           sound = record { keeps = λ d. decided_db };
@@ -472,10 +472,10 @@ module _ {P M : Type 0} (store : P → Store) (meant : M → Merge) (old : DbVal
             quiet = λ k. done.2.quiet (brought k.tree k.there ∙ k.is);
             loud = λ event k. done.2.loud (λ none. none_some (sym none ∙ brought k.tree k.there ∙ k.is));
           };
-          follows = λ must few. follows;
-          passes = record { told = tt };
+          follows = λ must fits. follows;
+          passes = record { is = tt };
           loses = loses_acting at after db.forest done.0 db.is done.1;
-          leaves = λ u is. subst (λ (z : Forest). LeavesNone (owned f.stage) [] (now (store old.pages)) (now (store q)) z) (one_law (nodes_at after) after.state.roots done.0 u done.1.is.formed is.formed) done.3;
+          leaves = λ u is. subst (λ (z : Forest). LeaksNoPage (owned f.stage) [] (now (store old.pages)) (now (store q)) z) (one_law (nodes_at after) after.state.roots done.0 u done.1.is.formed is.formed) done.3;
           knows = record { goes_on = λ e. absurd (off e); others = λ h a k. (known_kept db.is done.1 h k a.off, λ e. absurd (off e)) };
         }
           where
@@ -490,32 +490,32 @@ module _ {P M : Type 0} (store : P → Store) (meant : M → Merge) (old : DbVal
             off e = cc
 
       -- one step of the call, whatever comes of it
-      pub flies_on : (few : f.turns < turns_limit) (went : Went) (g : Flight) → Advances (store old.pages) f went (store q) g → GoesFurther (now (store old.pages)) f went (now (store q)) g → FollowsOn (store old.pages) f went (store q) g → Flies store meant old f went new g
-      flies_on few Moved g a further follows = flies_moved few g a.told.0 a.told.1 a.told.2 a.told.3 further follows
-      flies_on few (Decided reply) g a further follows = flies_decided few g reply a.told follows
-      flies_on few (Refused e) g a further follows = flies_refused few g e a.told follows
+      pub flies_on : (fits : f.turns < turns_limit) (went : Went) (g : InFlight) → FlightStep (store old.pages) f went (store q) g → StepsOnPath (now (store old.pages)) f went (now (store q)) g → FollowsOn (store old.pages) f went (store q) g → DbStepContract store meant old f went new g
+      flies_on fits Moved g a further follows = flies_moved fits g a.is.0 a.is.1 a.is.2 a.is.3 further follows
+      flies_on fits (Decided reply) g a further follows = flies_decided fits g reply a.is follows
+      flies_on fits (Refused e) g a further follows = flies_refused fits g e a.is follows
 
-      pub db_on : (few : f.turns < turns_limit) (went : Went) (g : Flight) → Advances (store old.pages) f went (store q) g → GoesFurther (now (store old.pages)) f went (now (store q)) g → FollowsOn (store old.pages) f went (store q) g → IsDb store (record old { pages = q })
-      db_on few Moved g a further follows = moved_db few g a.told.0 a.told.1 a.told.2 a.told.3 further follows
-      db_on few (Decided reply) g a further follows = decided_db few g reply a.told follows
-      db_on few (Refused e) g a further follows = refused_db few g e a.told follows
+      pub db_on : (fits : f.turns < turns_limit) (went : Went) (g : InFlight) → FlightStep (store old.pages) f went (store q) g → StepsOnPath (now (store old.pages)) f went (now (store q)) g → FollowsOn (store old.pages) f went (store q) g → IsDb store (record old { pages = q })
+      db_on fits Moved g a further follows = moved_db fits g a.is.0 a.is.1 a.is.2 a.is.3 further follows
+      db_on fits (Decided reply) g a further follows = decided_db fits g reply a.is follows
+      db_on fits (Refused e) g a further follows = refused_db fits g e a.is follows
 
 -- the same, where a method knows the database by its fields
-module _ {P M : Type 0} (store : P → Store) (meant : M → Merge) (inside old : DbValue P M) (e : inside ≡ old) (db : IsDb store inside) (f : Flight) where
-  pub flies_as : (q : P) (few : f.turns < turns_limit) (went : Went) (g : Flight) → must_refuse_of (db_state store meant old) (f.job.tree ∷ []) ≡ None → IsKnown (moment_of_db store old) f
-      → Advances (store inside.pages) f went (store q) g → GoesFurther (now (store inside.pages)) f went (now (store q)) g → FollowsOn (store inside.pages) f went (store q) g → Flies store meant old f went (record inside { pages = q }) g
-  flies_as q few went g must known a further follows =
-      subst (λ (z : DbValue P M). must_refuse_of (db_state store meant z) (f.job.tree ∷ []) ≡ None → IsKnown (moment_of_db store z) f → Flies store meant z f went (record inside { pages = q }) g)
-      e (λ must known. flies_on store meant inside db f must q known few went g a further follows) must known
+module _ {P M : Type 0} (store : P → Store) (meant : M → Merge) (inside old : DbValue P M) (e : inside ≡ old) (db : IsDb store inside) (f : InFlight) where
+  pub flies_as : (q : P) (fits : f.turns < turns_limit) (went : Went) (g : InFlight) → must_refuse_of (db_state store meant old) (f.job.tree ∷ []) ≡ None → IsKnown (snapshot_of_db store old) f
+      → FlightStep (store inside.pages) f went (store q) g → StepsOnPath (now (store inside.pages)) f went (now (store q)) g → FollowsOn (store inside.pages) f went (store q) g → DbStepContract store meant old f went (record inside { pages = q }) g
+  flies_as q fits went g must known a further follows =
+      subst (λ (z : DbValue P M). must_refuse_of (db_state store meant z) (f.job.tree ∷ []) ≡ None → IsKnown (snapshot_of_db store z) f → DbStepContract store meant z f went (record inside { pages = q }) g)
+      e (λ must known. flies_on store meant inside db f must q known fits went g a further follows) must known
 
-  pub db_as : (q : P) (few : f.turns < turns_limit) (went : Went) (g : Flight) → must_refuse_of (db_state store meant old) (f.job.tree ∷ []) ≡ None → IsKnown (moment_of_db store old) f
-      → Advances (store inside.pages) f went (store q) g → GoesFurther (now (store inside.pages)) f went (now (store q)) g → FollowsOn (store inside.pages) f went (store q) g → IsDb store (record inside { pages = q })
-  db_as q few went g must known a further follows =
-      subst (λ (z : DbValue P M). must_refuse_of (db_state store meant z) (f.job.tree ∷ []) ≡ None → IsKnown (moment_of_db store z) f → IsDb store (record inside { pages = q }))
-      e (λ must known. db_on store meant inside db f must q known few went g a further follows) must known
+  pub db_as : (q : P) (fits : f.turns < turns_limit) (went : Went) (g : InFlight) → must_refuse_of (db_state store meant old) (f.job.tree ∷ []) ≡ None → IsKnown (snapshot_of_db store old) f
+      → FlightStep (store inside.pages) f went (store q) g → StepsOnPath (now (store inside.pages)) f went (now (store q)) g → FollowsOn (store inside.pages) f went (store q) g → IsDb store (record inside { pages = q })
+  db_as q fits went g must known a further follows =
+      subst (λ (z : DbValue P M). must_refuse_of (db_state store meant z) (f.job.tree ∷ []) ≡ None → IsKnown (snapshot_of_db store z) f → IsDb store (record inside { pages = q }))
+      e (λ must known. db_on store meant inside db f must q known fits went g a further follows) must known
 
 -- below the limit
-pub below_limit : (f : Flight) → f.turns ≤ MAX_LOOPS → f.turns ≢ MAX_LOOPS → f.turns < turns_limit
+pub below_limit : (f : InFlight) → f.turns ≤ MAX_LOOPS → f.turns ≢ MAX_LOOPS → f.turns < turns_limit
 below_limit f h off = let l = limit_is in omega arith
 
 -- ---- a call that goes on
@@ -523,12 +523,12 @@ below_limit f h off = let l = limit_is in omega arith
 some_is : {X : Type 0} {x y : X} → Some x ≡ Some y → x ≡ y
 some_is e = cc
 
-abbrev pub everywhere : Flight → ℕ → Option Flying
-everywhere f n = Some (flying_of f)
+abbrev pub everywhere : InFlight → ℕ → Option CallInFlight
+everywhere f n = Some (call_in_flight_of f)
 
-module _ {P M : Type 0} (store : P → Store) (meant : M → Merge) (old new : DbValue P M) (f g : Flight) (flies : Flies store meant old f Moved new g) where
-  pub went_on : Rattle.sled_model.specs.Steps.Moves (state_of store meant old (everywhere f) 0) 0 (state_of store meant new (put_at (everywhere f) 0 (Some (flying_of g))) 0)
-  went_on = (flies.step.steps (everywhere f) 0 0 0 0 refl).told.0
+module _ {P M : Type 0} (store : P → Store) (meant : M → Merge) (old new : DbValue P M) (f g : InFlight) (flies : DbStepContract store meant old f Moved new g) where
+  pub went_on : Rattle.sled_model.specs.Transition.Move (state_of store meant old (everywhere f) 0) 0 (state_of store meant new (put_at (everywhere f) 0 (Some (call_in_flight_of g))) 0)
+  went_on = (flies.step.steps (everywhere f) 0 0 0 0 refl).is.0
 
   -- the tests pass still
   pub still_tested : must_refuse_of (db_state store meant old) (f.job.tree ∷ []) ≡ None → must_refuse_of (db_state store meant new) (g.job.tree ∷ []) ≡ None
@@ -539,23 +539,23 @@ module _ {P M : Type 0} (store : P → Store) (meant : M → Merge) (old new : D
   -- it had turns left, and has one less
   pub turn_taken : (f.turns < turns_limit) × (g.turns ≡ f.turns + 1)
   turn_taken =
-      let same : flying_of f ≡ went_on.flying = some_is went_on.here in
-      let after : Some (flying_of g) ≡ Some (record (went_on.flying) { turns = went_on.flying.turns + 1 }) = ap (λ (s : State). s.slots 0) went_on.is in (
-        subst (λ (z : Flying). z.turns < turns_limit) (sym same) went_on.few,
-        ap (λ (z : Flying). z.turns) (some_is after) ∙ ap (λ (z : Flying). z.turns + 1) (sym same),
+      let same : call_in_flight_of f ≡ went_on.flying = some_is went_on.here in
+      let after : Some (call_in_flight_of g) ≡ Some (record (went_on.flying) { turns = went_on.flying.turns + 1 }) = ap (λ (s : State). s.slots 0) went_on.is in (
+        subst (λ (z : CallInFlight). z.turns < turns_limit) (sym same) went_on.fits,
+        ap (λ (z : CallInFlight). z.turns) (some_is after) ∙ ap (λ (z : CallInFlight). z.turns + 1) (sym same),
       )
 
   pub fewer_turns : MAX_LOOPS - g.turns < MAX_LOOPS - f.turns
-  fewer_turns = let t = turn_taken in let few = t.0 in let one = t.1 in let l = limit_is in omega arith
+  fewer_turns = let t = turn_taken in let fits = t.0 in let one = t.1 in let l = limit_is in omega arith
 
 -- who has turns left is not refused for them
-module _ {P M : Type 0} (store : P → Store) (meant : M → Merge) (old new : DbValue P M) (f g : Flight) where
-  all_turns : (e : Error) → TellsTurns e → Flies store meant old f (Refused e) new g → f.turns ≡ turns_limit
+module _ {P M : Type 0} (store : P → Store) (meant : M → Merge) (old new : DbValue P M) (f g : InFlight) where
+  all_turns : (e : Error) → TellsTurns e → DbStepContract store meant old f (Refused e) new g → f.turns ≡ turns_limit
   all_turns (error.ReportableBug text) tells flies =
-      let k = (flies.step.steps (everywhere f) 0 0 0 0 refl).told.0 in
-      ap (λ (z : Flying). z.turns) (some_is k.here) ∙ go (state_of store meant old (everywhere f) 0) (store old.pages) (store new.pages) k.flying (must_refuse (state_of store meant old (everywhere f) 0) (ToStep k.flying)) k.may.told
+      let k = (flies.step.steps (everywhere f) 0 0 0 0 refl).is.0 in
+      ap (λ (z : CallInFlight). z.turns) (some_is k.here) ∙ go (state_of store meant old (everywhere f) 0) (store old.pages) (store new.pages) k.flying (must_refuse (state_of store meant old (everywhere f) 0) (ToStep k.flying)) k.may.is
     where
-      go : (s : State) (x y : Store) (f : Flying) (o : Option MustRefuse) → may_refuse_as o s x y (ToStep f) (error.ReportableBug text) → f.turns ≡ turns_limit
+      go : (s : State) (x y : Store) (f : CallInFlight) (o : Option MustRefuse) → may_refuse_as o s x y (ToStep f) (error.ReportableBug text) → f.turns ≡ turns_limit
       go s x y f None t = t.1
       go s x y f (Some IsClosed) t = unlike t
         where
@@ -579,53 +579,53 @@ module _ {P M : Type 0} (store : P → Store) (meant : M → Merge) (old new : D
   all_turns error.FullQueue tells flies = absurd tells
   all_turns error.Closed tells flies = absurd tells
 
-  ends_with_turns : (went : Went) → Flies store meant old f went new g → f.turns < turns_limit → has_turns went
-  ends_with_turns Moved flies few = tt
-  ends_with_turns (Decided reply) flies few = tt
-  ends_with_turns (Refused e) flies few = λ tells. below f.turns few (all_turns e tells flies)
+  ends_with_turns : (went : Went) → DbStepContract store meant old f went new g → f.turns < turns_limit → has_turns went
+  ends_with_turns Moved flies fits = tt
+  ends_with_turns (Decided reply) flies fits = tt
+  ends_with_turns (Refused e) flies fits = λ tells. below f.turns fits (all_turns e tells flies)
     where
       below : (n : ℕ) → n < turns_limit → n ≡ turns_limit → ⊥
       below n h e = omega arith
 
 -- over a clean path a call goes on at most once a page
 module _ {P M : Type 0} (store : P → Store) (meant : M → Merge) where
-  prompt : (n : ℕ) (old new : DbValue P M) (f g : Flight) (went : Went) → FliesTimes store meant n old f went new g → (path : List ℕ) → IsOnPath (now (store old.pages)) (course_of f) f.stage path → f.turns + length path < turns_limit → IsPrompt n went path
-  prompt zero old new f g went (Ends flies off) path on few = record { few = omega arith; unlimited = ends_with_turns store meant old new f g went flies (omega arith) }
-  prompt (suc n) old new f g went (GoesOn {mid = mid} {h = h} flies db rest) path on few =
-      let p = flies.passes.told path on in
+  prompt : (n : ℕ) (old new : DbValue P M) (f g : InFlight) (went : Went) → DbSteps store meant n old f went new g → (path : List ℕ) → IsOnPath (now (store old.pages)) (course_of f) f.stage path → f.turns + length path < turns_limit → TakesAtMost n went path
+  prompt zero old new f g went (Ends flies off) path on fits = record { fits = omega arith; unlimited = ends_with_turns store meant old new f g went flies (omega arith) }
+  prompt (suc n) old new f g went (GoesOn {mid = mid} {h = h} flies db rest) path on fits =
+      let p = flies.passes.is path on in
       let turns = (turn_taken store meant old mid f h flies).1 in
-      let k = prompt n mid new h g went rest p.0 p.2 (fewer f.turns h.turns (length path) (length p.0) turns p.1 few) in record {
-        few = more n (length p.0) (length path) p.1 k.few;
+      let k = prompt n mid new h g went rest p.0 p.2 (fewer f.turns h.turns (length path) (length p.0) turns p.1 fits) in record {
+        fits = more n (length p.0) (length path) p.1 k.fits;
         unlimited = k.unlimited;
       }
     where
       fewer : (t u a b : ℕ) → u ≡ t + 1 → a ≡ suc b → t + a < turns_limit → u + b < turns_limit
-      fewer t u a b e h few = omega arith
+      fewer t u a b e h fits = omega arith
 
       more : (n b a : ℕ) → a ≡ suc b → n ≤ b → suc n ≤ a
       more n b a e h = omega arith
 
-  pub to_end : (n : ℕ) (old new : DbValue P M) (f g : Flight) (went : Went) → FliesTimes store meant n old f went new g → FliesToEnd store meant old f went new g
+  pub to_end : (n : ℕ) (old new : DbValue P M) (f g : InFlight) (went : Went) → DbSteps store meant n old f went new g → DbRunsToEnd store meant old f went new g
   to_end n old new f g went flies = record { moves = n; flies = flies; passes = prompt n old new f g went flies }
 
 -- a call that went on so far, whose tests passed: with what is left of its way it goes its whole way
-pub record IsFlying {P M : Type 0} (store : P → Store) (meant : M → Merge) (old : DbValue P M) (f : Flight) (mid : DbValue P M) (h : Flight) : Type 0 where
-  pub whole : (n : ℕ) (went : Went) (new : DbValue P M) (g : Flight) → FliesTimes store meant n mid h went new g → (m : ℕ) × FliesTimes store meant m old f went new g
-  pub known : IsKnown (moment_of_db store mid) h
+pub record IsFlying {P M : Type 0} (store : P → Store) (meant : M → Merge) (old : DbValue P M) (f : InFlight) (mid : DbValue P M) (h : InFlight) : Type 0 where
+  pub whole : (n : ℕ) (went : Went) (new : DbValue P M) (g : InFlight) → DbSteps store meant n mid h went new g → (m : ℕ) × DbSteps store meant m old f went new g
+  pub known : IsKnown (snapshot_of_db store mid) h
   pub tested : must_refuse_of (db_state store meant mid) (h.job.tree ∷ []) ≡ None
 
-module _ {P M : Type 0} (store : P → Store) (meant : M → Merge) (old : DbValue P M) (f : Flight) where
-  pub going_first : IsKnown (moment_of_db store old) f → must_refuse_of (db_state store meant old) (f.job.tree ∷ []) ≡ None → IsFlying store meant old f old f
+module _ {P M : Type 0} (store : P → Store) (meant : M → Merge) (old : DbValue P M) (f : InFlight) where
+  pub going_first : IsKnown (snapshot_of_db store old) f → must_refuse_of (db_state store meant old) (f.job.tree ∷ []) ≡ None → IsFlying store meant old f old f
   going_first known tested = record { whole = λ n went new g end. (n, end); known = known; tested = tested }
 
-  pub going_more : (mid next : DbValue P M) (h k : Flight) → IsFlying store meant old f mid h → Flies store meant mid h Moved next k → IsDb store next → IsFlying store meant old f next k
+  pub going_more : (mid next : DbValue P M) (h k : InFlight) → IsFlying store meant old f mid h → DbStepContract store meant mid h Moved next k → IsDb store next → IsFlying store meant old f next k
   going_more mid next h k is flies db = record {
     whole = λ n went new g end. is.whole (suc n) went new g (GoesOn flies db end);
     known = (flies.knows.goes_on refl).1;
     tested = still_tested store meant mid next h k flies is.tested;
   }
 
-  pub going_ends : (mid new : DbValue P M) (h g : Flight) (went : Went) → IsFlying store meant old f mid h → Flies store meant mid h went new g → went ≢ Moved → FliesToEnd store meant old f went new g
+  pub going_ends : (mid new : DbValue P M) (h g : InFlight) (went : Went) → IsFlying store meant old f mid h → DbStepContract store meant mid h went new g → went ≢ Moved → DbRunsToEnd store meant old f went new g
   going_ends mid new h g went is flies off = let all = is.whole zero went new g (Ends flies off) in to_end store meant all.0 old new f g went all.1
 
 pub refused_is_end : {e : Error} → Refused e ≢ Moved
@@ -633,9 +633,9 @@ refused_is_end e = cc
 
 -- a call that came to its end did not go on
 module _ {P M : Type 0} (store : P → Store) (meant : M → Merge) where
-  times_end : (n : ℕ) (old new : DbValue P M) (f g : Flight) (went : Went) → FliesTimes store meant n old f went new g → went ≢ Moved
+  times_end : (n : ℕ) (old new : DbValue P M) (f g : InFlight) (went : Went) → DbSteps store meant n old f went new g → went ≢ Moved
   times_end zero old end f g went (Ends flies off) = off
   times_end (suc n) old end f g went (GoesOn {mid = mid} {h = h} flies db rest) = times_end n mid end h g went rest
 
-  pub end_reached : (old new : DbValue P M) (f g : Flight) (went : Went) → FliesToEnd store meant old f went new g → went ≢ Moved
+  pub end_reached : (old new : DbValue P M) (f g : InFlight) (went : Went) → DbRunsToEnd store meant old f went new g → went ≢ Moved
   end_reached old new f g went flies = times_end flies.moves old new f g went flies.flies

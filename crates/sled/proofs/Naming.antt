@@ -71,8 +71,8 @@ ascending (r ∷ rs) e = let b = both _ _ e in (below_later r.0 rs b.0, ascendin
 
 -- the names that are listed are those of the state's trees
 pub names_are : {P M : Type 0} (store : P → Store) (meant : M → Merge) (d : DbValue P M) → IsDb store d → (now (store d.pages)).in_group ≡ false → (names : List Key) → names ≡ map (λ r. r.0) d.trees → AreNames (db_state store meant d) names
-names_are store meant d db calm names is = subst (λ l. AreNames (db_state store meant d) l) (sym is) (record {
-  is_open = ap not calm;
+names_are store meant d db no_group names is = subst (λ l. AreNames (db_state store meant d) l) (sym is) (record {
+  is_open = ap not no_group;
   ascend = ascending d.trees db.ascends;
   each = λ name i. let k = listed d.trees name i in (_, there name k.0 k.1);
   all = λ name tree e. go name tree (numbers_of d.trees name) (trees_of (now (store d.pages)) name) refl e;
@@ -94,4 +94,4 @@ names_are store meant d db calm names is = subst (λ l. AreNames (db_state store
 -- the same, where the method knows the database by its fields
 module _ {P M : Type 0} (store : P → Store) (meant : M → Merge) (inside d : DbValue P M) (same : inside ≡ d) where
   pub names_seen : IsDb store inside → (now (store inside.pages)).in_group ≡ false → (names : List Key) → names ≡ map (λ r. r.0) inside.trees → AreNames (db_state store meant d) names
-  names_seen db calm names is = subst (λ (z : DbValue P M). AreNames (db_state store meant z) names) same (names_are store meant inside db calm names is)
+  names_seen db no_group names is = subst (λ (z : DbValue P M). AreNames (db_state store meant z) names) same (names_are store meant inside db no_group names is)

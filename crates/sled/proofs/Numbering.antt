@@ -7,17 +7,17 @@ use Rattle.sled_pages.specs.Store.{Store, now}
 use Rattle.sled_pages.specs.declared.error.Error.{Error}
 use Rattle.sled_pages.specs.declared.error.Error.TheVariants as error
 use Rattle.sled_model.specs.Maps.{Merge}
-use Rattle.sled_model.specs.State.{Flying}
+use Rattle.sled_model.specs.State.{CallInFlight}
 use Rattle.sled_model.specs.Refusal.{IsClosed, first_of}
 use Rattle.sled_tree.specs.Known.{IsKnown}
 use Rattle.tree_laws.specs.Contents.{trees_of}
-use Rattle.tree_laws.specs.Crashes.{IsCrashWhole}
+use Rattle.tree_laws.specs.Crashes.{IsCrashConsistent}
 use Rattle.tree_laws.specs.Forest.{IsSized}
-use Rattle.tree_laws.specs.Moment.{Moment, moment_of, IsMoment, nodes_at}
+use Rattle.tree_laws.specs.Snapshot.{Snapshot, snapshot_of, HasForest, nodes_at}
 use Rattle.tree_laws.proofs.Crashing.{extends_nothing, same_left}
-use Rattle.sled.specs.Values.{DbValue, named, numbers_of, given_to, state_of, moment_of_db}
+use Rattle.sled.specs.Values.{DbValue, named, numbers_of, given_to, state_of, snapshot_of_db}
 use Rattle.sled.specs.Sound.{IsDb}
-use Rattle.sled.specs.Direct.{LosesNoPage}
+use Rattle.sled.specs.Direct.{KeepsOrFreesTreePages}
 use Rattle.sled.specs.Ids.{mark_above, refuses_to_raise_as, RefusesToRaise, LeavesAll, GivesId, refuses_id_as, RefusesId}
 use Rattle.sled.proofs.Conducting.{loses_same}
 use Rattle.sled.proofs.Flushing.{same_state, same_moment}
@@ -39,22 +39,22 @@ module _ {P M : Type 0} (store : P → Store) (meant : M → Merge) (old : DbVal
     abbrev taken : DbValue P M
     taken = record old { pages = q; greatest_id = id }
 
-    moment_taken : moment_of_db store taken ≡ moment_of_db store old
-    moment_taken = ap (λ (s : Store). moment_of s (numbers_of old.trees) (given_to old.trees_given)) e
+    moment_taken : snapshot_of_db store taken ≡ snapshot_of_db store old
+    moment_taken = ap (λ (s : Store). snapshot_of s (numbers_of old.trees) (given_to old.trees_given)) e
 
     db_taken : id ≤ m → IsDb store old → IsDb store taken
     db_taken aside db = record {
       forest = db.forest;
-      is = subst (λ (z : Moment). IsMoment z db.forest) (sym moment_taken) db.is;
-      sized = subst (λ (z : Moment). IsSized (nodes_at z) db.forest) (sym moment_taken) db.sized;
-      safe = subst IsCrashWhole (sym e) (record { whole = db.safe.whole });
+      is = subst (λ (z : Snapshot). HasForest z db.forest) (sym moment_taken) db.is;
+      sized = subst (λ (z : Snapshot). IsSized (nodes_at z) db.forest) (sym moment_taken) db.sized;
+      safe = subst IsCrashConsistent (sym e) (record { whole = db.safe.whole });
       ascends = db.ascends;
       default = db.default;
       unwatched = db.unwatched;
       ids = subst (λ (s : Store). id ≤ s.mark) (sym e) aside;
     }
 
-    state_taken : (slots : ℕ → Option Flying) (given : ℕ) → state_of store meant taken slots given ≡ record (state_of store meant old slots given) { greatest_id = id; mark = m }
+    state_taken : (slots : ℕ → Option CallInFlight) (given : ℕ) → state_of store meant taken slots given ≡ record (state_of store meant old slots given) { greatest_id = id; mark = m }
     state_taken slots given i = record {
       name = old.name;
       trees = λ t. named (numbers_of old.trees t) (trees_of (now (e i)) t) (λ n. option_map meant (find nat_cmp n old.operators));
@@ -72,15 +72,15 @@ module _ {P M : Type 0} (store : P → Store) (meant : M → Merge) (old : DbVal
     leaves_taken aside = record {
       extends = extends_nothing (store old.pages) (store q) (ap (λ (s : Store). s.base) e) (ap (λ (s : Store). s.recent) e) (ap (λ (s : Store). s.actions) e);
       left = same_left (store old.pages) (store q) (ap (λ (s : Store). s.base) e) (ap (λ (s : Store). s.recent) e);
-      others = λ h known. subst (λ (z : Moment). IsKnown z h) (sym moment_taken) known;
-      loses = subst (λ (z : Moment). LosesNoPage (moment_of_db store old) z) (sym moment_taken) (loses_same (moment_of_db store old));
+      others = λ h known. subst (λ (z : Snapshot). IsKnown z h) (sym moment_taken) known;
+      loses = subst (λ (z : Snapshot). KeepsOrFreesTreePages (snapshot_of_db store old) z) (sym moment_taken) (loses_same (snapshot_of_db store old));
       sound = db_taken aside;
     }
 
   pub gives : (q : P) → (now (store old.pages)).in_group ≡ false → store q ≡ record (store old.pages) { mark = mark_above old.greatest_id (store old.pages).mark } → old.greatest_id < (store q).mark
       → GivesId store meant old (old.greatest_id + 1) (record old { pages = q; greatest_id = old.greatest_id + 1 })
-  gives q calm e above = record {
-    free = ap (λ b. first_of (cond (not b) None (Some IsClosed)) None) calm;
+  gives q no_group e above = record {
+    free = ap (λ b. first_of (cond (not b) None (Some IsClosed)) None) no_group;
     next = refl;
     aside = at_most _ _ above;
     is = e;
@@ -97,12 +97,12 @@ module _ {P M : Type 0} (store : P → Store) (meant : M → Merge) (old : DbVal
   leaves_rests q r = record {
     extends = rests_extends r;
     left = rests_left r;
-    others = λ h known. subst (λ (z : Moment). IsKnown z h) (sym still) known;
-    loses = subst (λ (z : Moment). LosesNoPage (moment_of_db store old) z) (sym still) (loses_same (moment_of_db store old));
+    others = λ h known. subst (λ (z : Snapshot). IsKnown z h) (sym still) known;
+    loses = subst (λ (z : Snapshot). KeepsOrFreesTreePages (snapshot_of_db store old) z) (sym still) (loses_same (snapshot_of_db store old));
     sound = λ db. record {
       forest = db.forest;
-      is = subst (λ (z : Moment). IsMoment z db.forest) (sym still) db.is;
-      sized = subst (λ (z : Moment). IsSized (nodes_at z) db.forest) (sym still) db.sized;
+      is = subst (λ (z : Snapshot). HasForest z db.forest) (sym still) db.is;
+      sized = subst (λ (z : Snapshot). IsSized (nodes_at z) db.forest) (sym still) db.sized;
       safe = record { whole = λ x i. db.safe.whole x (subst (In x) (rests_left r) i) };
       ascends = db.ascends;
       default = db.default;
@@ -111,30 +111,30 @@ module _ {P M : Type 0} (store : P → Store) (meant : M → Merge) (old : DbVal
     };
   }
     where
-      still : moment_of_db store (record old { pages = q }) ≡ moment_of_db store old
+      still : snapshot_of_db store (record old { pages = q }) ≡ snapshot_of_db store old
       still = same_moment store meant old q (rests_now r)
 
   pub refuses : (q : P) (e : Error) → (now (store old.pages)).in_group ≡ false → RefusesToRaise old.greatest_id (store old.pages) e (store q) → RefusesId store meant old e (record old { pages = q })
-  refuses q e calm r = let rests = rests_raised e (store old.pages) (store q) r.told in record {
-    told = go e r;
+  refuses q e no_group r = let rests = rests_raised e (store old.pages) (store q) r.is in record {
+    is = go e r;
     same = refl;
     state = λ slots given. same_state store meant old q (rests_now rests) slots given;
     leaves = leaves_rests q rests;
   }
     where
       go : (e : Error) → RefusesToRaise old.greatest_id (store old.pages) e (store q) → refuses_id_as store old.greatest_id old.pages e q
-      go error.NoMemory r = (calm, r)
-      go (error.Io fault) r = (calm, r)
-      go (error.Unsupported text) r = (calm, r)
-      go (error.CollectionNotFound name) r = absurd r.told
-      go (error.ReportableBug text) r = absurd r.told
-      go (error.Corruption fault) r = absurd r.told
-      go error.FullQueue r = absurd r.told
-      go error.Closed r = absurd r.told
+      go error.NoMemory r = (no_group, r)
+      go (error.Io fault) r = (no_group, r)
+      go (error.Unsupported text) r = (no_group, r)
+      go (error.CollectionNotFound name) r = absurd r.is
+      go (error.ReportableBug text) r = absurd r.is
+      go (error.Corruption fault) r = absurd r.is
+      go error.FullQueue r = absurd r.is
+      go error.Closed r = absurd r.is
 
   pub closed : (now (store old.pages)).in_group ≡ true → RefusesId store meant old error.Closed old
   closed e = record {
-    told = (e, refl);
+    is = (e, refl);
     same = refl;
     state = λ slots given. refl;
     leaves = leaves_rests old.pages (rests_same refl);
@@ -144,10 +144,10 @@ module _ {P M : Type 0} (store : P → Store) (meant : M → Merge) (old : DbVal
 module _ {P M : Type 0} (store : P → Store) (meant : M → Merge) (inside old : DbValue P M) (same : inside ≡ old) where
   pub gives_as : (q : P) → (now (store inside.pages)).in_group ≡ false → store q ≡ record (store inside.pages) { mark = mark_above inside.greatest_id (store inside.pages).mark } → inside.greatest_id < (store q).mark
       → GivesId store meant old (inside.greatest_id + 1) (record inside { pages = q; greatest_id = inside.greatest_id + 1 })
-  gives_as q calm e above = subst (λ (z : DbValue P M). GivesId store meant z (inside.greatest_id + 1) (record inside { pages = q; greatest_id = inside.greatest_id + 1 })) same (gives store meant inside q calm e above)
+  gives_as q no_group e above = subst (λ (z : DbValue P M). GivesId store meant z (inside.greatest_id + 1) (record inside { pages = q; greatest_id = inside.greatest_id + 1 })) same (gives store meant inside q no_group e above)
 
   pub refuses_as : (q : P) (e : Error) → (now (store inside.pages)).in_group ≡ false → RefusesToRaise inside.greatest_id (store inside.pages) e (store q) → RefusesId store meant old e (record inside { pages = q })
-  refuses_as q e calm r = subst (λ (z : DbValue P M). RefusesId store meant z e (record inside { pages = q })) same (refuses store meant inside q e calm r)
+  refuses_as q e no_group r = subst (λ (z : DbValue P M). RefusesId store meant z e (record inside { pages = q })) same (refuses store meant inside q e no_group r)
 
   pub closed_as : (now (store inside.pages)).in_group ≡ true → RefusesId store meant old error.Closed old
   closed_as e = subst (λ (z : DbValue P M). RefusesId store meant z error.Closed z) same (closed store meant inside e)

@@ -11,9 +11,9 @@ use Rattle.sled_pages.specs.Order.{Key, key_cmp}
 use Rattle.sled_pages.specs.Among.{is_up_to}
 use Rattle.sled_pages.specs.Node.{count}
 use Rattle.sled_pages.specs.Facts.{same_name, put_elsewhere, put_here, now_allocates, now_acted, fresh_page}
-use Rattle.sled_pages.specs.Crash.{states_left}
+use Rattle.sled_pages.specs.Crash.{crash_states}
 use Rattle.sled_pages.specs.State.{State, RootBecomes, PageBecomes, nodes_of, after}
-use Rattle.sled_pages.specs.Store.{Store, now, acted, flushed, Allocates, SwapsRoot, Refused, AreGiven}
+use Rattle.sled_pages.specs.Store.{Store, now, after_action, after_flush, Allocates, SwapsRoot, IsRefused, AreGiven}
 use Rattle.sled_pages.specs.declared.error.Error.{Error}
 use Rattle.sled_pages.specs.declared.error.Error.TheVariants as error
 use Rattle.sled_pages.specs.declared.node.Node.{Node}
@@ -22,8 +22,8 @@ use Rattle.sled_pages.specs.declared.page.Page.{Page}
 use Rattle.sled_model.specs.Maps.{Map, Maps}
 use Rattle.tree_laws.specs.Forest.{Tree, Forest, Place, WellFormed, IsSized, contents}
 use Rattle.tree_laws.specs.Contents.{trees_of}
-use Rattle.tree_laws.specs.Crashes.{IsWhole, IsCrashWhole, Extends, Flushes}
-use Rattle.tree_laws.specs.Moment.{Moment, moment_of, nodes_at, IsMoment, IsStray}
+use Rattle.tree_laws.specs.Crashes.{IsValid, IsCrashConsistent, AddsCrashStates, Flushes}
+use Rattle.tree_laws.specs.Snapshot.{Snapshot, snapshot_of, nodes_at, HasForest, IsOrphan}
 use Rattle.tree_laws.specs.Laws.{IsAlone}
 use Rattle.tree_laws.proofs.Crashing.{adds_page, adds_is, adds_extends, adds_unseen, extends_same, extends_then, flushes_same, flushes_left, flushes_whole_law}
 use Rattle.tree_laws.proofs.Known.{store_moment}
@@ -32,7 +32,7 @@ use Rattle.tree_laws.proofs.Order.{key_same}
 use Rattle.tree_laws.proofs.Roots.{plant_law}
 use Rattle.tree_laws.proofs.Fuel.{contents_law}
 use Rattle.sled.specs.declared.TheConstants.{DEFAULT_TREE}
-use Rattle.sled.specs.Values.{DbValue, default_name, numbers_of, given_to, moment_of_db}
+use Rattle.sled.specs.Values.{DbValue, default_name, numbers_of, given_to, snapshot_of_db}
 use Rattle.sled.specs.Sound.{IsDb}
 use Rattle.sled.specs.Opens.{or_empty, with_tree, planted, numbered, IsOnePage, CanBeOpened, RefusesTree, HasTree, AreNumbered, Opens}
 use Rattle.tree_laws.specs.Paths.{IsClean}
@@ -55,7 +55,7 @@ begins_all (b ∷ bs) = refl
 -- a root that is a leaf, open and not long, is a clean path of every key
 leaf_is_clean : (s : State) (name : Key) (p : ℕ) (n : Node) (es : List (Key × Key)) → s.roots name ≡ Some p → nodes_of s p ≡ Some n → n.lo ≡ [] → n.hi ≡ [] → n.merging ≡ false → n.merging_child ≡ None → n.content ≡ kind.Leaf es → length es ≤ 16
     → (key : Key) → IsClean s name (Included key) (p ∷ [])
-leaf_is_clean s name p n es root live lo hi awake free leaf few key = record {
+leaf_is_clean s name p n es root live lo hi not_merging free leaf fits key = record {
   root = p;
   is_root = root;
   clean = (
@@ -64,8 +64,8 @@ leaf_is_clean s name p n es root live lo hi awake free leaf few key = record {
     record {
       live = live;
       under = (subst (λ l. is_up_to (Included key) l ≡ true) (sym lo) (begins_all key), inl hi);
-      is_open = record { awake = awake; free = free };
-      few = subst (λ c. count c ≤ 16) (sym leaf) few;
+      is_open = record { not_merging = not_merging; free = free };
+      fits = subst (λ c. count c ≤ 16) (sym leaf) fits;
       many = λ m. refl;
     },
     inl (es, leaf, refl),
@@ -84,7 +84,7 @@ module _ {node : Node} {pid version : ℕ} {a b : Store} (are : AreGiven a) (new
   none : nodes_of (now a) pid ≡ None
   none = ap (option_map (λ (g : Page). g.node)) (fresh_page a pid are new.fresh_pid)
 
-  pub made_stray : IsStray w pid
+  pub made_stray : IsOrphan w pid
   made_stray y e = let i = f.page y pid e in none_some (sym none ∙ i.1.live)
 
   same : (p : ℕ) (x : Place) → w.home p ≡ Some x → nodes_of (now b) p ≡ nodes_of (now a) p
@@ -129,11 +129,11 @@ module _ (name : Key) where
 
   -- the tree gets its root
   module _ (s : State) (w : Forest) (f : WellFormed (nodes_of s) s.roots w) (sized : IsSized (nodes_of s) w) (below : (p : ℕ) (g : Page) → s.pages p ≡ Some g → p < 2 ^ 64)
-      (r : ℕ) (n : Node) (root : s.roots name ≡ None) (stray : IsStray w r) (alone : IsAlone (nodes_of s) r n (kind.Leaf [])) where
+      (r : ℕ) (n : Node) (root : s.roots name ≡ None) (stray : IsOrphan w r) (alone : IsAlone (nodes_of s) r n (kind.Leaf [])) where
     abbrev rooted : State
     rooted = after (RootBecomes name (Some r)) s
 
-    pub planted_well : IsWhole rooted
+    pub planted_well : IsValid rooted
     planted_well = let u = plant_law (nodes_of s) s.roots w f name r n root stray alone in record { forest = u.0.after; formed = u.0.kept; sized = u.0.sized sized }
 
     pub planted_trees : trees_of rooted ≡ with_tree name (trees_of s)
@@ -152,47 +152,47 @@ module _ (name : Key) where
   -- what may be refused still
 
   -- a fault is counted, and nothing else changes
-  faulted : {maps : List Maps} {a b : Store} (n : ℕ) → Extends maps a b → Extends maps a (record b { faults = n })
+  faulted : {maps : List Maps} {a b : Store} (n : ℕ) → AddsCrashStates maps a b → AddsCrashStates maps a (record b { faults = n })
   faulted n x = record { base = x.base; added = x.added; recent = x.recent; actions = x.actions; grew = x.grew; safe = λ s. record { whole = (x.safe s).whole } }
 
   faulted_again : {a b : Store} (n : ℕ) → CanBeOpened name a b → CanBeOpened name a (record b { faults = n })
   faulted_again n k = record {
     grows = elim k.grows [ inl g ↦ inl (faulted n g.0, g.1) | inr g ↦ inr (faulted n g.0, g.1) ];
-    few = k.few;
+    fits = k.fits;
     well = k.well;
-    calm = k.calm;
+    no_group = k.no_group;
     mark = k.mark;
     recovered = k.recovered;
     readable = k.readable;
   }
 
   -- the store refuses a call
-  pub refused : (a b c : Store) (e : Error) → CanBeOpened name a b → b.faults ≡ a.faults → Refused e b c → RefusesTree name a e c
+  pub refused : (a b c : Store) (e : Error) → CanBeOpened name a b → b.faults ≡ a.faults → IsRefused e b c → RefusesTree name a e c
   refused a b c error.NoMemory k f r = record {
-    cause = record { told = ap (λ (s : Store). s.faults) r.told ∙ f };
-    again = subst (λ (s : Store). CanBeOpened name a s) (sym r.told) k;
+    cause = record { is = ap (λ (s : Store). s.faults) r.is ∙ f };
+    again = subst (λ (s : Store). CanBeOpened name a s) (sym r.is) k;
   }
   refused a b c (error.Io fault) k f r = record {
-    cause = record { told = ap (λ (s : Store). s.faults) r.told ∙ ap (λ n. n + 1) f };
-    again = subst (λ (s : Store). CanBeOpened name a s) (sym r.told) (faulted_again (b.faults + 1) k);
+    cause = record { is = ap (λ (s : Store). s.faults) r.is ∙ ap (λ n. n + 1) f };
+    again = subst (λ (s : Store). CanBeOpened name a s) (sym r.is) (faulted_again (b.faults + 1) k);
   }
-  refused a b c (error.CollectionNotFound name) k f r = absurd r.told
-  refused a b c (error.Unsupported text) k f r = absurd r.told
-  refused a b c (error.ReportableBug text) k f r = absurd r.told
-  refused a b c (error.Corruption fault) k f r = absurd r.told
-  refused a b c error.FullQueue k f r = absurd r.told
-  refused a b c error.Closed k f r = absurd r.told
+  refused a b c (error.CollectionNotFound name) k f r = absurd r.is
+  refused a b c (error.Unsupported text) k f r = absurd r.is
+  refused a b c (error.ReportableBug text) k f r = absurd r.is
+  refused a b c (error.Corruption fault) k f r = absurd r.is
+  refused a b c error.FullQueue k f r = absurd r.is
+  refused a b c error.Closed k f r = absurd r.is
 
   -- there is no memory
   pub no_memory : (a b : Store) (e : Error) → e ≡ error.NoMemory → CanBeOpened name a b → b.faults ≡ a.faults → RefusesTree name a e b
-  no_memory a b e is k f = subst (λ z. RefusesTree name a z b) (sym is) (record { cause = record { told = f }; again = k })
+  no_memory a b e is k f = subst (λ z. RefusesTree name a z b) (sym is) (record { cause = record { is = f }; again = k })
 
-  pub again_same : (a : Store) → IsWhole (now a) → (now a).in_group ≡ false → CanBeOpened name a a
-  again_same a well calm = record { grows = inl (extends_same a, refl); few = omega arith; well = well; calm = calm; mark = refl; recovered = refl; readable = refl }
+  pub again_same : (a : Store) → IsValid (now a) → (now a).in_group ≡ false → CanBeOpened name a a
+  again_same a well no_group = record { grows = inl (extends_same a, refl); fits = omega arith; well = well; no_group = no_group; mark = refl; recovered = refl; readable = refl }
 
   -- the tree is there
-  pub has_present : (a : Store) → IsWhole (now a) → (now a).in_group ≡ false → is_some ((now a).roots name) ≡ true → HasTree name a a
-  has_present a well calm there = go ((now a).roots name) refl there
+  pub has_present : (a : Store) → IsValid (now a) → (now a).in_group ≡ false → is_some ((now a).roots name) ≡ true → HasTree name a a
+  has_present a well no_group there = go ((now a).roots name) refl there
     where
       go : (o : Option ℕ) → (now a).roots name ≡ o → is_some o ≡ true → HasTree name a a
       go None e t = false_true t
@@ -201,20 +201,20 @@ module _ (name : Key) where
           let none = planted_present (trees_of (now a)) _ m in
           record {
             grows = record {
-              extends = subst (λ l. Extends l a a) (sym none) (extends_same a);
+              extends = subst (λ l. AddsCrashStates l a a) (sym none) (extends_same a);
               actions = more (length (planted name (trees_of (now a)))) (ap length none);
             };
             maps = sym (with_present (trees_of (now a)) _ m);
             fresh = λ absent. none_some (sym absent ∙ m);
             faults = refl;
-            again = again_same a well calm;
+            again = again_same a well no_group;
           }
         where
           more : (n : ℕ) → n ≡ 0 → a.actions ≡ a.actions + 2 * n
           more n e = omega arith
 
   -- it is made
-  module _ {node : Node} {pid version : ℕ} {a b : Store} (well : IsWhole (now a)) (calm : (now a).in_group ≡ false) (are : AreGiven a) (on : AreGiven b)
+  module _ {node : Node} {pid version : ℕ} {a b : Store} (well : IsValid (now a)) (no_group : (now a).in_group ≡ false) (are : AreGiven a) (on : AreGiven b)
       (none : (now a).roots name ≡ None) (new : Allocates node pid version a b) where
     w : Forest
     w = well.forest
@@ -224,9 +224,9 @@ module _ (name : Key) where
     unseen = made_same are new w well.formed on
 
     calm_then : (now b).in_group ≡ false
-    calm_then = ap (λ (s : State). s.in_group) (now_allocates node pid version a b new) ∙ calm
+    calm_then = ap (λ (s : State). s.in_group) (now_allocates node pid version a b new) ∙ no_group
 
-    well_then : IsWhole (now b)
+    well_then : IsValid (now b)
     unfolding w
     well_then = record { forest = w; formed = made_formed are new w well.formed; sized = made_sized are new w well.formed well.sized }
 
@@ -236,22 +236,22 @@ module _ (name : Key) where
     one : length (planted name (trees_of (now a))) ≡ 1
     one = ap length (planted_absent (trees_of (now a)) absent)
 
-    grown : Extends [] a b
-    grown = adds_unseen (adds_page new) calm calm_then well_then unseen
+    grown : AddsCrashStates [] a b
+    grown = adds_unseen (adds_page new) no_group calm_then well_then unseen
 
     pub made_again : CanBeOpened name a b
     made_again = record {
       grows = inl (grown, unseen);
-      few = few a.actions b.actions (length (planted name (trees_of (now a)))) one (adds_page new).actions;
+      fits = fits a.actions b.actions (length (planted name (trees_of (now a)))) one (adds_page new).actions;
       well = well_then;
-      calm = calm_then;
+      no_group = calm_then;
       mark = ap (λ (s : Store). s.mark) new.is;
       recovered = ap (λ (s : Store). s.recovered) new.is;
       readable = ap (λ (s : Store). s.is_readable) new.is;
     }
       where
-        few : (x y n : ℕ) → n ≡ 1 → y ≡ x + 1 → y ≤ x + 2 * n
-        few x y n e f = omega arith
+        fits : (x y n : ℕ) → n ≡ 1 → y ≡ x + 1 → y ≤ x + 2 * n
+        fits x y n e f = omega arith
 
     pub made_faults : b.faults ≡ a.faults
     made_faults = ap (λ (s : Store). s.faults) new.is
@@ -259,7 +259,7 @@ module _ (name : Key) where
     pub made_root : (now b).roots name ≡ None
     made_root = ap (λ (s : State). s.roots name) (now_allocates node pid version a b new) ∙ none
 
-    pub has_planted : node ≡ record { lo = []; hi = []; next = None; merging = false; merging_child = None; content = kind.Leaf [] } → (c : Store) → c ≡ acted (RootBecomes name (Some pid)) b → HasTree name a c
+    pub has_planted : node ≡ record { lo = []; hi = []; next = None; merging = false; merging_child = None; content = kind.Leaf [] } → (c : Store) → c ≡ after_action (RootBecomes name (Some pid)) b → HasTree name a c
     unfolding w
     has_planted is c e =
         let alone : IsAlone (nodes_of (now b)) pid node (kind.Leaf []) = record {
@@ -275,12 +275,12 @@ module _ (name : Key) where
         let z = made_sized are new w well.formed well.sized in
         let stray = made_stray are new w well.formed in
         let at : now c ≡ after (RootBecomes name (Some pid)) (now b) = ap now e ∙ now_acted _ b in
-        let good : IsWhole (now c) = subst IsWhole (sym at) (planted_well (now b) w f z on.numbered pid node made_root stray alone) in
+        let good : IsValid (now c) = subst IsValid (sym at) (planted_well (now b) w f z on.numbered pid node made_root stray alone) in
         let maps : trees_of (now c) ≡ with_tree name (trees_of (now a)) = ap trees_of at ∙ planted_trees (now b) w f z on.numbered pid node made_root stray alone ∙ ap (with_tree name) unseen in
         let out : (now c).in_group ≡ false = ap (λ (s : State). s.in_group) at ∙ calm_then in
         let adds = adds_is e in
-        let all : Extends (planted name (trees_of (now a))) a c =
-        subst (λ l. Extends l a c) (ap (λ (m : Maps). m ∷ []) maps ∙ sym (planted_absent (trees_of (now a)) absent)) (extends_then grown (adds_extends adds out good)) in
+        let all : AddsCrashStates (planted name (trees_of (now a))) a c =
+        subst (λ l. AddsCrashStates l a c) (ap (λ (m : Maps). m ∷ []) maps ∙ sym (planted_absent (trees_of (now a)) absent)) (extends_then grown (adds_extends adds out good)) in
         let count : c.actions ≡ a.actions + 2 * length (planted name (trees_of (now a))) = two a.actions b.actions c.actions (length (planted name (trees_of (now a)))) one (adds_page new).actions adds.actions in
         record {
           grows = record { extends = all; actions = count };
@@ -289,9 +289,9 @@ module _ (name : Key) where
           faults = ap (λ (s : Store). s.faults) e ∙ made_faults;
           again = record {
             grows = inr (all, maps);
-            few = at_most _ _ count;
+            fits = at_most _ _ count;
             well = good;
-            calm = out;
+            no_group = out;
             mark = ap (λ (s : Store). s.mark) e ∙ ap (λ (s : Store). s.mark) new.is;
             recovered = ap (λ (s : Store). s.recovered) e ∙ ap (λ (s : Store). s.recovered) new.is;
             readable = ap (λ (s : Store). s.is_readable) e ∙ ap (λ (s : Store). s.is_readable) new.is;
@@ -314,10 +314,10 @@ module _ (name : Key) where
   pub no_other : {p : Option ℕ} {b c : Store} {answer : Result (Unit {0}) (Option ℕ)} (present : Option ℕ) → (now b).roots name ≡ None → SwapsRoot name None p b c answer → answer ≡ Err present → ⊥
   no_other {p} {b} {c} present none s is =
       let t : SwapsRoot name None p b c (Err present) = subst (λ z. SwapsRoot name None p b c z) is s in
-      t.told.2 (t.told.1 ∙ none)
+      t.is.2 (t.is.1 ∙ none)
 
-  pub swapped : {r : ℕ} {b c : Store} {answer : Result (Unit {0}) (Option ℕ)} (done : Unit {0}) → SwapsRoot name None (Some r) b c answer → answer ≡ Ok done → c ≡ acted (RootBecomes name (Some r)) b
-  swapped {r} {b} {c} done s is = (subst (λ z. SwapsRoot name None (Some r) b c z) is s).told.1
+  pub swapped : {r : ℕ} {b c : Store} {answer : Result (Unit {0}) (Option ℕ)} (done : Unit {0}) → SwapsRoot name None (Some r) b c answer → answer ≡ Ok done → c ≡ after_action (RootBecomes name (Some r)) b
+  swapped {r} {b} {c} done s is = (subst (λ z. SwapsRoot name None (Some r) b c z) is s).is.1
 
 -- the numbers of the names
 
@@ -399,7 +399,7 @@ module _ (s : Store) {trees : List (Key × ℕ)} (all : AreNumbered (now s) tree
   in_all : (t : Key) (n : ℕ) → numbers_of trees t ≡ Some n → find key_cmp t (numbered 0 (names_in all.roots)) ≡ Some n
   in_all t n e = ap (find key_cmp t) (sym all.is) ∙ e
 
-  pub moment_here : (given : ℕ) → given ≡ length trees → AreGiven s → (w : Forest) → WellFormed (nodes_of (now s)) (now s).roots w → IsMoment (moment_of s (numbers_of trees) (given_to given)) w
+  pub moment_here : (given : ℕ) → given ≡ length trees → AreGiven s → (w : Forest) → WellFormed (nodes_of (now s)) (now s).roots w → HasForest (snapshot_of s (numbers_of trees) (given_to given)) w
   moment_here given count are w f = store_moment s (numbers_of trees) (given_to given) w are
       (λ t r e. none_no (numbers_of trees t) (is_number t ∙ ap is_some e))
       (λ t n e. none_no ((now s).roots t) (sym (is_number t) ∙ ap is_some e))
@@ -410,13 +410,13 @@ module _ (s : Store) {trees : List (Key × ℕ)} (all : AreNumbered (now s) tree
       within : (n m given : ℕ) → 0 < n → n ≤ 0 + m → given ≡ m → given_to given n ≡ true
       within n m given p q e = grind (arith, nat_tests)
 
-  pub opened_db : {P M : Type 0} (store : P → Store) (d : DbValue P M) → d.trees ≡ trees → d.trees_given ≡ length trees → d.queues ≡ [] → d.greatest_id ≡ (store d.pages).mark → AreGiven s → (a : Store) → HasTree default_name a s → store d.pages ≡ flushed s → IsDb store d
+  pub opened_db : {P M : Type 0} (store : P → Store) (d : DbValue P M) → d.trees ≡ trees → d.trees_given ≡ length trees → d.queues ≡ [] → d.greatest_id ≡ (store d.pages).mark → AreGiven s → (a : Store) → HasTree default_name a s → store d.pages ≡ after_flush s → IsDb store d
   opened_db store d same count queues ids are a h e =
       let well = h.again.well in record {
         forest = well.forest;
-        is = subst (λ (m : Moment). IsMoment m well.forest) (sym at) (moment_here d.trees_given count are well.forest well.formed);
-        sized = subst (λ (m : Moment). IsSized (nodes_at m) well.forest) (sym at) well.sized;
-        safe = subst IsCrashWhole (sym e) (flushes_whole_law s (flushed s) (flushes_same s) h.again.calm well);
+        is = subst (λ (m : Snapshot). HasForest m well.forest) (sym at) (moment_here d.trees_given count are well.forest well.formed);
+        sized = subst (λ (m : Snapshot). IsSized (nodes_at m) well.forest) (sym at) well.sized;
+        safe = subst IsCrashConsistent (sym e) (flushes_whole_law s (after_flush s) (flushes_same s) h.again.no_group well);
         ascends = ap (is_sorted key_cmp) same ∙ ascends;
         default = subst (λ ts. (n : ℕ) × (numbers_of ts default_name ≡ Some n)) (sym same) (none_no (numbers_of trees default_name) (is_number default_name ∙ there));
         unwatched = queues;
@@ -426,8 +426,8 @@ module _ (s : Store) {trees : List (Key × ℕ)} (all : AreNumbered (now s) tree
       at_most : (x y : ℕ) → x ≡ y → x ≤ y
       at_most x y e = omega arith
 
-      at : moment_of_db store d ≡ moment_of s (numbers_of trees) (given_to d.trees_given)
-      at = λ i. moment_of (e i) (numbers_of (same i)) (given_to d.trees_given)
+      at : snapshot_of_db store d ≡ snapshot_of s (numbers_of trees) (given_to d.trees_given)
+      at = λ i. snapshot_of (e i) (numbers_of (same i)) (given_to d.trees_given)
 
       maps : trees_of (now s) default_name ≡ or_empty (trees_of (now a) default_name)
       maps = ap (λ (m : Maps). m default_name) h.maps ∙ ap (λ b. cond b (or_empty (trees_of (now a) default_name)) (trees_of (now a) default_name)) (Rattle.sled_pages.specs.Facts.name_itself default_name)
@@ -444,13 +444,13 @@ module _ (s : Store) {trees : List (Key × ℕ)} (all : AreNumbered (now s) tree
       there = sym (mapped ((now s).roots default_name)) ∙ ap is_some maps ∙ full (trees_of (now a) default_name)
 
 -- the database that is opened
-pub opens : {P M : Type 0} (store : P → Store) (a s : Store) (called : Key) (d : DbValue P M) → HasTree default_name a s → AreNumbered (now s) d.trees → store d.pages ≡ flushed s
+pub opens : {P M : Type 0} (store : P → Store) (a s : Store) (called : Key) (d : DbValue P M) → HasTree default_name a s → AreNumbered (now s) d.trees → store d.pages ≡ after_flush s
     → d.trees_given ≡ length d.trees → d.greatest_id ≡ (store d.pages).mark → d.operators ≡ [] → d.queues ≡ [] → d.subscribers_given ≡ 0 → d.name ≡ called → Opens store a called d
 opens store a s called d h all e given ids operators queues subscribers name = record {
   middle = s;
   grows = h.grows;
   flushes = subst (λ (z : Store). Flushes s z) (sym e) (flushes_same s);
-  left = subst (λ (z : Store). states_left z ≡ now z ∷ []) (sym e) (flushes_left (flushes_same s) h.again.calm);
+  left = subst (λ (z : Store). crash_states z ≡ now z ∷ []) (sym e) (flushes_left (flushes_same s) h.again.no_group);
   maps = ap (λ (z : Store). trees_of (now z)) e ∙ h.maps;
   fresh = λ none. subst (λ (z : Store). IsOnePage (now z) default_name) (sym e) (h.fresh none);
   names = names_in all.roots;
@@ -462,7 +462,7 @@ opens store a s called d h all e given ids operators queues subscribers name = r
   operators = operators;
   queues = queues;
   subscribers = subscribers;
-  no_group = ap (λ (z : Store). (now z).in_group) e ∙ h.again.calm;
+  no_group = ap (λ (z : Store). (now z).in_group) e ∙ h.again.no_group;
   name = name;
   mark = mark;
   recovered = ap (λ (z : Store). z.recovered) e ∙ h.again.recovered;

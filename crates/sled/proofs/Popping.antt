@@ -16,10 +16,10 @@ use Rattle.sled_pages.specs.declared.error.Error.TheVariants as error
 use Rattle.sled_pages.specs.declared.texts.TheConstants.{WALK_PASSED_TURNS}
 use Rattle.sled_model.specs.Maps.{Map, Maps, Merge, IsLeast, IsGreatest}
 use Rattle.sled_model.specs.Answer.{Answer, answer_of, map_after}
-use Rattle.sled_model.specs.State.{State, NamedTree, Flying, maps_of, decided_on}
+use Rattle.sled_model.specs.State.{State, NamedTree, CallInFlight, maps_of, after_decision_on}
 use Rattle.sled_model.specs.Refusal.{MustRefuse, IsClosed, IsForeign, IsDropped, HasNoOperator, first_of, must_refuse, must_refuse_of, MayRefuse, MeetsFullQueue, EndMeetsFullQueue, TellsTurns, ToPoint, ToCall, cause_of, may_refuse_as, tells, turns_limit}
-use Rattle.sled_model.specs.Steps.{Instant, WholeDecides, WholeRefuses}
-use Rattle.sled_model.specs.Whole.{Pops, popped, RemovesLeast, RemovesNone, RemovesOne, Clears, StopsClearing}
+use Rattle.sled_model.specs.Transition.{Configuration, WholeDecides, WholeRefuses}
+use Rattle.sled_model.specs.Whole.{Pops, after_pop, RemovesLeast, RemovesNone, RemovesOne, Clears, StopsClearing}
 use Rattle.sled_model.specs.declared.call.Call.TheVariants.{Remove}
 use Rattle.sled_model.specs.declared.call.Whole.{Whole}
 use Rattle.sled_model.specs.declared.call.Whole.TheVariants.{PopMin, PopMax, Clear}
@@ -32,9 +32,9 @@ use Rattle.tree_laws.proofs.Order.{key_total}
 use Rattle.tree_laws.specs.Paths.{tree_pages}
 use Rattle.tree_reads.specs.Walk.{once, for_each}
 use Rattle.tree_reads.specs.declared.TheConstants.{MOST_PAGES}
-use Rattle.sled.specs.Values.{DbValue, state_of, db_state, instant_of}
+use Rattle.sled.specs.Values.{DbValue, state_of, db_state, configuration_of}
 use Rattle.sled.specs.Sound.{IsDb}
-use Rattle.sled.specs.Flights.{RefusesQuietly}
+use Rattle.sled.specs.Flights.{IsStepRefused}
 use Rattle.sled.specs.Reads.{ReadsMap, RefusesReading, refuses_reading_as, stops_reading}
 use Rattle.sled.specs.Direct.{ActsOften, NoAction, OneAction, Conducts, PointDecided, PointRefused, WholeDecided, WholeRefused}
 use Rattle.sled.specs.Pops.{TakesOut, RefusesToTake, IsAtEnd, PopsBySteps, PopRefusedBySteps, IsLongWay, GivesUpPop, ClearsBySteps, ClearsNone, ClearsMore, ClearRefusedBySteps}
@@ -128,7 +128,7 @@ first_alone (Some m) = refl
 pub record IsPop (is_end : Map → Option (Key × Key) → Type 0) (tree : Tree) (whole : Whole) : Type 0 where
   pub must : (s : State) → must_refuse s (ToCall whole) ≡ must_refuse_of s (tree ∷ [])
   pub cause : (s : State) (a b : Store) (e : Error) → cause_at_end is_end s a b tree e → cause_of s a b (ToCall whole) e
-  pub decides : (old : Instant) (reply : Reply) (new : State) (maps : List Maps) → Pops is_end old.state whole tree reply new maps → WholeDecides old whole reply new maps
+  pub decides : (old : Configuration) (reply : Reply) (new : State) (maps : List Maps) → Pops is_end old.state whole tree reply new maps → WholeDecides old whole reply new maps
   pub refuses : (s : State) (a b : Store) (e : Error) (new : State) → MayRefuse s a b (ToCall whole) e → new ≡ s → WholeRefuses s a b whole e new []
 
 min_is : (tree : Tree) → IsPop IsLeast tree (PopMin tree)
@@ -169,7 +169,7 @@ max_is tree = record {
 
 -- a part of a clear is refused as a pop of the least pair is
 as_clear : (s : State) (a m b : Store) (tree : Tree) (e : Error) → m.faults ≡ a.faults → m.is_readable ≡ a.is_readable → MayRefuse s m b (ToCall (PopMin tree)) e → MayRefuse s a b (ToCall (Clear tree)) e
-as_clear s a m b tree e faults readable may = record { told = told (must_refuse s (ToCall (PopMin tree))) may.told }
+as_clear s a m b tree e faults readable may = record { is = told (must_refuse s (ToCall (PopMin tree))) may.is }
   where
     cause : (e : Error) → cause_of s m b (ToCall (PopMin tree)) e → cause_of s a b (ToCall (Clear tree)) e
     cause error.NoMemory k = tt
@@ -189,7 +189,7 @@ as_clear s a m b tree e faults readable may = record { told = told (must_refuse 
 -- ---- pops
 
 -- the state with these slots
-abbrev with_slots : (ℕ → Option Flying) → ℕ → State → State
+abbrev with_slots : (ℕ → Option CallInFlight) → ℕ → State → State
 with_slots slots given s = record s { slots = slots; slots_given = given }
 
 module _ {P M : Type 0} (store : P → Store) (meant : M → Merge) (old : DbValue P M) (tree : Tree) (is_end : Map → Option (Key × Key) → Type 0) (whole : Whole) (pop : IsPop is_end tree whole) where
@@ -204,14 +204,14 @@ module _ {P M : Type 0} (store : P → Store) (meant : M → Merge) (old : DbVal
   read_cause of s (error.Corruption fault) k = absurd k
   read_cause of s error.Closed k = absurd k
 
-  read_may : (of : ℕ → ℕ) (e : Error) → RefusesReading store meant old tree of e → (slots : ℕ → Option Flying) (given : ℕ) → MayRefuse (state_of store meant old slots given) (store old.pages) (store old.pages) (ToCall whole) e
-  read_may of e r slots given = record { told = subst (λ o. may_refuse_as o (state_of store meant old slots given) (store old.pages) (store old.pages) (ToCall whole) e) (sym (pop.must (state_of store meant old slots given))) (go (must_refuse_of (db_state store meant old) (tree ∷ [])) r.told) }
+  read_may : (of : ℕ → ℕ) (e : Error) → RefusesReading store meant old tree of e → (slots : ℕ → Option CallInFlight) (given : ℕ) → MayRefuse (state_of store meant old slots given) (store old.pages) (store old.pages) (ToCall whole) e
+  read_may of e r slots given = record { is = subst (λ o. may_refuse_as o (state_of store meant old slots given) (store old.pages) (store old.pages) (ToCall whole) e) (sym (pop.must (state_of store meant old slots given))) (go (must_refuse_of (db_state store meant old) (tree ∷ [])) r.is) }
     where
       go : (o : Option MustRefuse) → refuses_reading_as store meant old tree of o e → may_refuse_as o (state_of store meant old slots given) (store old.pages) (store old.pages) (ToCall whole) e
       go None k = pop.cause (state_of store meant old slots given) (store old.pages) (store old.pages) e (read_cause of (state_of store meant old slots given) e k)
       go (Some must) k = k
 
-  read_quiet : (of : ℕ → ℕ) (e : Error) (o : Option MustRefuse) → refuses_reading_as store meant old tree of o e → RefusesQuietly e (store old.pages) (store old.pages)
+  read_quiet : (of : ℕ → ℕ) (e : Error) (o : Option MustRefuse) → refuses_reading_as store meant old tree of o e → IsStepRefused e (store old.pages) (store old.pages)
   read_quiet of error.NoMemory o k = refl
   read_quiet of (error.Io fault) None k = inr (refl, k)
   read_quiet of (error.Io fault) (Some IsClosed) k = untold k
@@ -235,7 +235,7 @@ module _ {P M : Type 0} (store : P → Store) (meant : M → Merge) (old : DbVal
   read_quiet of (error.Corruption fault) o k = refl
   read_quiet of error.Closed o k = refl
 
-  refused : (e : Error) (new : DbValue P M) → ((slots : ℕ → Option Flying) (given : ℕ) → MayRefuse (state_of store meant old slots given) (store old.pages) (store new.pages) (ToCall whole) e) → db_state store meant new ≡ db_state store meant old → Conducts store [] (Some e) old new → (must_refuse (db_state store meant old) (ToCall whole) ≢ None → new ≡ old)
+  refused : (e : Error) (new : DbValue P M) → ((slots : ℕ → Option CallInFlight) (given : ℕ) → MayRefuse (state_of store meant old slots given) (store old.pages) (store new.pages) (ToCall whole) e) → db_state store meant new ≡ db_state store meant old → Conducts store [] (Some e) old new → (must_refuse (db_state store meant old) (ToCall whole) ≢ None → new ≡ old)
       → WholeRefused store meant old whole e new
   refused e new may is conducts tested = record {
     maps = [];
@@ -246,17 +246,17 @@ module _ {P M : Type 0} (store : P → Store) (meant : M → Merge) (old : DbVal
 
   -- the read was refused
   pub pop_unread : (of : ℕ → ℕ) (e : Error) → RefusesReading store meant old tree of e → WholeRefused store meant old whole e old
-  pop_unread of e r = refused e old (read_may of e r) refl (conducts_refused store meant old e (read_quiet of e (must_refuse_of (db_state store meant old) (tree ∷ [])) r.told)) (λ must. refl)
+  pop_unread of e r = refused e old (read_may of e r) refl (conducts_refused store meant old e (read_quiet of e (must_refuse_of (db_state store meant old) (tree ∷ [])) r.is)) (λ must. refl)
 
   -- the tree has no pair
   pub pop_none : IsDb store old → ReadsMap store meant old tree (λ map. is_end map None) → WholeDecided store meant old whole (Pair None) old
   pop_none db r = record {
     maps = maps_of (db_state store meant old) ∷ [];
-    decides = λ slots given number. pop.decides (instant_of store meant old slots given number) (Pair None) (state_of store meant old slots given) (maps_of (db_state store meant old) ∷ [])
-        (record { free = pop.must (state_of store meant old slots given) ∙ r.tested; named = r.named; there = r.there; found = None; ends = r.told; replies = refl; is = refl; added = refl });
+    decides = λ slots given number. pop.decides (configuration_of store meant old slots given number) (Pair None) (state_of store meant old slots given) (maps_of (db_state store meant old) ∷ [])
+        (record { free = pop.must (state_of store meant old slots given) ∙ r.tested; named = r.named; there = r.there; found = None; ends = r.is; replies = refl; is = refl; added = refl });
     conducts = let none = conducts_none store meant old in record {
       acts = none.acts;
-      extends = subst (λ m. Rattle.tree_laws.specs.Crashes.Extends (m ∷ []) (store old.pages) (store old.pages)) (sym (maps_are store meant old db.forest db.is)) (extends_again none.extends (tested_calm store meant old tree r.tested));
+      extends = subst (λ m. Rattle.tree_laws.specs.Crashes.AddsCrashStates (m ∷ []) (store old.pages) (store old.pages)) (sym (maps_are store meant old db.forest db.is)) (extends_again none.extends (tested_calm store meant old tree r.tested));
       others = none.others;
       loses = none.loses;
       sound = λ d. d;
@@ -270,13 +270,13 @@ module _ {P M : Type 0} (store : P → Store) (meant : M → Merge) (old : DbVal
     pop_found found new t =
         let d = t.decided.decides in record {
           maps = maps_of (db_state store meant new) ∷ [];
-          decides = λ slots given number. pop.decides (instant_of store meant old slots given number) (Pair found) (state_of store meant new slots given) (maps_of (db_state store meant new) ∷ [])
+          decides = λ slots given number. pop.decides (configuration_of store meant old slots given number) (Pair found) (state_of store meant new slots given) (maps_of (db_state store meant new) ∷ [])
               (record {
                 free = pop.must (state_of store meant old slots given) ∙ r.tested;
                 named = d.named;
                 there = d.there;
                 found = Some pair;
-                ends = subst (λ (n : NamedTree). is_end n.map (Some pair)) (some_is (sym r.there ∙ d.there)) r.told;
+                ends = subst (λ (n : NamedTree). is_end n.map (Some pair)) (some_is (sym r.there ∙ d.there)) r.is;
                 replies = ap Pair t.answers;
                 is = ap (with_slots slots given) d.is;
                 added = refl;
@@ -285,7 +285,7 @@ module _ {P M : Type 0} (store : P → Store) (meant : M → Merge) (old : DbVal
         }
 
     -- the causes for which a removal is refused
-    take_cause : (slots : ℕ → Option Flying) (given : ℕ) (b : Store) (e : Error) → cause_of (db_state store meant old) (store old.pages) b (ToPoint tree (Remove pair.0)) e → cause_at_end is_end (state_of store meant old slots given) (store old.pages) b tree e
+    take_cause : (slots : ℕ → Option CallInFlight) (given : ℕ) (b : Store) (e : Error) → cause_of (db_state store meant old) (store old.pages) b (ToPoint tree (Remove pair.0)) e → cause_at_end is_end (state_of store meant old slots given) (store old.pages) b tree e
     take_cause slots given b error.NoMemory k = tt
     take_cause slots given b (error.Io fault) k = k
     take_cause slots given b (error.ReportableBug text) k = k
@@ -293,7 +293,7 @@ module _ {P M : Type 0} (store : P → Store) (meant : M → Merge) (old : DbVal
       named = r.named;
       there = r.there;
       pair = pair;
-      ends = r.told;
+      ends = r.is;
       meets = record { tree = k.tree; there = k.there; event = k.event; brings = k.brings; subscriber = k.subscriber; queue = k.queue; waits = k.waits; matching = k.matching; full = k.full };
     }
     take_cause slots given b (error.CollectionNotFound name) k = k
@@ -301,14 +301,14 @@ module _ {P M : Type 0} (store : P → Store) (meant : M → Merge) (old : DbVal
     take_cause slots given b (error.Corruption fault) k = k
     take_cause slots given b error.Closed k = k
 
-    may_end : (slots : ℕ → Option Flying) (given : ℕ) (b : Store) (e : Error) → cause_at_end is_end (state_of store meant old slots given) (store old.pages) b tree e → MayRefuse (state_of store meant old slots given) (store old.pages) b (ToCall whole) e
-    may_end slots given b e k = record { told = subst (λ o. may_refuse_as o (state_of store meant old slots given) (store old.pages) b (ToCall whole) e) (sym (pop.must (state_of store meant old slots given) ∙ r.tested)) (pop.cause (state_of store meant old slots given) (store old.pages) b e k) }
+    may_end : (slots : ℕ → Option CallInFlight) (given : ℕ) (b : Store) (e : Error) → cause_at_end is_end (state_of store meant old slots given) (store old.pages) b tree e → MayRefuse (state_of store meant old slots given) (store old.pages) b (ToCall whole) e
+    may_end slots given b e k = record { is = subst (λ o. may_refuse_as o (state_of store meant old slots given) (store old.pages) b (ToCall whole) e) (sym (pop.must (state_of store meant old slots given) ∙ r.tested)) (pop.cause (state_of store meant old slots given) (store old.pages) b e k) }
 
     -- it was not taken out
     pub pop_untaken : (e : Error) (new : DbValue P M) → RefusesToTake store meant old tree pair e new → WholeRefused store meant old whole e new
-    pop_untaken e new t = elim t.told [
+    pop_untaken e new t = elim t.is [
       | inl p ↦ refused e new
-          (λ slots given. may_end slots given (store new.pages) e (take_cause slots given (store new.pages) e (subst (λ o. may_refuse_as o (db_state store meant old) (store old.pages) (store new.pages) (ToPoint tree (Remove pair.0)) e) (first_alone (must_refuse_of (db_state store meant old) (tree ∷ [])) ∙ r.tested) p.refuses.may.told)))
+          (λ slots given. may_end slots given (store new.pages) e (take_cause slots given (store new.pages) e (subst (λ o. may_refuse_as o (db_state store meant old) (store old.pages) (store new.pages) (ToPoint tree (Remove pair.0)) e) (first_alone (must_refuse_of (db_state store meant old) (tree ∷ [])) ∙ r.tested) p.refuses.may.is)))
           p.refuses.is p.conducts (λ must. absurd (must (pop.must (db_state store meant old) ∙ r.tested)))
       | inr m ↦ subst (λ (z : DbValue P M). WholeRefused store meant old whole e z) (sym m.1)
           (subst (λ x. WholeRefused store meant old whole x old) (sym m.0)
@@ -316,22 +316,22 @@ module _ {P M : Type 0} (store : P → Store) (meant : M → Merge) (old : DbVal
     ]
 
     at_end : IsAtEnd store meant old tree is_end pair
-    at_end = record { named = r.named; there = r.there; ends = r.told }
+    at_end = record { named = r.named; there = r.there; ends = r.is }
 
     pub taken_steps : (found : Option (Key × Key)) (new : DbValue P M) → TakesOut store meant old tree pair found new → PopsBySteps store meant old tree is_end found new
-    taken_steps found new t = record { told = inr (pair, at_end, t) }
+    taken_steps found new t = record { is = inr (pair, at_end, t) }
 
     pub untaken_steps : (e : Error) (new : DbValue P M) → RefusesToTake store meant old tree pair e new → PopRefusedBySteps store meant old tree is_end e new
-    untaken_steps e new t = record { told = inr (pair, at_end, t) }
+    untaken_steps e new t = record { is = inr (pair, at_end, t) }
 
     pub gives_up_untaken : (of : ℕ → ℕ) (e : Error) (new : DbValue P M) → RefusesToTake store meant old tree pair e new → GivesUpPop store meant old tree is_end of e
-    gives_up_untaken of e new t = elim t.told [
-      | inl p ↦ record { told = λ turns. inr (record { named = r.named; there = r.there; pair = pair; ends = r.told; long = p.turns turns }) }
-      | inr m ↦ record { told = λ turns. absurd (subst TellsTurns m.0 turns) }
+    gives_up_untaken of e new t = elim t.is [
+      | inl p ↦ record { is = λ turns. inr (record { named = r.named; there = r.there; pair = pair; ends = r.is; long = p.turns turns }) }
+      | inr m ↦ record { is = λ turns. absurd (subst TellsTurns m.0 turns) }
     ]
 
   pub gives_up_unread : (of : ℕ → ℕ) (e : Error) → RefusesReading store meant old tree of e → GivesUpPop store meant old tree is_end of e
-  gives_up_unread of e r = record { told = λ turns. inl (go e (must_refuse_of (db_state store meant old) (tree ∷ [])) r.told turns) }
+  gives_up_unread of e r = record { is = λ turns. inl (go e (must_refuse_of (db_state store meant old) (tree ∷ [])) r.is turns) }
     where
       bug : (text : _) (o : Option MustRefuse) → refuses_reading_as store meant old tree of o (error.ReportableBug text) → MOST_PAGES ≤ of (tree_pages (now (store old.pages)) tree.name)
       bug text None k = k.1
@@ -363,10 +363,10 @@ module _ {P M : Type 0} (store : P → Store) (meant : M → Merge) (old : DbVal
 -- the same, of what the reads of an end say
 module _ {P M : Type 0} (store : P → Store) (meant : M → Merge) (old : DbValue P M) (tree : Tree) where
   at_least : (read found : Option (Key × Key)) → read ≡ found → ReadsMap store meant old tree (λ map. IsSuccessor Unbounded map read) → ReadsMap store meant old tree (λ map. IsLeast map found)
-  at_least read found e r = record { tested = r.tested; named = r.named; there = r.there; told = least_is r.named.map found (subst (λ z. IsSuccessor Unbounded r.named.map z) e r.told) }
+  at_least read found e r = record { tested = r.tested; named = r.named; there = r.there; is = least_is r.named.map found (subst (λ z. IsSuccessor Unbounded r.named.map z) e r.is) }
 
   at_greatest : (read found : Option (Key × Key)) → read ≡ found → ReadsMap store meant old tree (λ map. IsPredecessor Unbounded map read) → ReadsMap store meant old tree (λ map. IsGreatest map found)
-  at_greatest read found e r = record { tested = r.tested; named = r.named; there = r.there; told = greatest_is r.named.map found (subst (λ z. IsPredecessor Unbounded r.named.map z) e r.told) }
+  at_greatest read found e r = record { tested = r.tested; named = r.named; there = r.there; is = greatest_is r.named.map found (subst (λ z. IsPredecessor Unbounded r.named.map z) e r.is) }
 
   pub min_none : IsDb store old → (read : Option (Key × Key)) → read ≡ None → ReadsMap store meant old tree (λ map. IsSuccessor Unbounded map read) → WholeDecided store meant old (PopMin tree) (Pair None) old
   min_none db read e r = pop_none store meant old tree IsLeast (PopMin tree) (min_is tree) db (at_least read None e r)
@@ -387,10 +387,10 @@ module _ {P M : Type 0} (store : P → Store) (meant : M → Merge) (old : DbVal
   max_gives_up e r = gives_up_unread store meant old tree IsGreatest (PopMax tree) (max_is tree) for_each e r
 
   pub none_steps : (is_end : Map → Option (Key × Key) → Type 0) → PopsBySteps store meant old tree is_end None old
-  none_steps is_end = record { told = inl (refl, refl) }
+  none_steps is_end = record { is = inl (refl, refl) }
 
   pub unread_steps : (is_end : Map → Option (Key × Key) → Type 0) (e : Error) → PopRefusedBySteps store meant old tree is_end e old
-  unread_steps is_end e = record { told = inl refl }
+  unread_steps is_end e = record { is = inl refl }
 
   -- what comes of taking out the pair that was read
   module _ (new : DbValue P M) (pair : Key × Key) (read : Option (Key × Key)) (e : read ≡ Some pair) (result : Result (Option (Key × Key)) Error) where
@@ -428,9 +428,9 @@ module _ {P M : Type 0} (store : P → Store) (meant : M → Merge) (old : DbVal
 
 -- one more of the least keys is removed
 removes_more : (tree : Tree) (n : ℕ) (a b : State) (maps : List Maps) → RemovesLeast tree a n b maps → (named : NamedTree) (pair : Key × Key) (rest : Map) → b.trees tree.name ≡ Some named → named.map ≡ pair ∷ rest
-    → RemovesLeast tree a (suc n) (decided_on b tree.name named (answer_of (Remove pair.0) named.map)) (maps ++ maps_of (decided_on b tree.name named (answer_of (Remove pair.0) named.map)) ∷ [])
+    → RemovesLeast tree a (suc n) (after_decision_on b tree.name named (answer_of (Remove pair.0) named.map)) (maps ++ maps_of (after_decision_on b tree.name named (answer_of (Remove pair.0) named.map)) ∷ [])
 removes_more tree zero a b [] RemovesNone named pair rest there is = RemovesOne named pair rest there is RemovesNone
-removes_more tree (suc n) a b (m ∷ maps) (RemovesOne first p others here was more) named pair rest there is = RemovesOne first p others here was (removes_more tree n (decided_on a tree.name first (answer_of (Remove p.0) first.map)) b maps more named pair rest there is)
+removes_more tree (suc n) a b (m ∷ maps) (RemovesOne first p others here was more) named pair rest there is = RemovesOne first p others here was (removes_more tree n (after_decision_on a tree.name first (answer_of (Remove p.0) first.map)) b maps more named pair rest there is)
 removes_more tree zero a b (m ∷ maps) run named pair rest there is = elim run [ ]
 removes_more tree (suc n) a b [] run named pair rest there is = elim run [ ]
 
@@ -447,7 +447,7 @@ often_readable (OneAction o r) = often_readable r ∙ ap (λ (s : Store). s.is_r
 pub record IsClearing {P M : Type 0} (store : P → Store) (meant : M → Merge) (old : DbValue P M) (tree : Tree) (mid : DbValue P M) : Type 0 where
   pub parts : ℕ
   pub maps : List Maps
-  pub removes : (slots : ℕ → Option Flying) (given : ℕ) → RemovesLeast tree (state_of store meant old slots given) parts (state_of store meant mid slots given) maps
+  pub removes : (slots : ℕ → Option CallInFlight) (given : ℕ) → RemovesLeast tree (state_of store meant old slots given) parts (state_of store meant mid slots given) maps
   pub conducts : Conducts store maps None old mid
   pub clears : ClearsBySteps store meant tree old mid
   -- it did nothing yet, or the tests let it pass
@@ -476,7 +476,7 @@ module _ {P M : Type 0} (store : P → Store) (meant : M → Merge) (old : DbVal
           removes = k.removes slots given;
           named = r.named;
           there = r.there;
-          none = least_is r.named.map None (subst (λ z. IsSuccessor Unbounded r.named.map z) e r.told);
+          none = least_is r.named.map None (subst (λ z. IsSuccessor Unbounded r.named.map z) e r.is);
         },
       );
       conducts = k.conducts;
@@ -509,17 +509,17 @@ module _ {P M : Type 0} (store : P → Store) (meant : M → Merge) (old : DbVal
     clearing_unread db e r = clearing_stops db e mid (min_unread store meant mid tree e r)
 
     pub clearing_unread_steps : (e : Error) → ClearRefusedBySteps store meant old tree e mid
-    clearing_unread_steps e = record { mid = mid; clears = k.clears; refused = record { told = inl refl } }
+    clearing_unread_steps e = record { mid = mid; clears = k.clears; refused = record { is = inl refl } }
 
     module _ (pair : Key × Key) (read : Option (Key × Key)) (e : read ≡ Some pair) (r : ReadsMap store meant mid tree (λ map. IsSuccessor Unbounded map read)) where
       pub clearing_untaken : IsDb store mid → (x : Error) (new : DbValue P M) → PointRefused store meant mid tree (Remove pair.0) x new → WholeRefused store meant old (Clear tree) x new
-      clearing_untaken db x new p = clearing_stops db x new (pop_untaken store meant mid tree IsLeast (PopMin tree) (min_is tree) pair (at_least store meant mid tree read (Some pair) e r) x new (record { told = inl p }))
+      clearing_untaken db x new p = clearing_stops db x new (pop_untaken store meant mid tree IsLeast (PopMin tree) (min_is tree) pair (at_least store meant mid tree read (Some pair) e r) x new (record { is = inl p }))
 
       at : IsAtEnd store meant mid tree IsLeast pair
-      at = let l = at_least store meant mid tree read (Some pair) e r in record { named = l.named; there = l.there; ends = l.told }
+      at = let l = at_least store meant mid tree read (Some pair) e r in record { named = l.named; there = l.there; ends = l.is }
 
       pub clearing_untaken_steps : (x : Error) (new : DbValue P M) → PointRefused store meant mid tree (Remove pair.0) x new → ClearRefusedBySteps store meant old tree x new
-      clearing_untaken_steps x new p = record { mid = mid; clears = k.clears; refused = record { told = inr (pair, at, record { told = inl p }) } }
+      clearing_untaken_steps x new p = record { mid = mid; clears = k.clears; refused = record { is = inr (pair, at, record { is = inl p }) } }
 
       -- a part is done
       module _ (reply : Reply) (new : DbValue P M) (p : PointDecided store meant mid tree (Remove pair.0) reply new) where
@@ -527,9 +527,9 @@ module _ {P M : Type 0} (store : P → Store) (meant : M → Merge) (old : DbVal
         named = p.decides.named
 
         first : (rest : Map) × (named.map ≡ pair ∷ rest)
-        first = subst (λ (n : NamedTree). IsLeast n.map (Some pair)) (some_is (sym r.there ∙ p.decides.there)) (subst (λ z. IsLeast r.named.map z) e (least_is r.named.map read r.told))
+        first = subst (λ (n : NamedTree). IsLeast n.map (Some pair)) (some_is (sym r.there ∙ p.decides.there)) (subst (λ z. IsLeast r.named.map z) e (least_is r.named.map read r.is))
 
-        state_now : (slots : ℕ → Option Flying) (given : ℕ) → state_of store meant new slots given ≡ decided_on (state_of store meant mid slots given) tree.name named (answer_of (Remove pair.0) named.map)
+        state_now : (slots : ℕ → Option CallInFlight) (given : ℕ) → state_of store meant new slots given ≡ after_decision_on (state_of store meant mid slots given) tree.name named (answer_of (Remove pair.0) named.map)
         state_now slots given = ap (with_slots slots given) p.decides.is
 
         pub clearing_more : IsDb store mid → IsClearing store meant old tree new

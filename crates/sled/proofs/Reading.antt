@@ -70,7 +70,7 @@ module _ {P M : Type 0} (store : P → Store) (meant : M → Merge) (d : DbValue
     pub reads : (db : IsDb store d) (so : Map → Type 0) → OfContents (now (store d.pages)) root so → ReadsMap store meant d tree so
     reads db so near =
         let k = tree_under tested in
-        record { tested = tested; named = k.0; there = k.2; told = subst so (map_under k) (of_pairs (store d.pages) root (pages_given store d db) (root_is store d db tree.name root there) so near) }
+        record { tested = tested; named = k.0; there = k.2; is = subst so (map_under k) (of_pairs (store d.pages) root (pages_given store d db) (root_is store d db tree.name root there) so near) }
 
     pub begins : (lo hi : Bound Key) (pairs : Coming P) → pairs ≡ record { pages = d.pages; root = root; pairs = pairs_within lo hi (pairs_under (nodes_of (now (store d.pages))) root); ended = is_reversed lo hi } → Begins store meant d tree lo hi pairs
     begins lo hi pairs is =
@@ -78,12 +78,12 @@ module _ {P M : Type 0} (store : P → Store) (meant : M → Merge) (d : DbValue
         record {
           over = ap (λ (z : Coming P). z.pages) is;
           root = there ∙ sym (ap (λ (z : Coming P). Some z.root) is);
-          all = record { tested = tested; named = k.0; there = k.2; told = ap (λ (z : Coming P). z.pairs) is ∙ ap (pairs_within lo hi) (map_under k) };
+          all = record { tested = tested; named = k.0; there = k.2; is = ap (λ (z : Coming P). z.pairs) is ∙ ap (pairs_within lo hi) (map_under k) };
           ended = ap (λ (z : Coming P). z.ended) is;
         }
 
     pub refuses : (db : IsDb store d) (of : ℕ → ℕ) (e : Error) → RefusesWalk of (store d.pages) root e → RefusesReading store meant d tree of e
-    refuses db of e r = record { told = subst (λ m. refuses_reading_as store meant d tree of m e) (sym tested) (go e r.told) }
+    refuses db of e r = record { is = subst (λ m. refuses_reading_as store meant d tree of m e) (sym tested) (go e r.is) }
       where
         go : (e : Error) → refuses_walk_as of (store d.pages) root e → stops_reading store meant d tree of e
         go NoMemory k = tt
@@ -96,7 +96,7 @@ module _ {P M : Type 0} (store : P → Store) (meant : M → Merge) (d : DbValue
         go Closed k = absurd k
 
     pub gives_up : (key : Key) (e : Error) → GivesUp (now (store d.pages)) root (Included key) 0 e → GivesUpGet store meant d tree key e
-    gives_up key e g = record { told = go e (g.told key refl) }
+    gives_up key e g = record { is = go e (g.is key refl) }
       where
         at_zero : (n : ℕ) → MOST_PAGES < 0 + n → MOST_PAGES < n
         at_zero n h = omega arith
@@ -112,24 +112,24 @@ module _ {P M : Type 0} (store : P → Store) (meant : M → Merge) (d : DbValue
         go Closed k = tt
 
     pub no_memory : RefusesRange store meant d tree NoMemory
-    no_memory = record { told = subst (λ m. refuses_range_as store meant d tree m NoMemory) (sym tested) refl }
+    no_memory = record { is = subst (λ m. refuses_range_as store meant d tree m NoMemory) (sym tested) refl }
 
   pub must_read : (of : ℕ → ℕ) (e : Error) → MustBeRefused (must_refuse_of (db_state store meant d) (tree ∷ [])) e → RefusesReading store meant d tree of e
-  must_read of e m = record { told = go (must_refuse_of (db_state store meant d) (tree ∷ [])) m.told }
+  must_read of e m = record { is = go (must_refuse_of (db_state store meant d) (tree ∷ [])) m.is }
     where
       go : (o : Option MustRefuse) → must_be_refused_as o e → refuses_reading_as store meant d tree of o e
       go None k = absurd k
       go (Some must) k = k
 
   pub must_range : (e : Error) → MustBeRefused (must_refuse_of (db_state store meant d) (tree ∷ [])) e → RefusesRange store meant d tree e
-  must_range e m = record { told = go (must_refuse_of (db_state store meant d) (tree ∷ [])) m.told }
+  must_range e m = record { is = go (must_refuse_of (db_state store meant d) (tree ∷ [])) m.is }
     where
       go : (o : Option MustRefuse) → must_be_refused_as o e → refuses_range_as store meant d tree o e
       go None k = absurd k
       go (Some must) k = k
 
   pub must_give_up : (key : Key) (e : Error) → MustBeRefused (must_refuse_of (db_state store meant d) (tree ∷ [])) e → GivesUpGet store meant d tree key e
-  must_give_up key e m = record { told = go (must_refuse_of (db_state store meant d) (tree ∷ [])) e m.told }
+  must_give_up key e m = record { is = go (must_refuse_of (db_state store meant d) (tree ∷ [])) e m.is }
     where
       apart : {X : Type 0} (text : Rattle.std.proofs.Common.Bor Key) → ReportableBug text ≡ Closed → X
       apart text e = cc
@@ -159,7 +159,7 @@ module _ {P M : Type 0} (store : P → Store) (meant : M → Merge) (d : DbValue
 
   -- what follows of a map
   pub reads_more : (so more : Map → Type 0) → ((m : Map) → so m → more m) → ReadsMap store meant d tree so → ReadsMap store meant d tree more
-  reads_more so more then r = record { tested = r.tested; named = r.named; there = r.there; told = then r.named.map r.told }
+  reads_more so more then r = record { tested = r.tested; named = r.named; there = r.there; is = then r.named.map r.is }
 
   pub reads_some : (key : Key) (value : Option Key) (there : Bool) → there ≡ is_some value → ReadsMap store meant d tree (λ map. value ≡ find key_cmp key map) → ReadsMap store meant d tree (λ map. there ≡ is_some (find key_cmp key map))
   reads_some key value there e r = reads_more _ _ (λ m k. e ∙ ap is_some k) r

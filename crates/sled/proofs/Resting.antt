@@ -1,13 +1,13 @@
 -- Stores that differ in the count of faults alone, or show the same now.
 use Rattle.std.proofs.Common.{◌≡◌, ℕ, ◌+◌, [], ap, inl, inr}
 use Rattle.sled_pages.specs.State.{after_all}
-use Rattle.sled_pages.specs.Store.{Store, now, flushed}
-use Rattle.sled_pages.specs.Crash.{states_left}
+use Rattle.sled_pages.specs.Store.{Store, now, after_flush}
+use Rattle.sled_pages.specs.Crash.{crash_states}
 use Rattle.sled_pages.specs.declared.error.Error.{Error}
 use Rattle.sled_pages.specs.declared.error.Error.TheVariants as error
-use Rattle.tree_laws.specs.Crashes.{Extends}
+use Rattle.tree_laws.specs.Crashes.{AddsCrashStates}
 use Rattle.tree_laws.proofs.Crashing.{extends_nothing, same_left}
-use Rattle.sled_tree.specs.Moves.{refuses_as}
+use Rattle.sled_tree.specs.StageAction.{is_action_refused_as}
 use Rattle.sled.specs.Flush.{only_faults}
 
 -- two stores that show the same now
@@ -42,7 +42,7 @@ rests_only_faults (error.Corruption fault) a b t = rests_same t
 rests_only_faults error.FullQueue a b t = rests_same t
 rests_only_faults error.Closed a b t = rests_same t
 
-pub rests_refused : (e : Error) (a b : Store) → refuses_as e a b → Rests a b
+pub rests_refused : (e : Error) (a b : Store) → is_action_refused_as e a b → Rests a b
 rests_refused error.NoMemory a b t = rests_same t
 rests_refused (error.Io fault) a b (inl t) = rests_faulted (a.faults + 1) t
 rests_refused (error.Io fault) a b (inr (t, p)) = rests_same t
@@ -60,11 +60,11 @@ module _ {a b : Store} (r : Rests a b) where
   pub rests_now : SameNow a b
   rests_now = record { now_is = now_rests; mark = r.mark; pids = r.pids; versions = r.versions }
 
-  pub rests_extends : Extends [] a b
+  pub rests_extends : AddsCrashStates [] a b
   rests_extends = extends_nothing a b r.base r.recent r.actions
 
-  pub rests_left : states_left b ≡ states_left a
+  pub rests_left : crash_states b ≡ crash_states a
   rests_left = same_left a b r.base r.recent
 
-pub flushed_now : {a b : Store} → b ≡ flushed a → SameNow a b
+pub flushed_now : {a b : Store} → b ≡ after_flush a → SameNow a b
 flushed_now e = record { now_is = ap now e; mark = ap (λ (s : Store). s.mark) e; pids = ap (λ (s : Store). s.pids) e; versions = ap (λ (s : Store). s.versions) e }

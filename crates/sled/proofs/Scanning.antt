@@ -23,7 +23,7 @@ module _ {P M : Type 0} (store : P → Store) (meant : M → Merge) (tree : Tree
       tested = b.all.tested;
       named = b.all.named;
       there = b.all.there;
-      told = b.all.told ∙ pairs_same prefix b.all.named.map (subst (λ all. AllByRecursion (λ e. IsBytes e.0) all) b.all.told bytes);
+      is = b.all.is ∙ pairs_same prefix b.all.named.map (subst (λ all. AllByRecursion (λ e. IsBytes e.0) all) b.all.is bytes);
     };
     ended = b.ended ∙ not_reversed prefix;
   }

@@ -2,7 +2,7 @@
 use Rattle.std.proofs.Common.{◌≡◌, Bool, true, false, not, cond, [], ◌∷◌, Option, Some, None, refl, sym, ap, ◌∙◌}
 use Rattle.sled_pages.specs.Store.{Store, now}
 use Rattle.sled_model.specs.Maps.{Merge}
-use Rattle.sled_model.specs.State.{State, Flying}
+use Rattle.sled_model.specs.State.{State, CallInFlight}
 use Rattle.sled_model.specs.Refusal.{MustRefuse, IsClosed, first_of, must_refuse_of, must_refuse, operator_test, foreign_test, dropped_test, ToBegin, ToStep, ToPoint, ToCall}
 use Rattle.sled_model.specs.declared.TheConstants.{MAX_LOOPS}
 use Rattle.sled_model.specs.Refusal.{turns_limit}
@@ -23,7 +23,7 @@ first_alone : (a : Option MustRefuse) → first_of a None ≡ a
 first_alone None = refl
 first_alone (Some m) = refl
 
-pub must_step : (s : State) (f : Flying) → must_refuse s (ToStep f) ≡ must_refuse_of s (f.tree ∷ [])
+pub must_step : (s : State) (f : CallInFlight) → must_refuse s (ToStep f) ≡ must_refuse_of s (f.tree ∷ [])
 must_step s f = ap (first_of (must_refuse_of s (f.tree ∷ []))) (operator_none s f.tree f.call) ∙ first_alone (must_refuse_of s (f.tree ∷ []))
 
 pub must_begin : (s : State) (tree : Tree) (call : Call) → must_refuse s (ToBegin tree call) ≡ must_refuse_of s (tree ∷ [])

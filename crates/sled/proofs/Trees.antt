@@ -14,9 +14,9 @@ use Rattle.sled_model.specs.Refusal.{MustRefuse, IsDropped, first_of, is_number,
 use Rattle.sled_model.specs.declared.tree.Tree.{Tree}
 use Rattle.tree_laws.specs.Forest.{Forest, contents}
 use Rattle.tree_laws.specs.Contents.{trees_of}
-use Rattle.tree_laws.specs.Moment.{moment_of, IsMoment}
+use Rattle.tree_laws.specs.Snapshot.{snapshot_of, HasForest}
 use Rattle.tree_laws.proofs.Fuel.{contents_law}
-use Rattle.sled.specs.Values.{DbValue, numbers_of, given_to, named, db_state, moment_of_db}
+use Rattle.sled.specs.Values.{DbValue, numbers_of, given_to, named, db_state, snapshot_of_db}
 
 none_some : {P X : Type 0} {x : X} → None ≡ Some x → P
 none_some e = cc
@@ -25,7 +25,7 @@ some_is : {X : Type 0} {x y : X} → Some x ≡ Some y → x ≡ y
 some_is e = cc
 
 -- the contents of each name that has a number
-pub trees_at : (s : Store) (numbers : Key → Option ℕ) (given : ℕ → Bool) (w : Forest) → IsMoment (moment_of s numbers given) w → (t : Key) → trees_of (now s) t ≡ option_map (λ _. contents (nodes_of (now s)) w t) (numbers t)
+pub trees_at : (s : Store) (numbers : Key → Option ℕ) (given : ℕ → Bool) (w : Forest) → HasForest (snapshot_of s numbers given) w → (t : Key) → trees_of (now s) t ≡ option_map (λ _. contents (nodes_of (now s)) w t) (numbers t)
 trees_at s numbers given w is t = contents_law (now s) w is.formed is.below t ∙ go ((now s).roots t) (numbers t) refl refl
   where
     go : (r n : Option ℕ) → (now s).roots t ≡ r → numbers t ≡ n → option_map (λ _. contents (nodes_of (now s)) w t) r ≡ option_map (λ _. contents (nodes_of (now s)) w t) n
@@ -35,12 +35,12 @@ trees_at s numbers given w is t = contents_law (now s) w is.formed is.below t �
     go (Some r) None a b = let k = is.numbered t r a in none_some (sym b ∙ k.1)
 
 -- where no contents change the trees are the same
-pub trees_same : (a b : Store) (numbers : Key → Option ℕ) (given : ℕ → Bool) (w v : Forest) → IsMoment (moment_of a numbers given) w → IsMoment (moment_of b numbers given) v
+pub trees_same : (a b : Store) (numbers : Key → Option ℕ) (given : ℕ → Bool) (w v : Forest) → HasForest (snapshot_of a numbers given) w → HasForest (snapshot_of b numbers given) v
     → ((t : Key) → contents (nodes_of (now b)) v t ≡ contents (nodes_of (now a)) w t) → trees_of (now b) ≡ trees_of (now a)
 trees_same a b numbers given w v is on same = fun_ext (λ t. trees_at b numbers given v on t ∙ ap (λ c. option_map (λ _. c) (numbers t)) (same t) ∙ sym (trees_at a numbers given w is t))
 
 -- where those of one tree change its map is another
-pub trees_put : (a b : Store) (numbers : Key → Option ℕ) (given : ℕ → Bool) (w v : Forest) → IsMoment (moment_of a numbers given) w → IsMoment (moment_of b numbers given) v
+pub trees_put : (a b : Store) (numbers : Key → Option ℕ) (given : ℕ → Bool) (w v : Forest) → HasForest (snapshot_of a numbers given) w → HasForest (snapshot_of b numbers given) v
     → (u : Key) (n : ℕ) → numbers u ≡ Some n → ((t : Key) → t ≢ u → contents (nodes_of (now b)) v t ≡ contents (nodes_of (now a)) w t) → trees_of (now b) ≡ put_name (trees_of (now a)) u (Some (contents (nodes_of (now b)) v u))
 trees_put a b numbers given w v is on u n e others = fun_ext (λ t. go t (bytes_eq t u) refl)
   where
@@ -62,7 +62,7 @@ trees_put a b numbers given w v is on u n e others = fun_ext (λ t. go t (bytes_
 
 -- the maps of the state are the contents
 module _ {P M : Type 0} (store : P → Store) (meant : M → Merge) where
-  pub maps_are : (d : DbValue P M) (w : Forest) → IsMoment (moment_of_db store d) w → maps_of (db_state store meant d) ≡ trees_of (now (store d.pages))
+  pub maps_are : (d : DbValue P M) (w : Forest) → HasForest (snapshot_of_db store d) w → maps_of (db_state store meant d) ≡ trees_of (now (store d.pages))
   maps_are d w is = fun_ext (λ t. go _ _ (numbers_of d.trees t) (trees_of (now (store d.pages)) t) (trees_at (store d.pages) (numbers_of d.trees) (given_to d.trees_given) w is t))
     where
       go : (merge : ℕ → Option Merge) (c : Map) (n : Option ℕ) (m : Option Map) → m ≡ option_map (λ _. c) n → option_map (λ (z : NamedTree). z.map) (named n m merge) ≡ m

@@ -21,7 +21,7 @@ refuses_handle_as s e = ⊥
 
 -- refused where the database is closed, and else for want of memory alone
 pub record RefusesHandle (s : Store) (e : Error) : Type 0 where
-  pub told : refuses_handle_as s e
+  pub is : refuses_handle_as s e
 
 abbrev pub must_be_refused_as : Option MustRefuse → Error → Type 0
 must_be_refused_as None e = ⊥
@@ -29,4 +29,4 @@ must_be_refused_as (Some must) e = tells must e
 
 -- the call must be refused, and the error tells why
 pub record MustBeRefused (must : Option MustRefuse) (e : Error) : Type 0 where
-  pub told : must_be_refused_as must e
+  pub is : must_be_refused_as must e

@@ -13,7 +13,7 @@ refuses_read_as s e = ⊥
 
 -- a read is refused for want of memory, or for a fault where some page is not readable
 pub record RefusesRead (s : Store) (e : Error) : Type 0 where
-  pub told : refuses_read_as s e
+  pub is : refuses_read_as s e
 
 -- a tree's collection: its type, its name, and its pairs
 abbrev pub collection : Maps → Key → Key × Key × Map
@@ -29,4 +29,4 @@ refuses_export_as s e = ((now s).in_group ≡ false) × refuses_read_as s e
 
 -- refused where the database is closed; and else as a read is
 pub record RefusesExport (s : Store) (e : Error) : Type 0 where
-  pub told : refuses_export_as s e
+  pub is : refuses_export_as s e

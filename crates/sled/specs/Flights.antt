@@ -8,34 +8,34 @@ use Rattle.sled_pages.specs.Store.{Store, now}
 use Rattle.sled_pages.specs.Update.{put_at}
 use Rattle.sled_model.specs.Maps.{Maps, Merge}
 use Rattle.sled_model.specs.Answer.{answer_of}
-use Rattle.sled_model.specs.State.{NamedTree, Flying, maps_of}
+use Rattle.sled_model.specs.State.{NamedTree, CallInFlight, maps_of}
 use Rattle.sled_model.specs.Refusal.{must_refuse_of, TellsTurns, turns_limit}
-use Rattle.sled_model.specs.Steps.{Steps}
+use Rattle.sled_model.specs.Transition.{Transition}
 use Rattle.sled_model.specs.declared.event.Event.{Event}
 use Rattle.sled_model.specs.declared.reply.Reply.{Reply}
 use Rattle.sled_model.specs.declared.outcome.Outcome.{Outcome}
 use Rattle.sled_model.specs.declared.outcome.Outcome.TheVariants as outcome
 use Rattle.sled_model.specs.declared.outcome.Step.TheVariants as step
 use Rattle.tree_laws.specs.Forest.{Tree, Place, Forest}
-use Rattle.tree_laws.specs.Crashes.{Extends}
-use Rattle.tree_laws.specs.Moment.{Moment, nodes_at, IsMoment}
+use Rattle.tree_laws.specs.Crashes.{AddsCrashStates}
+use Rattle.tree_laws.specs.Snapshot.{Snapshot, nodes_at, HasForest}
 use Rattle.tree_laws.specs.Stages.{owned}
 use Rattle.sled_tree.specs.Known.{IsKnown, AreApart}
-use Rattle.sled_tree.specs.Moves.{ActsOnce, ActsAtMostOnce, leaves_as}
+use Rattle.sled_tree.specs.StageAction.{ActsOnce, ActsAtMostOnce, leaks_no_page_as}
 use Rattle.sled_tree.specs.Follows.{FollowsOn}
-use Rattle.sled_tree.specs.Passing.{IsOnPath, GoesFurther}
+use Rattle.sled_tree.specs.Passing.{IsOnPath, StepsOnPath}
 use Rattle.sled_tree.specs.Course.{course_of}
-use Rattle.sled_tree.specs.declared.flight.Flight.{Flight}
+use Rattle.sled_tree.specs.declared.flight.InFlight.{InFlight}
 use Rattle.sled_tree.specs.declared.flight.Next.{Next}
 use Rattle.sled_tree.specs.declared.flight.Next.TheVariants as next
 use Rattle.sled_tree.specs.declared.flight.Went.{Went}
 use Rattle.sled_tree.specs.declared.flight.Went.TheVariants.{Moved, Decided, Refused}
-use Rattle.sled.specs.Values.{DbValue, db_state, instant_of, moment_of_db}
+use Rattle.sled.specs.Values.{DbValue, db_state, configuration_of, snapshot_of_db}
 use Rattle.sled.specs.Sound.{IsDb}
 
 -- a call in flight, as the model has it
-abbrev pub flying_of : Flight → Flying
-flying_of f = record { tree = f.job.tree; call = f.job.call; turns = f.turns; waiting = []; rest = None }
+abbrev pub call_in_flight_of : InFlight → CallInFlight
+call_in_flight_of f = record { tree = f.job.tree; call = f.job.call; turns = f.turns; waiting = []; rest = None }
 
 abbrev pub outcome_of : Went → Outcome
 outcome_of Moved = outcome.Moved
@@ -43,13 +43,13 @@ outcome_of (Decided reply) = outcome.Decided reply
 outcome_of (Refused e) = outcome.Refused e
 
 -- what the call's slot holds after the step
-abbrev pub slot_after : Went → Flight → Option Flying
-slot_after Moved g = Some (flying_of g)
+abbrev pub slot_after : Went → InFlight → Option CallInFlight
+slot_after Moved g = Some (call_in_flight_of g)
 slot_after (Decided reply) g = None
 slot_after (Refused e) g = None
 
 -- what a step comes to, as what its page action came to
-abbrev pub next_of : Went → Flight → Next
+abbrev pub next_of : Went → InFlight → Next
 next_of Moved g = next.Go g.stage
 next_of (Decided reply) g = next.Decided reply
 next_of (Refused e) g = next.Refused e
@@ -61,7 +61,7 @@ maps_added (Decided reply) maps = maps ∷ []
 maps_added (Refused e) maps = []
 
 -- the step was decided, and brings this event, or none
-pub record Brings {P M : Type 0} (store : P → Store) (meant : M → Merge) (old : DbValue P M) (f : Flight) (went : Went) (event : Option Event) : Type 0 where
+pub record BringsEvent {P M : Type 0} (store : P → Store) (meant : M → Merge) (old : DbValue P M) (f : InFlight) (went : Went) (event : Option Event) : Type 0 where
   pub reply : Reply
   pub decided : went ≡ Decided reply
   pub tree : NamedTree
@@ -69,37 +69,37 @@ pub record Brings {P M : Type 0} (store : P → Store) (meant : M → Merge) (ol
   pub is : (answer_of f.job.call tree.map).event ≡ event
 
 -- a page number that was given stays given; a page that is merging stays as it is until it is freed; and one that was freed never comes back
-pub record PagesLast (old new : Moment) : Type 0 where
+pub record PagesLast (old new : Snapshot) : Type 0 where
   pub pids : (p : ℕ) → old.pids p ≡ true → new.pids p ≡ true
   pub merges : (p : ℕ) (n : Node) → nodes_at old p ≡ Some n → n.merging ≡ true → (nodes_at new p ≡ Some n) ⊎ (nodes_at new p ≡ None)
   pub gone : (p : ℕ) → old.pids p ≡ true → nodes_at old p ≡ None → nodes_at new p ≡ None
 
 -- each page that stood in a tree stands there still, or is merging; but for those of the tree that is lost, if one is
-pub record StillStands (lost : Option Tree) (old : Moment) (w : Forest) (new : Moment) (v : Forest) : Type 0 where
-  pub told : (x : Place) (p : ℕ) → lost ≢ Some x.tree → In p (w.chain x) → In p (v.chain x) ⊎ ((n : Node) × (nodes_at new p ≡ Some n) × (n.merging ≡ true))
+pub record StaysInChain (lost : Option Tree) (old : Snapshot) (w : Forest) (new : Snapshot) (v : Forest) : Type 0 where
+  pub is : (x : Place) (p : ℕ) → lost ≢ Some x.tree → In p (w.chain x) → In p (v.chain x) ⊎ ((n : Node) × (nodes_at new p ≡ Some n) × (n.merging ≡ true))
   pub last : PagesLast old new
 
 -- .. at the forests that fit the pages at the two moments
-abbrev pub LosesNone : Option Tree → Moment → Moment → Type 0
-LosesNone lost old new = (w v : Forest) → IsMoment old w → IsMoment new v → StillStands lost old w new v
+abbrev pub KeepsTreePages : Option Tree → Snapshot → Snapshot → Type 0
+KeepsTreePages lost old new = (w v : Forest) → HasForest old w → HasForest new v → StaysInChain lost old w new v
 
 -- a refusal changes nothing; but `Io` counts a fault, or tells that some page is not readable
-abbrev pub RefusesQuietly : Error → Store → Store → Type 0
-RefusesQuietly (Io fault) old new = (new ≡ record old { faults = old.faults + 1 }) ⊎ ((new ≡ old) × ((pid : ℕ) × (old.is_readable pid ≡ false)))
-RefusesQuietly e old new = new ≡ old
+abbrev pub IsStepRefused : Error → Store → Store → Type 0
+IsStepRefused (Io fault) old new = (new ≡ record old { faults = old.faults + 1 }) ⊎ ((new ≡ old) × ((pid : ℕ) × (old.is_readable pid ≡ false)))
+IsStepRefused e old new = new ≡ old
 
 -- what a step does to the store: at most one changing action, and none where the call is refused
-abbrev pub does_as : Went → Store → Store → Type 0
-does_as Moved old new = ActsAtMostOnce old new
-does_as (Decided reply) old new = ActsAtMostOnce old new
-does_as (Refused e) old new = RefusesQuietly e old new
+abbrev pub effect_of_step : Went → Store → Store → Type 0
+effect_of_step Moved old new = ActsAtMostOnce old new
+effect_of_step (Decided reply) old new = ActsAtMostOnce old new
+effect_of_step (Refused e) old new = IsStepRefused e old new
 
 -- One step of a call in flight: in whatever slot the call is, the machine makes this step; what a crash may leave grows by the map
 -- after the call, if it was decided; and nothing of the database changes but its pages
-pub record DbStep {P M : Type 0} (store : P → Store) (meant : M → Merge) (old : DbValue P M) (f : Flight) (went : Went) (new : DbValue P M) (g : Flight) : Type 0 where
-  pub steps : (slots : ℕ → Option Flying) (slots_given slot before after : ℕ) → slots slot ≡ Some (flying_of f)
-      → Steps (instant_of store meant old slots slots_given before) (step.Step slot) (outcome_of went) (instant_of store meant new (put_at slots slot (slot_after went g)) slots_given after) (maps_added went (maps_of (db_state store meant new)))
-  pub extends : Extends (maps_added went (maps_of (db_state store meant new))) (store old.pages) (store new.pages)
+pub record DbStep {P M : Type 0} (store : P → Store) (meant : M → Merge) (old : DbValue P M) (f : InFlight) (went : Went) (new : DbValue P M) (g : InFlight) : Type 0 where
+  pub steps : (slots : ℕ → Option CallInFlight) (slots_given slot before after : ℕ) → slots slot ≡ Some (call_in_flight_of f)
+      → Transition (configuration_of store meant old slots slots_given before) (step.Step slot) (outcome_of went) (configuration_of store meant new (put_at slots slot (slot_after went g)) slots_given after) (maps_added went (maps_of (db_state store meant new)))
+  pub extends : AddsCrashStates (maps_added went (maps_of (db_state store meant new))) (store old.pages) (store new.pages)
   pub same : new ≡ record old { pages = new.pages }
 
 -- The pages stay well formed, now and after every crash
@@ -108,42 +108,42 @@ pub record DbSound {P M : Type 0} (store : P → Store) (old new : DbValue P M) 
 
 -- At most one changing action is done: none where the call is refused or was decided without an event, and one where it was decided
 -- with one
-pub record DbActs {P M : Type 0} (store : P → Store) (meant : M → Merge) (old : DbValue P M) (f : Flight) (went : Went) (new : DbValue P M) : Type 0 where
-  pub does : does_as went (store old.pages) (store new.pages)
-  pub quiet : Brings store meant old f went None → store new.pages ≡ store old.pages
-  pub loud : (event : Event) → Brings store meant old f went (Some event) → ActsOnce (store old.pages) (store new.pages)
+pub record DbActs {P M : Type 0} (store : P → Store) (meant : M → Merge) (old : DbValue P M) (f : InFlight) (went : Went) (new : DbValue P M) : Type 0 where
+  pub does : effect_of_step went (store old.pages) (store new.pages)
+  pub quiet : BringsEvent store meant old f went None → store new.pages ≡ store old.pages
+  pub loud : (event : Event) → BringsEvent store meant old f went (Some event) → ActsOnce (store old.pages) (store new.pages)
 
 -- where the tests pass and a turn is left, the step does what the call's stage is to do, and leads where that leads
-abbrev pub DbFollows : {P M : Type 0} → (P → Store) → (M → Merge) → DbValue P M → Flight → Went → DbValue P M → Flight → Type 0
+abbrev pub DbFollows : {P M : Type 0} → (P → Store) → (M → Merge) → DbValue P M → InFlight → Went → DbValue P M → InFlight → Type 0
 DbFollows store meant old f went new g = must_refuse_of (db_state store meant old) (f.job.tree ∷ []) ≡ None → f.turns < turns_limit → FollowsOn (store old.pages) f went (store new.pages) g
 
 -- no page of the call's own is left behind, but by a call that is refused
-abbrev pub DbLeaves : {P M : Type 0} → (P → Store) → DbValue P M → Flight → Went → DbValue P M → Flight → Type 0
-DbLeaves store old f went new g = (v : Forest) → IsMoment (moment_of_db store new) v → leaves_as (next_of went g) (owned f.stage) (now (store old.pages)) (now (store new.pages)) v
+abbrev pub DbLeaksNoPage : {P M : Type 0} → (P → Store) → DbValue P M → InFlight → Went → DbValue P M → InFlight → Type 0
+DbLeaksNoPage store old f went new g = (v : Forest) → HasForest (snapshot_of_db store new) v → leaks_no_page_as (next_of went g) (owned f.stage) (now (store old.pages)) (now (store new.pages)) v
 
 -- What the calls know: the call goes on and knows what it needs; and what another call knows stays true, and no page becomes the two
 -- calls' own
-pub record DbKnows {P M : Type 0} (store : P → Store) (old : DbValue P M) (f : Flight) (went : Went) (new : DbValue P M) (g : Flight) : Type 0 where
-  pub goes_on : went ≡ Moved → (g.job ≡ f.job) × IsKnown (moment_of_db store new) g
-  pub others : (h : Flight) → AreApart f h → IsKnown (moment_of_db store old) h → IsKnown (moment_of_db store new) h × (went ≡ Moved → AreApart g h)
+pub record DbKnows {P M : Type 0} (store : P → Store) (old : DbValue P M) (f : InFlight) (went : Went) (new : DbValue P M) (g : InFlight) : Type 0 where
+  pub goes_on : went ≡ Moved → (g.job ≡ f.job) × IsKnown (snapshot_of_db store new) g
+  pub others : (h : InFlight) → AreApart f h → IsKnown (snapshot_of_db store old) h → IsKnown (snapshot_of_db store new) h × (went ≡ Moved → AreApart g h)
 
 -- All that is said of one step
-pub record Flies {P M : Type 0} (store : P → Store) (meant : M → Merge) (old : DbValue P M) (f : Flight) (went : Went) (new : DbValue P M) (g : Flight) : Type 0 where
+pub record DbStepContract {P M : Type 0} (store : P → Store) (meant : M → Merge) (old : DbValue P M) (f : InFlight) (went : Went) (new : DbValue P M) (g : InFlight) : Type 0 where
   pub step : DbStep store meant old f went new g
   pub sound : DbSound store old new
   pub does : DbActs store meant old f went new
   pub follows : DbFollows store meant old f went new g
   -- on a clean path the call goes one page further, or ends
-  pub passes : GoesFurther (now (store old.pages)) f went (now (store new.pages)) g
+  pub passes : StepsOnPath (now (store old.pages)) f went (now (store new.pages)) g
   -- no page of a tree is lost
-  pub loses : LosesNone None (moment_of_db store old) (moment_of_db store new)
-  pub leaves : DbLeaves store old f went new g
+  pub loses : KeepsTreePages None (snapshot_of_db store old) (snapshot_of_db store new)
+  pub leaves : DbLeaksNoPage store old f went new g
   pub knows : DbKnows store old f went new g
 
 -- Steps of a call in flight, one after the other, of which so many go on and the next ends it. Between them the database is as it should be
-pub data FliesTimes {P M : Type 0} (store : P → Store) (meant : M → Merge) : ℕ → DbValue P M → Flight → Went → DbValue P M → Flight → Type 0 where
-  Ends : {old new : DbValue P M} {f g : Flight} {went : Went} → Flies store meant old f went new g → went ≢ Moved → FliesTimes store meant zero old f went new g
-  GoesOn : {n : ℕ} {old mid new : DbValue P M} {f h g : Flight} {went : Went} → Flies store meant old f Moved mid h → IsDb store mid → FliesTimes store meant n mid h went new g → FliesTimes store meant (suc n) old f went new g
+pub data DbSteps {P M : Type 0} (store : P → Store) (meant : M → Merge) : ℕ → DbValue P M → InFlight → Went → DbValue P M → InFlight → Type 0 where
+  Ends : {old new : DbValue P M} {f g : InFlight} {went : Went} → DbStepContract store meant old f went new g → went ≢ Moved → DbSteps store meant zero old f went new g
+  GoesOn : {n : ℕ} {old mid new : DbValue P M} {f h g : InFlight} {went : Went} → DbStepContract store meant old f Moved mid h → IsDb store mid → DbSteps store meant n mid h went new g → DbSteps store meant (suc n) old f went new g
 
 -- the call was not refused for its turns
 abbrev pub has_turns : Went → Type 0
@@ -152,12 +152,12 @@ has_turns (Decided reply) = Unit {0}
 has_turns (Refused e) = TellsTurns e → ⊥
 
 -- the call went on at most once for each page of the path, and was not refused for its turns
-pub record IsPrompt (moves : ℕ) (went : Went) (path : List ℕ) : Type 0 where
-  pub few : moves ≤ length path
+pub record TakesAtMost (moves : ℕ) (went : Went) (path : List ℕ) : Type 0 where
+  pub fits : moves ≤ length path
   pub unlimited : has_turns went
 
 -- All steps of a call in flight to its end. Over a clean path of fewer pages than it has turns left it goes on at most once a page
-pub record FliesToEnd {P M : Type 0} (store : P → Store) (meant : M → Merge) (old : DbValue P M) (f : Flight) (went : Went) (new : DbValue P M) (g : Flight) : Type 0 where
+pub record DbRunsToEnd {P M : Type 0} (store : P → Store) (meant : M → Merge) (old : DbValue P M) (f : InFlight) (went : Went) (new : DbValue P M) (g : InFlight) : Type 0 where
   pub moves : ℕ
-  pub flies : FliesTimes store meant moves old f went new g
-  pub passes : (path : List ℕ) → IsOnPath (now (store old.pages)) (course_of f) f.stage path → f.turns + length path < turns_limit → IsPrompt moves went path
+  pub flies : DbSteps store meant moves old f went new g
+  pub passes : (path : List ℕ) → IsOnPath (now (store old.pages)) (course_of f) f.stage path → f.turns + length path < turns_limit → TakesAtMost moves went path

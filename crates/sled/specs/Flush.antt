@@ -1,11 +1,11 @@
 -- A flush of a database.
 use Rattle.std.specs.Prelude.{◌≡◌, ℕ, ◌+◌, [], ◌∷◌, Option, None}
-use Rattle.sled_pages.specs.Store.{Store, now, flushed}
-use Rattle.sled_pages.specs.Crash.{states_left}
+use Rattle.sled_pages.specs.Store.{Store, now, after_flush}
+use Rattle.sled_pages.specs.Crash.{crash_states}
 use Rattle.sled_pages.specs.declared.error.Error.{Error}
 use Rattle.sled_pages.specs.declared.error.Error.TheVariants.{Io}
 use Rattle.sled_model.specs.Maps.{Merge}
-use Rattle.sled_model.specs.State.{Flying, maps_of}
+use Rattle.sled_model.specs.State.{CallInFlight, maps_of}
 use Rattle.sled_model.specs.Refusal.{MayRefuse, must_refuse, ToCall}
 use Rattle.sled_model.specs.declared.call.Whole.TheVariants.{Flush}
 use Rattle.tree_laws.specs.Contents.{trees_of}
@@ -15,12 +15,12 @@ use Rattle.sled.specs.Sound.{IsDb}
 -- The database was open, all that was decided is durable, and nothing else changes; the number is the store's
 pub record FlushesDb {P M : Type 0} (store : P → Store) (flush_number : P → ℕ) (meant : M → Merge) (old : DbValue P M) (number : ℕ) (new : DbValue P M) : Type 0 where
   pub free : must_refuse (db_state store meant old) (ToCall Flush) ≡ None
-  pub told : number ≡ flush_number old.pages
-  pub is : store new.pages ≡ flushed (store old.pages)
+  pub answers : number ≡ flush_number old.pages
+  pub is : store new.pages ≡ after_flush (store old.pages)
   pub sound : IsDb store old → IsDb store new
   pub same : new ≡ record old { pages = new.pages }
   -- a crash can leave the state now alone, whose contents are the maps
-  pub left : states_left (store new.pages) ≡ now (store new.pages) ∷ []
+  pub left : crash_states (store new.pages) ≡ now (store new.pages) ∷ []
   pub maps : trees_of (now (store new.pages)) ≡ maps_of (db_state store meant new)
 
 -- nothing changes, but that a fault is counted
@@ -30,7 +30,7 @@ only_faults e old new = new ≡ old
 
 -- refused for a cause, and nothing is flushed
 pub record RefusesFlush {P M : Type 0} (store : P → Store) (meant : M → Merge) (old new : DbValue P M) (e : Error) : Type 0 where
-  pub may : (slots : ℕ → Option Flying) (slots_given : ℕ) → MayRefuse (state_of store meant old slots slots_given) (store old.pages) (store new.pages) (ToCall Flush) e
+  pub may : (slots : ℕ → Option CallInFlight) (slots_given : ℕ) → MayRefuse (state_of store meant old slots slots_given) (store old.pages) (store new.pages) (ToCall Flush) e
   pub is : only_faults e (store old.pages) (store new.pages)
   pub sound : IsDb store old → IsDb store new
   pub same : new ≡ record old { pages = new.pages }

@@ -6,12 +6,12 @@ use Rattle.std.specs.declared.ops.Bound.TheVariants.{Included}
 use Rattle.sled_pages.specs.Order.{Key, key_cmp}
 use Rattle.sled_pages.specs.Store.{Store, now, IsRoots}
 use Rattle.sled_pages.specs.State.{State}
-use Rattle.sled_pages.specs.Crash.{states_left}
+use Rattle.sled_pages.specs.Crash.{crash_states}
 use Rattle.sled_pages.specs.Faults.{IsFault}
 use Rattle.sled_pages.specs.declared.error.Error.{Error}
 use Rattle.sled_model.specs.Maps.{Map, Maps}
 use Rattle.tree_laws.specs.Contents.{trees_of}
-use Rattle.tree_laws.specs.Crashes.{IsWhole, Extends, Flushes}
+use Rattle.tree_laws.specs.Crashes.{IsValid, AddsCrashStates, Flushes}
 use Rattle.tree_laws.specs.Paths.{IsClean}
 use Rattle.sled.specs.Values.{DbValue, default_name, numbers_of}
 
@@ -37,21 +37,21 @@ numbered n (name ∷ names) = (name, n + 1) ∷ numbered (n + 1) names
 
 -- where there was no tree of this name an empty one was made, by two actions; and else no action was done
 pub record GrowsByTree (name : Key) (old new : Store) : Type 0 where
-  pub extends : Extends (planted name (trees_of (now old))) old new
+  pub extends : AddsCrashStates (planted name (trees_of (now old))) old new
   pub actions : new.actions ≡ old.actions + 2 * length (planted name (trees_of (now old)))
 
 -- the maps are those of before and none was added, or the tree is made
 abbrev pub GrowsAtMost : Key → Store → Store → Type 0
 GrowsAtMost name old new =
-    (Extends [] old new × (trees_of (now new) ≡ trees_of (now old)))
-    ⊎ (Extends (planted name (trees_of (now old))) old new × (trees_of (now new) ≡ with_tree name (trees_of (now old))))
+    (AddsCrashStates [] old new × (trees_of (now new) ≡ trees_of (now old)))
+    ⊎ (AddsCrashStates (planted name (trees_of (now old))) old new × (trees_of (now new) ≡ with_tree name (trees_of (now old))))
 
 -- The store can be opened. It has the maps of before, with or without an empty tree of this name
 pub record CanBeOpened (name : Key) (old new : Store) : Type 0 where
   pub grows : GrowsAtMost name old new
-  pub few : new.actions ≤ old.actions + 2 * length (planted name (trees_of (now old)))
-  pub well : IsWhole (now new)
-  pub calm : (now new).in_group ≡ false
+  pub fits : new.actions ≤ old.actions + 2 * length (planted name (trees_of (now old)))
+  pub well : IsValid (now new)
+  pub no_group : (now new).in_group ≡ false
   pub mark : new.mark ≡ old.mark
   pub recovered : new.recovered ≡ old.recovered
   pub readable : new.is_readable ≡ old.is_readable
@@ -90,7 +90,7 @@ pub record Opens {P M : Type 0} (store : P → Store) (before : Store) (called :
   pub grows : GrowsByTree default_name before middle
   pub flushes : Flushes middle (store d.pages)
   -- a crash can leave the state now alone
-  pub left : states_left (store d.pages) ≡ now (store d.pages) ∷ []
+  pub left : crash_states (store d.pages) ≡ now (store d.pages) ∷ []
   -- every tree has its map of before
   pub maps : trees_of (now (store d.pages)) ≡ with_default (trees_of (now before))
   -- a default tree that was made is one page

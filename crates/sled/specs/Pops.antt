@@ -25,7 +25,7 @@ module _ {P M : Type 0} (store : P → Store) (meant : M → Merge) (old : DbVal
 
   -- its removal was refused, or there was no memory for a copy of its key
   pub record RefusesToTake (pair : Key × Key) (e : Error) (new : DbValue P M) : Type 0 where
-    pub told : PointRefused store meant old tree (Remove pair.0) e new ⊎ ((e ≡ NoMemory) × (new ≡ old))
+    pub is : PointRefused store meant old tree (Remove pair.0) e new ⊎ ((e ≡ NoMemory) × (new ≡ old))
 
   -- the pair stands at this end of the tree's map
   pub record IsAtEnd (is_end : Map → Option (Key × Key) → Type 0) (pair : Key × Key) : Type 0 where
@@ -35,11 +35,11 @@ module _ {P M : Type 0} (store : P → Store) (meant : M → Merge) (old : DbVal
 
   -- A pop found no pair and did nothing, or did the steps of the removal of the pair at this end, and no others
   pub record PopsBySteps (is_end : Map → Option (Key × Key) → Type 0) (found : Option (Key × Key)) (new : DbValue P M) : Type 0 where
-    pub told : ((found ≡ None) × (new ≡ old)) ⊎ ((pair : Key × Key) × IsAtEnd is_end pair × TakesOut pair found new)
+    pub is : ((found ≡ None) × (new ≡ old)) ⊎ ((pair : Key × Key) × IsAtEnd is_end pair × TakesOut pair found new)
 
   -- .. or it was refused: it did nothing, or the steps of that removal until one was refused
   pub record PopRefusedBySteps (is_end : Map → Option (Key × Key) → Type 0) (e : Error) (new : DbValue P M) : Type 0 where
-    pub told : (new ≡ old) ⊎ ((pair : Key × Key) × IsAtEnd is_end pair × RefusesToTake pair e new)
+    pub is : (new ≡ old) ⊎ ((pair : Key × Key) × IsAtEnd is_end pair × RefusesToTake pair e new)
 
   -- the way to the key of the pair at this end is not clean, or it has as many levels as a call has turns
   pub record IsLongWay (is_end : Map → Option (Key × Key) → Type 0) : Type 0 where
@@ -52,7 +52,7 @@ module _ {P M : Type 0} (store : P → Store) (meant : M → Merge) (old : DbVal
   -- A pop is told that its turns were used up only where the tree has so many pages that this function of their number comes to the
   -- limit of a read, or where there was something to repair on the way to the key, or the way has so many levels
   pub record GivesUpPop (is_end : Map → Option (Key × Key) → Type 0) (of : ℕ → ℕ) (e : Error) : Type 0 where
-    pub told : TellsTurns e → (MOST_PAGES ≤ of (tree_pages (now (store old.pages)) tree.name)) ⊎ IsLongWay is_end
+    pub is : TellsTurns e → (MOST_PAGES ≤ of (tree_pages (now (store old.pages)) tree.name)) ⊎ IsLongWay is_end
 
 -- Keys of a tree were removed one after the other, each the least of those that were left, and each by the steps of its removal
 pub data ClearsBySteps {P M : Type 0} (store : P → Store) (meant : M → Merge) (tree : Tree) : DbValue P M → DbValue P M → Type 0 where

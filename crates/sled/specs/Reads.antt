@@ -20,11 +20,11 @@ use Rattle.sled.specs.Values.{DbValue, db_state}
 
 module _ {P M : Type 0} (store : P → Store) (meant : M → Merge) (d : DbValue P M) (tree : Tree) where
   -- none of the tests fails, and it is so of the tree's map
-  pub record ReadsMap (is : Map → Type 0) : Type 0 where
+  pub record ReadsMap (claim : Map → Type 0) : Type 0 where
     pub tested : must_refuse_of (db_state store meant d) (tree ∷ []) ≡ None
     pub named : NamedTree
     pub there : (db_state store meant d).trees tree.name ≡ Some named
-    pub told : is named.map
+    pub is : claim named.map
 
   -- the iterator begins with the pairs of the tree's map within the bounds, over the pages and the root of the tree as they are
   pub record Begins (lo hi : Bound Key) (pairs : Coming P) : Type 0 where
@@ -56,7 +56,7 @@ module _ {P M : Type 0} (store : P → Store) (meant : M → Merge) (d : DbValue
 
   -- refused by the first of the tests that fails, or where none fails for one of these causes
   pub record RefusesReading (of : ℕ → ℕ) (e : Error) : Type 0 where
-    pub told : refuses_reading_as of (must_refuse_of (db_state store meant d) (tree ∷ [])) e
+    pub is : refuses_reading_as of (must_refuse_of (db_state store meant d) (tree ∷ [])) e
 
   abbrev pub refuses_range_as : Option MustRefuse → Error → Type 0
   refuses_range_as (Some must) e = tells must e
@@ -64,7 +64,7 @@ module _ {P M : Type 0} (store : P → Store) (meant : M → Merge) (d : DbValue
 
   -- refused by the first of the tests that fails, or where none fails for want of memory
   pub record RefusesRange (e : Error) : Type 0 where
-    pub told : refuses_range_as (must_refuse_of (db_state store meant d) (tree ∷ [])) e
+    pub is : refuses_range_as (must_refuse_of (db_state store meant d) (tree ∷ [])) e
 
   abbrev pub gives_up_get_as : Key → Error → Type 0
   gives_up_get_as key (ReportableBug text) = (path : List ℕ) → IsClean (now (store d.pages)) tree.name (Included key) path → MOST_PAGES < length path
@@ -72,4 +72,4 @@ module _ {P M : Type 0} (store : P → Store) (meant : M → Merge) (d : DbValue
 
   -- over a clean path to the key a read is given up only where the path has more pages than may be looked at
   pub record GivesUpGet (key : Key) (e : Error) : Type 0 where
-    pub told : gives_up_get_as key e
+    pub is : gives_up_get_as key e

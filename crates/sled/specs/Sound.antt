@@ -4,17 +4,17 @@ use Rattle.std.specs.FinMap.Entries.{is_sorted}
 use Rattle.sled_pages.specs.Order.{key_cmp}
 use Rattle.sled_pages.specs.Store.{Store}
 use Rattle.tree_laws.specs.Forest.{Forest, IsSized}
-use Rattle.tree_laws.specs.Crashes.{IsCrashWhole}
-use Rattle.tree_laws.specs.Moment.{IsMoment, nodes_at}
-use Rattle.sled.specs.Values.{DbValue, default_name, moment_of_db, numbers_of}
+use Rattle.tree_laws.specs.Crashes.{IsCrashConsistent}
+use Rattle.tree_laws.specs.Snapshot.{HasForest, nodes_at}
+use Rattle.sled.specs.Values.{DbValue, default_name, snapshot_of_db, numbers_of}
 
 -- The pages are well formed now and in every state that a crash may leave: they have the shape of a forest, and no page has more
 -- than 33 entries, or 17 while it is a merging child. The trees' numbers are those of the roots
 pub record IsDb {P M : Type 0} (store : P → Store) (d : DbValue P M) : Type 0 where
   pub forest : Forest
-  pub is : IsMoment (moment_of_db store d) forest
-  pub sized : IsSized (nodes_at (moment_of_db store d)) forest
-  pub safe : IsCrashWhole (store d.pages)
+  pub is : HasForest (snapshot_of_db store d) forest
+  pub sized : IsSized (nodes_at (snapshot_of_db store d)) forest
+  pub safe : IsCrashConsistent (store d.pages)
   -- the trees ascend by name, and the default tree is there
   pub ascends : is_sorted key_cmp d.trees ≡ true
   pub default : (n : ℕ) × (numbers_of d.trees default_name ≡ Some n)

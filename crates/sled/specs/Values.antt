@@ -5,10 +5,10 @@ use Rattle.std.specs.Ordering.{nat_cmp}
 use Rattle.sled_pages.specs.Order.{Key, key_cmp}
 use Rattle.sled_pages.specs.Store.{Store, now}
 use Rattle.sled_model.specs.Maps.{Map, Merge}
-use Rattle.sled_model.specs.State.{State, NamedTree, Queue, Flying}
-use Rattle.sled_model.specs.Steps.{Instant}
+use Rattle.sled_model.specs.State.{State, NamedTree, Queue, CallInFlight}
+use Rattle.sled_model.specs.Transition.{Configuration}
 use Rattle.tree_laws.specs.Contents.{trees_of}
-use Rattle.tree_laws.specs.Moment.{Moment, moment_of}
+use Rattle.tree_laws.specs.Snapshot.{Snapshot, snapshot_of}
 
 -- the pages, the database's name, the trees' numbers by name, the operators by tree number, the queues by subscriber, and the counters
 pub record DbValue (P M : Type 0) : Type 0 where
@@ -40,7 +40,7 @@ named (Some n) None merge = None
 named (Some n) (Some m) merge = Some (record { number = n; map = m; merge = merge n })
 
 -- The state: the trees' maps are the contents of the store's pages now, and the database is open while no group is
-abbrev pub state_of : {P M : Type 0} → (P → Store) → (M → Merge) → DbValue P M → (ℕ → Option Flying) → ℕ → State
+abbrev pub state_of : {P M : Type 0} → (P → Store) → (M → Merge) → DbValue P M → (ℕ → Option CallInFlight) → ℕ → State
 state_of store meant d slots slots_given = record {
   name = d.name;
   trees = λ t. named (numbers_of d.trees t) (trees_of (now (store d.pages)) t) (λ n. option_map meant (find nat_cmp n d.operators));
@@ -59,9 +59,9 @@ abbrev pub db_state : {P M : Type 0} → (P → Store) → (M → Merge) → DbV
 db_state store meant d = state_of store meant d (λ n. None) 0
 
 -- the state and the store that it stands on, which would answer this number to a flush
-abbrev pub instant_of : {P M : Type 0} → (P → Store) → (M → Merge) → DbValue P M → (ℕ → Option Flying) → ℕ → ℕ → Instant
-instant_of store meant d slots slots_given number = record { state = state_of store meant d slots slots_given; store = store d.pages; flush_number = number }
+abbrev pub configuration_of : {P M : Type 0} → (P → Store) → (M → Merge) → DbValue P M → (ℕ → Option CallInFlight) → ℕ → ℕ → Configuration
+configuration_of store meant d slots slots_given number = record { state = state_of store meant d slots slots_given; store = store d.pages; flush_number = number }
 
 -- the moment of the database's store, with the trees' numbers
-abbrev pub moment_of_db : {P M : Type 0} → (P → Store) → DbValue P M → Moment
-moment_of_db store d = moment_of (store d.pages) (numbers_of d.trees) (given_to d.trees_given)
+abbrev pub snapshot_of_db : {P M : Type 0} → (P → Store) → DbValue P M → Snapshot
+snapshot_of_db store d = snapshot_of (store d.pages) (numbers_of d.trees) (given_to d.trees_given)

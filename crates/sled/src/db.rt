@@ -5,7 +5,7 @@ ghost use Rattle.std.specs.FinMap.Entries.{find};
 ghost use Rattle.sled_pages.specs.Order.{key_cmp};
 ghost use Rattle.sled_pages.specs.declared.error.Error.TheVariants.{NoMemory};
 ghost use Rattle.sled_pages.specs.Store.{now};
-ghost use Rattle.tree_laws.specs.Crashes.{IsWhole, IsCrashWhole};
+ghost use Rattle.tree_laws.specs.Crashes.{IsValid, IsCrashConsistent};
 ghost use Rattle.sled_model.specs.Refusal.{must_refuse_of};
 ghost use Rattle.sled.specs.Calls.{IsHandle, RefusesHandle, MustBeRefused};
 
@@ -13,7 +13,7 @@ use crate::DEFAULT_TREE;
 use sled_model::{MAX_LOOPS, MergeOperator, Tree};
 use sled_pages::texts::{HANDLE_OF_ANOTHER_DATABASE, WALK_PASSED_TURNS};
 use sled_pages::{Error, IVec, Pages, Result};
-use sled_tree::{Flight, Went, advance};
+use sled_tree::{InFlight, Went, advance};
 use std::alloc::Global;
 use std::marker::Model;
 
@@ -59,10 +59,10 @@ impl<P: Pages, M> Model for Db<P, M> {
 
 impl<P: Pages, M: MergeOperator> Db<P, M> {
     ghost use Rattle.sled.specs.Sound.{IsDb};
-    ghost use Rattle.sled.specs.Values.{db_state, moment_of_db, default_name};
+    ghost use Rattle.sled.specs.Values.{db_state, snapshot_of_db, default_name};
     ghost use Rattle.sled_tree.specs.Known.{IsKnown};
-    ghost use Rattle.sled_tree.specs.Passing.{GoesFurther};
-    ghost use Rattle.sled.specs.Flights.{DbStep, DbSound, DbActs, DbFollows, DbLeaves, DbKnows, LosesNone, Flies, FliesToEnd};
+    ghost use Rattle.sled_tree.specs.Passing.{StepsOnPath};
+    ghost use Rattle.sled.specs.Flights.{DbStep, DbSound, DbActs, DbFollows, DbLeaksNoPage, DbKnows, KeepsTreePages, DbStepContract, DbRunsToEnd};
     ghost use Rattle.sled.specs.Flush.{FlushesDb, RefusesFlush};
 
     /// What holds of every database: its pages are well formed now and in every state that a crash may leave, and its trees
@@ -82,8 +82,8 @@ impl<P: Pages, M: MergeOperator> Db<P, M> {
     pub fn into_pages(self) -> P
         ensures pages { result ≡ self.pages }
         ensures sound { IsDb P.store self }
-        ensures well { IsWhole (now (P.store result)) }
-        ensures safe { IsCrashWhole (P.store result) }
+        ensures well { IsValid (now (P.store result)) }
+        ensures safe { IsCrashConsistent (P.store result) }
     {
         let Db { pages, .. } = self;
         pages
@@ -135,28 +135,28 @@ impl<P: Pages, M: MergeOperator> Db<P, M> {
     }
 
     /// One step of a call in flight, which may do one page action. The tests come first, and the count of turns last.
-    pub fn fly(&mut self, flight: &mut Flight) -> Went
-        requires { IsKnown (moment_of_db P.store self.old) flight.old }
+    pub fn advance(&mut self, flight: &mut InFlight) -> Went
+        requires { IsKnown (snapshot_of_db P.store self.old) flight.old }
         ensures step { DbStep P.store M.meant self.old flight.old result self.new flight.new }
         ensures sound { DbSound P.store self.old self.new }
         ensures does { DbActs P.store M.meant self.old flight.old result self.new }
         ensures follows { DbFollows P.store M.meant self.old flight.old result self.new flight.new }
-        ensures passes { GoesFurther (now (P.store self.old.pages)) flight.old result (now (P.store self.new.pages)) flight.new }
-        ensures loses { LosesNone None (moment_of_db P.store self.old) (moment_of_db P.store self.new) }
-        ensures leaves { DbLeaves P.store self.old flight.old result self.new flight.new }
+        ensures passes { StepsOnPath (now (P.store self.old.pages)) flight.old result (now (P.store self.new.pages)) flight.new }
+        ensures loses { KeepsTreePages None (snapshot_of_db P.store self.old) (snapshot_of_db P.store self.new) }
+        ensures leaves { DbLeaksNoPage P.store self.old flight.old result self.new flight.new }
         ensures knows { DbKnows P.store self.old flight.old result self.new flight.new }
     {
         if let Err(e) = self.check(&flight.job.tree) {
             return Went::Refused(e);
         }
-        self.fly_tested(flight)
+        self.advance_tested(flight)
     }
 
     // The same of a call whose tree passed the tests.
-    fn fly_tested(&mut self, flight: &mut Flight) -> Went
-        requires known { IsKnown (moment_of_db P.store self.old) flight.old }
+    fn advance_tested(&mut self, flight: &mut InFlight) -> Went
+        requires known { IsKnown (snapshot_of_db P.store self.old) flight.old }
         requires tested { must_refuse_of (db_state P.store M.meant self.old) (flight.old.job.tree ∷ []) ≡ None }
-        ensures { Flies P.store M.meant self.old flight.old result self.new flight.new }
+        ensures { DbStepContract P.store M.meant self.old flight.old result self.new flight.new }
     {
         if flight.turns == MAX_LOOPS {
             return Went::Refused(Error::ReportableBug(WALK_PASSED_TURNS));
@@ -165,24 +165,24 @@ impl<P: Pages, M: MergeOperator> Db<P, M> {
     }
 
     /// Steps of a call in flight until it ends. The tests are made once, since no step of a call changes what they look at.
-    pub fn fly_to_end(&mut self, flight: &mut Flight) -> Went
-        requires { IsKnown (moment_of_db P.store self.old) flight.old }
-        ensures { FliesToEnd P.store M.meant self.old flight.old result self.new flight.new }
+    pub fn advance_to_end(&mut self, flight: &mut InFlight) -> Went
+        requires { IsKnown (snapshot_of_db P.store self.old) flight.old }
+        ensures { DbRunsToEnd P.store M.meant self.old flight.old result self.new flight.new }
     {
         if let Err(e) = self.check(&flight.job.tree) {
             return Went::Refused(e);
         }
-        self.fly_on(flight)
+        self.advance_on(flight)
     }
 
     /// The same of a call whose tree passed the tests.
-    pub fn fly_on(&mut self, flight: &mut Flight) -> Went
-        requires known { IsKnown (moment_of_db P.store self.old) flight.old }
+    pub fn advance_on(&mut self, flight: &mut InFlight) -> Went
+        requires known { IsKnown (snapshot_of_db P.store self.old) flight.old }
         requires tested { must_refuse_of (db_state P.store M.meant self.old) (flight.old.job.tree ∷ []) ≡ None }
-        ensures { FliesToEnd P.store M.meant self.old flight.old result self.new flight.new }
+        ensures { DbRunsToEnd P.store M.meant self.old flight.old result self.new flight.new }
     {
         'steps: loop {
-            match self.fly_tested(flight) {
+            match self.advance_tested(flight) {
                 Went::Moved => self.audit(),
                 went => return went,
             }

@@ -12,7 +12,7 @@ ghost use Rattle.sled.specs.Direct.{IsValue, IsSwap};
 use crate::db::Db;
 use sled_model::{Call, CompareAndSwapError, MergeOperator, Reply, Tree};
 use sled_pages::{IVec, Pages, Result};
-use sled_tree::{Flight, Went};
+use sled_tree::{InFlight, Went};
 use std::alloc::Global;
 
 /// What a swap answers: that the value was swapped, which value stood there in place of the one that was asked for, or why
@@ -130,8 +130,8 @@ impl<P: Pages, M: MergeOperator> Db<P, M> {
                 return Err(e);
             }
         };
-        let mut flight = Flight::new(tree, call);
-        let went = self.fly_on(&mut flight);
+        let mut flight = InFlight::new(tree, call);
+        let went = self.advance_on(&mut flight);
         drop(flight);
         match went {
             Went::Decided(reply) => Ok(reply),

@@ -30,7 +30,7 @@ pub use sled_pages::{
     Data, Error, Fault, IVec, Index, Leaf, Link, MemPages, Node, Page, Pages, Pid, Result, Shared,
     Version, View,
 };
-pub use sled_tree::{Flight, Job, Stage, Went};
+pub use sled_tree::{InFlight, Job, Stage, Went};
 pub use tree_reads::{Iter, Keys, Values, law_bytes, law_prefix};
 
 /// The name of the default tree, which every database has.

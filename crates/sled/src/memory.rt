@@ -4,7 +4,7 @@ ghost use Rattle.sled_pages.specs.declared.error.Error.TheVariants.{NoMemory};
 ghost use Rattle.sled_pages.specs.Crash.{Crashes};
 ghost use Rattle.sled_pages.specs.Memory.{store_of, empty_store};
 ghost use Rattle.sled_pages.specs.Store.{now};
-ghost use Rattle.tree_laws.specs.Crashes.{IsWhole, IsCrashWhole};
+ghost use Rattle.tree_laws.specs.Crashes.{IsValid, IsCrashConsistent};
 
 use sled_pages::{MemPages, Result};
 use std::alloc::Global;
@@ -12,8 +12,8 @@ use std::alloc::Global;
 /// An empty store, which can be opened.
 pub fn empty_pages(alloc: Global) -> MemPages
     ensures empty { store_of result ≡ empty_store }
-    ensures well { IsWhole (now (store_of result)) }
-    ensures calm { (now (store_of result)).in_group ≡ false }
+    ensures well { IsValid (now (store_of result)) }
+    ensures no_group { (now (store_of result)).in_group ≡ false }
 {
     MemPages::new(alloc)
 }
@@ -21,10 +21,10 @@ pub fn empty_pages(alloc: Global) -> MemPages
 /// What a crash leaves of a database's pages that keeps this many of the actions since the last flush, less a group that is
 /// not sealed within them. It can be opened. Refused with `NoMemory` alone: then the store is lost.
 pub fn crash_pages(pages: MemPages, keep: usize) -> Result<MemPages>
-    requires { IsCrashWhole (store_of pages) }
+    requires { IsCrashConsistent (store_of pages) }
     ensures ok { IfOk result (λ left. Crashes keep (store_of pages) (store_of left)) }
-    ensures well { IfOk result (λ left. IsWhole (now (store_of left))) }
-    ensures calm { IfOk result (λ left. (now (store_of left)).in_group ≡ false) }
+    ensures well { IfOk result (λ left. IsValid (now (store_of left))) }
+    ensures no_group { IfOk result (λ left. (now (store_of left)).in_group ≡ false) }
     ensures err { IfErr result (λ e. e ≡ NoMemory) }
 {
     let left = pages.crash(keep)?;

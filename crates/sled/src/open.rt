@@ -3,7 +3,7 @@ ghost use Rattle.std.specs.Prelude.{◌≡◌, map, false, None, [], IfOk, IfErr
 ghost use Rattle.sled_pages.specs.declared.error.Error.TheVariants.{NoMemory};
 ghost use Rattle.sled_pages.specs.declared.node.Data.TheVariants as kind;
 ghost use Rattle.sled_pages.specs.Store.{now};
-ghost use Rattle.tree_laws.specs.Crashes.{IsWhole};
+ghost use Rattle.tree_laws.specs.Crashes.{IsValid};
 ghost use Rattle.sled.specs.Opens.{Opens, RefusesOpen, RefusesTree, HasTree, AreNumbered, numbered};
 
 use crate::DEFAULT_TREE;
@@ -27,9 +27,9 @@ fn empty_leaf(alloc: Global) -> Result<Node>
 }
 
 // Makes an empty tree of this name where there is none.
-pub(crate) fn plant<P: Pages>(alloc: Global, pages: &mut P, name: &[u8]) -> Result<()>
-    requires well { IsWhole (now (P.store pages.old)) }
-    requires calm { (now (P.store pages.old)).in_group ≡ false }
+pub(crate) fn create_tree<P: Pages>(alloc: Global, pages: &mut P, name: &[u8]) -> Result<()>
+    requires well { IsValid (now (P.store pages.old)) }
+    requires no_group { (now (P.store pages.old)).in_group ≡ false }
     ensures ok { OnOk result (HasTree name.now (P.store pages.old) (P.store pages.new)) }
     ensures err { IfErr result (λ e. RefusesTree name.now (P.store pages.old) e (P.store pages.new)) }
 {
@@ -82,13 +82,13 @@ impl<P: Pages> Db<P> {
     /// Refused with `Io` where the store counts a fault, and with `NoMemory`. The pages that are given back can be opened
     /// again: they have all their pairs, and at most the empty default tree is new.
     pub fn open(alloc: Global, pages: P, name: &[u8]) -> std::result::Result<Db<P>, (P, Error)>
-        requires well { IsWhole (now (P.store pages)) }
-        requires calm { (now (P.store pages)).in_group ≡ false }
+        requires well { IsValid (now (P.store pages)) }
+        requires no_group { (now (P.store pages)).in_group ≡ false }
         ensures ok { IfOk result (Opens P.store (P.store pages) name.now) }
         ensures err { IfErr result (λ e. RefusesOpen (P.store pages) e.1 (P.store e.0)) }
     {
         let mut pages = pages;
-        if let Err(e) = plant(alloc, &mut pages, DEFAULT_TREE.as_bytes()) {
+        if let Err(e) = create_tree(alloc, &mut pages, DEFAULT_TREE.as_bytes()) {
             return Err((pages, e));
         }
         let trees = match number_trees(alloc, &pages) {

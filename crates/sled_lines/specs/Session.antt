@@ -7,8 +7,8 @@ use Rattle.sled_model.specs.declared.outcome.Step.TheVariants as step
 use Rattle.sled_model.specs.declared.outcome.Outcome.{Outcome}
 use Rattle.sled_model.specs.declared.outcome.Outcome.TheVariants.{Begun, Refused, NoSuchSlot}
 use Rattle.sled_model.specs.declared.tree.Tree.{Tree}
-use Rattle.sled_machine.specs.Step.{Reaches}
-use Rattle.sled_machine.specs.Finish.{Finishes}
+use Rattle.sled_machine.specs.Step.{MachineStepContract}
+use Rattle.sled_machine.specs.Finish.{RunsToEnd}
 use Rattle.sled_machine.specs.Values.{MachineValue}
 use Rattle.sled_lines.specs.Print.{shown_of}
 use Rattle.sled_lines.specs.declared.print.Shown.{Shown}
@@ -22,9 +22,9 @@ slot_at slots (suc n) = slice_get slots n
 
 -- what is done with the call in a slot
 abbrev pub acts_on : {P M : Type 0} → (P → Store) → (P → ℕ) → (M → Merge) → MachineValue P M → Act → ℕ → Outcome → MachineValue P M → Type 0
-acts_on store flush_number meant old act.Step slot o new = Reaches store flush_number meant old (step.Step slot) o new
-acts_on store flush_number meant old act.Finish slot o new = Finishes store flush_number meant old slot o new
-acts_on store flush_number meant old act.Abandon slot o new = Reaches store flush_number meant old (step.Abandon slot) o new
+acts_on store flush_number meant old act.Step slot o new = MachineStepContract store flush_number meant old (step.Step slot) o new
+acts_on store flush_number meant old act.Finish slot o new = RunsToEnd store flush_number meant old slot o new
+acts_on store flush_number meant old act.Abandon slot o new = MachineStepContract store flush_number meant old (step.Abandon slot) o new
 
 -- the same for the slot of a number, if there is one, and what is shown of its reply
 abbrev pub acts_at : {P M : Type 0} → (P → Store) → (P → ℕ) → (M → Merge) → MachineValue P M → Act → Option (ℕ × Shown) → Shown → Outcome → MachineValue P M → Type 0
@@ -34,6 +34,6 @@ acts_at store flush_number meant old act (Some at) shown o new = (shown ≡ at.1
 -- what a call that begins does to the machine and to the slots that lines began; printed is the number of its slot among them
 abbrev pub begins_as : {P M : Type 0} → (P → Store) → (P → ℕ) → (M → Merge) → MachineValue P M → Tree → Call → List (ℕ × Shown) → Outcome → List (ℕ × Shown) → MachineValue P M → Type 0
 begins_as store flush_number meant old tree call slots (Begun n) after new = (slot : ℕ) × (after ≡ slots ++ ((slot, shown_of call) ∷ [])) × (n ≡ length after)
-    × Reaches store flush_number meant old (step.Begin tree call) (Begun slot) new
-begins_as store flush_number meant old tree call slots (Refused e) after new = (after ≡ slots) × Reaches store flush_number meant old (step.Begin tree call) (Refused e) new
+    × MachineStepContract store flush_number meant old (step.Begin tree call) (Begun slot) new
+begins_as store flush_number meant old tree call slots (Refused e) after new = (after ≡ slots) × MachineStepContract store flush_number meant old (step.Begin tree call) (Refused e) new
 begins_as store flush_number meant old tree call slots o after new = ⊥

@@ -2,7 +2,7 @@
 ghost use Rattle.std.specs.Prelude.{◌≡◌, ◌≤◌, false, IfOk, IfSome};
 ghost use Rattle.sled_pages.specs.Store.{now};
 ghost use Rattle.sled_pages.specs.Memory.{store_of};
-ghost use Rattle.tree_laws.specs.Crashes.{IsWhole, IsCrashWhole};
+ghost use Rattle.tree_laws.specs.Crashes.{IsValid, IsCrashConsistent};
 ghost use Rattle.sled_lines.specs.Serve.{Reads, Ends, Ran, IsStatus, bad_left};
 
 use crate::command::{Command, parse};
@@ -131,9 +131,9 @@ fn live<R: BufRead, W: Write>(
     output: &mut W,
     buffers: &mut Buffers,
 ) -> Result<(End, MemPages), Stopped>
-    requires well { IsWhole (now (store_of pages)) }
-    requires calm { (now (store_of pages)).in_group ≡ false }
-    ensures whole { IfOk result (λ ended. IsCrashWhole (store_of ended.1)) }
+    requires well { IsValid (now (store_of pages)) }
+    requires no_group { (now (store_of pages)).in_group ≡ false }
+    ensures whole { IfOk result (λ ended. IsCrashConsistent (store_of ended.1)) }
     ensures bad { IfOk result (λ ended. Ends (bad_left buffers.old.number (R.remaining input.old)) (bad_left buffers.new.number (R.remaining input.new)) buffers.new.number ended.0) }
 {
     let db = match Db::open(alloc, pages, DATABASE) {

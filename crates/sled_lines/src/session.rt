@@ -4,9 +4,9 @@ ghost use Rattle.std.specs.List.{flat_map};
 ghost use Rattle.sled_pages.specs.Store.{now};
 ghost use Rattle.sled_model.specs.declared.call.Whole.TheVariants.{Flush};
 ghost use Rattle.sled_model.specs.declared.outcome.Step.TheVariants as step;
-ghost use Rattle.tree_laws.specs.Crashes.{IsWhole, IsCrashWhole};
-ghost use Rattle.sled_machine.specs.Step.{Reaches};
-ghost use Rattle.sled_machine.specs.Run.{Performs, ReachesAll};
+ghost use Rattle.tree_laws.specs.Crashes.{IsValid, IsCrashConsistent};
+ghost use Rattle.sled_machine.specs.Step.{MachineStepContract};
+ghost use Rattle.sled_machine.specs.Run.{MachineRun, MachineSteps};
 ghost use Rattle.sled_machine.specs.Finish.{Completes};
 ghost use Rattle.sled_lines.specs.Print.{shown_of, outcome_line, pair_line, Prints};
 ghost use Rattle.sled_lines.specs.declared.print.Shown.{Shown};
@@ -46,8 +46,8 @@ pub struct Session<P: Pages = MemPages, M = Box<dyn MergeOperator + Send>> {
 impl<P: Pages, M: MergeOperator> Session<P, M> {
     /// A session over a database, whose default tree is current. Where that is refused it gives the pages back.
     pub fn over(alloc: Global, db: Db<P, M>) -> Result<Session<P, M>, (P, Error)>
-        ensures whole { IfErr result (λ e. IsCrashWhole (P.store e.0)) }
-        ensures well { IfErr result (λ e. IsWhole (now (P.store e.0))) }
+        ensures whole { IfErr result (λ e. IsCrashConsistent (P.store e.0)) }
+        ensures well { IfErr result (λ e. IsValid (now (P.store e.0))) }
         ensures db { IfOk result (λ s. s.machine.db ≡ db) }
         ensures flights { IfOk result (λ s. s.machine.flights ≡ []) }
         ensures slots { IfOk result (λ s. s.slots.items ≡ []) }
@@ -155,7 +155,7 @@ impl<P: Pages, M: MergeOperator> Session<P, M> {
 
     /// Makes all durable.
     pub fn flush(&mut self) -> Outcome
-        ensures reaches { Reaches P.store P.flush_number M.meant self.old.machine (step.Whole Flush) result self.new.machine }
+        ensures reaches { MachineStepContract P.store P.flush_number M.meant self.old.machine (step.Whole Flush) result self.new.machine }
         ensures tree { self.new.tree ≡ self.old.tree }
         ensures slots { self.new.slots ≡ self.old.slots }
     {
@@ -164,7 +164,7 @@ impl<P: Pages, M: MergeOperator> Session<P, M> {
 
     /// A whole call, in one step.
     pub fn whole(&mut self, whole: Whole) -> Outcome
-        ensures reaches { Reaches P.store P.flush_number M.meant self.old.machine (step.Whole whole) result self.new.machine }
+        ensures reaches { MachineStepContract P.store P.flush_number M.meant self.old.machine (step.Whole whole) result self.new.machine }
         ensures tree { self.new.tree ≡ self.old.tree }
         ensures slots { self.new.slots ≡ self.old.slots }
     {
@@ -173,8 +173,8 @@ impl<P: Pages, M: MergeOperator> Session<P, M> {
 
     /// Does a list of steps. They name slots by the machine's numbers.
     pub fn perform(&mut self, steps: &[Step]) -> sled_pages::Result<Vec<Outcome>>
-        ensures ok { IfOk result (λ outcomes. Performs P.store P.flush_number M.meant self.old.machine steps.now outcomes.items self.new.machine) }
-        ensures each { IfOk result (λ outcomes. ReachesAll P.store P.flush_number M.meant self.old.machine steps.now outcomes.items self.new.machine) }
+        ensures ok { IfOk result (λ outcomes. MachineRun P.store P.flush_number M.meant self.old.machine steps.now outcomes.items self.new.machine) }
+        ensures each { IfOk result (λ outcomes. MachineSteps P.store P.flush_number M.meant self.old.machine steps.now outcomes.items self.new.machine) }
         ensures err { OnErr result (self.new.machine ≡ self.old.machine) }
         ensures tree { self.new.tree ≡ self.old.tree }
         ensures slots { self.new.slots ≡ self.old.slots }

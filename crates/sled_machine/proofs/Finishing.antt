@@ -8,7 +8,7 @@ use Rattle.sled_pages.specs.declared.error.Error.{Error}
 use Rattle.sled_model.specs.Answer.{key_of}
 use Rattle.sled_model.specs.Maps.{Merge}
 use Rattle.sled_model.specs.Refusal.{TellsTurns, must_refuse_of, turns_limit}
-use Rattle.sled_model.specs.State.{Flying}
+use Rattle.sled_model.specs.State.{CallInFlight}
 use Rattle.sled_model.specs.declared.call.Call.{Call}
 use Rattle.sled_model.specs.declared.tree.Tree.{Tree}
 use Rattle.sled_model.specs.declared.outcome.Outcome.{Outcome}
@@ -19,20 +19,20 @@ use Rattle.sled_tree.specs.Known.{IsKnown}
 use Rattle.sled_tree.specs.Passing.{IsOnPath}
 use Rattle.sled_tree.specs.Course.{course_of}
 use Rattle.sled_tree.specs.declared.flight.Aim.TheVariants.{OwnKey}
-use Rattle.sled_tree.specs.declared.flight.Flight.{Flight}
+use Rattle.sled_tree.specs.declared.flight.InFlight.{InFlight}
 use Rattle.sled_tree.proofs.Known.{known_new as known_begun}
 use Rattle.tree_laws.specs.declared.flight.Stage.TheVariants.{Root}
 use Rattle.sled_tree.specs.declared.flight.Went.{Went}
 use Rattle.sled_tree.specs.declared.flight.Went.TheVariants.{Moved, Decided, Refused}
-use Rattle.sled.specs.Values.{DbValue, db_state, moment_of_db}
-use Rattle.sled.specs.Flights.{FliesTimes, FliesToEnd, Ends, GoesOn, flying_of, has_turns, outcome_of}
+use Rattle.sled.specs.Values.{DbValue, db_state, snapshot_of_db}
+use Rattle.sled.specs.Flights.{DbSteps, DbRunsToEnd, Ends, GoesOn, call_in_flight_of, has_turns, outcome_of}
 use Rattle.sled.proofs.Flying.{end_reached}
 use Rattle.sled_machine.specs.Slots.{kept_at}
 use Rattle.sled_machine.specs.Values.{MachineValue}
 use Rattle.sled_machine.specs.Sound.{IsMachine}
-use Rattle.sled_machine.specs.Step.{Reaches}
-use Rattle.sled_machine.specs.Run.{Performs, ReachesAll, NoCalls, OneCall}
-use Rattle.sled_machine.specs.Finish.{steps_of, outcomes_of, Finishes, Completes}
+use Rattle.sled_machine.specs.Step.{MachineStepContract}
+use Rattle.sled_machine.specs.Run.{MachineRun, MachineSteps, NoCalls, OneCall}
+use Rattle.sled_machine.specs.Finish.{steps_of, outcomes_of, RunsToEnd, Completes}
 use Rattle.sled_machine.proofs.Cells.{put_same, put_again}
 use Rattle.sled_machine.proofs.Steps.{ended_after}
 use Rattle.sled_machine.proofs.Runs.{performs_none, performs_first}
@@ -45,7 +45,7 @@ some_is : {A : Type 0} {a b : A} → Some a ≡ Some b → a ≡ b
 some_is e = cc
 
 -- a call stands in its slot as it is now, wherever it stood
-onto : (fs : List (ℕ × Flight)) (slot : ℕ) (h : Flight) (q : ℕ) → kept_at ((slot, h) ∷ fs) q ≡ put_at (kept_at fs) slot (Some h) q
+onto : (fs : List (ℕ × InFlight)) (slot : ℕ) (h : InFlight) (q : ℕ) → kept_at ((slot, h) ∷ fs) q ≡ put_at (kept_at fs) slot (Some h) q
 onto fs slot h q = elim (nat_eq slot q) as (λ b. nat_eq slot q ≡ b → cond b (Some h) (kept_at fs q) ≡ cond (nat_eq q slot) (Some h) (kept_at fs q)) [
   | true ↦ λ t. ap (λ b. cond b (Some h) (kept_at fs q)) (sym (eq-eqb q slot (sym (eqb-true slot q t))))
   | false ↦ λ t. ap (λ b. cond b (Some h) (kept_at fs q)) (sym (ne_eqb q slot (λ e. apart (sym t ∙ eq-eqb slot q (sym e)))))
@@ -55,7 +55,7 @@ onto fs slot h q = elim (nat_eq slot q) as (λ b. nat_eq slot q ≡ b → cond b
     apart e = cc
 
 -- nothing is put where nothing stood
-put_free : (fs : List (ℕ × Flight)) (slot q : ℕ) → kept_at fs slot ≡ None → put_at (kept_at fs) slot None q ≡ kept_at fs q
+put_free : (fs : List (ℕ × InFlight)) (slot q : ℕ) → kept_at fs slot ≡ None → put_at (kept_at fs) slot None q ≡ kept_at fs q
 put_free fs slot q free = elim (nat_eq q slot) as (λ b. nat_eq q slot ≡ b → cond b None (kept_at fs q) ≡ kept_at fs q) [
   | true ↦ λ t. sym (ap (kept_at fs) (eqb-true q slot t) ∙ free)
   | false ↦ λ t. refl
@@ -91,25 +91,25 @@ tells_turns (Decided reply) has e is tells = apart is
 tells_turns (Refused x) has e is tells = has (subst TellsTurns (sym (same_error is)) tells)
 
 module _ {P M : Type 0} (store : P → Store) (number : P → ℕ) (meant : M → Merge) (slot given : ℕ) where
-  abbrev value : DbValue P M → List (ℕ × Flight) → MachineValue P M
+  abbrev value : DbValue P M → List (ℕ × InFlight) → MachineValue P M
   value d fs = record { db = d; flights = fs; slots_given = given }
 
   -- so many steps of the slot that go on, and one more that comes out so
   pub record EndsIn (n : ℕ) (o : Outcome) (a b : MachineValue P M) : Type 0 where
-    pub run : Performs store number meant a (steps_of slot n) (outcomes_of n o) b
-    pub each : ReachesAll store number meant a (steps_of slot n) (outcomes_of n o) b
+    pub run : MachineRun store number meant a (steps_of slot n) (outcomes_of n o) b
+    pub each : MachineSteps store number meant a (steps_of slot n) (outcomes_of n o) b
 
   -- the last step
-  pub ends_now : (o : Outcome) (a b : MachineValue P M) → Reaches store number meant a (step.Step slot) o b → EndsIn zero o a b
+  pub ends_now : (o : Outcome) (a b : MachineValue P M) → MachineStepContract store number meant a (step.Step slot) o b → EndsIn zero o a b
   ends_now o a b r = record { run = performs_first store number meant a b b (step.Step slot) o [] [] r (performs_none store number meant b); each = OneCall r NoCalls }
 
   -- one step more before it
-  ends_later : (n : ℕ) (o : Outcome) (a m b : MachineValue P M) → Reaches store number meant a (step.Step slot) outcome.Moved m → EndsIn n o m b → EndsIn (suc n) o a b
+  ends_later : (n : ℕ) (o : Outcome) (a m b : MachineValue P M) → MachineStepContract store number meant a (step.Step slot) outcome.Moved m → EndsIn n o m b → EndsIn (suc n) o a b
   ends_later n o a m b r e = record { run = performs_first store number meant a m b (step.Step slot) outcome.Moved (steps_of slot n) (outcomes_of n o) r e.run; each = OneCall r e.each }
 
   -- the call in the slot goes on to its end, and then nothing is kept there
-  finishes_from : (n : ℕ) (d e : DbValue P M) (fs gs : List (ℕ × Flight)) (f g : Flight) (went : Went) → FliesTimes store meant n d f went e g → IsMachine (moment_of_db store d) fs given → kept_at fs slot ≡ Some f
-      → ((q : ℕ) → kept_at gs q ≡ put_at (kept_at fs) slot None q) → EndsIn n (outcome_of went) (value d fs) (value e gs) × IsMachine (moment_of_db store e) gs given
+  finishes_from : (n : ℕ) (d e : DbValue P M) (fs gs : List (ℕ × InFlight)) (f g : InFlight) (went : Went) → DbSteps store meant n d f went e g → IsMachine (snapshot_of_db store d) fs given → kept_at fs slot ≡ Some f
+      → ((q : ℕ) → kept_at gs q ≡ put_at (kept_at fs) slot None q) → EndsIn n (outcome_of went) (value d fs) (value e gs) × IsMachine (snapshot_of_db store e) gs given
   finishes_from zero d e fs gs f g went (Ends flies off) im there gone =
       let last = stepped_as store number meant (value d fs) im slot e gs f g went there flies (λ q. gone q ∙ ap (λ x. put_at (kept_at fs) slot x q) (sym (ended_after went g off))) in
       (ends_now (outcome_of went) (value d fs) (value e gs) last.0, last.1)
@@ -119,9 +119,9 @@ module _ {P M : Type 0} (store : P → Store) (number : P → ℕ) (meant : M �
       (λ q. gone q ∙ sym (put_same (kept_at ((slot, h) ∷ fs)) (put_at (kept_at fs) slot (Some h)) slot None q (onto fs slot h q) ∙ put_again (kept_at fs) slot (Some h) None q)) in
       (ends_later n (outcome_of went) (value d fs) (value m ((slot, h) ∷ fs)) (value e gs) next.0 later.0, later.1)
 
-module _ {P M : Type 0} (store : P → Store) (number : P → ℕ) (meant : M → Merge) (v : MachineValue P M) (im : IsMachine (moment_of_db store v.db) v.flights v.slots_given) where
-  pub finished_all : (slot : ℕ) (e : DbValue P M) (gs : List (ℕ × Flight)) (f g : Flight) (went : Went) → kept_at v.flights slot ≡ Some f → FliesToEnd store meant v.db f went e g → ((q : ℕ) → kept_at gs q ≡ put_at (kept_at v.flights) slot None q)
-      → Finishes store number meant v slot (outcome_of went) (record v { db = e; flights = gs }) × IsMachine (moment_of_db store e) gs v.slots_given
+module _ {P M : Type 0} (store : P → Store) (number : P → ℕ) (meant : M → Merge) (v : MachineValue P M) (im : IsMachine (snapshot_of_db store v.db) v.flights v.slots_given) where
+  pub finished_all : (slot : ℕ) (e : DbValue P M) (gs : List (ℕ × InFlight)) (f g : InFlight) (went : Went) → kept_at v.flights slot ≡ Some f → DbRunsToEnd store meant v.db f went e g → ((q : ℕ) → kept_at gs q ≡ put_at (kept_at v.flights) slot None q)
+      → RunsToEnd store number meant v slot (outcome_of went) (record v { db = e; flights = gs }) × IsMachine (snapshot_of_db store e) gs v.slots_given
   finished_all slot e gs f g went there flies gone =
       let all = finishes_from store number meant slot v.slots_given flies.moves v.db e v.flights gs f g went flies.flies im there gone in (
         record {
@@ -129,15 +129,15 @@ module _ {P M : Type 0} (store : P → Store) (number : P → ℕ) (meant : M �
           ends = no_move went (end_reached store meant v.db e f g went flies);
           run = all.0.run;
           each = all.0.each;
-          passes = λ flying path here none clean few.
-              let same : flying_of f ≡ flying = some_is (sym (ap (option_map flying_of) there) ∙ here) in
-              let unused : f.turns ≡ 0 = ap (λ (z : Flying). z.turns) same ∙ none in
+          passes = λ flying path here none clean fits.
+              let same : call_in_flight_of f ≡ flying = some_is (sym (ap (option_map call_in_flight_of) there) ∙ here) in
+              let unused : f.turns ≡ 0 = ap (λ (z : CallInFlight). z.turns) same ∙ none in
               let start : IsOnPath (now (store v.db.pages)) (course_of f) f.stage path =
               subst (λ z. IsOnPath (now (store v.db.pages)) (course_of f) z path) (sym ((im.known slot f there).begins unused))
               (subst (λ aim. IsClean (now (store v.db.pages)) f.job.tree.name aim path) (sym (im.known slot f there).aimed)
-              (subst (λ (z : Flying). IsClean (now (store v.db.pages)) z.tree.name (Included (key_of z.call)) path) (sym same) clean)) in
-              let p = flies.passes path start (below f.turns (length path) unused few) in record {
-                few = p.few;
+              (subst (λ (z : CallInFlight). IsClean (now (store v.db.pages)) z.tree.name (Included (key_of z.call)) path) (sym same) clean)) in
+              let p = flies.passes path start (below f.turns (length path) unused fits) in record {
+                fits = p.fits;
                 unlimited = tells_turns went p.unlimited;
               };
         },
@@ -145,26 +145,26 @@ module _ {P M : Type 0} (store : P → Store) (number : P → ℕ) (meant : M �
       )
     where
       below : (t n : ℕ) → t ≡ 0 → n < turns_limit → t + n < turns_limit
-      below t n e few = omega arith
+      below t n e fits = omega arith
 
   -- no call has the slot
-  pub missing_finish : (slot : ℕ) → kept_at v.flights slot ≡ None → Finishes store number meant v slot outcome.NoSuchSlot v
+  pub missing_finish : (slot : ℕ) → kept_at v.flights slot ≡ None → RunsToEnd store number meant v slot outcome.NoSuchSlot v
   missing_finish slot free =
       let e = ends_now store number meant slot v.slots_given outcome.NoSuchSlot v v (missing_step store number meant v im slot free) in record {
         moves = zero;
         ends = missing_off;
         run = e.run;
         each = e.each;
-        passes = λ flying path here none clean few. none_some (sym (ap (option_map flying_of) free) ∙ here);
+        passes = λ flying path here none clean fits. none_some (sym (ap (option_map call_in_flight_of) free) ∙ here);
       }
 
 -- a call that begins and ends at once
-module _ {P M : Type 0} (store : P → Store) (number : P → ℕ) (meant : M → Merge) (v : MachineValue P M) (im : IsMachine (moment_of_db store v.db) v.flights v.slots_given) where
-  module _ (tree : Tree) (call : Call) (must : must_refuse_of (db_state store meant v.db) (tree ∷ []) ≡ None) (f : Flight) (is : f ≡ record { job = record { tree = tree; call = call }; aim = OwnKey; stage = Root; turns = 0 }) where
-    completed : (slot : ℕ) → slot ≡ v.slots_given + 1 → (e : DbValue P M) (g : Flight) (went : Went) → FliesToEnd store meant v.db f went e g
-        → Completes store number meant v tree call (outcome_of went) (record v { db = e; slots_given = slot }) × IsMachine (moment_of_db store e) v.flights slot
+module _ {P M : Type 0} (store : P → Store) (number : P → ℕ) (meant : M → Merge) (v : MachineValue P M) (im : IsMachine (snapshot_of_db store v.db) v.flights v.slots_given) where
+  module _ (tree : Tree) (call : Call) (must : must_refuse_of (db_state store meant v.db) (tree ∷ []) ≡ None) (f : InFlight) (is : f ≡ record { job = record { tree = tree; call = call }; aim = OwnKey; stage = Root; turns = 0 }) where
+    completed : (slot : ℕ) → slot ≡ v.slots_given + 1 → (e : DbValue P M) (g : InFlight) (went : Went) → DbRunsToEnd store meant v.db f went e g
+        → Completes store number meant v tree call (outcome_of went) (record v { db = e; slots_given = slot }) × IsMachine (snapshot_of_db store e) v.flights slot
     completed slot next e g went flies =
-        let gs : List (ℕ × Flight) = v.flights ++ (slot, f) ∷ [] in
+        let gs : List (ℕ × InFlight) = v.flights ++ (slot, f) ∷ [] in
         let begun : MachineValue P M = record v { flights = gs; slots_given = slot } in
         let free = free_slot store number meant v im tree call must f is slot next gs refl in
         let are = added_kept store number meant v im tree call must f is slot next gs refl in
@@ -173,35 +173,35 @@ module _ {P M : Type 0} (store : P → Store) (number : P → ℕ) (meant : M �
         (inr (record { slot = slot; begun = begun; begins = begun_call store number meant v im tree call must f is slot next gs refl; finishes = end.0 }), end.1)
 
 -- the same, where a method knows the machine by its fields
-module _ {P M : Type 0} (store : P → Store) (number : P → ℕ) (meant : M → Merge) (inside old : MachineValue P M) (e : inside ≡ old) (im : IsMachine (moment_of_db store inside.db) inside.flights inside.slots_given) where
+module _ {P M : Type 0} (store : P → Store) (number : P → ℕ) (meant : M → Merge) (inside old : MachineValue P M) (e : inside ≡ old) (im : IsMachine (snapshot_of_db store inside.db) inside.flights inside.slots_given) where
   module _ (n slot : ℕ) (same : n ≡ slot) where
-    pub missing_finish_as : kept_at inside.flights n ≡ None → Finishes store number meant old slot outcome.NoSuchSlot old
-    missing_finish_as free = subst (λ s. Finishes store number meant old s outcome.NoSuchSlot old) same (subst (λ z. Finishes store number meant z n outcome.NoSuchSlot z) e (missing_finish store number meant inside im n free))
+    pub missing_finish_as : kept_at inside.flights n ≡ None → RunsToEnd store number meant old slot outcome.NoSuchSlot old
+    missing_finish_as free = subst (λ s. RunsToEnd store number meant old s outcome.NoSuchSlot old) same (subst (λ z. RunsToEnd store number meant z n outcome.NoSuchSlot z) e (missing_finish store number meant inside im n free))
 
-    pub finished_as : (db : DbValue P M) (gs : List (ℕ × Flight)) (o : Outcome) (f g : Flight) (went : Went) → o ≡ outcome_of went → kept_at inside.flights n ≡ Some f → FliesToEnd store meant inside.db f went db g → ((q : ℕ) → kept_at gs q ≡ put_at (kept_at inside.flights) n None q)
-        → Finishes store number meant old slot o (record inside { db = db; flights = gs })
+    pub finished_as : (db : DbValue P M) (gs : List (ℕ × InFlight)) (o : Outcome) (f g : InFlight) (went : Went) → o ≡ outcome_of went → kept_at inside.flights n ≡ Some f → DbRunsToEnd store meant inside.db f went db g → ((q : ℕ) → kept_at gs q ≡ put_at (kept_at inside.flights) n None q)
+        → RunsToEnd store number meant old slot o (record inside { db = db; flights = gs })
     finished_as db gs o f g went is there flies gone =
-        subst (λ z. Finishes store number meant old slot z (record inside { db = db; flights = gs })) (sym is)
-        (subst (λ s. Finishes store number meant old s (outcome_of went) (record inside { db = db; flights = gs })) same
-        (subst (λ z. Finishes store number meant z n (outcome_of went) (record inside { db = db; flights = gs })) e (finished_all store number meant inside im n db gs f g went there flies gone).0))
+        subst (λ z. RunsToEnd store number meant old slot z (record inside { db = db; flights = gs })) (sym is)
+        (subst (λ s. RunsToEnd store number meant old s (outcome_of went) (record inside { db = db; flights = gs })) same
+        (subst (λ z. RunsToEnd store number meant z n (outcome_of went) (record inside { db = db; flights = gs })) e (finished_all store number meant inside im n db gs f g went there flies gone).0))
 
-  module _ (tree copy : Tree) (call : Call) (c : copy ≡ tree) (must : must_refuse_of (db_state store meant old.db) (tree ∷ []) ≡ None) (f : Flight) (is : f ≡ record { job = record { tree = copy; call = call }; aim = OwnKey; stage = Root; turns = 0 }) where
+  module _ (tree copy : Tree) (call : Call) (c : copy ≡ tree) (must : must_refuse_of (db_state store meant old.db) (tree ∷ []) ≡ None) (f : InFlight) (is : f ≡ record { job = record { tree = copy; call = call }; aim = OwnKey; stage = Root; turns = 0 }) where
     begun_is : f ≡ record { job = record { tree = tree; call = call }; aim = OwnKey; stage = Root; turns = 0 }
     begun_is = is ∙ ap (λ t. record { job = record { tree = t; call = call }; aim = OwnKey; stage = Root; turns = 0 }) c
 
     tested : must_refuse_of (db_state store meant inside.db) (tree ∷ []) ≡ None
     tested = subst (λ (z : MachineValue P M). must_refuse_of (db_state store meant z.db) (tree ∷ []) ≡ None) (sym e) must
 
-    pub known_new : IsKnown (moment_of_db store inside.db) f
-    known_new = subst (λ z. IsKnown (moment_of_db store inside.db) z) (sym begun_is) (known_begun (moment_of_db store inside.db) tree call)
+    pub known_new : IsKnown (snapshot_of_db store inside.db) f
+    known_new = subst (λ z. IsKnown (snapshot_of_db store inside.db) z) (sym begun_is) (known_begun (snapshot_of_db store inside.db) tree call)
 
     pub tested_new : must_refuse_of (db_state store meant inside.db) (f.job.tree ∷ []) ≡ None
-    tested_new = ap (λ (z : Flight). must_refuse_of (db_state store meant inside.db) (z.job.tree ∷ [])) begun_is ∙ tested
+    tested_new = ap (λ (z : InFlight). must_refuse_of (db_state store meant inside.db) (z.job.tree ∷ [])) begun_is ∙ tested
 
-    pub completed_as : (slot : ℕ) → slot ≡ inside.slots_given + 1 → (db : DbValue P M) (g : Flight) (went : Went) (o : Outcome) → o ≡ outcome_of went → FliesToEnd store meant inside.db f went db g → Completes store number meant old tree call o (record inside { db = db; slots_given = slot })
+    pub completed_as : (slot : ℕ) → slot ≡ inside.slots_given + 1 → (db : DbValue P M) (g : InFlight) (went : Went) (o : Outcome) → o ≡ outcome_of went → DbRunsToEnd store meant inside.db f went db g → Completes store number meant old tree call o (record inside { db = db; slots_given = slot })
     completed_as slot next db g went o same flies =
         subst (λ z. Completes store number meant old tree call z (record inside { db = db; slots_given = slot })) (sym same)
         (subst (λ z. Completes store number meant z tree call (outcome_of went) (record inside { db = db; slots_given = slot })) e (completed store number meant inside im tree call tested f begun_is slot next db g went flies).0)
 
-    pub completed_machine : (slot : ℕ) → slot ≡ inside.slots_given + 1 → (db : DbValue P M) (g : Flight) (went : Went) → FliesToEnd store meant inside.db f went db g → IsMachine (moment_of_db store db) inside.flights slot
+    pub completed_machine : (slot : ℕ) → slot ≡ inside.slots_given + 1 → (db : DbValue P M) (g : InFlight) (went : Went) → DbRunsToEnd store meant inside.db f went db g → IsMachine (snapshot_of_db store db) inside.flights slot
     completed_machine slot next db g went flies = (completed store number meant inside im tree call tested f begun_is slot next db g went flies).1

@@ -7,9 +7,9 @@ use Rattle.sled_pages.specs.Store.{Store, now}
 use Rattle.sled_pages.specs.declared.error.Error.{Error}
 use Rattle.sled_model.specs.Maps.{Maps, Merge}
 use Rattle.sled_model.specs.Answer.{answer_of}
-use Rattle.sled_model.specs.State.{Flying, maps_of}
+use Rattle.sled_model.specs.State.{CallInFlight, maps_of}
 use Rattle.sled_model.specs.Refusal.{MustRefuse, MayRefuse, must_refuse_of, may_refuse_as, cause_of, ToBegin, turns_limit}
-use Rattle.sled_model.specs.Steps.{Steps}
+use Rattle.sled_model.specs.Transition.{Transition}
 use Rattle.sled_model.specs.declared.event.Event.{Event}
 use Rattle.sled_model.specs.declared.call.Call.{Call}
 use Rattle.sled_model.specs.declared.call.Whole.TheVariants.{Flush}
@@ -19,39 +19,39 @@ use Rattle.sled_model.specs.declared.outcome.Outcome.{Outcome}
 use Rattle.sled_model.specs.declared.outcome.Outcome.TheVariants as outcome
 use Rattle.sled_model.specs.declared.outcome.Step.{Step}
 use Rattle.sled_model.specs.declared.outcome.Step.TheVariants as step
-use Rattle.tree_laws.specs.Crashes.{Matches}
-use Rattle.tree_laws.specs.Moment.{Moment}
+use Rattle.tree_laws.specs.Crashes.{StutterEquivalent}
+use Rattle.tree_laws.specs.Snapshot.{Snapshot}
 use Rattle.tree_laws.specs.Contents.{trees_of}
 use Rattle.tree_laws.proofs.Crashing.{matches_same}
 use Rattle.sled_tree.specs.Course.{course_of}
 use Rattle.sled_tree.specs.declared.flight.Aim.TheVariants.{OwnKey}
-use Rattle.sled_tree.specs.declared.flight.Flight.{Flight}
+use Rattle.sled_tree.specs.declared.flight.InFlight.{InFlight}
 use Rattle.sled_tree.proofs.Known.{known_new}
 use Rattle.tree_laws.specs.declared.flight.Stage.TheVariants.{Root}
 use Rattle.sled_tree.specs.declared.flight.Went.{Went}
 use Rattle.sled_tree.specs.declared.flight.Went.TheVariants.{Moved, Decided, Refused}
 use Rattle.sled.specs.Sound.{IsDb}
-use Rattle.sled.specs.Values.{DbValue, state_of, db_state, instant_of as instant_of_db, moment_of_db}
+use Rattle.sled.specs.Values.{DbValue, state_of, db_state, configuration_of as instant_of_db, snapshot_of_db}
 use Rattle.sled.specs.Calls.{MustBeRefused, must_be_refused_as}
 use Rattle.sled_tree.specs.Known.{IsKnown, AreApart}
-use Rattle.sled.specs.Flights.{flying_of, LosesNone, Brings, Flies, outcome_of, slot_after, maps_added}
+use Rattle.sled.specs.Flights.{call_in_flight_of, KeepsTreePages, BringsEvent, DbStepContract, outcome_of, slot_after, maps_added}
 use Rattle.sled.specs.Flush.{FlushesDb, RefusesFlush}
 use Rattle.sled.proofs.Flying.{loses_nothing}
 use Rattle.sled.proofs.Flushing.{stays_state, stays_moment}
 use Rattle.sled.proofs.Resting.{SameNow, flushed_now, rests_only_faults, rests_now, rests_extends}
 use Rattle.sled.proofs.Testing.{must_begin}
 use Rattle.sled_machine.specs.Slots.{kept_at}
-use Rattle.sled_machine.specs.Values.{MachineValue, slots_of, instant_of}
+use Rattle.sled_machine.specs.Values.{MachineValue, slots_of, configuration_of}
 use Rattle.tree_laws.specs.Forest.{Forest}
 use Rattle.sled_tree.specs.Passing.{IsOnPath}
 use Rattle.tree_laws.specs.Stages.{owned}
 use Rattle.sled_tree.specs.Follows.{FollowsOn}
-use Rattle.sled_tree.specs.Moves.{LeavesNone}
+use Rattle.sled_tree.specs.StageAction.{LeaksNoPage}
 use Rattle.sled_tree.proofs.Facts.{leaves_same as leaves_same_pages}
-use Rattle.sled_machine.specs.CrashMaps.{Leaves, kept_after}
-use Rattle.sled_machine.specs.Step.{MachineStep, MachineLoses, BringsAt, Reaches, passes_as, leaves_at, owned_by, acts_as}
+use Rattle.sled_machine.specs.CrashMaps.{AreCrashMaps, crash_maps_after}
+use Rattle.sled_machine.specs.Step.{MachineStep, MachineKeepsTreePages, BringsAt, MachineStepContract, advances_on_path_as, leaks_no_page_at, owned_by, effect_of_machine_step}
 use Rattle.sled_machine.specs.Sound.{IsMachine}
-use Rattle.sled_machine.specs.Fly.{flight_after}
+use Rattle.sled_machine.specs.StepsInSlot.{flight_after}
 use Rattle.sled_machine.proofs.Places.{push_kept}
 use Rattle.sled_machine.proofs.Runs.{extended, leaves_same}
 
@@ -77,84 +77,84 @@ put_there f p q a h = ap (λ b. cond b a (f q)) (ne_eqb q p h)
 put_map : {X Y : Type 0} (f : X → Y) (k : ℕ → Option X) (n : ℕ) (x : Option X) (q : ℕ) → option_map f (put_at k n x q) ≡ put_at (λ i. option_map f (k i)) n (option_map f x) q
 put_map f k n x q = elim (nat_eq q n) as (λ b. option_map f (cond b x (k q)) ≡ cond b (option_map f x) (option_map f (k q))) [ true ↦ refl | false ↦ refl ]
 
-slots_put : (fs gs : List (ℕ × Flight)) (slot : ℕ) (x : Option Flight) → ((q : ℕ) → kept_at gs q ≡ put_at (kept_at fs) slot x q) → slots_of gs ≡ put_at (slots_of fs) slot (option_map flying_of x)
-slots_put fs gs slot x e = fun_ext (λ q. ap (option_map flying_of) (e q) ∙ put_map flying_of (kept_at fs) slot x q)
+slots_put : (fs gs : List (ℕ × InFlight)) (slot : ℕ) (x : Option InFlight) → ((q : ℕ) → kept_at gs q ≡ put_at (kept_at fs) slot x q) → slots_of gs ≡ put_at (slots_of fs) slot (option_map call_in_flight_of x)
+slots_put fs gs slot x e = fun_ext (λ q. ap (option_map call_in_flight_of) (e q) ∙ put_map call_in_flight_of (kept_at fs) slot x q)
 
 -- what is kept in the other slots is as it was
-elsewhere : (fs gs : List (ℕ × Flight)) (slot : ℕ) (x : Option Flight) → ((q : ℕ) → kept_at gs q ≡ put_at (kept_at fs) slot x q) → (q : ℕ) → Some slot ≢ Some q → kept_at gs q ≡ kept_at fs q
+elsewhere : (fs gs : List (ℕ × InFlight)) (slot : ℕ) (x : Option InFlight) → ((q : ℕ) → kept_at gs q ≡ put_at (kept_at fs) slot x q) → (q : ℕ) → Some slot ≢ Some q → kept_at gs q ≡ kept_at fs q
 elsewhere fs gs slot x e q off = e q ∙ put_there (kept_at fs) slot q x (λ s. off (ap Some (sym s)))
 
 -- whoever is in the list with one number less was in it before
-fewer : (fs gs : List (ℕ × Flight)) (slot : ℕ) → ((q : ℕ) → kept_at gs q ≡ put_at (kept_at fs) slot None q) → (j : ℕ) (f : Flight) → kept_at gs j ≡ Some f → (kept_at fs j ≡ Some f) × (j ≢ slot)
+fewer : (fs gs : List (ℕ × InFlight)) (slot : ℕ) → ((q : ℕ) → kept_at gs q ≡ put_at (kept_at fs) slot None q) → (j : ℕ) (f : InFlight) → kept_at gs j ≡ Some f → (kept_at fs j ≡ Some f) × (j ≢ slot)
 fewer fs gs slot e j f there = elim (same_or_not j slot) [
   | inl s ↦ none_some (sym (put_here (kept_at fs) slot None) ∙ ap (put_at (kept_at fs) slot None) (sym s) ∙ sym (e j) ∙ there)
   | inr o ↦ (sym (put_there (kept_at fs) slot j None o) ∙ sym (e j) ∙ there, o)
 ]
 
 -- a call was put into the slot
-other_or_new : (fs gs : List (ℕ × Flight)) (slot : ℕ) (x : Flight) → ((q : ℕ) → kept_at gs q ≡ put_at (kept_at fs) slot (Some x) q) → (j : ℕ) (f : Flight) → kept_at gs j ≡ Some f → ((j ≡ slot) × (f ≡ x)) ⊎ ((j ≢ slot) × (kept_at fs j ≡ Some f))
+other_or_new : (fs gs : List (ℕ × InFlight)) (slot : ℕ) (x : InFlight) → ((q : ℕ) → kept_at gs q ≡ put_at (kept_at fs) slot (Some x) q) → (j : ℕ) (f : InFlight) → kept_at gs j ≡ Some f → ((j ≡ slot) × (f ≡ x)) ⊎ ((j ≢ slot) × (kept_at fs j ≡ Some f))
 other_or_new fs gs slot x e j f there = elim (same_or_not j slot) [
   | inl s ↦ inl (s, some_is (sym there ∙ e j ∙ ap (put_at (kept_at fs) slot (Some x)) s ∙ put_here (kept_at fs) slot (Some x)))
   | inr o ↦ inr (o, sym (put_there (kept_at fs) slot j (Some x) o) ∙ sym (e j) ∙ there)
 ]
 
-module _ {P M : Type 0} (store : P → Store) (number : P → ℕ) (meant : M → Merge) (v : MachineValue P M) (im : IsMachine (moment_of_db store v.db) v.flights v.slots_given) where
+module _ {P M : Type 0} (store : P → Store) (number : P → ℕ) (meant : M → Merge) (v : MachineValue P M) (im : IsMachine (snapshot_of_db store v.db) v.flights v.slots_given) where
   -- a step that leaves the store, the maps and the other slots as they are
-  idle : (s : Step) (o : Outcome) (w : MachineValue P M) → w.db ≡ v.db → Steps (instant_of store number meant v) s o (instant_of store number meant w) [] → ((kept : List Maps) → kept_after s o [] (maps_of (instant_of store number meant w).state) kept ≡ kept ++ []) → MachineStep store number meant v s o w
+  idle : (s : Step) (o : Outcome) (w : MachineValue P M) → w.db ≡ v.db → Transition (configuration_of store number meant v) s o (configuration_of store number meant w) [] → ((kept : List Maps) → crash_maps_after s o [] (maps_of (configuration_of store number meant w).state) kept ≡ kept ++ []) → MachineStep store number meant v s o w
   idle s o w same told keeps = record {
     maps = [];
     step = told;
-    keeps = λ kept l. subst (Leaves (store w.db.pages)) (sym (keeps kept)) (leaves_same (store w.db.pages) kept (subst (λ (d : DbValue P M). Leaves (store d.pages) kept) (sym same) l));
+    keeps = λ kept l. subst (AreCrashMaps (store w.db.pages)) (sym (keeps kept)) (leaves_same (store w.db.pages) kept (subst (λ (d : DbValue P M). AreCrashMaps (store d.pages) kept) (sym same) l));
   }
 
   -- no call has the slot
-  pub missing_step : (slot : ℕ) → kept_at v.flights slot ≡ None → Reaches store number meant v (step.Step slot) outcome.NoSuchSlot v
+  pub missing_step : (slot : ℕ) → kept_at v.flights slot ≡ None → MachineStepContract store number meant v (step.Step slot) outcome.NoSuchSlot v
   missing_step slot e = record {
-    step = idle (step.Step slot) outcome.NoSuchSlot v refl (record { told = (record { free = ap (option_map flying_of) e; is = refl }, refl) }) (λ kept. refl);
+    step = idle (step.Step slot) outcome.NoSuchSlot v refl (record { is = (record { free = ap (option_map call_in_flight_of) e; is = refl }, refl) }) (λ kept. refl);
     sound = record { keeps = λ d. d };
-    does = record { told = refl };
-    follows = record { told = λ f there. none_some (sym e ∙ there) };
-    passes = record { told = tt };
+    does = record { is = refl };
+    follows = record { is = λ f there. none_some (sym e ∙ there) };
+    passes = record { is = tt };
     slots = record { starts = tt; others = λ q off. refl };
-    loses = record { none = loses_nothing None (moment_of_db store v.db) };
-    leaves = record { told = λ w is. subst (λ o. LeavesNone (owned_by o) (owned_by o) (now (store v.db.pages)) (now (store v.db.pages)) w) (sym e) (leaves_same_pages [] [] (now (store v.db.pages)) w (λ q i. i)) };
-    gives_up = record { told = tt };
-    tested = record { told = tt };
+    loses = record { none = loses_nothing None (snapshot_of_db store v.db) };
+    leaves = record { is = λ w is. subst (λ o. LeaksNoPage (owned_by o) (owned_by o) (now (store v.db.pages)) (now (store v.db.pages)) w) (sym e) (leaves_same_pages [] [] (now (store v.db.pages)) w (λ q i. i)) };
+    gives_up = record { is = tt };
+    tested = record { is = tt };
   }
 
-  pub missing_abandon : (slot : ℕ) → kept_at v.flights slot ≡ None → Reaches store number meant v (step.Abandon slot) outcome.NoSuchSlot v
+  pub missing_abandon : (slot : ℕ) → kept_at v.flights slot ≡ None → MachineStepContract store number meant v (step.Abandon slot) outcome.NoSuchSlot v
   missing_abandon slot e = record {
-    step = idle (step.Abandon slot) outcome.NoSuchSlot v refl (record { told = (record { free = ap (option_map flying_of) e; is = refl }, refl) }) (λ kept. refl);
+    step = idle (step.Abandon slot) outcome.NoSuchSlot v refl (record { is = (record { free = ap (option_map call_in_flight_of) e; is = refl }, refl) }) (λ kept. refl);
     sound = record { keeps = λ d. d };
-    does = record { told = refl };
-    follows = record { told = tt };
-    passes = record { told = tt };
+    does = record { is = refl };
+    follows = record { is = tt };
+    passes = record { is = tt };
     slots = record { starts = tt; others = λ q off. refl };
-    loses = record { none = loses_nothing None (moment_of_db store v.db) };
-    leaves = record { told = tt };
-    gives_up = record { told = tt };
-    tested = record { told = tt };
+    loses = record { none = loses_nothing None (snapshot_of_db store v.db) };
+    leaves = record { is = tt };
+    gives_up = record { is = tt };
+    tested = record { is = tt };
   }
 
   -- a call is given up
-  module _ (slot : ℕ) (f : Flight) (there : kept_at v.flights slot ≡ Some f) (gs : List (ℕ × Flight)) (gone : (q : ℕ) → kept_at gs q ≡ put_at (kept_at v.flights) slot None q) where
-    pub abandoned : Reaches store number meant v (step.Abandon slot) outcome.Abandoned (record v { flights = gs })
+  module _ (slot : ℕ) (f : InFlight) (there : kept_at v.flights slot ≡ Some f) (gs : List (ℕ × InFlight)) (gone : (q : ℕ) → kept_at gs q ≡ put_at (kept_at v.flights) slot None q) where
+    pub abandoned : MachineStepContract store number meant v (step.Abandon slot) outcome.Abandoned (record v { flights = gs })
     abandoned = record {
       step = idle (step.Abandon slot) outcome.Abandoned (record v { flights = gs }) refl
-          (record { told = (record { flying = flying_of f; here = ap (option_map flying_of) there; is = ap (λ z. state_of store meant v.db z v.slots_given) (slots_put v.flights gs slot None gone) }, refl) })
+          (record { is = (record { flying = call_in_flight_of f; here = ap (option_map call_in_flight_of) there; is = ap (λ z. state_of store meant v.db z v.slots_given) (slots_put v.flights gs slot None gone) }, refl) })
           (λ kept. refl);
       sound = record { keeps = λ d. d };
-      does = record { told = refl };
-      follows = record { told = tt };
-      passes = record { told = tt };
+      does = record { is = refl };
+      follows = record { is = tt };
+      passes = record { is = tt };
       slots = record { starts = tt; others = elsewhere v.flights gs slot None gone };
-      loses = record { none = loses_nothing None (moment_of_db store v.db) };
-      leaves = record { told = tt };
-      gives_up = record { told = tt };
-      tested = record { told = tt };
+      loses = record { none = loses_nothing None (snapshot_of_db store v.db) };
+      leaves = record { is = tt };
+      gives_up = record { is = tt };
+      tested = record { is = tt };
     }
 
-    pub abandoned_machine : IsMachine (moment_of_db store v.db) gs v.slots_given
+    pub abandoned_machine : IsMachine (snapshot_of_db store v.db) gs v.slots_given
     abandoned_machine = record {
       given = λ j h k. im.given j h (fewer v.flights gs slot gone j h k).0;
       known = λ j h k. im.known j h (fewer v.flights gs slot gone j h k).0;
@@ -162,79 +162,79 @@ module _ {P M : Type 0} (store : P → Store) (number : P → ℕ) (meant : M �
     }
 
   -- a call took its step
-  module _ (slot : ℕ) (db : DbValue P M) (gs : List (ℕ × Flight)) where
-    abbrev at : Moment
-    at = moment_of_db store v.db
+  module _ (slot : ℕ) (db : DbValue P M) (gs : List (ℕ × InFlight)) where
+    abbrev at : Snapshot
+    at = snapshot_of_db store v.db
 
-    abbrev after : Moment
-    after = moment_of_db store db
+    abbrev after : Snapshot
+    after = snapshot_of_db store db
 
-    reach : (f next : Flight) (went : Went) → kept_at v.flights slot ≡ Some f → Flies store meant v.db f went db next → (kept : Option Flight) → option_map flying_of kept ≡ slot_after went next → kept ≡ flight_after went next → ((q : ℕ) → kept_at gs q ≡ put_at (kept_at v.flights) slot kept q)
-        → passes_as store v (step.Step slot) (outcome_of went) (record v { db = db; flights = gs }) → leaves_at store v (step.Step slot) (outcome_of went) (record v { db = db; flights = gs })
-        → Reaches store number meant v (step.Step slot) (outcome_of went) (record v { db = db; flights = gs })
+    reach : (f next : InFlight) (went : Went) → kept_at v.flights slot ≡ Some f → DbStepContract store meant v.db f went db next → (kept : Option InFlight) → option_map call_in_flight_of kept ≡ slot_after went next → kept ≡ flight_after went next → ((q : ℕ) → kept_at gs q ≡ put_at (kept_at v.flights) slot kept q)
+        → advances_on_path_as store v (step.Step slot) (outcome_of went) (record v { db = db; flights = gs }) → leaks_no_page_at store v (step.Step slot) (outcome_of went) (record v { db = db; flights = gs })
+        → MachineStepContract store number meant v (step.Step slot) (outcome_of went) (record v { db = db; flights = gs })
     reach f next went there flies kept is stands are passes leaves = record {
       step = record {
         maps = maps_added went (maps_of (db_state store meant db));
-        step = subst (λ z. Steps (instant_of store number meant v) (step.Step slot) (outcome_of went) (instant_of_db store meant db z v.slots_given (number db.pages)) (maps_added went (maps_of (db_state store meant db)))) (sym (slots_put v.flights gs slot kept are ∙ ap (put_at (slots_of v.flights) slot) is))
-            (flies.step.steps (slots_of v.flights) v.slots_given slot (number v.db.pages) (number db.pages) (ap (option_map flying_of) there));
+        step = subst (λ z. Transition (configuration_of store number meant v) (step.Step slot) (outcome_of went) (instant_of_db store meant db z v.slots_given (number db.pages)) (maps_added went (maps_of (db_state store meant db)))) (sym (slots_put v.flights gs slot kept are ∙ ap (put_at (slots_of v.flights) slot) is))
+            (flies.step.steps (slots_of v.flights) v.slots_given slot (number v.db.pages) (number db.pages) (ap (option_map call_in_flight_of) there));
         keeps = λ before l. extended (maps_added went (maps_of (db_state store meant db))) (store v.db.pages) (store db.pages) flies.step.extends before l;
       };
       sound = record { keeps = flies.sound.keeps };
-      does = record { told = acts_flying went flies };
+      does = record { is = acts_flying went flies };
       follows = record {
-        told = λ g here must few. let same : g ≡ f = some_is (sym here ∙ there) in record {
+        is = λ g here must fits. let same : g ≡ f = some_is (sym here ∙ there) in record {
           went = went;
           next = next;
           outcome = refl;
           there = are slot ∙ put_here (kept_at v.flights) slot kept ∙ stands;
-          follows = subst (λ (z : Flight). FollowsOn (store v.db.pages) z went (store db.pages) next) (sym same)
-              (flies.follows (subst (λ (z : Flight). must_refuse_of (db_state store meant v.db) (z.job.tree ∷ []) ≡ None) same must) (subst (λ (z : Flight). z.turns < turns_limit) same few));
+          follows = subst (λ (z : InFlight). FollowsOn (store v.db.pages) z went (store db.pages) next) (sym same)
+              (flies.follows (subst (λ (z : InFlight). must_refuse_of (db_state store meant v.db) (z.job.tree ∷ []) ≡ None) same must) (subst (λ (z : InFlight). z.turns < turns_limit) same fits));
         };
       };
-      passes = record { told = passes };
+      passes = record { is = passes };
       slots = record { starts = tt; others = elsewhere v.flights gs slot kept are };
       loses = record { none = flies.loses };
-      leaves = record { told = leaves };
-      gives_up = record { told = tt };
-      tested = record { told = tt };
+      leaves = record { is = leaves };
+      gives_up = record { is = tt };
+      tested = record { is = tt };
     }
       where
-        here : slots_of v.flights slot ≡ Some (flying_of f)
-        here = ap (option_map flying_of) there
+        here : slots_of v.flights slot ≡ Some (call_in_flight_of f)
+        here = ap (option_map call_in_flight_of) there
 
-        acts_flying : (went : Went) → Flies store meant v.db f went db next → acts_as (instant_of store number meant v).state (step.Step slot) (outcome_of went) (store v.db.pages) (store db.pages)
+        acts_flying : (went : Went) → DbStepContract store meant v.db f went db next → effect_of_machine_step (configuration_of store number meant v).state (step.Step slot) (outcome_of went) (store v.db.pages) (store db.pages)
         acts_flying Moved k = k.does.does
         acts_flying (Decided reply) k = record { does = k.does.does; quiet = λ b. k.does.quiet (brings b); loud = λ event b. k.does.loud event (brings b) }
           where
-            brings : {event : Option Event} → BringsAt (instant_of store number meant v).state slot event → Brings store meant v.db f (Decided reply) event
+            brings : {event : Option Event} → BringsAt (configuration_of store number meant v).state slot event → BringsEvent store meant v.db f (Decided reply) event
             brings {event} b = record {
               reply = reply;
               decided = refl;
               tree = b.tree;
-              there = subst (λ (z : Flying). (db_state store meant v.db).trees z.tree.name ≡ Some b.tree) (some_is (sym b.here ∙ here)) b.there;
-              is = subst (λ (z : Flying). (answer_of z.call b.tree.map).event ≡ event) (some_is (sym b.here ∙ here)) b.is;
+              there = subst (λ (z : CallInFlight). (db_state store meant v.db).trees z.tree.name ≡ Some b.tree) (some_is (sym b.here ∙ here)) b.there;
+              is = subst (λ (z : CallInFlight). (answer_of z.call b.tree.map).event ≡ event) (some_is (sym b.here ∙ here)) b.is;
             }
         acts_flying (Refused r) k = k.does.does
 
     -- on a clean path the call has a page less ahead of it
-    further : (f next : Flight) → kept_at v.flights slot ≡ Some f → Flies store meant v.db f Moved db next → ((q : ℕ) → kept_at gs q ≡ put_at (kept_at v.flights) slot (Some next) q) → passes_as store v (step.Step slot) outcome.Moved (record v { db = db; flights = gs })
+    further : (f next : InFlight) → kept_at v.flights slot ≡ Some f → DbStepContract store meant v.db f Moved db next → ((q : ℕ) → kept_at gs q ≡ put_at (kept_at v.flights) slot (Some next) q) → advances_on_path_as store v (step.Step slot) outcome.Moved (record v { db = db; flights = gs })
     further f next there flies e path k =
         let same : k.flight ≡ f = some_is (sym k.here ∙ there) in
-        let p = flies.passes.told path (subst (λ (z : Flight). IsOnPath (now (store v.db.pages)) (course_of z) z.stage path) same k.clean) in
+        let p = flies.passes.is path (subst (λ (z : InFlight). IsOnPath (now (store v.db.pages)) (course_of z) z.stage path) same k.clean) in
         (p.0, p.1, record { flight = next; here = e slot ∙ put_here (kept_at v.flights) slot (Some next); clean = p.2 })
 
     -- what the call owned and what it owns, by its slot
-    owns : (f : Flight) (o : Option Flight) → kept_at v.flights slot ≡ Some f → ((q : ℕ) → kept_at gs q ≡ put_at (kept_at v.flights) slot o q) → (w : Forest) → LeavesNone (owned f.stage) (owned_by o) (now (store v.db.pages)) (now (store db.pages)) w
-        → LeavesNone (owned_by (kept_at v.flights slot)) (owned_by (kept_at gs slot)) (now (store v.db.pages)) (now (store db.pages)) w
+    owns : (f : InFlight) (o : Option InFlight) → kept_at v.flights slot ≡ Some f → ((q : ℕ) → kept_at gs q ≡ put_at (kept_at v.flights) slot o q) → (w : Forest) → LeaksNoPage (owned f.stage) (owned_by o) (now (store v.db.pages)) (now (store db.pages)) w
+        → LeaksNoPage (owned_by (kept_at v.flights slot)) (owned_by (kept_at gs slot)) (now (store v.db.pages)) (now (store db.pages)) w
     owns f o there are w l =
-        subst (λ z. LeavesNone (owned_by (kept_at v.flights slot)) (owned_by z) (now (store v.db.pages)) (now (store db.pages)) w) (sym (are slot ∙ put_here (kept_at v.flights) slot o))
-        (subst (λ z. LeavesNone (owned_by z) (owned_by o) (now (store v.db.pages)) (now (store db.pages)) w) (sym there) l)
+        subst (λ z. LeaksNoPage (owned_by (kept_at v.flights slot)) (owned_by z) (now (store v.db.pages)) (now (store db.pages)) w) (sym (are slot ∙ put_here (kept_at v.flights) slot o))
+        (subst (λ z. LeaksNoPage (owned_by z) (owned_by o) (now (store v.db.pages)) (now (store db.pages)) w) (sym there) l)
 
     -- what the others know is kept
-    kept : (f next : Flight) (went : Went) → kept_at v.flights slot ≡ Some f → Flies store meant v.db f went db next → (j : ℕ) (h : Flight) → j ≢ slot → kept_at v.flights j ≡ Some h → IsKnown after h × (went ≡ Moved → AreApart next h)
+    kept : (f next : InFlight) (went : Went) → kept_at v.flights slot ≡ Some f → DbStepContract store meant v.db f went db next → (j : ℕ) (h : InFlight) → j ≢ slot → kept_at v.flights j ≡ Some h → IsKnown after h × (went ≡ Moved → AreApart next h)
     kept f next went there flies j h off e = flies.knows.others h (im.apart slot j f h there e (λ s. off (sym s))) (im.known j h e)
 
-    ended_machine : (f next : Flight) (went : Went) → kept_at v.flights slot ≡ Some f → Flies store meant v.db f went db next → ((q : ℕ) → kept_at gs q ≡ put_at (kept_at v.flights) slot None q) → IsMachine after gs v.slots_given
+    ended_machine : (f next : InFlight) (went : Went) → kept_at v.flights slot ≡ Some f → DbStepContract store meant v.db f went db next → ((q : ℕ) → kept_at gs q ≡ put_at (kept_at v.flights) slot None q) → IsMachine after gs v.slots_given
     ended_machine f next went there flies e =
         let less = fewer v.flights gs slot e in record {
           given = λ j h k. im.given j h (less j h k).0;
@@ -242,7 +242,7 @@ module _ {P M : Type 0} (store : P → Store) (number : P → ℕ) (meant : M �
           apart = λ j k h g a b off. im.apart j k h g (less j h a).0 (less k g b).0 off;
         }
 
-    moved_machine : (f next : Flight) → kept_at v.flights slot ≡ Some f → Flies store meant v.db f Moved db next → ((q : ℕ) → kept_at gs q ≡ put_at (kept_at v.flights) slot (Some next) q) → IsMachine after gs v.slots_given
+    moved_machine : (f next : InFlight) → kept_at v.flights slot ≡ Some f → DbStepContract store meant v.db f Moved db next → ((q : ℕ) → kept_at gs q ≡ put_at (kept_at v.flights) slot (Some next) q) → IsMachine after gs v.slots_given
     moved_machine f next there flies e =
         let cases = other_or_new v.flights gs slot next e in record {
           given = λ j h k. elim (cases j h k) [
@@ -265,74 +265,74 @@ module _ {P M : Type 0} (store : P → Store) (number : P → ℕ) (meant : M �
           ];
         }
 
-    pub stepped_as : (f next : Flight) (went : Went) → kept_at v.flights slot ≡ Some f → Flies store meant v.db f went db next → ((q : ℕ) → kept_at gs q ≡ put_at (kept_at v.flights) slot (flight_after went next) q) → Reaches store number meant v (step.Step slot) (outcome_of went) (record v { db = db; flights = gs }) × IsMachine after gs v.slots_given
+    pub stepped_as : (f next : InFlight) (went : Went) → kept_at v.flights slot ≡ Some f → DbStepContract store meant v.db f went db next → ((q : ℕ) → kept_at gs q ≡ put_at (kept_at v.flights) slot (flight_after went next) q) → MachineStepContract store number meant v (step.Step slot) (outcome_of went) (record v { db = db; flights = gs }) × IsMachine after gs v.slots_given
     stepped_as f next Moved there flies e = (reach f next Moved there flies (Some next) refl refl e (further f next there flies e) (λ w is. owns f (Some next) there e w (flies.leaves w is)), moved_machine f next there flies e)
     stepped_as f next (Decided reply) there flies e = (reach f next (Decided reply) there flies None refl refl e tt (λ w is. owns f None there e w (flies.leaves w is)), ended_machine f next (Decided reply) there flies e)
     stepped_as f next (Refused r) there flies e = (reach f next (Refused r) there flies None refl refl e tt tt, ended_machine f next (Refused r) there flies e)
 
   -- a call begins, or is refused
-  pub begin_refused : (tree : Tree) (call : Call) (e : Error) → MayRefuse (state_of store meant v.db (slots_of v.flights) v.slots_given) (store v.db.pages) (store v.db.pages) (ToBegin tree call) e → Reaches store number meant v (step.Begin tree call) (outcome.Refused e) v
+  pub begin_refused : (tree : Tree) (call : Call) (e : Error) → MayRefuse (state_of store meant v.db (slots_of v.flights) v.slots_given) (store v.db.pages) (store v.db.pages) (ToBegin tree call) e → MachineStepContract store number meant v (step.Begin tree call) (outcome.Refused e) v
   begin_refused tree call e may = record {
-    step = idle (step.Begin tree call) (outcome.Refused e) v refl (record { told = (may, refl, refl) }) (λ kept. refl);
+    step = idle (step.Begin tree call) (outcome.Refused e) v refl (record { is = (may, refl, refl) }) (λ kept. refl);
     sound = record { keeps = λ d. d };
-    does = record { told = refl };
-    follows = record { told = tt };
-    passes = record { told = tt };
+    does = record { is = refl };
+    follows = record { is = tt };
+    passes = record { is = tt };
     slots = record { starts = tt; others = λ q off. refl };
-    loses = record { none = loses_nothing None (moment_of_db store v.db) };
-    leaves = record { told = tt };
-    gives_up = record { told = tt };
-    tested = record { told = tt };
+    loses = record { none = loses_nothing None (snapshot_of_db store v.db) };
+    leaves = record { is = tt };
+    gives_up = record { is = tt };
+    tested = record { is = tt };
   }
 
-  pub begin_untested : (tree : Tree) (call : Call) (e : Error) → MustBeRefused (must_refuse_of (db_state store meant v.db) (tree ∷ [])) e → Reaches store number meant v (step.Begin tree call) (outcome.Refused e) v
-  begin_untested tree call e tested = begin_refused tree call e (record { told = subst (λ o. may_refuse_as o (state_of store meant v.db (slots_of v.flights) v.slots_given) (store v.db.pages) (store v.db.pages) (ToBegin tree call) e) (sym (must_begin (state_of store meant v.db (slots_of v.flights) v.slots_given) tree call)) (go (must_refuse_of (db_state store meant v.db) (tree ∷ [])) tested.told) })
+  pub begin_untested : (tree : Tree) (call : Call) (e : Error) → MustBeRefused (must_refuse_of (db_state store meant v.db) (tree ∷ [])) e → MachineStepContract store number meant v (step.Begin tree call) (outcome.Refused e) v
+  begin_untested tree call e tested = begin_refused tree call e (record { is = subst (λ o. may_refuse_as o (state_of store meant v.db (slots_of v.flights) v.slots_given) (store v.db.pages) (store v.db.pages) (ToBegin tree call) e) (sym (must_begin (state_of store meant v.db (slots_of v.flights) v.slots_given) tree call)) (go (must_refuse_of (db_state store meant v.db) (tree ∷ [])) tested.is) })
     where
       go : (o : Option MustRefuse) → must_be_refused_as o e → may_refuse_as o (state_of store meant v.db (slots_of v.flights) v.slots_given) (store v.db.pages) (store v.db.pages) (ToBegin tree call) e
       go None t = absurd t
       go (Some m) t = t
 
   module _ (tree : Tree) (call : Call) (must : must_refuse_of (db_state store meant v.db) (tree ∷ []) ≡ None) where
-    pub begin_caused : (e : Error) → cause_of (state_of store meant v.db (slots_of v.flights) v.slots_given) (store v.db.pages) (store v.db.pages) (ToBegin tree call) e → Reaches store number meant v (step.Begin tree call) (outcome.Refused e) v
-    begin_caused e cause = begin_refused tree call e (record { told = subst (λ o. may_refuse_as o (state_of store meant v.db (slots_of v.flights) v.slots_given) (store v.db.pages) (store v.db.pages) (ToBegin tree call) e) (sym (must_begin (state_of store meant v.db (slots_of v.flights) v.slots_given) tree call ∙ must)) cause })
+    pub begin_caused : (e : Error) → cause_of (state_of store meant v.db (slots_of v.flights) v.slots_given) (store v.db.pages) (store v.db.pages) (ToBegin tree call) e → MachineStepContract store number meant v (step.Begin tree call) (outcome.Refused e) v
+    begin_caused e cause = begin_refused tree call e (record { is = subst (λ o. may_refuse_as o (state_of store meant v.db (slots_of v.flights) v.slots_given) (store v.db.pages) (store v.db.pages) (ToBegin tree call) e) (sym (must_begin (state_of store meant v.db (slots_of v.flights) v.slots_given) tree call ∙ must)) cause })
 
-    module _ (f : Flight) (is : f ≡ record { job = record { tree = tree; call = call }; aim = OwnKey; stage = Root; turns = 0 }) (slot : ℕ) (next : slot ≡ v.slots_given + 1) (gs : List (ℕ × Flight)) (e : gs ≡ v.flights ++ (slot, f) ∷ []) where
+    module _ (f : InFlight) (is : f ≡ record { job = record { tree = tree; call = call }; aim = OwnKey; stage = Root; turns = 0 }) (slot : ℕ) (next : slot ≡ v.slots_given + 1) (gs : List (ℕ × InFlight)) (e : gs ≡ v.flights ++ (slot, f) ∷ []) where
       pub free_slot : kept_at v.flights slot ≡ None
       free_slot = go (kept_at v.flights slot) refl
         where
-          go : (o : Option Flight) → kept_at v.flights slot ≡ o → o ≡ None
+          go : (o : Option InFlight) → kept_at v.flights slot ≡ o → o ≡ None
           go None k = refl
           go (Some g) k = let h = im.given slot g k in absurd (omega arith)
 
       pub added_kept : (q : ℕ) → kept_at gs q ≡ put_at (kept_at v.flights) slot (Some f) q
       added_kept q = ap (λ z. kept_at z q) e ∙ push_kept v.flights slot f q free_slot
 
-      pub begun_call : Reaches store number meant v (step.Begin tree call) (outcome.Begun slot) (record v { flights = gs; slots_given = slot })
+      pub begun_call : MachineStepContract store number meant v (step.Begin tree call) (outcome.Begun slot) (record v { flights = gs; slots_given = slot })
       begun_call = record {
         step = idle (step.Begin tree call) (outcome.Begun slot) (record v { flights = gs; slots_given = slot }) refl
             (record {
-              told = (
+              is = (
                 record {
                   free = must_begin (state_of store meant v.db (slots_of v.flights) v.slots_given) tree call ∙ must;
                   next = next;
-                  is = ap (λ z. state_of store meant v.db z slot) (slots_put v.flights gs slot (Some f) added_kept ∙ ap (λ z. put_at (slots_of v.flights) slot (Some (flying_of z))) is);
+                  is = ap (λ z. state_of store meant v.db z slot) (slots_put v.flights gs slot (Some f) added_kept ∙ ap (λ z. put_at (slots_of v.flights) slot (Some (call_in_flight_of z))) is);
                 },
                 refl,
               );
             })
             (λ kept. refl);
         sound = record { keeps = λ d. d };
-        does = record { told = refl };
-        follows = record { told = tt };
-        passes = record { told = tt };
+        does = record { is = refl };
+        follows = record { is = tt };
+        passes = record { is = tt };
         slots = record { starts = added_kept slot ∙ put_here (kept_at v.flights) slot (Some f) ∙ ap Some is; others = elsewhere v.flights gs slot (Some f) added_kept };
-        loses = record { none = loses_nothing None (moment_of_db store v.db) };
-        leaves = record { told = tt };
-        gives_up = record { told = tt };
-        tested = record { told = tt };
+        loses = record { none = loses_nothing None (snapshot_of_db store v.db) };
+        leaves = record { is = tt };
+        gives_up = record { is = tt };
+        tested = record { is = tt };
       }
 
-      pub begun_machine : IsMachine (moment_of_db store v.db) gs slot
+      pub begun_machine : IsMachine (snapshot_of_db store v.db) gs slot
       begun_machine =
           let cases = other_or_new v.flights gs slot f added_kept in record {
             given = λ j h k. elim (cases j h k) [
@@ -340,7 +340,7 @@ module _ {P M : Type 0} (store : P → Store) (number : P → ℕ) (meant : M �
               | inr o ↦ let z = im.given j h o.1 in omega arith
             ];
             known = λ j h k. elim (cases j h k) [
-              | inl s ↦ subst (λ z. IsKnown (moment_of_db store v.db) z) (sym (s.1 ∙ is)) (known_new (moment_of_db store v.db) tree call)
+              | inl s ↦ subst (λ z. IsKnown (snapshot_of_db store v.db) z) (sym (s.1 ∙ is)) (known_new (snapshot_of_db store v.db) tree call)
               | inr o ↦ im.known j h o.1
             ];
             apart = λ j k h g a b off. elim (cases j h a) [
@@ -354,115 +354,115 @@ module _ {P M : Type 0} (store : P → Store) (number : P → ℕ) (meant : M �
 
   -- a flush
   module _ (db : DbValue P M) (same : db ≡ record (v.db) { pages = db.pages }) (stays : SameNow (store v.db.pages) (store db.pages)) where
-    flush_loses : MachineLoses store v (step.Whole Flush) (record v { db = db })
-    flush_loses = record { none = subst (λ (m : Moment). LosesNone None (moment_of_db store v.db) m) (sym (stays_moment store meant v.db db same stays)) (loses_nothing None (moment_of_db store v.db)) }
+    flush_loses : MachineKeepsTreePages store v (step.Whole Flush) (record v { db = db })
+    flush_loses = record { none = subst (λ (m : Snapshot). KeepsTreePages None (snapshot_of_db store v.db) m) (sym (stays_moment store meant v.db db same stays)) (loses_nothing None (snapshot_of_db store v.db)) }
 
-    pub stays_machine : IsMachine (moment_of_db store db) v.flights v.slots_given
-    stays_machine = subst (λ (m : Moment). IsMachine m v.flights v.slots_given) (sym (stays_moment store meant v.db db same stays)) im
+    pub stays_machine : IsMachine (snapshot_of_db store db) v.flights v.slots_given
+    stays_machine = subst (λ (m : Snapshot). IsMachine m v.flights v.slots_given) (sym (stays_moment store meant v.db db same stays)) im
 
-  pub flushed_all : (db : DbValue P M) (n : ℕ) → FlushesDb store number meant v.db n db → Reaches store number meant v (step.Whole Flush) (outcome.Decided (Number n)) (record v { db = db })
+  pub flushed_all : (db : DbValue P M) (n : ℕ) → FlushesDb store number meant v.db n db → MachineStepContract store number meant v (step.Whole Flush) (outcome.Decided (Number n)) (record v { db = db })
   flushed_all db n f = record {
     step = record {
       maps = [];
-      step = record { told = (f.free, ap Number f.told, stays_state store meant v.db db f.same (flushed_now f.is) (slots_of v.flights) v.slots_given, refl) };
-      keeps = λ kept l. record { is = subst (λ z. Matches z (maps_of (db_state store meant db) ∷ [])) (sym (ap (map trees_of) f.left ∙ ap (λ z. z ∷ []) f.maps)) (matches_same _) };
+      step = record { is = (f.free, ap Number f.answers, stays_state store meant v.db db f.same (flushed_now f.is) (slots_of v.flights) v.slots_given, refl) };
+      keeps = λ kept l. record { is = subst (λ z. StutterEquivalent z (maps_of (db_state store meant db) ∷ [])) (sym (ap (map trees_of) f.left ∙ ap (λ z. z ∷ []) f.maps)) (matches_same _) };
     };
     sound = record { keeps = f.sound };
-    does = record { told = f.is };
-    follows = record { told = tt };
-    passes = record { told = tt };
+    does = record { is = f.is };
+    follows = record { is = tt };
+    passes = record { is = tt };
     slots = record { starts = tt; others = λ q off. refl };
     loses = flush_loses db f.same (flushed_now f.is);
-    leaves = record { told = tt };
-    gives_up = record { told = tt };
-    tested = record { told = tt };
+    leaves = record { is = tt };
+    gives_up = record { is = tt };
+    tested = record { is = tt };
   }
 
-  pub flushed_machine : (db : DbValue P M) (n : ℕ) → FlushesDb store number meant v.db n db → IsMachine (moment_of_db store db) v.flights v.slots_given
+  pub flushed_machine : (db : DbValue P M) (n : ℕ) → FlushesDb store number meant v.db n db → IsMachine (snapshot_of_db store db) v.flights v.slots_given
   flushed_machine db n f = stays_machine db f.same (flushed_now f.is)
 
-  pub flush_refused : (db : DbValue P M) (e : Error) → RefusesFlush store meant v.db db e → Reaches store number meant v (step.Whole Flush) (outcome.Refused e) (record v { db = db })
+  pub flush_refused : (db : DbValue P M) (e : Error) → RefusesFlush store meant v.db db e → MachineStepContract store number meant v (step.Whole Flush) (outcome.Refused e) (record v { db = db })
   flush_refused db e f = let rests = rests_only_faults e (store v.db.pages) (store db.pages) f.is in record {
     step = record {
       maps = [];
-      step = record { told = (f.may (slots_of v.flights) v.slots_given, stays_state store meant v.db db f.same (rests_now rests) (slots_of v.flights) v.slots_given, refl) };
+      step = record { is = (f.may (slots_of v.flights) v.slots_given, stays_state store meant v.db db f.same (rests_now rests) (slots_of v.flights) v.slots_given, refl) };
       keeps = λ kept l. extended [] (store v.db.pages) (store db.pages) (rests_extends rests) kept l;
     };
     sound = record { keeps = f.sound };
-    does = record { told = f.is };
-    follows = record { told = tt };
-    passes = record { told = tt };
+    does = record { is = f.is };
+    follows = record { is = tt };
+    passes = record { is = tt };
     slots = record { starts = tt; others = λ q off. refl };
     loses = flush_loses db f.same (rests_now rests);
-    leaves = record { told = tt };
-    gives_up = record { told = tt };
-    tested = record { told = tt };
+    leaves = record { is = tt };
+    gives_up = record { is = tt };
+    tested = record { is = tt };
   }
 
-  pub refused_machine : (db : DbValue P M) (e : Error) → RefusesFlush store meant v.db db e → IsMachine (moment_of_db store db) v.flights v.slots_given
+  pub refused_machine : (db : DbValue P M) (e : Error) → RefusesFlush store meant v.db db e → IsMachine (snapshot_of_db store db) v.flights v.slots_given
   refused_machine db e f = stays_machine db f.same (rests_now (rests_only_faults e (store v.db.pages) (store db.pages) f.is))
 
 -- The same, where a method knows the machine and the slot by their fields
-module _ {P M : Type 0} (store : P → Store) (number : P → ℕ) (meant : M → Merge) (inside old : MachineValue P M) (e : inside ≡ old) (im : IsMachine (moment_of_db store inside.db) inside.flights inside.slots_given) (n slot : ℕ) (same : n ≡ slot) where
-  pub missing_step_as : kept_at inside.flights n ≡ None → Reaches store number meant old (step.Step slot) outcome.NoSuchSlot old
-  missing_step_as k = subst (λ s. Reaches store number meant old (step.Step s) outcome.NoSuchSlot old) same (subst (λ z. Reaches store number meant z (step.Step n) outcome.NoSuchSlot z) e (missing_step store number meant inside im n k))
+module _ {P M : Type 0} (store : P → Store) (number : P → ℕ) (meant : M → Merge) (inside old : MachineValue P M) (e : inside ≡ old) (im : IsMachine (snapshot_of_db store inside.db) inside.flights inside.slots_given) (n slot : ℕ) (same : n ≡ slot) where
+  pub missing_step_as : kept_at inside.flights n ≡ None → MachineStepContract store number meant old (step.Step slot) outcome.NoSuchSlot old
+  missing_step_as k = subst (λ s. MachineStepContract store number meant old (step.Step s) outcome.NoSuchSlot old) same (subst (λ z. MachineStepContract store number meant z (step.Step n) outcome.NoSuchSlot z) e (missing_step store number meant inside im n k))
 
-  pub missing_abandon_as : kept_at inside.flights n ≡ None → Reaches store number meant old (step.Abandon slot) outcome.NoSuchSlot old
-  missing_abandon_as k = subst (λ s. Reaches store number meant old (step.Abandon s) outcome.NoSuchSlot old) same (subst (λ z. Reaches store number meant z (step.Abandon n) outcome.NoSuchSlot z) e (missing_abandon store number meant inside im n k))
+  pub missing_abandon_as : kept_at inside.flights n ≡ None → MachineStepContract store number meant old (step.Abandon slot) outcome.NoSuchSlot old
+  missing_abandon_as k = subst (λ s. MachineStepContract store number meant old (step.Abandon s) outcome.NoSuchSlot old) same (subst (λ z. MachineStepContract store number meant z (step.Abandon n) outcome.NoSuchSlot z) e (missing_abandon store number meant inside im n k))
 
-  pub abandoned_as : (f : Flight) → kept_at inside.flights n ≡ Some f → (gs : List (ℕ × Flight)) → ((q : ℕ) → kept_at gs q ≡ put_at (kept_at inside.flights) n None q) → Reaches store number meant old (step.Abandon slot) outcome.Abandoned (record inside { flights = gs })
-  abandoned_as f there gs gone = subst (λ k. Reaches store number meant old (step.Abandon k) outcome.Abandoned (record inside { flights = gs })) same (subst (λ z. Reaches store number meant z (step.Abandon n) outcome.Abandoned (record inside { flights = gs })) e (abandoned store number meant inside im n f there gs gone))
+  pub abandoned_as : (f : InFlight) → kept_at inside.flights n ≡ Some f → (gs : List (ℕ × InFlight)) → ((q : ℕ) → kept_at gs q ≡ put_at (kept_at inside.flights) n None q) → MachineStepContract store number meant old (step.Abandon slot) outcome.Abandoned (record inside { flights = gs })
+  abandoned_as f there gs gone = subst (λ k. MachineStepContract store number meant old (step.Abandon k) outcome.Abandoned (record inside { flights = gs })) same (subst (λ z. MachineStepContract store number meant z (step.Abandon n) outcome.Abandoned (record inside { flights = gs })) e (abandoned store number meant inside im n f there gs gone))
 
-  pub stepped_slot : (db : DbValue P M) (gs : List (ℕ × Flight)) (o : Outcome) (f next : Flight) (went : Went) → o ≡ outcome_of went → kept_at inside.flights n ≡ Some f → Flies store meant inside.db f went db next → ((q : ℕ) → kept_at gs q ≡ put_at (kept_at inside.flights) n (flight_after went next) q)
-      → Reaches store number meant old (step.Step slot) o (record inside { db = db; flights = gs })
+  pub stepped_slot : (db : DbValue P M) (gs : List (ℕ × InFlight)) (o : Outcome) (f next : InFlight) (went : Went) → o ≡ outcome_of went → kept_at inside.flights n ≡ Some f → DbStepContract store meant inside.db f went db next → ((q : ℕ) → kept_at gs q ≡ put_at (kept_at inside.flights) n (flight_after went next) q)
+      → MachineStepContract store number meant old (step.Step slot) o (record inside { db = db; flights = gs })
   stepped_slot db gs o f next went is there flies are =
-      subst (λ z. Reaches store number meant old (step.Step slot) z (record inside { db = db; flights = gs })) (sym is)
-      (subst (λ k. Reaches store number meant old (step.Step k) (outcome_of went) (record inside { db = db; flights = gs })) same
-      (subst (λ z. Reaches store number meant z (step.Step n) (outcome_of went) (record inside { db = db; flights = gs })) e (stepped_as store number meant inside im n db gs f next went there flies are).0))
+      subst (λ z. MachineStepContract store number meant old (step.Step slot) z (record inside { db = db; flights = gs })) (sym is)
+      (subst (λ k. MachineStepContract store number meant old (step.Step k) (outcome_of went) (record inside { db = db; flights = gs })) same
+      (subst (λ z. MachineStepContract store number meant z (step.Step n) (outcome_of went) (record inside { db = db; flights = gs })) e (stepped_as store number meant inside im n db gs f next went there flies are).0))
 
-  pub turns_as : (o : Option Flight) → kept_at inside.flights n ≡ o → option_map (λ (f : Flight). f.turns) o ≡ option_map (λ (z : Flying). z.turns) (slots_of old.flights slot)
+  pub turns_as : (o : Option InFlight) → kept_at inside.flights n ≡ o → option_map (λ (f : InFlight). f.turns) o ≡ option_map (λ (z : CallInFlight). z.turns) (slots_of old.flights slot)
   turns_as o there =
-      subst (λ s. option_map (λ (f : Flight). f.turns) o ≡ option_map (λ (z : Flying). z.turns) (slots_of old.flights s)) same
-      (subst (λ (m : MachineValue P M). option_map (λ (f : Flight). f.turns) o ≡ option_map (λ (z : Flying). z.turns) (slots_of m.flights n)) e
-      (as_flying o ∙ sym (ap (λ x. option_map (λ (z : Flying). z.turns) (option_map flying_of x)) there)))
+      subst (λ s. option_map (λ (f : InFlight). f.turns) o ≡ option_map (λ (z : CallInFlight). z.turns) (slots_of old.flights s)) same
+      (subst (λ (m : MachineValue P M). option_map (λ (f : InFlight). f.turns) o ≡ option_map (λ (z : CallInFlight). z.turns) (slots_of m.flights n)) e
+      (as_flying o ∙ sym (ap (λ x. option_map (λ (z : CallInFlight). z.turns) (option_map call_in_flight_of x)) there)))
     where
-      as_flying : (o : Option Flight) → option_map (λ (f : Flight). f.turns) o ≡ option_map (λ (z : Flying). z.turns) (option_map flying_of o)
+      as_flying : (o : Option InFlight) → option_map (λ (f : InFlight). f.turns) o ≡ option_map (λ (z : CallInFlight). z.turns) (option_map call_in_flight_of o)
       as_flying None = refl
       as_flying (Some f) = refl
 
-module _ {P M : Type 0} (store : P → Store) (number : P → ℕ) (meant : M → Merge) (inside old : MachineValue P M) (e : inside ≡ old) (im : IsMachine (moment_of_db store inside.db) inside.flights inside.slots_given) where
-  pub untested_as : (tree : Tree) (call : Call) (r : Error) → MustBeRefused (must_refuse_of (db_state store meant inside.db) (tree ∷ [])) r → Reaches store number meant old (step.Begin tree call) (outcome.Refused r) old
-  untested_as tree call r t = subst (λ z. Reaches store number meant z (step.Begin tree call) (outcome.Refused r) z) e (begin_untested store number meant inside im tree call r t)
+module _ {P M : Type 0} (store : P → Store) (number : P → ℕ) (meant : M → Merge) (inside old : MachineValue P M) (e : inside ≡ old) (im : IsMachine (snapshot_of_db store inside.db) inside.flights inside.slots_given) where
+  pub untested_as : (tree : Tree) (call : Call) (r : Error) → MustBeRefused (must_refuse_of (db_state store meant inside.db) (tree ∷ [])) r → MachineStepContract store number meant old (step.Begin tree call) (outcome.Refused r) old
+  untested_as tree call r t = subst (λ z. MachineStepContract store number meant z (step.Begin tree call) (outcome.Refused r) z) e (begin_untested store number meant inside im tree call r t)
 
-  pub caused_as : (tree : Tree) (call : Call) (r : Error) → must_refuse_of (db_state store meant inside.db) (tree ∷ []) ≡ None → cause_of (state_of store meant inside.db (slots_of inside.flights) inside.slots_given) (store inside.db.pages) (store inside.db.pages) (ToBegin tree call) r → Reaches store number meant old (step.Begin tree call) (outcome.Refused r) old
-  caused_as tree call r must cause = subst (λ z. Reaches store number meant z (step.Begin tree call) (outcome.Refused r) z) e (begin_caused store number meant inside im tree call must r cause)
+  pub caused_as : (tree : Tree) (call : Call) (r : Error) → must_refuse_of (db_state store meant inside.db) (tree ∷ []) ≡ None → cause_of (state_of store meant inside.db (slots_of inside.flights) inside.slots_given) (store inside.db.pages) (store inside.db.pages) (ToBegin tree call) r → MachineStepContract store number meant old (step.Begin tree call) (outcome.Refused r) old
+  caused_as tree call r must cause = subst (λ z. MachineStepContract store number meant z (step.Begin tree call) (outcome.Refused r) z) e (begin_caused store number meant inside im tree call must r cause)
 
   tested_inside : (tree : Tree) → must_refuse_of (db_state store meant old.db) (tree ∷ []) ≡ None → must_refuse_of (db_state store meant inside.db) (tree ∷ []) ≡ None
   tested_inside tree must = subst (λ (z : MachineValue P M). must_refuse_of (db_state store meant z.db) (tree ∷ []) ≡ None) (sym e) must
 
   -- .. where the list has room, and so may be another one
-  pub begun_as : (tree copy : Tree) (call : Call) → copy ≡ tree → must_refuse_of (db_state store meant old.db) (tree ∷ []) ≡ None → (f : Flight) → f ≡ record { job = record { tree = copy; call = call }; aim = OwnKey; stage = Root; turns = 0 }
-      → (slot : ℕ) → slot ≡ inside.slots_given + 1 → (gs : List (ℕ × Flight)) → gs ≡ inside.flights ++ (slot, f) ∷ [] → Reaches store number meant old (step.Begin tree call) (outcome.Begun slot) (record inside { flights = gs; slots_given = slot })
-  begun_as tree copy call c must f is slot next gs g = subst (λ z. Reaches store number meant z (step.Begin tree call) (outcome.Begun slot) (record inside { flights = gs; slots_given = slot })) e
+  pub begun_as : (tree copy : Tree) (call : Call) → copy ≡ tree → must_refuse_of (db_state store meant old.db) (tree ∷ []) ≡ None → (f : InFlight) → f ≡ record { job = record { tree = copy; call = call }; aim = OwnKey; stage = Root; turns = 0 }
+      → (slot : ℕ) → slot ≡ inside.slots_given + 1 → (gs : List (ℕ × InFlight)) → gs ≡ inside.flights ++ (slot, f) ∷ [] → MachineStepContract store number meant old (step.Begin tree call) (outcome.Begun slot) (record inside { flights = gs; slots_given = slot })
+  begun_as tree copy call c must f is slot next gs g = subst (λ z. MachineStepContract store number meant z (step.Begin tree call) (outcome.Begun slot) (record inside { flights = gs; slots_given = slot })) e
       (begun_call store number meant inside im tree call (tested_inside tree must) f (is ∙ ap (λ t. record { job = record { tree = t; call = call }; aim = OwnKey; stage = Root; turns = 0 }) c) slot next gs g)
 
-  pub begun_machine_as : (tree copy : Tree) (call : Call) → copy ≡ tree → must_refuse_of (db_state store meant old.db) (tree ∷ []) ≡ None → (f : Flight) → f ≡ record { job = record { tree = copy; call = call }; aim = OwnKey; stage = Root; turns = 0 }
-      → (slot : ℕ) → slot ≡ inside.slots_given + 1 → (gs : List (ℕ × Flight)) → gs ≡ inside.flights ++ (slot, f) ∷ [] → IsMachine (moment_of_db store inside.db) gs slot
+  pub begun_machine_as : (tree copy : Tree) (call : Call) → copy ≡ tree → must_refuse_of (db_state store meant old.db) (tree ∷ []) ≡ None → (f : InFlight) → f ≡ record { job = record { tree = copy; call = call }; aim = OwnKey; stage = Root; turns = 0 }
+      → (slot : ℕ) → slot ≡ inside.slots_given + 1 → (gs : List (ℕ × InFlight)) → gs ≡ inside.flights ++ (slot, f) ∷ [] → IsMachine (snapshot_of_db store inside.db) gs slot
   begun_machine_as tree copy call c must f is slot next gs g = begun_machine store number meant inside im tree call (tested_inside tree must) f (is ∙ ap (λ t. record { job = record { tree = t; call = call }; aim = OwnKey; stage = Root; turns = 0 }) c) slot next gs g
 
-  pub flushed_as : (db : DbValue P M) (n : ℕ) → FlushesDb store number meant inside.db n db → Reaches store number meant old (step.Whole Flush) (outcome.Decided (Number n)) (record inside { db = db })
-  flushed_as db n f = subst (λ z. Reaches store number meant z (step.Whole Flush) (outcome.Decided (Number n)) (record inside { db = db })) e (flushed_all store number meant inside im db n f)
+  pub flushed_as : (db : DbValue P M) (n : ℕ) → FlushesDb store number meant inside.db n db → MachineStepContract store number meant old (step.Whole Flush) (outcome.Decided (Number n)) (record inside { db = db })
+  flushed_as db n f = subst (λ z. MachineStepContract store number meant z (step.Whole Flush) (outcome.Decided (Number n)) (record inside { db = db })) e (flushed_all store number meant inside im db n f)
 
-  pub flush_refused_as : (db : DbValue P M) (r : Error) → RefusesFlush store meant inside.db db r → Reaches store number meant old (step.Whole Flush) (outcome.Refused r) (record inside { db = db })
-  flush_refused_as db r f = subst (λ z. Reaches store number meant z (step.Whole Flush) (outcome.Refused r) (record inside { db = db })) e (flush_refused store number meant inside im db r f)
+  pub flush_refused_as : (db : DbValue P M) (r : Error) → RefusesFlush store meant inside.db db r → MachineStepContract store number meant old (step.Whole Flush) (outcome.Refused r) (record inside { db = db })
+  flush_refused_as db r f = subst (λ z. MachineStepContract store number meant z (step.Whole Flush) (outcome.Refused r) (record inside { db = db })) e (flush_refused store number meant inside im db r f)
 
   -- no memory, where the list of calls may have got room
-  pub memory_as : (tree : Tree) (call : Call) (r : Error) → must_refuse_of (db_state store meant inside.db) (tree ∷ []) ≡ None → r ≡ Rattle.sled_pages.specs.declared.error.Error.TheVariants.NoMemory → Reaches store number meant old (step.Begin tree call) (outcome.Refused r) old
-  memory_as tree call r must m = subst (λ x. Reaches store number meant old (step.Begin tree call) (outcome.Refused x) old) (sym m) (caused_as tree call Rattle.sled_pages.specs.declared.error.Error.TheVariants.NoMemory must tt)
+  pub memory_as : (tree : Tree) (call : Call) (r : Error) → must_refuse_of (db_state store meant inside.db) (tree ∷ []) ≡ None → r ≡ Rattle.sled_pages.specs.declared.error.Error.TheVariants.NoMemory → MachineStepContract store number meant old (step.Begin tree call) (outcome.Refused r) old
+  memory_as tree call r must m = subst (λ x. MachineStepContract store number meant old (step.Begin tree call) (outcome.Refused x) old) (sym m) (caused_as tree call Rattle.sled_pages.specs.declared.error.Error.TheVariants.NoMemory must tt)
 
-  pub room_as : (tree : Tree) (call : Call) (r : Error) → must_refuse_of (db_state store meant old.db) (tree ∷ []) ≡ None → r ≡ Rattle.sled_pages.specs.declared.error.Error.TheVariants.NoMemory → (gs : List (ℕ × Flight)) → gs ≡ inside.flights
-      → Reaches store number meant old (step.Begin tree call) (outcome.Refused r) (record inside { flights = gs })
-  room_as tree call r must m gs g = subst (λ z. Reaches store number meant old (step.Begin tree call) (outcome.Refused r) z) (sym e ∙ ap (λ z. record inside { flights = z }) (sym g)) (memory_as tree call r (tested_inside tree must) m)
+  pub room_as : (tree : Tree) (call : Call) (r : Error) → must_refuse_of (db_state store meant old.db) (tree ∷ []) ≡ None → r ≡ Rattle.sled_pages.specs.declared.error.Error.TheVariants.NoMemory → (gs : List (ℕ × InFlight)) → gs ≡ inside.flights
+      → MachineStepContract store number meant old (step.Begin tree call) (outcome.Refused r) (record inside { flights = gs })
+  room_as tree call r must m gs g = subst (λ z. MachineStepContract store number meant old (step.Begin tree call) (outcome.Refused r) z) (sym e ∙ ap (λ z. record inside { flights = z }) (sym g)) (memory_as tree call r (tested_inside tree must) m)
 
 -- what holds of any error of a kind
 pub err_weaker : {A E : Type 0} (P Q : E → Type 0) → ((e : E) → P e → Q e) → (r : Result A E) → IfErr r P → IfErr r Q

@@ -3,14 +3,14 @@ use Rattle.std.proofs.Common.{◌≡◌, ◌≢◌, ℕ, zero, suc, ◌<◌, Lis
 use Rattle.std.proofs.lemmas.Option.{slice_get_within}
 use Rattle.sled_pages.specs.Update.{put_at}
 use Rattle.sled_model.specs.declared.outcome.Outcome.{Outcome}
-use Rattle.sled_tree.specs.declared.flight.Flight.{Flight}
+use Rattle.sled_tree.specs.declared.flight.InFlight.{InFlight}
 use Rattle.sled_tree.specs.declared.flight.Went.{Went}
 use Rattle.sled_tree.specs.declared.flight.Went.TheVariants.{Moved, Decided, Refused}
 use Rattle.sled.specs.Values.{DbValue}
 use Rattle.sled.specs.Flights.{outcome_of}
 use Rattle.sled_machine.specs.Slots.{Rise, kept_at}
 use Rattle.sled_machine.specs.Table.{kept, HoldsAt, Empties, Puts}
-use Rattle.sled_machine.specs.Fly.{FliesAt, StepsAt, flight_after}
+use Rattle.sled_machine.specs.StepsInSlot.{StepsInCell, StepsInSlot, flight_after}
 use Rattle.sled_machine.proofs.Places.{set_rise, read_at}
 use Rattle.sled_machine.proofs.Cells.{set_puts, puts_then, empties_puts, holds_kept}
 
@@ -40,16 +40,16 @@ module _ {X : Type 0} where
       let rises : Rise mid = subst Rise (sym is) (record { is = set_rise 0 cs i n x y r.is e }) in
       puts_then cs mid ds n y None set (empties_puts mid ds i n y rises (set_within cs mid n i x y e is) d)
 
-pub ended_after : (went : Went) (g : Flight) → went ≢ Moved → flight_after went g ≡ None
+pub ended_after : (went : Went) (g : InFlight) → went ≢ Moved → flight_after went g ≡ None
 ended_after Moved g off = absurd (off refl)
 ended_after (Decided reply) g off = refl
 ended_after (Refused e) g off = refl
 
-module _ {P M : Type 0} (Flew : DbValue P M → Flight → Went → DbValue P M → Flight → Type 0) (old new : DbValue P M) (cells mid : List (ℕ × Option Flight)) (slot i : ℕ) (went : Went) (f : FliesAt Flew old cells slot i went new mid) where
+module _ {P M : Type 0} (Flew : DbValue P M → InFlight → Went → DbValue P M → InFlight → Type 0) (old new : DbValue P M) (cells mid : List (ℕ × Option InFlight)) (slot i : ℕ) (went : Went) (f : StepsInCell Flew old cells slot i went new mid) where
   pub flown_within : i < length mid
   flown_within = slice_get_within mid i (slot, Some f.next) (set_within cells mid slot i (Some f.flight) (Some f.next) f.there f.is)
 
-  pub moved_at : (r : Rise cells) (o : Outcome) → went ≡ Moved → o ≡ outcome_of Moved → StepsAt Flew old cells slot o new mid
+  pub moved_at : (r : Rise cells) (o : Outcome) → went ≡ Moved → o ≡ outcome_of Moved → StepsInSlot Flew old cells slot o new mid
   moved_at r o moved is = record {
     flight = f.flight;
     next = f.next;
@@ -60,7 +60,7 @@ module _ {P M : Type 0} (Flew : DbValue P M → Flight → Went → DbValue P M 
     puts = subst (λ w. Puts cells slot (flight_after w f.next) mid) (sym moved) (subst (Puts cells slot (Some f.next)) (sym f.is) (set_puts cells i slot (Some f.flight) (Some f.next) r f.there));
   }
 
-  pub ended_at : (r : Rise cells) (o : Outcome) (after : List (ℕ × Option Flight)) → went ≢ Moved → o ≡ outcome_of went → Empties mid i after → StepsAt Flew old cells slot o new after
+  pub ended_at : (r : Rise cells) (o : Outcome) (after : List (ℕ × Option InFlight)) → went ≢ Moved → o ≡ outcome_of went → Empties mid i after → StepsInSlot Flew old cells slot o new after
   ended_at r o after off is d = record {
     flight = f.flight;
     next = f.next;
@@ -78,7 +78,7 @@ item_read cs n i x r h e =
     holds_kept cs i n h.item r h.is ∙ sym (ap (λ p. p.1) (some_is here))
 
 -- a call that came to its end is let go
-pub gone_after : {P M : Type 0} {Flew : DbValue P M → Flight → Went → DbValue P M → Flight → Type 0} {old new : DbValue P M} {cells after : List (ℕ × Option Flight)} {slot : ℕ} {o : Outcome} (s : StepsAt Flew old cells slot o new after) → s.went ≢ Moved
+pub gone_after : {P M : Type 0} {Flew : DbValue P M → InFlight → Went → DbValue P M → InFlight → Type 0} {old new : DbValue P M} {cells after : List (ℕ × Option InFlight)} {slot : ℕ} {o : Outcome} (s : StepsInSlot Flew old cells slot o new after) → s.went ≢ Moved
     → (q : ℕ) → kept_at (kept after) q ≡ put_at (kept_at (kept cells)) slot None q
 gone_after {cells = cells} {slot = slot} s off q = s.puts.kept q ∙ ap (λ x. put_at (kept_at (kept cells)) slot x q) (ended_after s.went s.next off)
 

@@ -2,7 +2,7 @@ pub mod Slots
 pub mod Table
 pub mod Values
 pub mod CrashMaps
-pub mod Fly
+pub mod StepsInSlot
 pub mod Step
 pub mod Run
 pub mod Finish

@@ -5,31 +5,31 @@ use Rattle.sled_model.specs.Maps.{Maps, Merge}
 use Rattle.sled_model.specs.State.{maps_of}
 use Rattle.sled_model.specs.declared.outcome.Step.{Step}
 use Rattle.sled_model.specs.declared.outcome.Outcome.{Outcome}
-use Rattle.sled_machine.specs.CrashMaps.{Leaves, kept_after}
-use Rattle.sled_machine.specs.Step.{MachineStep, Reaches}
-use Rattle.sled_machine.specs.Values.{MachineValue, instant_of}
+use Rattle.sled_machine.specs.CrashMaps.{AreCrashMaps, crash_maps_after}
+use Rattle.sled_machine.specs.Step.{MachineStep, MachineStepContract}
+use Rattle.sled_machine.specs.Values.{MachineValue, configuration_of}
 
 -- A run, with the list of maps that a crash might leave before it and the list after it:
 -- the map at the last flush that was decided, if there was one, else the list before; and then the map after each call that was decided since
-pub data RunsKeeping {P M : Type 0} (store : P → Store) (flush_number : P → ℕ) (meant : M → Merge) : MachineValue P M → List Maps → List Step → List Outcome → MachineValue P M → List Maps → Type 0 where
-  KeepsAll : {m : MachineValue P M} {kept : List Maps} → RunsKeeping store flush_number meant m kept [] [] m kept
+pub data RunsWithCrashMaps {P M : Type 0} (store : P → Store) (flush_number : P → ℕ) (meant : M → Merge) : MachineValue P M → List Maps → List Step → List Outcome → MachineValue P M → List Maps → Type 0 where
+  KeepsAll : {m : MachineValue P M} {kept : List Maps} → RunsWithCrashMaps store flush_number meant m kept [] [] m kept
   KeepsMore : {a m b : MachineValue P M} {step : Step} {steps : List Step} {outcome : Outcome} {outcomes : List Outcome} {kept last : List Maps}
-      → (one : MachineStep store flush_number meant a step outcome m) → RunsKeeping store flush_number meant m (kept_after step outcome one.maps (maps_of (instant_of store flush_number meant m).state) kept) steps outcomes b last
-      → RunsKeeping store flush_number meant a kept (step ∷ steps) (outcome ∷ outcomes) b last
+      → (one : MachineStep store flush_number meant a step outcome m) → RunsWithCrashMaps store flush_number meant m (crash_maps_after step outcome one.maps (maps_of (configuration_of store flush_number meant m).state) kept) steps outcomes b last
+      → RunsWithCrashMaps store flush_number meant a kept (step ∷ steps) (outcome ∷ outcomes) b last
 
 -- a run that begins from this list of maps, and what a crash may leave after it
-pub record Keeps {P M : Type 0} (store : P → Store) (flush_number : P → ℕ) (meant : M → Merge) (old : MachineValue P M) (steps : List Step) (outcomes : List Outcome) (new : MachineValue P M) (kept : List Maps) : Type 0 where
+pub record KeepsCrashMaps {P M : Type 0} (store : P → Store) (flush_number : P → ℕ) (meant : M → Merge) (old : MachineValue P M) (steps : List Step) (outcomes : List Outcome) (new : MachineValue P M) (kept : List Maps) : Type 0 where
   pub last : List Maps
-  pub run : RunsKeeping store flush_number meant old kept steps outcomes new last
-  pub leaves : Leaves (store new.db.pages) last
+  pub run : RunsWithCrashMaps store flush_number meant old kept steps outcomes new last
+  pub leaves : AreCrashMaps (store new.db.pages) last
 
 -- A list of steps, one after the other: whatever maps a crash might leave before, the run keeps the list so, and a crash may leave those
 -- of the list after it
-pub record Performs {P M : Type 0} (store : P → Store) (flush_number : P → ℕ) (meant : M → Merge) (old : MachineValue P M) (steps : List Step) (outcomes : List Outcome) (new : MachineValue P M) : Type 0 where
-  pub keeps : (kept : List Maps) → Leaves (store old.db.pages) kept → Keeps store flush_number meant old steps outcomes new kept
+pub record MachineRun {P M : Type 0} (store : P → Store) (flush_number : P → ℕ) (meant : M → Merge) (old : MachineValue P M) (steps : List Step) (outcomes : List Outcome) (new : MachineValue P M) : Type 0 where
+  pub keeps : (kept : List Maps) → AreCrashMaps (store old.db.pages) kept → KeepsCrashMaps store flush_number meant old steps outcomes new kept
 
 -- the steps were made in order, and of each all holds that is said of one step
-pub data ReachesAll {P M : Type 0} (store : P → Store) (flush_number : P → ℕ) (meant : M → Merge) : MachineValue P M → List Step → List Outcome → MachineValue P M → Type 0 where
-  NoCalls : {m : MachineValue P M} → ReachesAll store flush_number meant m [] [] m
+pub data MachineSteps {P M : Type 0} (store : P → Store) (flush_number : P → ℕ) (meant : M → Merge) : MachineValue P M → List Step → List Outcome → MachineValue P M → Type 0 where
+  NoCalls : {m : MachineValue P M} → MachineSteps store flush_number meant m [] [] m
   OneCall : {a m b : MachineValue P M} {step : Step} {steps : List Step} {outcome : Outcome} {outcomes : List Outcome}
-      → Reaches store flush_number meant a step outcome m → ReachesAll store flush_number meant m steps outcomes b → ReachesAll store flush_number meant a (step ∷ steps) (outcome ∷ outcomes) b
+      → MachineStepContract store flush_number meant a step outcome m → MachineSteps store flush_number meant m steps outcomes b → MachineSteps store flush_number meant a (step ∷ steps) (outcome ∷ outcomes) b

@@ -1,11 +1,11 @@
 -- One step of the machine.
 use Rattle.std.specs.Prelude.{◌≡◌, ◌≢◌, ℕ, suc, ◌<◌, List, [], ◌∷◌, length, Option, Some, None}
-use Rattle.sled_pages.specs.Store.{Store, now, flushed}
+use Rattle.sled_pages.specs.Store.{Store, now, after_flush}
 use Rattle.sled_model.specs.Maps.{Maps, Merge, IsLeast, IsGreatest}
 use Rattle.sled_model.specs.Answer.{answer_of}
 use Rattle.sled_model.specs.Refusal.{ToCall, must_refuse, must_refuse_of, turns_limit}
-use Rattle.sled_model.specs.State.{State, NamedTree, Flying, maps_of}
-use Rattle.sled_model.specs.Steps.{Steps, Kind, Flushing, kind_of}
+use Rattle.sled_model.specs.State.{State, NamedTree, CallInFlight, maps_of}
+use Rattle.sled_model.specs.Transition.{Transition, Kind, Flushing, kind_of}
 use Rattle.sled_pages.specs.declared.error.Error.{Error}
 use Rattle.sled_model.specs.declared.call.Whole.{Whole}
 use Rattle.sled_model.specs.declared.call.Whole.TheVariants.{PopMin, PopMax}
@@ -15,34 +15,34 @@ use Rattle.sled_model.specs.declared.outcome.Outcome.{Outcome}
 use Rattle.sled_model.specs.declared.outcome.Outcome.TheVariants.{Begun, Moved, Decided, Refused, NoSuchSlot}
 use Rattle.sled_model.specs.declared.event.Event.{Event}
 use Rattle.tree_laws.specs.Forest.{Forest}
-use Rattle.tree_laws.specs.Moment.{Moment, IsMoment}
+use Rattle.tree_laws.specs.Snapshot.{Snapshot, HasForest}
 use Rattle.tree_laws.specs.Stages.{owned}
 use Rattle.sled_tree.specs.Follows.{FollowsOn}
-use Rattle.sled_tree.specs.Moves.{ActsOnce, ActsAtMostOnce, LeavesNone}
+use Rattle.sled_tree.specs.StageAction.{ActsOnce, ActsAtMostOnce, LeaksNoPage}
 use Rattle.sled_tree.specs.Passing.{IsOnPath}
 use Rattle.sled_tree.specs.Course.{course_of}
 use Rattle.sled_tree.specs.declared.flight.Aim.TheVariants.{OwnKey}
-use Rattle.sled_tree.specs.declared.flight.Flight.{Flight}
+use Rattle.sled_tree.specs.declared.flight.InFlight.{InFlight}
 use Rattle.tree_laws.specs.declared.flight.Stage.TheVariants.{Root}
 use Rattle.sled_tree.specs.declared.flight.Went.{Went}
 use Rattle.tree_reads.specs.Walk.{once, for_each}
 use Rattle.sled.specs.Sound.{IsDb}
-use Rattle.sled.specs.Values.{DbValue, db_state, moment_of_db}
-use Rattle.sled.specs.Flights.{RefusesQuietly, LosesNone, outcome_of}
+use Rattle.sled.specs.Values.{DbValue, db_state, snapshot_of_db}
+use Rattle.sled.specs.Flights.{IsStepRefused, KeepsTreePages, outcome_of}
 use Rattle.sled.specs.Flush.{only_faults}
-use Rattle.sled.specs.Direct.{acts_till, LosesNoPage}
+use Rattle.sled.specs.Direct.{effects_until, KeepsOrFreesTreePages}
 use Rattle.sled.specs.Pops.{GivesUpPop}
-use Rattle.sled_machine.specs.CrashMaps.{Leaves, kept_after}
-use Rattle.sled_machine.specs.Fly.{flight_after}
+use Rattle.sled_machine.specs.CrashMaps.{AreCrashMaps, crash_maps_after}
+use Rattle.sled_machine.specs.StepsInSlot.{flight_after}
 use Rattle.sled_machine.specs.Slots.{kept_at}
-use Rattle.sled_machine.specs.Values.{MachineValue, instant_of}
+use Rattle.sled_machine.specs.Values.{MachineValue, configuration_of}
 
 -- One step of the machine is a step of the model, which adds these maps to those after each decided call; and whatever maps a crash
 -- might leave before it, after it they are those that the step makes of them
 pub record MachineStep {P M : Type 0} (store : P → Store) (flush_number : P → ℕ) (meant : M → Merge) (old : MachineValue P M) (s : Step) (o : Outcome) (new : MachineValue P M) : Type 0 where
   pub maps : List Maps
-  pub step : Steps (instant_of store flush_number meant old) s o (instant_of store flush_number meant new) maps
-  pub keeps : (kept : List Maps) → Leaves (store old.db.pages) kept → Leaves (store new.db.pages) (kept_after s o maps (maps_of (instant_of store flush_number meant new).state) kept)
+  pub step : Transition (configuration_of store flush_number meant old) s o (configuration_of store flush_number meant new) maps
+  pub keeps : (kept : List Maps) → AreCrashMaps (store old.db.pages) kept → AreCrashMaps (store new.db.pages) (crash_maps_after s o maps (maps_of (configuration_of store flush_number meant new).state) kept)
 
 -- The pages stay well formed, now and after every crash
 pub record MachineSound {P M : Type 0} (store : P → Store) (old new : MachineValue P M) : Type 0 where
@@ -50,7 +50,7 @@ pub record MachineSound {P M : Type 0} (store : P → Store) (old new : MachineV
 
 -- the call in the slot brings this event by the map now, or none
 pub record BringsAt (s : State) (slot : ℕ) (event : Option Event) : Type 0 where
-  pub flying : Flying
+  pub flying : CallInFlight
   pub here : s.slots slot ≡ Some flying
   pub tree : NamedTree
   pub there : s.trees flying.tree.name ≡ Some tree
@@ -64,57 +64,57 @@ pub record DecidesBy (s : State) (slot : ℕ) (old new : Store) : Type 0 where
 
 -- What a whole call does to the store: a flush makes all durable, and where it is refused nothing but a fault is counted. Any other does
 -- changing actions, one after the other, and after the last of them nothing; where it is refused then at most a fault is counted
-abbrev pub whole_acts : Kind → Outcome → Store → Store → Type 0
-whole_acts Flushing (Decided reply) old new = new ≡ flushed old
-whole_acts Flushing (Refused e) old new = only_faults e old new
-whole_acts kind (Decided reply) old new = acts_till None old new
-whole_acts kind (Refused e) old new = acts_till (Some e) old new
-whole_acts kind o old new = ⊥
+abbrev pub effect_of_whole : Kind → Outcome → Store → Store → Type 0
+effect_of_whole Flushing (Decided reply) old new = new ≡ after_flush old
+effect_of_whole Flushing (Refused e) old new = only_faults e old new
+effect_of_whole kind (Decided reply) old new = effects_until None old new
+effect_of_whole kind (Refused e) old new = effects_until (Some e) old new
+effect_of_whole kind o old new = ⊥
 
 -- What a step does to the store: a call that begins or is given up, or that no slot has, does nothing. A step of a slot does at most
 -- one changing action: none where the call is refused or decided without an event, and one where it is decided with one. A fault that
 -- the store counts refuses the call with `Io`
-abbrev pub acts_as : State → Step → Outcome → Store → Store → Type 0
-acts_as s (step.Begin tree call) o old new = new ≡ old
-acts_as s (step.Step slot) (Decided reply) old new = DecidesBy s slot old new
-acts_as s (step.Step slot) (Refused e) old new = RefusesQuietly e old new
-acts_as s (step.Step slot) NoSuchSlot old new = new ≡ old
-acts_as s (step.Step slot) o old new = ActsAtMostOnce old new
-acts_as s (step.Abandon slot) o old new = new ≡ old
-acts_as s (step.Whole whole) o old new = whole_acts (kind_of whole) o old new
+abbrev pub effect_of_machine_step : State → Step → Outcome → Store → Store → Type 0
+effect_of_machine_step s (step.Begin tree call) o old new = new ≡ old
+effect_of_machine_step s (step.Step slot) (Decided reply) old new = DecidesBy s slot old new
+effect_of_machine_step s (step.Step slot) (Refused e) old new = IsStepRefused e old new
+effect_of_machine_step s (step.Step slot) NoSuchSlot old new = new ≡ old
+effect_of_machine_step s (step.Step slot) o old new = ActsAtMostOnce old new
+effect_of_machine_step s (step.Abandon slot) o old new = new ≡ old
+effect_of_machine_step s (step.Whole whole) o old new = effect_of_whole (kind_of whole) o old new
 
 pub record MachineActs {P M : Type 0} (store : P → Store) (meant : M → Merge) (old : MachineValue P M) (s : Step) (o : Outcome) (new : MachineValue P M) : Type 0 where
-  pub told : acts_as (instant_of store (λ p. 0) meant old).state s o (store old.db.pages) (store new.db.pages)
+  pub is : effect_of_machine_step (configuration_of store (λ p. 0) meant old).state s o (store old.db.pages) (store new.db.pages)
 
 -- the call did what its stage is to do, and stands where that leads
-pub record FollowsAt {P M : Type 0} (store : P → Store) (old : MachineValue P M) (f : Flight) (slot : ℕ) (o : Outcome) (new : MachineValue P M) : Type 0 where
+pub record FollowsAt {P M : Type 0} (store : P → Store) (old : MachineValue P M) (f : InFlight) (slot : ℕ) (o : Outcome) (new : MachineValue P M) : Type 0 where
   pub went : Went
-  pub next : Flight
+  pub next : InFlight
   pub outcome : o ≡ outcome_of went
   pub there : kept_at new.flights slot ≡ flight_after went next
   pub follows : FollowsOn (store old.db.pages) f went (store new.db.pages) next
 
 -- a step of a slot follows from the stage of its call, where the tests pass and a turn is left
-abbrev pub follows_as : {P M : Type 0} → (P → Store) → (M → Merge) → MachineValue P M → Step → Outcome → MachineValue P M → Type 0
-follows_as store meant old (step.Step slot) o new = (f : Flight) → kept_at old.flights slot ≡ Some f → must_refuse_of (db_state store meant old.db) (f.job.tree ∷ []) ≡ None → f.turns < turns_limit → FollowsAt store old f slot o new
-follows_as store meant old s o new = Unit {0}
+abbrev pub follows_stage_as : {P M : Type 0} → (P → Store) → (M → Merge) → MachineValue P M → Step → Outcome → MachineValue P M → Type 0
+follows_stage_as store meant old (step.Step slot) o new = (f : InFlight) → kept_at old.flights slot ≡ Some f → must_refuse_of (db_state store meant old.db) (f.job.tree ∷ []) ≡ None → f.turns < turns_limit → FollowsAt store old f slot o new
+follows_stage_as store meant old s o new = Unit {0}
 
 pub record MachineFollows {P M : Type 0} (store : P → Store) (meant : M → Merge) (old : MachineValue P M) (s : Step) (o : Outcome) (new : MachineValue P M) : Type 0 where
-  pub told : follows_as store meant old s o new
+  pub is : follows_stage_as store meant old s o new
 
 -- the call in the slot has this path of pages ahead of it, and nothing to repair on it
-pub record IsAhead {P M : Type 0} (store : P → Store) (m : MachineValue P M) (slot : ℕ) (path : List ℕ) : Type 0 where
-  pub flight : Flight
+pub record IsPathAhead {P M : Type 0} (store : P → Store) (m : MachineValue P M) (slot : ℕ) (path : List ℕ) : Type 0 where
+  pub flight : InFlight
   pub here : kept_at m.flights slot ≡ Some flight
   pub clean : IsOnPath (now (store m.db.pages)) (course_of flight) flight.stage path
 
 -- a step of a slot that goes on along a clean path has a page less ahead of it
-abbrev pub passes_as : {P M : Type 0} → (P → Store) → MachineValue P M → Step → Outcome → MachineValue P M → Type 0
-passes_as store old (step.Step slot) Moved new = (path : List ℕ) → IsAhead store old slot path → (rest : List ℕ) × (length path ≡ suc (length rest)) × IsAhead store new slot rest
-passes_as store old s o new = Unit {0}
+abbrev pub advances_on_path_as : {P M : Type 0} → (P → Store) → MachineValue P M → Step → Outcome → MachineValue P M → Type 0
+advances_on_path_as store old (step.Step slot) Moved new = (path : List ℕ) → IsPathAhead store old slot path → (rest : List ℕ) × (length path ≡ suc (length rest)) × IsPathAhead store new slot rest
+advances_on_path_as store old s o new = Unit {0}
 
 pub record MachinePasses {P M : Type 0} (store : P → Store) (old : MachineValue P M) (s : Step) (o : Outcome) (new : MachineValue P M) : Type 0 where
-  pub told : passes_as store old s o new
+  pub is : advances_on_path_as store old s o new
 
 -- the slot that a step is about; a whole call is about none, and nor is a call that does not begin
 abbrev pub slot_of : Step → Outcome → Option ℕ
@@ -136,32 +136,32 @@ pub record MachineSlots {P M : Type 0} (old : MachineValue P M) (s : Step) (o : 
 
 -- each page of a tree stands there still, or is merging. A whole call but a flush does many actions, and a page that merged may have
 -- been freed by then
-abbrev pub whole_loses : Kind → Moment → Moment → Type 0
-whole_loses Flushing old new = LosesNone None old new
-whole_loses kind old new = LosesNoPage old new
+abbrev pub whole_keeps_tree_pages : Kind → Snapshot → Snapshot → Type 0
+whole_keeps_tree_pages Flushing old new = KeepsTreePages None old new
+whole_keeps_tree_pages kind old new = KeepsOrFreesTreePages old new
 
-abbrev pub loses_as : Step → Moment → Moment → Type 0
-loses_as (step.Whole whole) old new = whole_loses (kind_of whole) old new
-loses_as s old new = LosesNone None old new
+abbrev pub keeps_tree_pages_as : Step → Snapshot → Snapshot → Type 0
+keeps_tree_pages_as (step.Whole whole) old new = whole_keeps_tree_pages (kind_of whole) old new
+keeps_tree_pages_as s old new = KeepsTreePages None old new
 
 -- no page of a tree is lost
-pub record MachineLoses {P M : Type 0} (store : P → Store) (old : MachineValue P M) (s : Step) (new : MachineValue P M) : Type 0 where
-  pub none : loses_as s (moment_of_db store old.db) (moment_of_db store new.db)
+pub record MachineKeepsTreePages {P M : Type 0} (store : P → Store) (old : MachineValue P M) (s : Step) (new : MachineValue P M) : Type 0 where
+  pub none : keeps_tree_pages_as s (snapshot_of_db store old.db) (snapshot_of_db store new.db)
 
 -- the pages that are the own of the call in a slot, if there is one
-abbrev pub owned_by : Option Flight → List ℕ
+abbrev pub owned_by : Option InFlight → List ℕ
 owned_by None = []
 owned_by (Some f) = owned f.stage
 
 -- a step of a slot leaves no page behind, unless the call is refused
-abbrev pub leaves_at : {P M : Type 0} → (P → Store) → MachineValue P M → Step → Outcome → MachineValue P M → Type 0
-leaves_at store old (step.Step slot) (Refused e) new = Unit {0}
-leaves_at store old (step.Step slot) o new = (v : Forest) → IsMoment (moment_of_db store new.db) v
-    → LeavesNone (owned_by (kept_at old.flights slot)) (owned_by (kept_at new.flights slot)) (now (store old.db.pages)) (now (store new.db.pages)) v
-leaves_at store old s o new = Unit {0}
+abbrev pub leaks_no_page_at : {P M : Type 0} → (P → Store) → MachineValue P M → Step → Outcome → MachineValue P M → Type 0
+leaks_no_page_at store old (step.Step slot) (Refused e) new = Unit {0}
+leaks_no_page_at store old (step.Step slot) o new = (v : Forest) → HasForest (snapshot_of_db store new.db) v
+    → LeaksNoPage (owned_by (kept_at old.flights slot)) (owned_by (kept_at new.flights slot)) (now (store old.db.pages)) (now (store new.db.pages)) v
+leaks_no_page_at store old s o new = Unit {0}
 
-pub record MachineLeaves {P M : Type 0} (store : P → Store) (old : MachineValue P M) (s : Step) (o : Outcome) (new : MachineValue P M) : Type 0 where
-  pub told : leaves_at store old s o new
+pub record MachineLeaksNoPage {P M : Type 0} (store : P → Store) (old : MachineValue P M) (s : Step) (o : Outcome) (new : MachineValue P M) : Type 0 where
+  pub is : leaks_no_page_at store old s o new
 
 -- when a whole call may be told that its turns were used up: a pop only where the tree is large or its way to the key is long
 abbrev pub whole_gives_up : {P M : Type 0} → (P → Store) → (M → Merge) → DbValue P M → Whole → Error → Type 0
@@ -174,7 +174,7 @@ gives_up_as store meant old (step.Whole whole) (Refused e) = whole_gives_up stor
 gives_up_as store meant old s o = Unit {0}
 
 pub record MachineGivesUp {P M : Type 0} (store : P → Store) (meant : M → Merge) (old : MachineValue P M) (s : Step) (o : Outcome) : Type 0 where
-  pub told : gives_up_as store meant old.db s o
+  pub is : gives_up_as store meant old.db s o
 
 -- a whole call but the flush that a test refuses does nothing
 abbrev pub whole_tested : Kind → Type 0 → Type 0
@@ -186,17 +186,17 @@ tested_as store meant old (step.Whole whole) (Refused e) new = whole_tested (kin
 tested_as store meant old s o new = Unit {0}
 
 pub record MachineTested {P M : Type 0} (store : P → Store) (meant : M → Merge) (old : MachineValue P M) (s : Step) (o : Outcome) (new : MachineValue P M) : Type 0 where
-  pub told : tested_as store meant old s o new
+  pub is : tested_as store meant old s o new
 
 -- All that is said of one step
-pub record Reaches {P M : Type 0} (store : P → Store) (flush_number : P → ℕ) (meant : M → Merge) (old : MachineValue P M) (s : Step) (o : Outcome) (new : MachineValue P M) : Type 0 where
+pub record MachineStepContract {P M : Type 0} (store : P → Store) (flush_number : P → ℕ) (meant : M → Merge) (old : MachineValue P M) (s : Step) (o : Outcome) (new : MachineValue P M) : Type 0 where
   pub step : MachineStep store flush_number meant old s o new
   pub sound : MachineSound store old new
   pub does : MachineActs store meant old s o new
   pub follows : MachineFollows store meant old s o new
   pub passes : MachinePasses store old s o new
   pub slots : MachineSlots old s o new
-  pub loses : MachineLoses store old s new
-  pub leaves : MachineLeaves store old s o new
+  pub loses : MachineKeepsTreePages store old s new
+  pub leaves : MachineLeaksNoPage store old s o new
   pub gives_up : MachineGivesUp store meant old s o
   pub tested : MachineTested store meant old s o new

@@ -1,19 +1,19 @@
 //! Steps of a call in the table.
 ghost use Rattle.std.specs.Prelude.{◌≡◌, slice_get, Some};
 ghost use Rattle.std.specs.Option.{option_map};
-ghost use Rattle.sled.specs.Values.{moment_of_db};
+ghost use Rattle.sled.specs.Values.{snapshot_of_db};
 ghost use Rattle.sled_tree.specs.Known.{IsKnown};
-ghost use Rattle.sled.specs.Flights.{Flies, FliesToEnd, outcome_of};
-ghost use Rattle.sled_tree.specs.declared.flight.Flight.{Flight};
+ghost use Rattle.sled.specs.Flights.{DbStepContract, DbRunsToEnd, outcome_of};
+ghost use Rattle.sled_tree.specs.declared.flight.InFlight.{InFlight};
 ghost use Rattle.sled_machine.specs.Slots.{Rise};
 ghost use Rattle.sled_machine.specs.Table.{HoldsAt};
-ghost use Rattle.sled_machine.specs.Fly.{FliesAt, StepsAt};
+ghost use Rattle.sled_machine.specs.StepsInSlot.{StepsInCell, StepsInSlot};
 
 use crate::table::Table;
 use sled::Db;
 use sled_model::{MergeOperator, Outcome};
 use sled_pages::Pages;
-use sled_tree::{Flight, Went};
+use sled_tree::{InFlight, Went};
 
 // How a step came out, as a machine tells it.
 pub(crate) fn outcome_of(went: Went) -> Outcome
@@ -27,7 +27,7 @@ pub(crate) fn outcome_of(went: Went) -> Outcome
 }
 
 // How often the call in a cell went on so far, if there is one.
-pub(crate) fn turns_of(cell: &Option<Flight>) -> Option<u64>
+pub(crate) fn turns_of(cell: &Option<InFlight>) -> Option<u64>
     ensures { result ≡ option_map (λ flight. flight.turns) cell.now }
 {
     match cell {
@@ -37,18 +37,18 @@ pub(crate) fn turns_of(cell: &Option<Flight>) -> Option<u64>
 }
 
 // One step of the call in a cell, on the database.
-fn fly_at<P: Pages, M: MergeOperator>(
+fn advance_at<P: Pages, M: MergeOperator>(
     db: &mut Db<P, M>,
-    table: &mut Table<Flight>,
+    table: &mut Table<InFlight>,
     slot: u64,
     i: usize,
 ) -> Went
     requires holds { HoldsAt table.old.cells.items slot i }
-    requires known { (f : Flight) → slice_get table.old.cells.items i ≡ Some (slot, Some f) → IsKnown (moment_of_db P.store db.old) f }
-    ensures { FliesAt (Flies P.store M.meant) db.old table.old.cells.items slot i result db.new table.new.cells.items }
+    requires known { (f : InFlight) → slice_get table.old.cells.items i ≡ Some (slot, Some f) → IsKnown (snapshot_of_db P.store db.old) f }
+    ensures { StepsInCell (DbStepContract P.store M.meant) db.old table.old.cells.items slot i result db.new table.new.cells.items }
 {
     match &mut table.cells[i].1 {
-        Some(flight) => db.fly(flight),
+        Some(flight) => db.advance(flight),
         None => unreachable!(),
     }
 }
@@ -56,16 +56,16 @@ fn fly_at<P: Pages, M: MergeOperator>(
 // The same, and a call that has ended is let go.
 pub(crate) fn step_at<P: Pages, M: MergeOperator>(
     db: &mut Db<P, M>,
-    table: &mut Table<Flight>,
+    table: &mut Table<InFlight>,
     slot: u64,
     i: usize,
 ) -> Outcome
     requires rise { Rise table.old.cells.items }
     requires holds { HoldsAt table.old.cells.items slot i }
-    requires known { (f : Flight) → slice_get table.old.cells.items i ≡ Some (slot, Some f) → IsKnown (moment_of_db P.store db.old) f }
-    ensures { StepsAt (Flies P.store M.meant) db.old table.old.cells.items slot result db.new table.new.cells.items }
+    requires known { (f : InFlight) → slice_get table.old.cells.items i ≡ Some (slot, Some f) → IsKnown (snapshot_of_db P.store db.old) f }
+    ensures { StepsInSlot (DbStepContract P.store M.meant) db.old table.old.cells.items slot result db.new table.new.cells.items }
 {
-    match fly_at(db, table, slot, i) {
+    match advance_at(db, table, slot, i) {
         Went::Moved => Outcome::Moved,
         went => {
             table.remove(i);
@@ -75,18 +75,18 @@ pub(crate) fn step_at<P: Pages, M: MergeOperator>(
 }
 
 // Steps of the call in a cell to its end, on the database.
-fn fly_to_end_at<P: Pages, M: MergeOperator>(
+fn advance_to_end_at<P: Pages, M: MergeOperator>(
     db: &mut Db<P, M>,
-    table: &mut Table<Flight>,
+    table: &mut Table<InFlight>,
     slot: u64,
     i: usize,
 ) -> Went
     requires holds { HoldsAt table.old.cells.items slot i }
-    requires known { (f : Flight) → slice_get table.old.cells.items i ≡ Some (slot, Some f) → IsKnown (moment_of_db P.store db.old) f }
-    ensures { FliesAt (FliesToEnd P.store M.meant) db.old table.old.cells.items slot i result db.new table.new.cells.items }
+    requires known { (f : InFlight) → slice_get table.old.cells.items i ≡ Some (slot, Some f) → IsKnown (snapshot_of_db P.store db.old) f }
+    ensures { StepsInCell (DbRunsToEnd P.store M.meant) db.old table.old.cells.items slot i result db.new table.new.cells.items }
 {
     match &mut table.cells[i].1 {
-        Some(flight) => db.fly_to_end(flight),
+        Some(flight) => db.advance_to_end(flight),
         None => unreachable!(),
     }
 }
@@ -94,16 +94,16 @@ fn fly_to_end_at<P: Pages, M: MergeOperator>(
 // The same, and the call is let go.
 pub(crate) fn finish_at<P: Pages, M: MergeOperator>(
     db: &mut Db<P, M>,
-    table: &mut Table<Flight>,
+    table: &mut Table<InFlight>,
     slot: u64,
     i: usize,
 ) -> Outcome
     requires rise { Rise table.old.cells.items }
     requires holds { HoldsAt table.old.cells.items slot i }
-    requires known { (f : Flight) → slice_get table.old.cells.items i ≡ Some (slot, Some f) → IsKnown (moment_of_db P.store db.old) f }
-    ensures { StepsAt (FliesToEnd P.store M.meant) db.old table.old.cells.items slot result db.new table.new.cells.items }
+    requires known { (f : InFlight) → slice_get table.old.cells.items i ≡ Some (slot, Some f) → IsKnown (snapshot_of_db P.store db.old) f }
+    ensures { StepsInSlot (DbRunsToEnd P.store M.meant) db.old table.old.cells.items slot result db.new table.new.cells.items }
 {
-    let went = fly_to_end_at(db, table, slot, i);
+    let went = advance_to_end_at(db, table, slot, i);
     table.remove(i);
     outcome_of(went)
 }

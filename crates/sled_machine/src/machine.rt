@@ -14,7 +14,7 @@ use sled::Db;
 use sled_model::{Call, MergeOperator, Outcome, Reply, Slot, Step, Tree, Whole};
 use sled_pages::texts::NUMBERS_USED_UP;
 use sled_pages::{Error, Pages, Result};
-use sled_tree::Flight;
+use sled_tree::InFlight;
 use std::marker::Model;
 
 /// A database and the calls in flight on it.
@@ -22,7 +22,7 @@ use std::marker::Model;
 pub struct Machine<P: Pages, M = Box<dyn MergeOperator + Send>> {
     db: Db<P, M>,
     // the calls in flight, by slot
-    table: Table<Flight>,
+    table: Table<InFlight>,
     slots_given: u64,
 }
 
@@ -31,22 +31,22 @@ impl<P: Pages, M> Model for Machine<P, M> {
 
     ghost Value = { MachineValue P M };
 
-    ghost use Rattle.sled.specs.Values.{moment_of_db};
+    ghost use Rattle.sled.specs.Values.{snapshot_of_db};
     ghost use Rattle.sled_machine.specs.Table.{kept, IsTable};
     ghost use Rattle.sled_machine.specs.Sound.{IsMachine};
 
     ghost view = { λ m. record { db = m.db; flights = kept m.table.cells.items; slots_given = m.slots_given } };
 
-    ghost invariant = { λ m. IsMachine (moment_of_db P.store m.db) (kept m.table.cells.items) m.slots_given × IsTable m.table.cells.items m.slots_given };
+    ghost invariant = { λ m. IsMachine (snapshot_of_db P.store m.db) (kept m.table.cells.items) m.slots_given × IsTable m.table.cells.items m.slots_given };
 }
 
 impl<P: Pages, M: MergeOperator> Machine<P, M> {
     ghost use Rattle.sled.specs.Sound.{IsDb};
     ghost use Rattle.sled_machine.specs.Values.{slots_of};
     ghost use Rattle.sled.specs.Values.{db_state};
-    ghost use Rattle.sled_machine.specs.Step.{MachineStep, MachineSound, MachineActs, MachineFollows, MachinePasses, MachineSlots, MachineLoses, MachineLeaves, Reaches};
-    ghost use Rattle.sled_machine.specs.Run.{Performs, ReachesAll};
-    ghost use Rattle.sled_machine.specs.Finish.{Finishes, Completes};
+    ghost use Rattle.sled_machine.specs.Step.{MachineStep, MachineSound, MachineActs, MachineFollows, MachinePasses, MachineSlots, MachineKeepsTreePages, MachineLeaksNoPage, MachineStepContract};
+    ghost use Rattle.sled_machine.specs.Run.{MachineRun, MachineSteps};
+    ghost use Rattle.sled_machine.specs.Finish.{RunsToEnd, Completes};
 
     /// A machine over a database, with no call in flight.
     pub fn new(db: Db<P, M>) -> Machine<P, M>
@@ -89,7 +89,7 @@ impl<P: Pages, M: MergeOperator> Machine<P, M> {
         ensures ok { IfOk result (λ copy. copy ≡ tree.now) }
         ensures tested { OnOk result (must_refuse_of (db_state P.store M.meant self.now.db) (tree.now ∷ []) ≡ None) }
         ensures room { OnOk result (self.now.slots_given < u64.MAX) }
-        ensures err { IfErr result (λ e. (call : Call) → Reaches P.store P.flush_number M.meant self.now (step.Begin tree.now call) (outcome.Refused e) self.now) }
+        ensures err { IfErr result (λ e. (call : Call) → MachineStepContract P.store P.flush_number M.meant self.now (step.Begin tree.now call) (outcome.Refused e) self.now) }
     {
         if let Err(e) = self.db.check(tree) {
             return Err(e);
@@ -102,8 +102,8 @@ impl<P: Pages, M: MergeOperator> Machine<P, M> {
 
     /// Begins a call on a tree. It does no page action.
     pub fn begin(&mut self, tree: &Tree, call: Call) -> Result<Slot>
-        ensures ok { IfOk result (λ slot. Reaches P.store P.flush_number M.meant self.old (step.Begin tree.now call) (outcome.Begun slot) self.new) }
-        ensures err { IfErr result (λ e. Reaches P.store P.flush_number M.meant self.old (step.Begin tree.now call) (outcome.Refused e) self.new) }
+        ensures ok { IfOk result (λ slot. MachineStepContract P.store P.flush_number M.meant self.old (step.Begin tree.now call) (outcome.Begun slot) self.new) }
+        ensures err { IfErr result (λ e. MachineStepContract P.store P.flush_number M.meant self.old (step.Begin tree.now call) (outcome.Refused e) self.new) }
     {
         let tree = match self.admit(tree) {
             Ok(tree) => tree,
@@ -113,7 +113,7 @@ impl<P: Pages, M: MergeOperator> Machine<P, M> {
             }
         };
         let slot = self.slots_given + 1;
-        if let Err(e) = self.table.push(slot, Flight::new(tree, call)) {
+        if let Err(e) = self.table.push(slot, InFlight::new(tree, call)) {
             return Err(e);
         }
         self.slots_given = slot;
@@ -128,8 +128,8 @@ impl<P: Pages, M: MergeOperator> Machine<P, M> {
         ensures follows { MachineFollows P.store M.meant self.old (step.Step slot) result self.new }
         ensures passes { MachinePasses P.store self.old (step.Step slot) result self.new }
         ensures slots { MachineSlots self.old (step.Step slot) result self.new }
-        ensures loses { MachineLoses P.store self.old (step.Step slot) self.new }
-        ensures leaves { MachineLeaves P.store self.old (step.Step slot) result self.new }
+        ensures loses { MachineKeepsTreePages P.store self.old (step.Step slot) self.new }
+        ensures leaves { MachineLeaksNoPage P.store self.old (step.Step slot) result self.new }
     {
         let Some(i) = self.table.find(slot.0) else {
             return Outcome::NoSuchSlot;
@@ -139,7 +139,7 @@ impl<P: Pages, M: MergeOperator> Machine<P, M> {
 
     /// Gives the call in the slot up. What it did to the pages stays, and no map changes.
     pub fn abandon(&mut self, slot: Slot) -> Outcome
-        ensures { Reaches P.store P.flush_number M.meant self.old (step.Abandon slot) result self.new }
+        ensures { MachineStepContract P.store P.flush_number M.meant self.old (step.Abandon slot) result self.new }
     {
         let Some(i) = self.table.find(slot.0) else {
             return Outcome::NoSuchSlot;
@@ -160,7 +160,7 @@ impl<P: Pages, M: MergeOperator> Machine<P, M> {
 
     /// Does a whole call, in one step.
     pub fn whole(&mut self, whole: Whole) -> Outcome
-        ensures { Reaches P.store P.flush_number M.meant self.old (step.Whole whole) result self.new }
+        ensures { MachineStepContract P.store P.flush_number M.meant self.old (step.Whole whole) result self.new }
     {
         let outcome = self.whole_of(&whole);
         drop(whole);
@@ -168,7 +168,7 @@ impl<P: Pages, M: MergeOperator> Machine<P, M> {
     }
 
     fn whole_of(&mut self, whole: &Whole) -> Outcome
-        ensures { Reaches P.store P.flush_number M.meant self.old (step.Whole whole.now) result self.new }
+        ensures { MachineStepContract P.store P.flush_number M.meant self.old (step.Whole whole.now) result self.new }
     {
         match whole {
             Whole::Flush => self.flush(),
@@ -179,7 +179,7 @@ impl<P: Pages, M: MergeOperator> Machine<P, M> {
     }
 
     fn flush(&mut self) -> Outcome
-        ensures { Reaches P.store P.flush_number M.meant self.old (step.Whole Flush) result self.new }
+        ensures { MachineStepContract P.store P.flush_number M.meant self.old (step.Whole Flush) result self.new }
     {
         let count = match self.db.flush() {
             Ok(count) => count,
@@ -189,7 +189,7 @@ impl<P: Pages, M: MergeOperator> Machine<P, M> {
     }
 
     fn pop_min(&mut self, tree: &Tree) -> Outcome
-        ensures { Reaches P.store P.flush_number M.meant self.old (step.Whole (PopMin tree.now)) result self.new }
+        ensures { MachineStepContract P.store P.flush_number M.meant self.old (step.Whole (PopMin tree.now)) result self.new }
     {
         let found = match self.db.pop_min(tree) {
             Ok(found) => found,
@@ -199,7 +199,7 @@ impl<P: Pages, M: MergeOperator> Machine<P, M> {
     }
 
     fn pop_max(&mut self, tree: &Tree) -> Outcome
-        ensures { Reaches P.store P.flush_number M.meant self.old (step.Whole (PopMax tree.now)) result self.new }
+        ensures { MachineStepContract P.store P.flush_number M.meant self.old (step.Whole (PopMax tree.now)) result self.new }
     {
         let found = match self.db.pop_max(tree) {
             Ok(found) => found,
@@ -209,7 +209,7 @@ impl<P: Pages, M: MergeOperator> Machine<P, M> {
     }
 
     fn clear(&mut self, tree: &Tree) -> Outcome
-        ensures { Reaches P.store P.flush_number M.meant self.old (step.Whole (Clear tree.now)) result self.new }
+        ensures { MachineStepContract P.store P.flush_number M.meant self.old (step.Whole (Clear tree.now)) result self.new }
     {
         if let Err(e) = self.db.clear(tree) {
             return Outcome::Refused(e);
@@ -220,7 +220,7 @@ impl<P: Pages, M: MergeOperator> Machine<P, M> {
     /// Does steps of the call in the slot until it ends. There are no more than its turns allow. Where no other call left
     /// anything to repair on the way to its key, a call that begins goes on at most once for each level of its tree.
     pub fn finish(&mut self, slot: Slot) -> Outcome
-        ensures { Finishes P.store P.flush_number M.meant self.old slot result self.new }
+        ensures { RunsToEnd P.store P.flush_number M.meant self.old slot result self.new }
     {
         let Some(i) = self.table.find(slot.0) else {
             return Outcome::NoSuchSlot;
@@ -241,15 +241,15 @@ impl<P: Pages, M: MergeOperator> Machine<P, M> {
             }
         };
         self.slots_given += 1;
-        let mut flight = Flight::new(tree, call);
-        let went = self.db.fly_on(&mut flight);
+        let mut flight = InFlight::new(tree, call);
+        let went = self.db.advance_on(&mut flight);
         drop(flight);
         outcome_of(went)
     }
 
     // Begins a copy of a call. The tests come before the copy is made.
     fn begin_copy(&mut self, tree: &Tree, call: &Call) -> Outcome
-        ensures { Reaches P.store P.flush_number M.meant self.old (step.Begin tree.now call.now) result self.new }
+        ensures { MachineStepContract P.store P.flush_number M.meant self.old (step.Begin tree.now call.now) result self.new }
     {
         if let Err(e) = self.db.check(tree) {
             return Outcome::Refused(e);
@@ -266,7 +266,7 @@ impl<P: Pages, M: MergeOperator> Machine<P, M> {
 
     // Does one step of any kind.
     fn perform(&mut self, step: &Step) -> Outcome
-        ensures { Reaches P.store P.flush_number M.meant self.old step.now result self.new }
+        ensures { MachineStepContract P.store P.flush_number M.meant self.old step.now result self.new }
     {
         match step {
             Step::Begin(tree, call) => self.begin_copy(tree, call),
@@ -278,8 +278,8 @@ impl<P: Pages, M: MergeOperator> Machine<P, M> {
 
     /// Does a list of steps, one after the other. Refused with `NoMemory` alone, and then nothing was done.
     pub fn run(&mut self, steps: &[Step]) -> Result<Vec<Outcome>>
-        ensures ok { IfOk result (λ outcomes. Performs P.store P.flush_number M.meant self.old steps.now outcomes.items self.new) }
-        ensures each { IfOk result (λ outcomes. ReachesAll P.store P.flush_number M.meant self.old steps.now outcomes.items self.new) }
+        ensures ok { IfOk result (λ outcomes. MachineRun P.store P.flush_number M.meant self.old steps.now outcomes.items self.new) }
+        ensures each { IfOk result (λ outcomes. MachineSteps P.store P.flush_number M.meant self.old steps.now outcomes.items self.new) }
         ensures err { OnErr result (self.new ≡ self.old) }
         ensures cause { IfErr result (λ e. e ≡ NoMemory) }
     {

@@ -28,15 +28,15 @@ abbrev pub same_value : Option Key → Option Key → Bool
 same_value = option_eq bytes_eq
 
 -- a value is written, or none is left
-abbrev pub written : Option Key → Effect
-written None = effect.Remove
-written (Some v) = effect.Set v
+abbrev pub effect_of_write : Option Key → Effect
+effect_of_write None = effect.Remove
+effect_of_write (Some v) = effect.Set v
 
 -- a swap, where `value` stands: it is written even where it is equal, and removes even where none stands
-abbrev pub swapped : Option Key → Option Key → Option Key → Decision
-swapped value old new =
+abbrev pub decision_of_swap : Option Key → Option Key → Option Key → Decision
+decision_of_swap value old new =
     if same_value value old
-    then (record { effect = written new; reply = Swapped (Ok tt) })
+    then (record { effect = effect_of_write new; reply = Swapped (Ok tt) })
     else (record { effect = effect.Nothing; reply = Swapped (Err (record { current = value; proposed = new })) })
 
 -- What becomes of the value that stands at the call's key, if one does, and the reply
@@ -44,7 +44,7 @@ abbrev pub decision_of : Call → Option Key → Decision
 decision_of (Get k) value = record { effect = effect.Nothing; reply = Value value }
 decision_of (Insert k v) value = record { effect = if same_value value (Some v) then effect.Nothing else (effect.Set v); reply = Value value }
 decision_of (Remove k) value = record { effect = if is_some value then effect.Remove else effect.Nothing; reply = Value value }
-decision_of (CompareAndSwap k old new) value = swapped value old new
+decision_of (CompareAndSwap k old new) value = decision_of_swap value old new
 
 -- the map after the effect at the key
 abbrev pub map_after : Effect → Key → Map → Map

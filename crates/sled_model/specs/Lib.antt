@@ -5,5 +5,5 @@ pub mod State
 pub mod Queues
 pub mod Refusal
 pub mod Whole
-pub mod Steps
+pub mod Transition
 pub mod Runs

@@ -1,4 +1,4 @@
--- What becomes of the queues of subscribers, but for the events that they are given (`delivered`).
+-- What becomes of the queues of subscribers, but for the events that they are given (`queues_after`).
 use Rattle.std.specs.Prelude.{ℕ, List, [], drop, Option, Some, None, option_map, slice_get}
 use Rattle.sled_pages.specs.Order.{Key}
 use Rattle.sled_pages.specs.Update.{put_at}

@@ -8,7 +8,7 @@ use Rattle.sled_pages.specs.declared.error.Error.TheVariants.{CollectionNotFound
 use Rattle.sled_pages.specs.declared.texts.TheConstants.{HANDLE_OF_ANOTHER_DATABASE, NO_MERGE_OPERATOR, NUMBERS_USED_UP, WALK_PASSED_TURNS}
 use Rattle.sled_model.specs.Maps.{Map, IsLeast, IsGreatest}
 use Rattle.sled_model.specs.Answer.{answer_of}
-use Rattle.sled_model.specs.State.{State, NamedTree, Flying, Queue, matches}
+use Rattle.sled_model.specs.State.{State, NamedTree, CallInFlight, Queue, matches}
 use Rattle.sled_model.specs.declared.call.Call.{Call}
 use Rattle.sled_model.specs.declared.call.Call.TheVariants.{Get, Insert, Remove, CompareAndSwap}
 use Rattle.sled_model.specs.declared.call.Whole.{Whole}
@@ -19,7 +19,7 @@ use Rattle.sled_model.specs.declared.tree.Tree.{Tree}
 -- what was asked of the database: to begin a call, to go on with the call in a slot, to make a call at once, or a whole call
 pub data Asked : Type 0 where
   ToBegin : (tree : Tree) (call : Call) → Asked
-  ToStep : (flying : Flying) → Asked
+  ToStep : (flying : CallInFlight) → Asked
   ToPoint : (tree : Tree) (call : Call) → Asked
   ToCall : (whole : Whole) → Asked
 
@@ -152,4 +152,4 @@ may_refuse_as (Some must) s a b asked e = tells must e
 may_refuse_as None s a b asked e = cause_of s a b asked e
 
 pub record MayRefuse (s : State) (a b : Store) (asked : Asked) (e : Error) : Type 0 where
-  pub told : may_refuse_as (must_refuse s asked) s a b asked e
+  pub is : may_refuse_as (must_refuse s asked) s a b asked e

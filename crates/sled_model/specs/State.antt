@@ -30,7 +30,7 @@ pub record Range : Type 0 where
   pub back : Bool
 
 -- a call in flight: its tree, the call, its turns, and of a scan the pairs that wait and the range still to read
-pub record Flying : Type 0 where
+pub record CallInFlight : Type 0 where
   pub tree : Tree
   pub call : Call
   pub turns : ℕ
@@ -43,7 +43,7 @@ pub record State : Type 0 where
   pub trees : Key → Option NamedTree
   -- queues by subscriber, calls in flight by slot
   pub queues : ℕ → Option Queue
-  pub slots : ℕ → Option Flying
+  pub slots : ℕ → Option CallInFlight
   -- no group was refused midway
   pub is_open : Bool
   -- the greatest id that was given, and the ids up to the mark are set aside
@@ -59,25 +59,25 @@ abbrev pub maps_of : State → Maps
 maps_of s name = option_map (λ t. t.map) (s.trees name)
 
 -- a call as it begins
-abbrev pub begun : Tree → Call → Flying
-begun tree call = record { tree = tree; call = call; turns = 0; waiting = []; rest = None }
+abbrev pub call_begun : Tree → Call → CallInFlight
+call_begun tree call = record { tree = tree; call = call; turns = 0; waiting = []; rest = None }
 
 -- the event is one that the queue waits for
 abbrev pub matches : ℕ → Event → Queue → Bool
 matches tree e q = nat_eq q.tree tree && starts_with nat_eq (key_of_event e) q.prefix
 
 -- the event goes to the end of each queue that waits for it
-abbrev pub delivered : ℕ → Option Event → (ℕ → Option Queue) → ℕ → Option Queue
-delivered tree None queues n = queues n
-delivered tree (Some e) queues n = option_map (λ q. if matches tree e q then (record q { events = q.events ++ e ∷ [] }) else q) (queues n)
+abbrev pub queues_after : ℕ → Option Event → (ℕ → Option Queue) → ℕ → Option Queue
+queues_after tree None queues n = queues n
+queues_after tree (Some e) queues n = option_map (λ q. if matches tree e q then (record q { events = q.events ++ e ∷ [] }) else q) (queues n)
 
 -- the state after a call was decided on the tree of this name
-abbrev pub decided_on : State → Key → NamedTree → Answer → State
-decided_on s name t a = record s {
+abbrev pub after_decision_on : State → Key → NamedTree → Answer → State
+after_decision_on s name t a = record s {
   trees = put_name s.trees name (Some (record t { map = a.map }));
-  queues = delivered t.number a.event s.queues;
+  queues = queues_after t.number a.event s.queues;
 }
 
 -- .. and the call's slot is gone
-abbrev pub decided : State → ℕ → Key → NamedTree → Answer → State
-decided s slot name t a = record (decided_on s name t a) { slots = put_at s.slots slot None }
+abbrev pub after_decision : State → ℕ → Key → NamedTree → Answer → State
+after_decision s slot name t a = record (after_decision_on s name t a) { slots = put_at s.slots slot None }

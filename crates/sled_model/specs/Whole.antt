@@ -5,7 +5,7 @@ use Rattle.sled_pages.specs.Store.{Store}
 use Rattle.sled_pages.specs.declared.error.Error.{Error}
 use Rattle.sled_model.specs.Maps.{Map, Maps}
 use Rattle.sled_model.specs.Answer.{answer_of}
-use Rattle.sled_model.specs.State.{State, NamedTree, maps_of, decided_on}
+use Rattle.sled_model.specs.State.{State, NamedTree, maps_of, after_decision_on}
 use Rattle.sled_model.specs.Refusal.{ToPoint, ToCall, must_refuse, MayRefuse}
 use Rattle.sled_model.specs.declared.call.Call.{Call}
 use Rattle.sled_model.specs.declared.call.Call.TheVariants.{Remove}
@@ -21,7 +21,7 @@ pub record DecidesPoint (old : State) (tree : Tree) (call : Call) (reply : Reply
   pub named : NamedTree
   pub there : old.trees tree.name ≡ Some named
   pub replies : reply ≡ (answer_of call named.map).reply
-  pub is : new ≡ decided_on old tree.name named (answer_of call named.map)
+  pub is : new ≡ after_decision_on old tree.name named (answer_of call named.map)
 
 -- it is refused, with its cause, and nothing changes
 pub record RefusesPoint (old : State) (a b : Store) (tree : Tree) (call : Call) (e : Error) (new : State) : Type 0 where
@@ -29,9 +29,9 @@ pub record RefusesPoint (old : State) (a b : Store) (tree : Tree) (call : Call) 
   pub is : new ≡ old
 
 -- the state after this pair of the tree was taken out, if there is one
-abbrev pub popped : State → Key → NamedTree → Option (Key × Key) → State
-popped s name t None = s
-popped s name t (Some pair) = decided_on s name t (answer_of (Remove pair.0) t.map)
+abbrev pub after_pop : State → Key → NamedTree → Option (Key × Key) → State
+after_pop s name t None = s
+after_pop s name t (Some pair) = after_decision_on s name t (answer_of (Remove pair.0) t.map)
 
 -- a pop takes out the pair at one end, with its event, and replies with it
 pub record Pops (is_end : Map → Option (Key × Key) → Type 0) (old : State) (whole : Whole) (tree : Tree) (reply : Reply) (new : State) (maps : List Maps) : Type 0 where
@@ -41,15 +41,15 @@ pub record Pops (is_end : Map → Option (Key × Key) → Type 0) (old : State) 
   pub found : Option (Key × Key)
   pub ends : is_end named.map found
   pub replies : reply ≡ Pair found
-  pub is : new ≡ popped old tree.name named found
+  pub is : new ≡ after_pop old tree.name named found
   pub added : maps ≡ maps_of new ∷ []
 
 -- So many keys of a tree were removed, each the least of those that were left, each with its event, and these are the maps after each
 pub data RemovesLeast (tree : Tree) : State → ℕ → State → List Maps → Type 0 where
   RemovesNone : {s : State} → RemovesLeast tree s zero s []
   RemovesOne : {a b : State} {n : ℕ} {maps : List Maps} (named : NamedTree) (pair : Key × Key) (rest : Map) → a.trees tree.name ≡ Some named → named.map ≡ pair ∷ rest
-      → RemovesLeast tree (decided_on a tree.name named (answer_of (Remove pair.0) named.map)) n b maps
-      → RemovesLeast tree a (suc n) b (maps_of (decided_on a tree.name named (answer_of (Remove pair.0) named.map)) ∷ maps)
+      → RemovesLeast tree (after_decision_on a tree.name named (answer_of (Remove pair.0) named.map)) n b maps
+      → RemovesLeast tree a (suc n) b (maps_of (after_decision_on a tree.name named (answer_of (Remove pair.0) named.map)) ∷ maps)
 
 -- a clear removes all keys of a tree, from the least up
 pub record Clears (old : State) (tree : Tree) (new : State) (maps : List Maps) : Type 0 where

@@ -1,7 +1,7 @@
 //! What a call on one key comes to, by the value that stands there.
 ghost use Rattle.std.specs.Prelude.{◌≡◌, IfOk, IfErr};
 ghost use Rattle.sled_pages.specs.declared.error.Error.TheVariants.{NoMemory};
-ghost use Rattle.sled_model.specs.Answer.{decision_of, swapped};
+ghost use Rattle.sled_model.specs.Answer.{decision_of, decision_of_swap};
 
 use crate::reply::clone_value;
 use crate::{Call, CompareAndSwapError, Reply};
@@ -54,7 +54,7 @@ impl Call {
 
 // A value is swapped where it is the one that was expected.
 fn swap(value: Option<IVec>, old: &Option<IVec>, new: &Option<IVec>) -> Result<Decision>
-    ensures ok { IfOk result (λ decision. decision ≡ swapped value old.now new.now) }
+    ensures ok { IfOk result (λ decision. decision ≡ decision_of_swap value old.now new.now) }
     ensures err { IfErr result (λ e. e ≡ NoMemory) }
 {
     if value != *old {

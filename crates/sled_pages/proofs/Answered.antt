@@ -48,7 +48,7 @@ changes change pid version given old mid new page node same has here is acts =
     let same_page : k.0 ≡ page = some_page (sym k.1) in
     let v : page.version ≡ version = ap (λ (p : Page). p.version) (sym same_page) ∙ k.2 in
     subst (λ (s : Store). Changes change pid version s new (Ok given)) same (record {
-      told = (page.node, sym here ∙ ap (λ v. Some (record { version = v; node = page.node })) v, subst (λ (n : Node). ActsAt (PageBecomes pid (Some (record { version = given; node = n }))) given mid new) is acts);
+      is = (page.node, sym here ∙ ap (λ v. Some (record { version = v; node = page.node })) v, subst (λ (n : Node). ActsAt (PageBecomes pid (Some (record { version = given; node = n }))) given mid new) is acts);
     })
   where
     some_page : {p q : Page} → Some p ≡ Some q → p ≡ q

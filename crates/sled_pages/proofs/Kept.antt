@@ -22,7 +22,7 @@ use Rattle.sled_pages.specs.declared.memory.slots.Slot.{Slot}
 use Rattle.sled_pages.specs.declared.memory.undo.Undo.{Undo}
 use Rattle.sled_pages.specs.declared.memory.undo.Undo.TheVariants.{UndoSlot, UndoLink, UndoRoot, UndoGroup}
 use Rattle.sled_pages.specs.State.{State, Action, PageBecomes, RootBecomes, GroupBegins, GroupEnds}
-use Rattle.sled_pages.specs.Store.{Store, now, acted, flushed, Allocates, ActsAt}
+use Rattle.sled_pages.specs.Store.{Store, now, after_action, after_flush, Allocates, ActsAt}
 use Rattle.sled_pages.specs.Table.{Table, page_of, pages_of, roots_of, state_of, undone, undoes, base_of, recent_of, has_place, IsKept, slot_given, undo_given, AreBelow}
 use Rattle.sled_pages.specs.Memory.{meaning, table_of, store_of, empty_store}
 
@@ -51,7 +51,7 @@ one_more log u t t' a e f =
     ∙ (ap (λ r. recent_of (reverse log) r ++ undoes u t' ∷ []) e ∙ ap (λ b. recent_of (reverse log) t ++ b ∷ []) f)
 
 pub meaning_acted : (t t' : Table) (log log' : List Undo) (u : Undo) (a : Action) (n f : ℕ) (un : List ℕ) (mk : ℕ) (rc : Bool) (places places' : ℕ → Bool) (nv : ℕ) →
-    log' ≡ log ++ u ∷ [] → undone u t' ≡ t → undoes u t' ≡ a → places' ≡ places → meaning t' log' (n + 1) f un mk rc places' nv ≡ acted a (meaning t log n f un mk rc places nv)
+    log' ≡ log ++ u ∷ [] → undone u t' ≡ t → undoes u t' ≡ a → places' ≡ places → meaning t' log' (n + 1) f un mk rc places' nv ≡ after_action a (meaning t log n f un mk rc places nv)
 meaning_acted t t' log log' u a n f un mk rc places places' nv l back is h = rw l (made_is _ _ _ _ _ _ _ _ _ _ _ _ h (ap state_of (base_kept log u t t' back)) (one_more log u t t' a back is))
 
 -- a slot put over, and then the old one put back
@@ -75,7 +75,7 @@ page_told slots slots' roots g pid slot old s = rw s (ap (λ o. PageBecomes pid 
 -- a page in the place of another
 pub page_commits : (slots slots' : ℕ → Option Slot) (roots : Key → Option ℕ) (g : Bool) (log log' : List Undo) (pid : ℕ) (slot old : Option Slot) (n f : ℕ) (un : List ℕ) (mk : ℕ) (rc : Bool) (places places' : ℕ → Bool) (nv : ℕ) →
     slots' ≡ put_at slots pid slot → old ≡ slots pid → log' ≡ log ++ UndoSlot pid old ∷ [] → places' ≡ places →
-    meaning (with_slots roots g slots') log' (n + 1) f un mk rc places' nv ≡ acted (PageBecomes pid (option_map page_of slot)) (meaning (with_slots roots g slots) log n f un mk rc places nv)
+    meaning (with_slots roots g slots') log' (n + 1) f un mk rc places' nv ≡ after_action (PageBecomes pid (option_map page_of slot)) (meaning (with_slots roots g slots) log n f un mk rc places nv)
 page_commits slots slots' roots g log log' pid slot old n f un mk rc places places' nv s o l h =
     meaning_acted _ _ log log' (UndoSlot pid old) _ n f un mk rc places places' nv l (page_back slots slots' roots g pid slot old s o) (page_told slots slots' roots g pid slot old s) h
 
@@ -162,15 +162,15 @@ next_version n = one_place (λ v. nat_lt v (n + 1)) (λ v. nat_lt v n) n true (n
     other q h = grind (arith, nat_tests)
 
 -- one more action, and the next version given
-pub acts_at : (a : Action) (old mid new : Store) (n : ℕ) → mid ≡ old → mid.versions ≡ (λ v. nat_lt v n) → new ≡ acted a (record mid { versions = λ v. nat_lt v (n + 1) }) → ActsAt a n old new
+pub acts_at : (a : Action) (old mid new : Store) (n : ℕ) → mid ≡ old → mid.versions ≡ (λ v. nat_lt v n) → new ≡ after_action a (record mid { versions = λ v. nat_lt v (n + 1) }) → ActsAt a n old new
 acts_at a old mid new n same v e = record {
   fresh = ap (λ (s : Store). s.versions n) (sym same) ∙ (ap (λ f. f n) v ∙ next_fresh n);
-  is = e ∙ (ap (λ f. acted a (record mid { versions = f })) (next_version n ∙ ap (λ f. put_at f n true) (sym v)) ∙ ap (λ (s : Store). record (acted a s) { versions = put_at s.versions n true }) same);
+  is = e ∙ (ap (λ f. after_action a (record mid { versions = f })) (next_version n ∙ ap (λ f. put_at f n true) (sym v)) ∙ ap (λ (s : Store). record (after_action a s) { versions = put_at s.versions n true }) same);
 }
 
 -- a group that begins or ends
 pub group_commits : (slots : ℕ → Option Slot) (roots : Key → Option ℕ) (g g' : Bool) (log log' : List Undo) (n f : ℕ) (un : List ℕ) (mk : ℕ) (rc : Bool) (places : ℕ → Bool) (nv : ℕ) → log' ≡ log ++ UndoGroup g ∷ [] →
-    meaning (record { slots = slots; roots = roots; in_group = g' }) log' (n + 1) f un mk rc places nv ≡ acted (if g' then GroupBegins else GroupEnds) (meaning (record { slots = slots; roots = roots; in_group = g }) log n f un mk rc places nv)
+    meaning (record { slots = slots; roots = roots; in_group = g' }) log' (n + 1) f un mk rc places nv ≡ after_action (if g' then GroupBegins else GroupEnds) (meaning (record { slots = slots; roots = roots; in_group = g }) log n f un mk rc places nv)
 group_commits slots roots g g' log log' n f un mk rc places nv l = meaning_acted _ _ log log' (UndoGroup g) _ n f un mk rc places places nv l refl refl refl
 
 pub group_keeps : (slots : ℕ → Option Slot) (roots : Key → Option ℕ) (g g' : Bool) (log log' : List Undo) (places : ℕ → Bool) → log' ≡ log ++ UndoGroup g ∷ [] →
@@ -188,7 +188,7 @@ root_told slots roots roots' g name root old s = rw s (ap (RootBecomes name) (pu
 
 pub root_commits : (slots : ℕ → Option Slot) (roots roots' : Key → Option ℕ) (g : Bool) (log log' : List Undo) (name key undo : Key) (root old : Option ℕ) (n f : ℕ) (un : List ℕ) (mk : ℕ) (rc : Bool) (places : ℕ → Bool) (nv : ℕ) →
     roots' ≡ put_name roots key root → old ≡ roots name → key ≡ name → undo ≡ name → log' ≡ log ++ UndoRoot undo old ∷ [] →
-    meaning (with_roots slots g roots') log' (n + 1) f un mk rc places nv ≡ acted (RootBecomes name root) (meaning (with_roots slots g roots) log n f un mk rc places nv)
+    meaning (with_roots slots g roots') log' (n + 1) f un mk rc places nv ≡ after_action (RootBecomes name root) (meaning (with_roots slots g roots) log n f un mk rc places nv)
 root_commits slots roots roots' g log log' name key undo root old n f un mk rc places nv s o k u l =
     let s' : roots' ≡ put_name roots name root = s ∙ ap (λ x. put_name roots x root) k in
     let l' : log' ≡ log ++ UndoRoot name old ∷ [] = l ∙ ap (λ x. log ++ UndoRoot x old ∷ []) u in
@@ -218,7 +218,7 @@ allocates slots slots' roots g log log' pid node n f un mk rc places places' nv 
       fresh = next_fresh nv;
       is = rw p (
           ap (λ (t : Store). record t { pids = put_at places pid true; versions = λ v. nat_lt v (nv + 1) }) (page_commits slots slots' roots g log log' pid (Some (record { version = nv; node = node })) None n f un mk rc places places nv s (sym (slot_none slots places pid placed fresh)) l refl)
-          ∙ ap (λ h. record (acted (PageBecomes pid (Some (record { version = nv; node = node }))) (meaning (with_slots roots g slots) log n f un mk rc places nv)) { pids = put_at places pid true; versions = h }) (next_version nv));
+          ∙ ap (λ h. record (after_action (PageBecomes pid (Some (record { version = nv; node = node }))) (meaning (with_slots roots g slots) log n f un mk rc places nv)) { pids = put_at places pid true; versions = h }) (next_version nv));
     })
 
 pub allocate_keeps : (slots slots' : ℕ → Option Slot) (roots : Key → Option ℕ) (g : Bool) (log log' : List Undo) (pid : ℕ) (slot : Option Slot) (places places' : ℕ → Bool) →
@@ -237,7 +237,7 @@ allocate_below nv slots slots' log log' pid node s l h =
 
 -- a flush
 pub flushes : (t : Table) (log log' : List Undo) (n f : ℕ) (un : List ℕ) (mk : ℕ) (rc : Bool) (places : ℕ → Bool) (nv : ℕ) → log' ≡ [] →
-    meaning t log' n f un mk rc places nv ≡ flushed (meaning t log n f un mk rc places nv)
+    meaning t log' n f un mk rc places nv ≡ after_flush (meaning t log n f un mk rc places nv)
 flushes t log log' n f un mk rc places nv e =
     ap (λ (x : List Undo). meaning t x n f un mk rc places nv) e ∙ ap (λ (x : State). record (meaning t [] n f un mk rc places nv) { base = x }) (sym (replay (reverse log) t))
 

@@ -5,7 +5,7 @@ use Rattle.std.specs.Option.{option_map}
 use lib.Dec.{eqb}
 use Rattle.sled_pages.specs.Order.{Key}
 use Rattle.sled_pages.specs.Update.{put_at}
-use Rattle.sled_pages.specs.Node.{applied}
+use Rattle.sled_pages.specs.Node.{after_link}
 use Rattle.sled_pages.specs.Returning.{put_back, slot_back, Relinked}
 use Rattle.sled_pages.specs.Facts.{put_here}
 use Rattle.sled_pages.specs.declared.error.Error.{Error}
@@ -17,7 +17,7 @@ use Rattle.sled_pages.specs.declared.memory.slots.Slot.{Slot}
 use Rattle.sled_pages.specs.declared.memory.undo.Undo.{Undo}
 use Rattle.sled_pages.specs.declared.memory.undo.Undo.TheVariants.{UndoLink}
 use Rattle.sled_pages.specs.State.{PageBecomes}
-use Rattle.sled_pages.specs.Store.{Store, acted, version_now, Changes}
+use Rattle.sled_pages.specs.Store.{Store, after_action, version_now, Changes}
 use Rattle.sled_pages.specs.Slots.{slots_of}
 use Rattle.sled_pages.specs.Table.{page_of, undone, undoes, slot_given, undo_given, IsKept, AreBelow}
 use Rattle.sled_pages.specs.Memory.{meaning, store_of}
@@ -39,7 +39,7 @@ abbrev slot_at : ℕ → Node → Option Slot
 slot_at version node = Some (record { version = version; node = node })
 
 pub relinks : (link : Link) (pid version : ℕ) (s t u : ℕ → Option Slot) (o : Option Slot) (slot : Slot) (node : Node) (back : Back) → o ≡ s pid → o ≡ Some slot → t ≡ put_at s pid None → u ≡ put_at t pid (slot_at version node) →
-    node ≡ applied link slot.node → put_back back node ≡ slot.node → Relinked link pid version s u slot.version back
+    node ≡ after_link link slot.node → put_back back node ≡ slot.node → Relinked link pid version s u slot.version back
 relinks link pid version s t u o slot node back was is out inn e b = record {
   node = slot.node;
   was = sym was ∙ is;
@@ -60,17 +60,17 @@ changes_back pid version s t u o slot node back was is out inn e =
 link_back : (slots slots' : ℕ → Option Slot) (roots : Key → Option ℕ) (g : Bool) (link : Link) (pid version before : ℕ) (back : Back) → Relinked link pid version slots slots' before back →
     undone (UndoLink pid before back) (with_slots roots g slots') ≡ with_slots roots g slots
 link_back slots slots' roots g link pid version before back h =
-    let here : slots' pid ≡ slot_at version (applied link h.node) = ap (λ f. f pid) h.is ∙ put_here slots pid _ in
+    let here : slots' pid ≡ slot_at version (after_link link h.node) = ap (λ f. f pid) h.is ∙ put_here slots pid _ in
     let e : slot_back before back (slots' pid) ≡ slots pid = ap (slot_back before back) here ∙ (ap (slot_at before) h.returns ∙ sym h.was) in
     ap (with_slots roots g) (ap (put_at slots' pid) e ∙ (ap (λ f. put_at f pid (slots pid)) h.is ∙ back_put slots pid _))
 
 link_told : (slots slots' : ℕ → Option Slot) (roots : Key → Option ℕ) (g : Bool) (link : Link) (pid version before : ℕ) (back : Back) (h : Relinked link pid version slots slots' before back) →
-    undoes (UndoLink pid before back) (with_slots roots g slots') ≡ PageBecomes pid (Some (record { version = version; node = applied link h.node }))
+    undoes (UndoLink pid before back) (with_slots roots g slots') ≡ PageBecomes pid (Some (record { version = version; node = after_link link h.node }))
 link_told slots slots' roots g link pid version before back h = ap (λ o. PageBecomes pid (option_map page_of o)) (ap (λ f. f pid) h.is ∙ put_here slots pid _)
 
 link_commits : (slots slots' : ℕ → Option Slot) (roots : Key → Option ℕ) (g : Bool) (log log' : List Undo) (link : Link) (pid version before : ℕ) (back : Back) (n f : ℕ) (un : List ℕ) (mk : ℕ) (rc : Bool) (places places' : ℕ → Bool) (nv : ℕ) →
     (h : Relinked link pid version slots slots' before back) → log' ≡ log ++ UndoLink pid before back ∷ [] → places' ≡ places →
-    meaning (with_slots roots g slots') log' (n + 1) f un mk rc places' nv ≡ acted (PageBecomes pid (Some (record { version = version; node = applied link h.node }))) (meaning (with_slots roots g slots) log n f un mk rc places nv)
+    meaning (with_slots roots g slots') log' (n + 1) f un mk rc places' nv ≡ after_action (PageBecomes pid (Some (record { version = version; node = after_link link h.node }))) (meaning (with_slots roots g slots) log n f un mk rc places nv)
 link_commits slots slots' roots g log log' link pid version before back n f un mk rc places places' nv h l p =
     meaning_acted _ _ log log' (UndoLink pid before back) _ n f un mk rc places places' nv l (link_back slots slots' roots g link pid version before back h) (link_told slots slots' roots g link pid version before back h) p
 
@@ -84,16 +84,16 @@ pub link_below : (nv : ℕ) (slots slots' : ℕ → Option Slot) (log log' : Lis
     AreBelow nv slots log → AreBelow (nv + 1) slots' log'
 link_below nv slots slots' log log' link pid before back h l b =
     let k = later nv slots log b in record {
-      here = here_put (nv + 1) slots slots' pid (slot_at nv (applied link h.node)) h.is (next_given nv) k.here;
+      here = here_put (nv + 1) slots slots' pid (slot_at nv (after_link link h.node)) h.is (next_given nv) k.here;
       in_log = rw l (all_push (undo_given (nv + 1)) log (UndoLink pid before back) k.in_log (ap (slot_given (nv + 1)) (sym h.was) ∙ k.here pid));
     }
 
 pub links : (m : MemPages) (slots' : ℕ → Option Slot) (log' : List Undo) (link : Link) (pid version before : ℕ) (back : Back) (places places' : ℕ → Bool) (old : Store) (roots : Key → Option ℕ) (n f : ℕ) (un : List ℕ) (mk : ℕ) (rc : Bool) (nv : ℕ) →
     store_of m ≡ meaning (with_slots roots m.in_group (slots_of m.slots)) m.log.items n f un mk rc places nv →
     store_of m ≡ old → version_now (store_of m) pid ≡ Some version → (h : Relinked link pid nv (slots_of m.slots) slots' before back) → log' ≡ m.log.items ++ UndoLink pid before back ∷ [] → places' ≡ places →
-    Changes (applied link) pid version old (meaning (with_slots roots m.in_group slots') log' (n + 1) f un mk rc places' (nv + 1)) (Ok nv)
+    Changes (after_link link) pid version old (meaning (with_slots roots m.in_group slots') log' (n + 1) f un mk rc places' (nv + 1)) (Ok nv)
 links m slots' log' link pid version before back places places' old roots n f un mk rc nv is same has h l p =
-    changes (applied link) pid version nv old (store_of m) _ (record { version = before; node = h.node }) (applied link h.node) same has (sym (pages_here m pid ∙ ap (option_map page_of) h.was)) refl
+    changes (after_link link) pid version nv old (store_of m) _ (record { version = before; node = h.node }) (after_link link h.node) same has (sym (pages_here m pid ∙ ap (option_map page_of) h.was)) refl
     (acts_at _ (store_of m) (meaning (with_slots roots m.in_group (slots_of m.slots)) m.log.items n f un mk rc places nv) _ nv (sym is) refl
     (link_commits (slots_of m.slots) slots' roots m.in_group m.log.items log' link pid nv before back n f un mk rc places places' (nv + 1) h l p))
 

@@ -10,12 +10,12 @@ left_from s [] = if s.in_group then [] else (s ∷ [])
 left_from s (a ∷ rest) = if s.in_group then left_from (after a s) rest else (s ∷ left_from (after a s) rest)
 
 -- the states that a crash may leave, the one at the last flush first
-abbrev pub states_left : Store → List State
-states_left s = left_from s.base s.recent
+abbrev pub crash_states : Store → List State
+crash_states s = left_from s.base s.recent
 
 -- a crash may leave this state
-pub record MayLeave (s : Store) (left : State) : Type 0 where
-  pub is : In left (states_left s)
+pub record IsCrashState (s : Store) (left : State) : Type 0 where
+  pub is : In left (crash_states s)
 
 -- A crash that keeps at most this many actions leaves the longest allowed beginning of them as the base, and no action since.
 -- Its faults are counted anew, every page can be read, and it is a recovered store

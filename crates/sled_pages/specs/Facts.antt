@@ -10,8 +10,8 @@ use Rattle.sled_pages.specs.Update.{put_at, put_name}
 use Rattle.sled_pages.specs.declared.node.Node.{Node}
 use Rattle.sled_pages.specs.declared.page.Page.{Page}
 use Rattle.sled_pages.specs.State.{State, Action, PageBecomes, RootBecomes, after, after_all}
-use Rattle.sled_pages.specs.Store.{Store, now, acted, ActsAt, Allocates, SwapsRoot, AreGiven}
-use Rattle.sled_pages.specs.Crash.{left_from, states_left, MayLeave, Crashes}
+use Rattle.sled_pages.specs.Store.{Store, now, after_action, ActsAt, Allocates, SwapsRoot, AreGiven}
+use Rattle.sled_pages.specs.Crash.{left_from, crash_states, IsCrashState, Crashes}
 
 -- the state after actions and one more
 pub after_last : (actions : List Action) (a : Action) (s : State) → after_all (actions ++ a ∷ []) s ≡ after a (after_all actions s)
@@ -19,7 +19,7 @@ after_last [] a s = refl
 after_last (b ∷ actions) a s = after_last actions a (after b s)
 
 -- the state now, after one more action
-pub now_acted : (a : Action) (s : Store) → now (acted a s) ≡ after a (now s)
+pub now_acted : (a : Action) (s : Store) → now (after_action a s) ≡ after a (now s)
 now_acted a s = after_last s.recent a s.base
 
 -- the same, after an action that gave a version
@@ -32,7 +32,7 @@ now_allocates node pid version old new h = ap now h.is ∙ now_acted _ old
 
 -- the state now, after a name's root was swapped
 pub now_swaps : (name : Key) (expected proposed : Option ℕ) (done : Unit {0}) (old new : Store) → SwapsRoot name expected proposed old new (Ok done) → now new ≡ after (RootBecomes name proposed) (now old)
-now_swaps name expected proposed done old new h = ap now h.told.1 ∙ now_acted _ old
+now_swaps name expected proposed done old new h = ap now h.is.1 ∙ now_acted _ old
 
 -- a function that was put over at one number, there and elsewhere
 pub put_here : {X : Type 0} (f : ℕ → X) (p : ℕ) (a : X) → put_at f p a p ≡ a
@@ -84,7 +84,7 @@ left_end (a ∷ actions) s e =
     let rest = left_end actions (after a s) e in
     (left_from s [] ++ rest.0, left_step s (left_from (after a s) actions) ∙ (ap (λ r. left_from s [] ++ r) rest.1 ∙ sym (append_assoc (left_from s []) rest.0 (after_all actions (after a s) ∷ []))))
 
-pub now_left : (s : Store) → (now s).in_group ≡ false → (before : List State) × (states_left s ≡ before ++ now s ∷ [])
+pub now_left : (s : Store) → (now s).in_group ≡ false → (before : List State) × (crash_states s ≡ before ++ now s ∷ [])
 now_left s e = left_end s.recent s.base e
 
 -- a crash may leave the state at the last flush
@@ -92,7 +92,7 @@ in_first : (actions : List Action) (s : State) → s.in_group ≡ false → In s
 in_first [] s e = subst (In s) (sym (left_out s e)) (inl refl)
 in_first (a ∷ actions) s e = subst (λ b. In s (cond b (left_from (after a s) actions) (s ∷ left_from (after a s) actions))) (sym e) (inl refl)
 
-pub may_leave_base : (s : Store) → s.base.in_group ≡ false → MayLeave s s.base
+pub may_leave_base : (s : Store) → s.base.in_group ≡ false → IsCrashState s s.base
 may_leave_base s e = record { is = in_first s.recent s.base e }
 
 -- what a crash leaves is a state that it may leave
@@ -106,13 +106,13 @@ left_at (suc k) (a ∷ actions) s e =
       | false ↦ inr (left_at k actions (after a s) e)
     ]
 
-pub may_leave_crashed : (keep : ℕ) (old new : Store) → Crashes keep old new → MayLeave old new.base
-may_leave_crashed keep old new h = record { is = subst (λ (x : State). In x (states_left old)) (sym (ap (λ (t : Store). t.base) h.is)) (left_at h.kept old.recent old.base h.sealed) }
+pub may_leave_crashed : (keep : ℕ) (old new : Store) → Crashes keep old new → IsCrashState old new.base
+may_leave_crashed keep old new h = record { is = subst (λ (x : State). In x (crash_states old)) (sym (ap (λ (t : Store). t.base) h.is)) (left_at h.kept old.recent old.base h.sealed) }
 
 -- a swap of a root begins and ends no group, and leaves the pages
 pub swaps_group : (name : Key) (expected proposed : Option ℕ) (old new : Store) (answer : Result (Unit {0}) (Option ℕ)) → SwapsRoot name expected proposed old new answer → (now new).in_group ≡ (now old).in_group
 swaps_group name expected proposed old new (Ok done) h = ap (λ s. s.in_group) (now_swaps name expected proposed done old new h)
-swaps_group name expected proposed old new (Err present) h = ap (λ s. (now s).in_group) h.told.0
+swaps_group name expected proposed old new (Err present) h = ap (λ s. (now s).in_group) h.is.0
 
 -- a number that was never given has no page
 pub fresh_page : (s : Store) (pid : ℕ) → AreGiven s → s.pids pid ≡ false → (now s).pages pid ≡ None

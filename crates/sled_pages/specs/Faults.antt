@@ -11,7 +11,7 @@ fault_as old new _ = ⊥
 
 -- a fault is counted, and want of memory is not
 pub record IsFault (old new : ℕ) (e : Error) : Type 0 where
-  pub told : fault_as old new e
+  pub is : fault_as old new e
 
 -- the call of this number was named
 abbrev pub is_named : ℕ → List ℕ → Bool

@@ -45,5 +45,5 @@ appended (Leaf es) (Index fs) = Leaf es
 appended (Index es) (Leaf fs) = Index es
 
 -- a node with the entries, the end and the `next` of the one behind it
-abbrev pub received : Node → Node → Node
-received n c = record n { hi = c.hi; next = c.next; content = appended n.content c.content }
+abbrev pub after_receiving : Node → Node → Node
+after_receiving n c = record n { hi = c.hi; next = c.next; content = appended n.content c.content }

@@ -56,20 +56,20 @@ without_key k (Leaf es) = Leaf (without k es)
 without_key k (Index es) = Index es
 
 -- an index's merging child becomes this one
-abbrev pub intended : Data → ℕ → Option ℕ → Option ℕ
-intended (Leaf es) child before = before
-intended (Index es) child before = Some child
+abbrev pub after_intention : Data → ℕ → Option ℕ → Option ℕ
+after_intention (Leaf es) child before = before
+after_intention (Index es) child before = Some child
 
 -- an index loses the pointers to its merging child, and has none any more
-abbrev pub confirmed : Data → Option ℕ → Data × Option ℕ
-confirmed (Index es) (Some child) = (Index (unpointed child es), None)
-confirmed (Index es) None = (Index es, None)
-confirmed (Leaf es) child = (Leaf es, child)
+abbrev pub after_confirm : Data → Option ℕ → Data × Option ℕ
+after_confirm (Index es) (Some child) = (Index (unpointed child es), None)
+after_confirm (Index es) None = (Index es, None)
+after_confirm (Leaf es) child = (Leaf es, child)
 
 -- the node after a link. A link that does not fit the node's kind leaves it as it is
-abbrev pub applied : Link → Node → Node
-applied (Set key value) n = record n { content = with_pair key value n.content }
-applied (Del key) n = record n { content = without_key key n.content }
-applied (ParentMergeIntention child) n = record n { merging_child = intended n.content child n.merging_child }
-applied ParentMergeConfirm n = let c = confirmed n.content n.merging_child in record n { content = c.0; merging_child = c.1 }
-applied ChildMergeCap n = record n { merging = true }
+abbrev pub after_link : Link → Node → Node
+after_link (Set key value) n = record n { content = with_pair key value n.content }
+after_link (Del key) n = record n { content = without_key key n.content }
+after_link (ParentMergeIntention child) n = record n { merging_child = after_intention n.content child n.merging_child }
+after_link ParentMergeConfirm n = let c = after_confirm n.content n.merging_child in record n { content = c.0; merging_child = c.1 }
+after_link ChildMergeCap n = record n { merging = true }

@@ -30,4 +30,4 @@ posts_as at pid old new false = (takes_pointer at old.content ≡ false) × (new
 
 -- a pointer is put in where the key has none; else the node stays
 pub record Posts (at : Key) (pid : ℕ) (old new : Node) (posted : Bool) : Type 0 where
-  pub told : posts_as at pid old new posted
+  pub is : posts_as at pid old new posted

@@ -2,7 +2,7 @@
 use Rattle.std.specs.Prelude.{◌≡◌, ◌<◌, ℕ, nat_le, Bool, List, [], length, filter, Option, Some, None, slice_index_or, slice_set, if◌then◌else◌}
 use Rattle.std.specs.List.{insert, remove}
 use Rattle.sled_pages.specs.Order.{Key}
-use Rattle.sled_pages.specs.Node.{applied}
+use Rattle.sled_pages.specs.Node.{after_link}
 use Rattle.sled_pages.specs.Update.{put_at}
 use Rattle.sled_pages.specs.declared.node.Node.{Node}
 use Rattle.sled_pages.specs.declared.node.Data.{Data}
@@ -63,5 +63,5 @@ slot_back version back (Some s) = Some (record { version = version; node = put_b
 pub record Relinked (link : Link) (pid version : ℕ) (old new : ℕ → Option Slot) (before : ℕ) (back : Back) : Type 0 where
   pub node : Node
   pub was : old pid ≡ Some (record { version = before; node = node })
-  pub is : new ≡ put_at old pid (Some (record { version = version; node = applied link node }))
-  pub returns : put_back back (applied link node) ≡ node
+  pub is : new ≡ put_at old pid (Some (record { version = version; node = after_link link node }))
+  pub returns : put_back back (after_link link node) ≡ node

@@ -32,42 +32,42 @@ abbrev pub now : Store → State
 now s = after_all s.recent s.base
 
 -- the store after one more changing action
-abbrev pub acted : Action → Store → Store
-acted a s = record s { recent = s.recent ++ a ∷ []; actions = s.actions + 1 }
+abbrev pub after_action : Action → Store → Store
+after_action a s = record s { recent = s.recent ++ a ∷ []; actions = s.actions + 1 }
 
 -- the store after a flush
-abbrev pub flushed : Store → Store
-flushed s = record s { base = now s; recent = [] }
+abbrev pub after_flush : Store → Store
+after_flush s = record s { base = now s; recent = [] }
 
 -- one more action, which gave a version that was never given before
 pub record ActsAt (a : Action) (version : ℕ) (old new : Store) : Type 0 where
   pub fresh : old.versions version ≡ false
-  pub is : new ≡ record (acted a old) { versions = put_at old.versions version true }
+  pub is : new ≡ record (after_action a old) { versions = put_at old.versions version true }
 
 -- a new page. Its number is above 0, and neither the number nor the version was ever given before
 pub record Allocates (node : Node) (pid version : ℕ) (old new : Store) : Type 0 where
   pub positive : 0 < pid
   pub fresh_pid : old.pids pid ≡ false
   pub fresh : old.versions version ≡ false
-  pub is : new ≡ record (acted (PageBecomes pid (Some (record { version = version; node = node }))) old) { pids = put_at old.pids pid true; versions = put_at old.versions version true }
+  pub is : new ≡ record (after_action (PageBecomes pid (Some (record { version = version; node = node }))) old) { pids = put_at old.pids pid true; versions = put_at old.versions version true }
 
-abbrev pub refused_as : Error → Store → Store → Type 0
-refused_as NoMemory old new = new ≡ old
-refused_as (Io fault) old new = new ≡ record old { faults = old.faults + 1 }
-refused_as _ old new = ⊥
+abbrev pub is_refused_as : Error → Store → Store → Type 0
+is_refused_as NoMemory old new = new ≡ old
+is_refused_as (Io fault) old new = new ≡ record old { faults = old.faults + 1 }
+is_refused_as _ old new = ⊥
 
 -- a refused call changes nothing, but that a fault is counted
-pub record Refused (e : Error) (old new : Store) : Type 0 where
-  pub told : refused_as e old new
+pub record IsRefused (e : Error) (old new : Store) : Type 0 where
+  pub is : is_refused_as e old new
 
-abbrev pub refused_read_as : ℕ → Store → Error → Type 0
-refused_read_as pid s NoMemory = Unit {0}
-refused_read_as pid s (Io fault) = s.is_readable pid ≡ false
-refused_read_as pid s _ = ⊥
+abbrev pub is_read_refused_as : ℕ → Store → Error → Type 0
+is_read_refused_as pid s NoMemory = Unit {0}
+is_read_refused_as pid s (Io fault) = s.is_readable pid ≡ false
+is_read_refused_as pid s _ = ⊥
 
 -- a read is refused for want of memory, or for a fault where the page is not readable
-pub record RefusedRead (pid : ℕ) (s : Store) (e : Error) : Type 0 where
-  pub told : refused_read_as pid s e
+pub record IsReadRefused (pid : ℕ) (s : Store) (e : Error) : Type 0 where
+  pub is : is_read_refused_as pid s e
 
 -- a page as it is read
 abbrev pub view_of : ℕ → Option Page → Option View
@@ -87,25 +87,25 @@ changes_as change pid version old new (Err present) =
 -- A page's node is changed where the page has the version, and has a new version then.
 -- Else the answer is the version that it has, and nothing changes
 pub record Changes (change : Node → Node) (pid version : ℕ) (old new : Store) (answer : Result ℕ (Option ℕ)) : Type 0 where
-  pub told : changes_as change pid version old new answer
+  pub is : changes_as change pid version old new answer
 
 abbrev pub frees_as : ℕ → ℕ → Store → Store → Result (Unit {0}) (Option ℕ) → Type 0
-frees_as pid version old new (Ok done) = (version_now old pid ≡ Some version) × (new ≡ acted (PageBecomes pid None) old)
+frees_as pid version old new (Ok done) = (version_now old pid ≡ Some version) × (new ≡ after_action (PageBecomes pid None) old)
 frees_as pid version old new (Err present) = (new ≡ old) × (present ≡ version_now old pid) × ((present ≡ Some version) → ⊥)
 
 -- a page is taken out where it has the version
 pub record Frees (pid version : ℕ) (old new : Store) (answer : Result (Unit {0}) (Option ℕ)) : Type 0 where
-  pub told : frees_as pid version old new answer
+  pub is : frees_as pid version old new answer
 
 abbrev pub swaps_as : Key → Option ℕ → Option ℕ → Store → Store → Result (Unit {0}) (Option ℕ) → Type 0
 swaps_as name expected proposed old new (Ok done) =
-    ((now old).roots name ≡ expected) × (new ≡ acted (RootBecomes name proposed) old)
+    ((now old).roots name ≡ expected) × (new ≡ after_action (RootBecomes name proposed) old)
 swaps_as name expected proposed old new (Err present) =
     (new ≡ old) × (present ≡ (now old).roots name) × (present ≡ expected → ⊥)
 
 -- a name's root becomes the proposed one where it is the expected one
 pub record SwapsRoot (name : Key) (expected proposed : Option ℕ) (old new : Store) (answer : Result (Unit {0}) (Option ℕ)) : Type 0 where
-  pub told : swaps_as name expected proposed old new answer
+  pub is : swaps_as name expected proposed old new answer
 
 -- all roots, by ascending names
 pub record IsRoots (s : State) (roots : List (Key × ℕ)) : Type 0 where

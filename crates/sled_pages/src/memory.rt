@@ -10,8 +10,8 @@ ghost use Rattle.std.specs.Option.{option_map};
 ghost use Rattle.sled_pages.specs.Update.{put_at, put_name};
 ghost use Rattle.sled_pages.specs.Table.{page_of, slot_given};
 ghost use Rattle.sled_pages.specs.State.{PageBecomes, RootBecomes, GroupBegins, GroupEnds};
-ghost use Rattle.sled_pages.specs.Store.{Refused, ActsAt, acted, flushed, now, version_now};
-ghost use Rattle.sled_pages.specs.Crash.{Crashes, MayLeave};
+ghost use Rattle.sled_pages.specs.Store.{IsRefused, ActsAt, after_action, after_flush, now, version_now};
+ghost use Rattle.sled_pages.specs.Crash.{Crashes, IsCrashState};
 ghost use Rattle.sled_pages.specs.Image.{IsImage};
 
 mod back;
@@ -144,7 +144,7 @@ impl MemPages {
     /// the store is lost.
     pub fn crash(self, keep: usize) -> Result<MemPages>
         ensures ok { IfOk result (λ left. Crashes keep (store_of self) (store_of left)) }
-        ensures left { IfOk result (λ left. MayLeave (store_of self) (store_of left).base) }
+        ensures left { IfOk result (λ left. IsCrashState (store_of self) (store_of left).base) }
         ensures named { IfOk result (λ left. calls_refused left ≡ []) }
         ensures err { IfErr result (λ e. e ≡ NoMemory) }
     {
@@ -204,7 +204,7 @@ impl MemPages {
     fn count(&mut self) -> Result<()>
         ensures same { OnOk result (store_of self.new ≡ store_of self.old) }
         ensures named { OnOk result (is_named (self.old.calls + 1) (calls_refused self.old) ≡ false) }
-        ensures err { IfErr result (λ e. Refused e (store_of self.old) (store_of self.new)) }
+        ensures err { IfErr result (λ e. IsRefused e (store_of self.old) (store_of self.new)) }
     {
         count_call(&mut self.calls, &mut self.faults, self.refused.as_slice())
     }
@@ -214,7 +214,7 @@ impl MemPages {
         ensures same { OnOk result (store_of self.new ≡ store_of self.old) }
         ensures named { OnOk result (is_named (self.old.calls + 1) (calls_refused self.old) ≡ false) }
         ensures room { OnOk result (HasRoom self.new) }
-        ensures err { IfErr result (λ e. Refused e (store_of self.old) (store_of self.new)) }
+        ensures err { IfErr result (λ e. IsRefused e (store_of self.old) (store_of self.new)) }
     {
         if let Err(e) = count_call(&mut self.calls, &mut self.faults, self.refused.as_slice()) {
             return Err(e);
@@ -233,7 +233,7 @@ impl MemPages {
         ensures same { OnOk result (store_of self.new ≡ store_of self.old) }
         ensures room { OnOk result (HasRoom self.new) }
         ensures versions { OnOk result (self.new.next_version + 1 < 2 ^ 64) }
-        ensures err { IfErr result (λ e. Refused e (store_of self.old) (store_of self.new)) }
+        ensures err { IfErr result (λ e. IsRefused e (store_of self.old) (store_of self.new)) }
     {
         if let Err(e) = self.start() {
             return Err(e);
@@ -282,7 +282,7 @@ impl MemPages {
         requires room { HasRoom self.old }
         requires placed { places_of self.old.slots pid ≡ true }
         requires below { slot_given self.old.next_version slot ≡ true }
-        ensures { store_of self.new ≡ acted (PageBecomes pid (option_map page_of slot)) (store_of self.old) }
+        ensures { store_of self.new ≡ after_action (PageBecomes pid (option_map page_of slot)) (store_of self.old) }
     {
         let old = self.slots.put(pid, slot);
         self.log.push_reserved(Undo::UndoSlot(pid, old));
@@ -305,7 +305,7 @@ impl MemPages {
     // Begins or ends a group.
     fn commit_group(&mut self, begins: bool)
         requires room { HasRoom self.old }
-        ensures { store_of self.new ≡ acted (if begins then GroupBegins else GroupEnds) (store_of self.old) }
+        ensures { store_of self.new ≡ after_action (if begins then GroupBegins else GroupEnds) (store_of self.old) }
     {
         self.log.push_reserved(Undo::UndoGroup(self.in_group));
         self.in_group = begins;
@@ -316,7 +316,7 @@ impl MemPages {
     fn commit_root(&mut self, name: &[u8], old: Option<Pid>, new: Option<Pid>) -> Result<()>
         requires room { HasRoom self.old }
         requires root { (now (store_of self.old)).roots name.now ≡ old }
-        ensures ok { OnOk result (store_of self.new ≡ acted (RootBecomes name.now new) (store_of self.old)) }
+        ensures ok { OnOk result (store_of self.new ≡ after_action (RootBecomes name.now new) (store_of self.old)) }
         ensures err { OnErr result (store_of self.new ≡ store_of self.old) }
         ensures cause { IfErr result (λ e. e ≡ NoMemory) }
     {
@@ -489,9 +489,9 @@ impl Pages for MemPages {
     /// Makes all that was done durable. The number is that of the changing actions since the last flush.
     fn flush(&mut self) -> Result<usize>
         requires { (now (store_of self.old)).in_group ≡ false }
-        ensures ok { OnOk result (store_of self.new ≡ flushed (store_of self.old)) }
+        ensures ok { OnOk result (store_of self.new ≡ after_flush (store_of self.old)) }
         ensures number { IfOk result (λ n. n ≡ length (store_of self.old).recent) }
-        ensures err { IfErr result (λ e. Refused e (store_of self.old) (store_of self.new)) }
+        ensures err { IfErr result (λ e. IsRefused e (store_of self.old) (store_of self.new)) }
     {
         if let Err(e) = self.count() {
             return Err(e);

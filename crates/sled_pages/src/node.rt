@@ -4,8 +4,8 @@ ghost use Rattle.sled_pages.specs.declared.error.Error.TheVariants.{NoMemory};
 ghost use Rattle.std.specs.FinMap.Entries.{put, find};
 ghost use Rattle.std.specs.Option.{option_copied};
 ghost use Rattle.sled_pages.specs.Order.{key_cmp};
-ghost use Rattle.sled_pages.specs.Node.{applied, count, pairs, pointers, value_at as value_in, without, unpointed};
-ghost use Rattle.sled_pages.specs.Halves.{first_half, second_half, first_half_of, second_half_of, first_key, first_key_of, left_half, right_half, appended, received};
+ghost use Rattle.sled_pages.specs.Node.{after_link, count, pairs, pointers, value_at as value_in, without, unpointed};
+ghost use Rattle.sled_pages.specs.Halves.{first_half, second_half, first_half_of, second_half_of, first_key, first_key_of, left_half, right_half, appended, after_receiving};
 ghost use Rattle.sled_pages.specs.Among.{bound_of, IsSuccessor, IsPredecessor, IsPointerFor, IsPointerBefore};
 ghost use Rattle.std.specs.List.{list_all};
 ghost use Rattle.sled_pages.specs.Image.{all_of, all_named};
@@ -589,7 +589,7 @@ impl Node {
     /// Makes the change of a link. One that does not fit the kind of node leaves it as it is.
     /// Refused with `NoMemory` alone, and then unchanged.
     pub fn apply(&mut self, link: Link) -> Result<()>
-        ensures ok { OnOk result (self.new ≡ applied link self.old) }
+        ensures ok { OnOk result (self.new ≡ after_link link self.old) }
         ensures err { OnErr result (self.new ≡ self.old) }
         ensures cause { IfErr result (λ e. e ≡ NoMemory) }
     {
@@ -627,7 +627,7 @@ impl Node {
 
     // The same, and the node before it.
     fn apply_whole(&mut self, alloc: Global, link: Link) -> Result<Back>
-        ensures ok { OnOk result (self.new ≡ applied link self.old) }
+        ensures ok { OnOk result (self.new ≡ after_link link self.old) }
         ensures back { IfOk result (λ back. put_back back self.new ≡ self.old) }
         ensures err { OnErr result (self.new ≡ self.old) }
         ensures cause { IfErr result (λ e. e ≡ NoMemory) }
@@ -659,7 +659,7 @@ impl Node {
 
     // Makes a leaf's pair of a key, and says how that is taken back.
     fn set_back(&mut self, key: IVec, value: IVec) -> Result<Back>
-        ensures ok { OnOk result (self.new ≡ applied (Set key value) self.old) }
+        ensures ok { OnOk result (self.new ≡ after_link (Set key value) self.old) }
         ensures back { IfOk result (λ back. put_back back self.new ≡ self.old) }
         ensures err { OnErr result (self.new ≡ self.old) }
         ensures cause { IfErr result (λ e. e ≡ NoMemory) }
@@ -679,7 +679,7 @@ impl Node {
 
     // Takes a leaf's pair out, and says how that is taken back.
     fn del_back(&mut self, alloc: Global, key: IVec) -> Result<Back>
-        ensures ok { OnOk result (self.new ≡ applied (Del key) self.old) }
+        ensures ok { OnOk result (self.new ≡ after_link (Del key) self.old) }
         ensures back { IfOk result (λ back. put_back back self.new ≡ self.old) }
         ensures err { OnErr result (self.new ≡ self.old) }
         ensures cause { IfErr result (λ e. e ≡ NoMemory) }
@@ -703,7 +703,7 @@ impl Node {
 
     // Takes an index's pointer to its merging child out, and says how that is taken back.
     fn confirm_back(&mut self, alloc: Global) -> Result<Back>
-        ensures ok { OnOk result (self.new ≡ applied ParentMergeConfirm self.old) }
+        ensures ok { OnOk result (self.new ≡ after_link ParentMergeConfirm self.old) }
         ensures back { IfOk result (λ back. put_back back self.new ≡ self.old) }
         ensures err { OnErr result (self.new ≡ self.old) }
         ensures cause { IfErr result (λ e. e ≡ NoMemory) }
@@ -730,7 +730,7 @@ impl Node {
 
     // The same, and how it is taken back.
     pub(crate) fn apply_back(&mut self, alloc: Global, link: Link) -> Result<Back>
-        ensures ok { OnOk result (self.new ≡ applied link self.old) }
+        ensures ok { OnOk result (self.new ≡ after_link link self.old) }
         ensures back { IfOk result (λ back. put_back back self.new ≡ self.old) }
         ensures err { OnErr result (self.new ≡ self.old) }
         ensures cause { IfErr result (λ e. e ≡ NoMemory) }
@@ -832,7 +832,7 @@ impl Node {
     /// The node with the entries, the `hi` and the `next` of the node behind it, which is of the same kind and begins where
     /// this one ends. Of another kind the entries stay. Refused with `NoMemory` alone.
     pub fn receive_merge(&self, alloc: Global, child: &Node) -> Result<Node>
-        ensures ok { IfOk result (λ both. both ≡ received self.now child.now) }
+        ensures ok { IfOk result (λ both. both ≡ after_receiving self.now child.now) }
         ensures err { IfErr result (λ e. e ≡ NoMemory) }
     {
         Ok(Node {

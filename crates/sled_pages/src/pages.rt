@@ -1,9 +1,9 @@
 //! The contract of a store of pages.
 ghost use Rattle.std.specs.Prelude.{◌≡◌, ◌≤◌, ℕ, IfOk, IfErr, OnOk, true, false};
 ghost use Rattle.sled_pages.specs.declared.error.Error.TheVariants.{NoMemory};
-ghost use Rattle.sled_pages.specs.Node.{applied};
+ghost use Rattle.sled_pages.specs.Node.{after_link};
 ghost use Rattle.sled_pages.specs.State.{GroupBegins, GroupEnds};
-ghost use Rattle.sled_pages.specs.Store.{Store, now, acted, flushed, Allocates, Refused, RefusedRead, view_of, Changes, Frees, SwapsRoot, IsRoots, AreGiven};
+ghost use Rattle.sled_pages.specs.Store.{Store, now, after_action, after_flush, Allocates, IsRefused, IsReadRefused, view_of, Changes, Frees, SwapsRoot, IsRoots, AreGiven};
 
 use crate::error::Result;
 use crate::{IVec, Link, Node, Pid, Version, View};
@@ -26,12 +26,12 @@ pub trait Pages: Send + Drop {
     fn read(&self, alloc: Global, pid: Pid) -> Result<Option<View>>
         ensures ok { IfOk result (λ view. view ≡ view_of pid ((now (store self.now)).pages pid)) }
         ensures readable { OnOk result ((store self.now).is_readable pid ≡ true) }
-        ensures err { IfErr result (RefusedRead pid (store self.now)) };
+        ensures err { IfErr result (IsReadRefused pid (store self.now)) };
 
     /// Makes a new page.
     fn allocate(&mut self, node: Node) -> Result<(Pid, Version)>
         ensures ok { IfOk result (λ given. Allocates node given.0 given.1 (store self.old) (store self.new)) }
-        ensures err { IfErr result (λ e. Refused e (store self.old) (store self.new)) };
+        ensures err { IfErr result (λ e. IsRefused e (store self.old) (store self.new)) };
 
     /// Applies a link to a page where it has this version. Else answers the version that it has, `None` for no page.
     fn link(
@@ -40,8 +40,8 @@ pub trait Pages: Send + Drop {
         version: Version,
         link: Link,
     ) -> Result<std::result::Result<Version, Option<Version>>>
-        ensures ok { IfOk result (Changes (applied link) pid version (store self.old) (store self.new)) }
-        ensures err { IfErr result (λ e. Refused e (store self.old) (store self.new)) };
+        ensures ok { IfOk result (Changes (after_link link) pid version (store self.old) (store self.new)) }
+        ensures err { IfErr result (λ e. IsRefused e (store self.old) (store self.new)) };
 
     /// Gives a page another node where it has this version. Else answers the version that it has, `None` for no page.
     fn replace(
@@ -51,7 +51,7 @@ pub trait Pages: Send + Drop {
         node: Node,
     ) -> Result<std::result::Result<Version, Option<Version>>>
         ensures ok { IfOk result (Changes (λ _. node) pid version (store self.old) (store self.new)) }
-        ensures err { IfErr result (λ e. Refused e (store self.old) (store self.new)) };
+        ensures err { IfErr result (λ e. IsRefused e (store self.old) (store self.new)) };
 
     /// Takes a page out where it has this version. Else answers the version that it has, `None` for no page.
     fn free(
@@ -60,7 +60,7 @@ pub trait Pages: Send + Drop {
         version: Version,
     ) -> Result<std::result::Result<(), Option<Version>>>
         ensures ok { IfOk result (Frees pid version (store self.old) (store self.new)) }
-        ensures err { IfErr result (λ e. Refused e (store self.old) (store self.new)) };
+        ensures err { IfErr result (λ e. IsRefused e (store self.old) (store self.new)) };
 
     /// The root of a name, or `None` where the name has none.
     fn root(&self, name: &[u8]) -> Option<Pid>
@@ -79,19 +79,19 @@ pub trait Pages: Send + Drop {
         new: Option<Pid>,
     ) -> Result<std::result::Result<(), Option<Pid>>>
         ensures ok { IfOk result (SwapsRoot name.now old new (store self.old) (store self.new)) }
-        ensures err { IfErr result (λ e. Refused e (store self.old) (store self.new)) };
+        ensures err { IfErr result (λ e. IsRefused e (store self.old) (store self.new)) };
 
     /// Begins a group: a crash leaves all of it or nothing.
     fn begin_group(&mut self) -> Result<()>
         requires { (now (store self.old)).in_group ≡ false }
-        ensures ok { OnOk result (store self.new ≡ acted GroupBegins (store self.old)) }
-        ensures err { IfErr result (λ e. Refused e (store self.old) (store self.new)) };
+        ensures ok { OnOk result (store self.new ≡ after_action GroupBegins (store self.old)) }
+        ensures err { IfErr result (λ e. IsRefused e (store self.old) (store self.new)) };
 
     /// Ends the group that is open.
     fn seal_group(&mut self) -> Result<()>
         requires { (now (store self.old)).in_group ≡ true }
-        ensures ok { OnOk result (store self.new ≡ acted GroupEnds (store self.old)) }
-        ensures err { IfErr result (λ e. Refused e (store self.old) (store self.new)) };
+        ensures ok { OnOk result (store self.new ≡ after_action GroupEnds (store self.old)) }
+        ensures err { IfErr result (λ e. IsRefused e (store self.old) (store self.new)) };
 
     /// Whether a group is open.
     fn in_group(&self) -> bool
@@ -100,15 +100,15 @@ pub trait Pages: Send + Drop {
     /// Makes all that was done durable. The number that it answers is the store's own.
     fn flush(&mut self) -> Result<usize>
         requires { (now (store self.old)).in_group ≡ false }
-        ensures ok { OnOk result (store self.new ≡ flushed (store self.old)) }
+        ensures ok { OnOk result (store self.new ≡ after_flush (store self.old)) }
         ensures number { IfOk result (λ n. n ≡ flush_number self.old) }
-        ensures err { IfErr result (λ e. Refused e (store self.old) (store self.new)) };
+        ensures err { IfErr result (λ e. IsRefused e (store self.old) (store self.new)) };
 
     /// Raises the mark, which is durable at once.
     fn set_aside(&mut self, upto: u64) -> Result<()>
         requires { (store self.old).mark ≤ upto }
         ensures ok { OnOk result (store self.new ≡ record (store self.old) { mark = upto }) }
-        ensures err { IfErr result (λ e. Refused e (store self.old) (store self.new)) };
+        ensures err { IfErr result (λ e. IsRefused e (store self.old) (store self.new)) };
 
     /// The mark: ids up to it are set aside.
     fn mark(&self) -> u64

@@ -1,7 +1,7 @@
 //! A node that several hold, so that a read copies a pointer and not the node. Contracts see the node.
 ghost use Rattle.std.specs.Prelude.{◌≡◌, IfOk, IfErr, OnOk, OnErr};
 ghost use Rattle.sled_pages.specs.declared.error.Error.TheVariants.{NoMemory};
-ghost use Rattle.sled_pages.specs.Node.{applied};
+ghost use Rattle.sled_pages.specs.Node.{after_link};
 ghost use Rattle.sled_pages.specs.Returning.{put_back, put_part};
 
 use crate::change::{Back, Part};
@@ -52,7 +52,7 @@ impl Shared {
 impl Shared {
     // The node after a link, as a node of its own.
     pub(crate) fn changed(&self, alloc: Global, link: Link) -> Result<Shared>
-        ensures ok { IfOk result (λ changed. changed ≡ applied link self.now) }
+        ensures ok { IfOk result (λ changed. changed ≡ after_link link self.now) }
         ensures err { IfErr result (λ e. e ≡ NoMemory) }
     {
         let mut node = match (*self.node).clone(alloc) {
@@ -73,7 +73,7 @@ impl Shared {
 
     // The change of a link, in place where no other holds the node, and how it is taken back.
     pub(crate) fn change(&mut self, alloc: Global, link: Link) -> Result<Back>
-        ensures ok { OnOk result (self.new ≡ applied link self.old) }
+        ensures ok { OnOk result (self.new ≡ after_link link self.old) }
         ensures back { IfOk result (λ back. put_back back self.new ≡ self.old) }
         ensures err { OnErr result (self.new ≡ self.old) }
         ensures cause { IfErr result (λ e. e ≡ NoMemory) }

@@ -6,7 +6,7 @@ use Rattle.std.specs.List.{list_any, starts_with}
 use Rattle.std.proofs.lemmas.Bool.{eqb-true}
 use Rattle.sled_pages.specs.Order.{Key}
 use Rattle.sled_pages.specs.Update.{put_at}
-use Rattle.sled_model.specs.State.{Queue, matches, delivered}
+use Rattle.sled_model.specs.State.{Queue, matches, queues_after}
 use Rattle.sled_model.specs.Refusal.{queue_limit}
 use Rattle.sled_model.specs.Event.{key_of_event}
 use Rattle.sled_model.specs.declared.event.Event.{Event}
@@ -69,10 +69,10 @@ gain_is (e ∷ es) w = go (matches e.0 e.1 (queue_of w))
     go false more same = same
 
 -- a queue in which nothing is prepared is committed and cancelled as it is
-abbrev told : WaitingValue → WaitingValue
-told w = record w { events = w.events ++ w.coming; coming = [] }
+abbrev is : WaitingValue → WaitingValue
+is w = record w { events = w.events ++ w.coming; coming = [] }
 
-told_calm : (w : WaitingValue) → w.coming ≡ [] → told w ≡ w
+told_calm : (w : WaitingValue) → w.coming ≡ [] → is w ≡ w
 told_calm w calm = ap (λ l. record w { events = w.events ++ l; coming = [] }) calm ∙ ap (λ l. record w { events = l; coming = [] }) (append-nil w.events) ∙ ap (with_coming w) (sym calm)
 
 both_calm : (b : Bool) (v w : WaitingValue) → v ≡ w → cond b v w ≡ w
@@ -81,18 +81,18 @@ both_calm false v w e = refl
 
 tell_calm : (ts : List ℕ) (w : WaitingValue) → w.coming ≡ [] → tell ts w ≡ w
 tell_calm [] w calm = refl
-tell_calm (t ∷ ts) w calm = ap (tell ts) (both_calm (nat_eq w.tree t) (told w) w (told_calm w calm)) ∙ tell_calm ts w calm
+tell_calm (t ∷ ts) w calm = ap (tell ts) (both_calm (nat_eq w.tree t) (is w) w (told_calm w calm)) ∙ tell_calm ts w calm
 
 forget_calm : (ts : List ℕ) (w : WaitingValue) → w.coming ≡ [] → forget ts w ≡ w
 forget_calm [] w calm = refl
 forget_calm (t ∷ ts) w calm = ap (forget ts) (both_calm (nat_eq w.tree t) (with_coming w []) w (ap (with_coming w) (sym calm))) ∙ forget_calm ts w calm
 
 -- one of a tree among those that are committed is committed
-tell_in : (ts : List ℕ) (w : WaitingValue) → list_any (nat_eq w.tree) ts ≡ true → tell ts w ≡ told w
+tell_in : (ts : List ℕ) (w : WaitingValue) → list_any (nat_eq w.tree) ts ≡ true → tell ts w ≡ is w
 tell_in [] w h = absurd (true≢false (sym h))
-tell_in (t ∷ ts) w h = go (nat_eq w.tree t) h (tell_calm ts (told w) refl) (tell_in ts w)
+tell_in (t ∷ ts) w h = go (nat_eq w.tree t) h (tell_calm ts (is w) refl) (tell_in ts w)
   where
-    go : (b : Bool) → (b || list_any (nat_eq w.tree) ts) ≡ true → tell ts (told w) ≡ told w → (list_any (nat_eq w.tree) ts ≡ true → tell ts w ≡ told w) → tell ts (cond b (told w) w) ≡ told w
+    go : (b : Bool) → (b || list_any (nat_eq w.tree) ts) ≡ true → tell ts (is w) ≡ is w → (list_any (nat_eq w.tree) ts ≡ true → tell ts w ≡ is w) → tell ts (cond b (is w) w) ≡ is w
     go true h calm rest = calm
     go false h calm rest = rest h
 
@@ -143,7 +143,7 @@ receive (e ∷ es) q = receive es (cond (matches e.0 e.1 q) (with_events q (q.ev
 
 receive_at : (es : List (ℕ × Event)) (queues : ℕ → Option Queue) (n : ℕ) → delivered_all es queues n ≡ option_map (receive es) (queues n)
 receive_at [] queues n = sym (map_same (queues n))
-receive_at (e ∷ es) queues n = receive_at es (delivered e.0 (Some e.1) queues) n ∙ map_twice (λ (q : Queue). cond (matches e.0 e.1 q) (with_events q (q.events ++ e.1 ∷ [])) q) (receive es) (queues n)
+receive_at (e ∷ es) queues n = receive_at es (queues_after e.0 (Some e.1) queues) n ∙ map_twice (λ (q : Queue). cond (matches e.0 e.1 q) (with_events q (q.events ++ e.1 ∷ [])) q) (receive es) (queues n)
 
 receive_is : (es : List (ℕ × Event)) (q : Queue) → receive es q ≡ with_events q (q.events ++ came es q.tree q.prefix)
 receive_is [] q = ap (with_events q) (sym (append-nil q.events))

@@ -3,7 +3,7 @@ use Rattle.std.specs.Prelude.{◌≡◌, ℕ, ◌<◌, ◌≤◌, nat_eq, true, 
 use Rattle.std.specs.Option.{option_to_list}
 use Rattle.std.specs.List.{list_any}
 use Rattle.sled_pages.specs.Order.{Key}
-use Rattle.sled_model.specs.State.{Queue, matches, delivered}
+use Rattle.sled_model.specs.State.{Queue, matches, queues_after}
 use Rattle.sled_model.specs.Refusal.{queue_limit}
 use Rattle.sled_model.specs.Queues.{waiting_in, oldest, watched, taken, given_up}
 use Rattle.sled_model.specs.declared.event.Event.{Event}
@@ -14,7 +14,7 @@ use Rattle.sled_queues.specs.Tells.{HasRoom, MeetsFull}
 -- An event that is prepared is seen by nobody; once it is committed it is delivered, and nothing is prepared any more
 pub record Delivers (queues : Waitings) (tree : ℕ) (e : Event) : Type 0 where
   pub hidden : queues_of (prepared tree e queues) ≡ queues_of queues
-  pub shown : queues_of (committed tree (prepared tree e queues)) ≡ delivered tree (Some e) (queues_of queues)
+  pub shown : queues_of (committed tree (prepared tree e queues)) ≡ queues_after tree (Some e) (queues_of queues)
   pub calm : IsCalm (committed tree (prepared tree e queues))
 
 abbrev pub DeliversLaw : Type 0
@@ -40,7 +40,7 @@ pub data Turn : Type 0 where
   Takes : (subscriber : ℕ) → Turn
 
 abbrev pub after_turn : Turn → (ℕ → Option Queue) → ℕ → Option Queue
-after_turn (Comes tree e) queues = delivered tree (Some e) queues
+after_turn (Comes tree e) queues = queues_after tree (Some e) queues
 after_turn (Takes n) queues = taken n queues
 
 abbrev pub after_turns : List Turn → (ℕ → Option Queue) → ℕ → Option Queue
@@ -106,7 +106,7 @@ prepared_all (e ∷ es) queues = prepared_all es (prepared e.0 e.1 queues)
 
 abbrev pub delivered_all : List (ℕ × Event) → (ℕ → Option Queue) → ℕ → Option Queue
 delivered_all [] queues = queues
-delivered_all (e ∷ es) queues = delivered_all es (delivered e.0 (Some e.1) queues)
+delivered_all (e ∷ es) queues = delivered_all es (queues_after e.0 (Some e.1) queues)
 
 abbrev pub committed_all : List ℕ → Waitings → Waitings
 committed_all [] queues = queues

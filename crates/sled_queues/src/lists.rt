@@ -126,7 +126,7 @@ fn cancel(queues: &mut BTreeMap<u64, Waiting>, number: u64)
 
 // Takes the oldest event that waits in a queue, if there is one.
 pub(crate) fn take(queues: &mut BTreeMap<u64, Waiting>, number: u64) -> Option<Event>
-    ensures told { result ≡ oldest_in (get nat_cmp queues.old number) }
+    ensures is { result ≡ oldest_in (get nat_cmp queues.old number) }
     ensures rest { (n : ℕ) → get nat_cmp queues.new n ≡ changed_at taken_in number (get nat_cmp queues.old) n }
 {
     match queues.get_mut(&number) {

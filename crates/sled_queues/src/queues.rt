@@ -116,7 +116,7 @@ impl Queues {
     /// Takes the oldest event that waits for a subscriber: `None` where none waits, and for an unknown subscriber. It takes no
     /// memory, and no longer where many wait.
     pub fn next(&mut self, subscriber: &Subscriber) -> Option<Event>
-        ensures told { result ≡ oldest_in (queue_at self.old subscriber.now) }
+        ensures is { result ≡ oldest_in (queue_at self.old subscriber.now) }
         ensures rest { Becomes (without_oldest_of subscriber.now (queue_at self.old)) self.old.given self.new }
     {
         take(&mut self.queues, subscriber.0)

@@ -20,7 +20,7 @@ pub(crate) struct Waiting {
     // those that wait, and then those that are prepared
     events: VecDeque<Event>,
     // how many wait
-    told: usize,
+    is: usize,
 }
 
 impl Model for Waiting {
@@ -29,9 +29,9 @@ impl Model for Waiting {
 
     ghost Value = { WaitingValue };
 
-    ghost view = { λ w. record { tree = w.tree; prefix = w.prefix; events = take w.told w.events.items; coming = drop w.told w.events.items } };
+    ghost view = { λ w. record { tree = w.tree; prefix = w.prefix; events = take w.is w.events.items; coming = drop w.is w.events.items } };
 
-    ghost invariant = { λ w. w.told ≤ length w.events.items };
+    ghost invariant = { λ w. w.is ≤ length w.events.items };
 }
 
 impl Waiting {
@@ -42,7 +42,7 @@ impl Waiting {
             tree,
             prefix,
             events: VecDeque::new(alloc),
-            told: 0,
+            is: 0,
         }
     }
 
@@ -89,7 +89,7 @@ impl Waiting {
     pub(crate) fn take_back(&mut self, event: &Event)
         ensures { self.new ≡ loses event.now self.old }
     {
-        if self.has_prefix(event) && self.told < self.events.len() {
+        if self.has_prefix(event) && self.is < self.events.len() {
             let last = self.events.pop_back();
             drop(last);
         }
@@ -99,25 +99,25 @@ impl Waiting {
     pub(crate) fn commit(&mut self)
         ensures { self.new ≡ tells self.old }
     {
-        self.told = self.events.len();
+        self.is = self.events.len();
     }
 
     // Drops what is prepared.
     pub(crate) fn cancel(&mut self)
         ensures { self.new ≡ forgets self.old }
     {
-        self.events.truncate(self.told);
+        self.events.truncate(self.is);
     }
 
     // Takes the oldest event that waits.
     pub(crate) fn next(&mut self) -> Option<Event>
-        ensures told { result ≡ slice_get self.old.events 0 }
+        ensures is { result ≡ slice_get self.old.events 0 }
         ensures rest { self.new ≡ taken_in self.old }
     {
-        if self.told == 0 {
+        if self.is == 0 {
             return None;
         }
-        self.told -= 1;
+        self.is -= 1;
         self.events.pop_front()
     }
 }

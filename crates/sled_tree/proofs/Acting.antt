@@ -3,7 +3,7 @@ use Rattle.std.proofs.Common.{◌≡◌, ◌≢◌, ℕ, false, List, [], Some, 
 use Rattle.std.specs.FinMap.Entries.{find}
 use Rattle.std.specs.declared.ops.Bound.TheVariants.{Included}
 use Rattle.sled_pages.specs.Order.{Key, key_cmp}
-use Rattle.sled_pages.specs.Node.{applied}
+use Rattle.sled_pages.specs.Node.{after_link}
 use Rattle.sled_pages.specs.Store.{Store, Changes}
 use Rattle.sled_pages.specs.declared.node.Node.{Node}
 use Rattle.sled_pages.specs.declared.link.Link.{Link}
@@ -13,59 +13,59 @@ use Rattle.sled_model.specs.declared.decision.Decision.{Decision}
 use Rattle.sled_model.specs.declared.decision.Effect.{Effect}
 use Rattle.sled_model.specs.declared.decision.Effect.TheVariants as effect
 use Rattle.tree_laws.specs.Forest.{Tree, Forest, contents}
-use Rattle.tree_laws.specs.Moment.{Moment, moment_of, nodes_at, IsMoment, Acts, IsFew, IsActing}
-use Rattle.tree_laws.specs.Laws.{IsCurrent, Written, replaced}
+use Rattle.tree_laws.specs.Snapshot.{Snapshot, snapshot_of, nodes_at, HasForest, KeepsForest, HasRoomForOne, IsActing}
+use Rattle.tree_laws.specs.Laws.{IsNodeNow, Written, after_replacement}
 use Rattle.tree_laws.proofs.Known.{answers, set_written, del_written, set_few, store_replaced}
 use Rattle.sled_tree.specs.declared.act.Change.{Change}
 use Rattle.sled_tree.specs.Course.{Course}
 use Rattle.tree_laws.specs.declared.flight.Stage.TheVariants.{Act}
 use Rattle.sled_tree.specs.declared.flight.Next.TheVariants as next
 use Rattle.sled_tree.specs.Change.{IsChangeOf, link_of, decision_at}
-use Rattle.sled_tree.specs.Moves.{Moves, Decides, LeavesNone}
+use Rattle.sled_tree.specs.StageAction.{StageAction, DecidesAs, LeaksNoPage}
 use Rattle.sled_tree.proofs.Basics.{none_some, some_is}
 use Rattle.sled_tree.proofs.Facts.{once_acts, leaves_replaced, rid_of_none}
 
 -- the link of an effect changes the tree's contents as the effect does
-module _ {m : Moment} {w : Forest} (is : IsMoment m w) (t : Tree) (number : ℕ) (key : Key) (look : View) (node : Node) (k : IsActing m w t number (Included key) look) (few : IsFew look) (c : IsCurrent m t number look node) (version : ℕ) (unused : m.versions version ≡ false) where
-  abbrev wrote_as : Effect → Moment → Type 0
-  wrote_as e new = Acts [] [] m w new w × (contents (nodes_at new) w t ≡ map_after e key (contents (nodes_at m) w t)) × ((u : Tree) → u ≢ t → contents (nodes_at new) w u ≡ contents (nodes_at m) w u)
+module _ {m : Snapshot} {w : Forest} (is : HasForest m w) (t : Tree) (number : ℕ) (key : Key) (look : View) (node : Node) (k : IsActing m w t number (Included key) look) (fits : HasRoomForOne look) (c : IsNodeNow m t number look node) (version : ℕ) (unused : m.versions version ≡ false) where
+  abbrev wrote_as : Effect → Snapshot → Type 0
+  wrote_as e new = KeepsForest [] [] m w new w × (contents (nodes_at new) w t ≡ map_after e key (contents (nodes_at m) w t)) × ((u : Tree) → u ≢ t → contents (nodes_at new) w u ≡ contents (nodes_at m) w u)
 
-  written : {new : Moment} {few : Type 0} {change : List (Key × Key) → List (Key × Key)} → Written m w new t change few → few → Acts [] [] m w new w
+  written : {new : Snapshot} {fits : Type 0} {change : List (Key × Key) → List (Key × Key)} → Written m w new t change fits → fits → KeepsForest [] [] m w new w
   written d f = record { is = d.steps.is; goes = d.steps.goes; fresh = λ q i. absurd i; sized = d.sized f; grows = d.grows f }
 
-  wrote : (e : Effect) (link : Link) → link_of e key ≡ Some link → wrote_as e (replaced m look.pid (record { version = version; node = applied link node }))
+  wrote : (e : Effect) (link : Link) → link_of e key ≡ Some link → wrote_as e (after_replacement m look.pid (record { version = version; node = after_link link node }))
   wrote effect.Nothing link l = none_some l
-  wrote (effect.Set v) link l = subst (λ z. wrote_as (effect.Set v) (replaced m look.pid (record { version = version; node = applied z node }))) (some_is l)
-      (let d = set_written is t number key look node k c v version unused in (written d (set_few is t number key look node k c v few), d.here, d.others))
-  wrote effect.Remove link l = subst (λ z. wrote_as effect.Remove (replaced m look.pid (record { version = version; node = applied z node }))) (some_is l)
+  wrote (effect.Set v) link l = subst (λ z. wrote_as (effect.Set v) (after_replacement m look.pid (record { version = version; node = after_link z node }))) (some_is l)
+      (let d = set_written is t number key look node k c v version unused in (written d (set_few is t number key look node k c v fits), d.here, d.others))
+  wrote effect.Remove link l = subst (λ z. wrote_as effect.Remove (after_replacement m look.pid (record { version = version; node = after_link z node }))) (some_is l)
       (let d = del_written is t number key look node k c version unused in (written d tt, d.here, d.others))
 
 -- the call's change is linked
-pub act_moves : (j : Course) (old new : Store) (view : View) (change : Change) (given : ℕ) → IsChangeOf j.call view.node.content (Some change) → Changes (applied change.link) view.pid view.version old new (Ok given) → Moves j old (Act view) (next.Decided change.reply) new
+pub act_moves : (j : Course) (old new : Store) (view : View) (change : Change) (given : ℕ) → IsChangeOf j.call view.node.content (Some change) → Changes (after_link change.link) view.pid view.version old new (Ok given) → StageAction j old (Act view) (next.Decided change.reply) new
 act_moves j old new view change given is c = record {
-  touches = inr (once_acts c.told.2);
-  told = λ numbers gave w at named a.
-      let m : Moment = moment_of old numbers gave in
+  touches = inr (once_acts c.is.2);
+  is = λ numbers gave w at named a.
+      let m : Snapshot = snapshot_of old numbers gave in
       let t : Tree = j.tree.name in
       let key : Key = key_of j.call in
       let all : List (Key × Key) = contents (nodes_at m) w t in
-      let current : IsCurrent m t j.tree.number view c.told.0 = record { named = named; page = c.told.1 } in
+      let current : IsNodeNow m t j.tree.number view c.is.0 = record { named = named; page = c.is.1 } in
       let e : Effect = (decision_at j.call view.node.content).effect in
       let acts : IsActing m w t j.tree.number (Included key) view = subst (λ aim. IsActing m w t j.tree.number aim view) a.2 a.0.0 in
-      let did = wrote at t j.tree.number key view c.told.0 acts a.0.1 current given c.told.2.fresh e change.link is.0 in
-      let after : moment_of new numbers gave ≡ replaced m view.pid (record { version = given; node = applied change.link c.told.0 }) = store_replaced numbers gave c.told.2 in
-      let same : decision_of j.call (find key_cmp key all) ≡ decision_at j.call view.node.content = ap (decision_of j.call) (answers at t j.tree.number key view c.told.0 acts current) in (
+      let did = wrote at t j.tree.number key view c.is.0 acts a.0.1 current given c.is.2.fresh e change.link is.0 in
+      let after : snapshot_of new numbers gave ≡ after_replacement m view.pid (record { version = given; node = after_link change.link c.is.0 }) = store_replaced numbers gave c.is.2 in
+      let same : decision_of j.call (find key_cmp key all) ≡ decision_at j.call view.node.content = ap (decision_of j.call) (answers at t j.tree.number key view c.is.0 acts current) in (
         w,
-        subst (λ (z : Moment). Acts [] [] m w z w) (sym after) (did.0),
-        subst (λ (z : Moment). Decides j change.reply old new m w z w) (sym after) (record {
+        subst (λ (z : Snapshot). KeepsForest [] [] m w z w) (sym after) (did.0),
+        subst (λ (z : Snapshot). DecidesAs j change.reply old new m w z w) (sym after) (record {
           replies = is.1 ∙ ap (λ (d : Decision). d.reply) (sym same);
           here = did.1 ∙ ap (λ (d : Decision). map_after d.effect key all) (sym same);
           others = did.2;
           quiet = λ none. absurd (a.1 (silent e key (ap (λ (d : Decision). event_of d.effect key) (sym same) ∙ none)));
-          loud = λ some. once_acts c.told.2;
+          loud = λ some. once_acts c.is.2;
         }),
-        subst (λ (z : Moment). LeavesNone [] [] m.state z.state w) (sym after) (leaves_replaced [] [] m view.pid (record { version = view.version; node = c.told.0 }) (record { version = given; node = applied change.link c.told.0 }) w c.told.1
-            (rid_of_none [] (record { version = view.version; node = c.told.0 }) view.node (a.0.0.seen.view.speaks (record { version = view.version; node = c.told.0 }) c.told.1 refl) a.0.0.seen.is_open.free) (λ q i. absurd i)),
+        subst (λ (z : Snapshot). LeaksNoPage [] [] m.state z.state w) (sym after) (leaves_replaced [] [] m view.pid (record { version = view.version; node = c.is.0 }) (record { version = given; node = after_link change.link c.is.0 }) w c.is.1
+            (rid_of_none [] (record { version = view.version; node = c.is.0 }) view.node (a.0.0.seen.view.speaks (record { version = view.version; node = c.is.0 }) c.is.1 refl) a.0.0.seen.is_open.free) (λ q i. absurd i)),
       );
 }
   where

@@ -1,6 +1,6 @@
 -- What is known of a call that comes to its change, or is decided before it: it did nothing, and the leaf stands as it was read.
 use Rattle.std.proofs.Common.{◌≡◌, ℕ, ◌⊎◌, Bool, Option, Some, None, MatchOption, Result, Ok, Err, sym, refl, ap, ◌∙◌, subst, inl, inr}
-use Rattle.sled_pages.specs.Node.{applied}
+use Rattle.sled_pages.specs.Node.{after_link}
 use Rattle.sled_pages.specs.Store.{Store, now, view_of}
 use Rattle.sled_pages.specs.declared.error.Error.{Error}
 use Rattle.sled_pages.specs.declared.link.Link.{Link}
@@ -14,7 +14,7 @@ use Rattle.sled_model.specs.declared.decision.Effect.{Effect}
 use Rattle.sled_model.specs.declared.decision.Effect.TheVariants as effect
 use Rattle.sled_model.specs.declared.reply.Reply.{Reply}
 use Rattle.sled_tree.specs.Change.{decision_at, link_of}
-use Rattle.tree_laws.specs.declared.flight.Crown.{Crown}
+use Rattle.tree_laws.specs.declared.flight.SwapRoot.{SwapRoot}
 use Rattle.sled_tree.specs.Course.{Course}
 use Rattle.tree_laws.specs.declared.flight.Merge.{Merge}
 use Rattle.sled_tree.specs.declared.flight.Next.{Next}
@@ -23,7 +23,7 @@ use Rattle.tree_laws.specs.declared.flight.Posting.{Posting}
 use Rattle.tree_laws.specs.declared.flight.Posting.TheVariants as posting
 use Rattle.tree_laws.specs.declared.flight.Receive.{Receive}
 use Rattle.tree_laws.specs.declared.flight.Seek.{Seek}
-use Rattle.tree_laws.specs.declared.flight.Shorten.{Shorten}
+use Rattle.tree_laws.specs.declared.flight.InstallLeft.{InstallLeft}
 use Rattle.tree_laws.specs.declared.flight.Stage.{Stage}
 use Rattle.tree_laws.specs.declared.flight.Stage.TheVariants as stage
 use Rattle.tree_laws.specs.Stages.{parent_of}
@@ -31,7 +31,7 @@ use Rattle.tree_laws.specs.declared.flight.Reached.{Reached}
 use Rattle.tree_laws.specs.declared.flight.Reached.TheVariants as reached
 use Rattle.sled_tree.proofs.Basics.{none_some, some_is}
 use Rattle.sled_tree.specs.Passing.{IsUnchanged}
-use Rattle.sled_tree.specs.Follows.{resumed, begun, onward, pointed, down, by_effect, OrNoMemory, follows_content, follows_here, follows_open, follows_awake, follows_read, follows_child, follows_child_awake, follows_cursor, follows_cursor_awake, follows_search, follows_met, searched, FollowsPage, follows_root, follows_act, OrRefused, Takes, shortened, crowned, read_again, sought_again, follows_as, Follows}
+use Rattle.sled_tree.specs.Follows.{resumed, begun, onward, pointed, down, by_effect, OrNoMemory, follows_content, follows_here, follows_open, follows_awake, follows_read, follows_child, follows_child_awake, follows_cursor, follows_cursor_awake, follows_search, follows_met, searched, FollowsPage, follows_root, follows_act, OrRefused, TakesWay, shortened, crowned, read_again, sought_again, follows_as, Follows}
 
 -- the leaf of the change that comes next
 abbrev acting : Next → Option View
@@ -63,19 +63,19 @@ module _ {X : Type 0} (kind : Next → Option X) (x : X) (n : Next) (is : kind n
 
     module _ (goes : (a : Stage) → ((v : View) → a ≡ stage.Act v → ⊥) → kind (next.Go a) ≡ None) where
       taken : {P : Type 0} {change : Node → Node} {pid version : ℕ} {old new : Store} {took : ℕ → Next} {late : Option ℕ → Next}
-          → ((given : ℕ) → kind (took given) ≡ None) → ((present : Option ℕ) → kind (late present) ≡ None) → Takes change pid version old new n took late → P
+          → ((given : ℕ) → kind (took given) ≡ None) → ((present : Option ℕ) → kind (late present) ≡ None) → TakesWay change pid version old new n took late → P
       taken t l (inl k) = none_of _ k.2 (t k.0)
       taken t l (inr k) = none_of _ k.2 (l k.0)
 
       root : kind (next.Go stage.Root) ≡ None
       root = goes stage.Root (λ v e. cc)
 
-      shortened_none : (a : Shorten) (p : Posting) → kind (shortened a p) ≡ None
+      shortened_none : (a : InstallLeft) (p : Posting) → kind (shortened a p) ≡ None
       shortened_none a (posting.Parent parent) = goes _ (λ v e. cc)
       shortened_none a posting.Root = goes _ (λ v e. cc)
       shortened_none a posting.Nowhere = root
 
-      crowned_none : (a : Crown) (answer : Result (Unit {0}) (Option ℕ)) → kind (crowned a answer) ≡ None
+      crowned_none : (a : SwapRoot) (answer : Result (Unit {0}) (Option ℕ)) → kind (crowned a answer) ≡ None
       crowned_none a (Ok done) = root
       crowned_none a (Err present) = goes _ (λ v e. cc)
 
@@ -93,10 +93,10 @@ module _ {X : Type 0} (kind : Next → Option X) (x : X) (n : Next) (is : kind n
       reads_or_acts j old new (stage.Walk a) f = inl (tt, f.0)
       reads_or_acts j old new (stage.Act v) f = inr (v, refl)
       reads_or_acts j old new (stage.Split a) f = or_refused f (λ c. elim c [ inl k ↦ none_of _ k.1.is (goes _ (λ v e. cc)) | inr k ↦ none_of _ k.1.1 root ])
-      reads_or_acts j old new (stage.Shorten a) f = or_refused f (taken (λ given. shortened_none a a.posting) (λ present. goes _ (λ v e. cc)))
+      reads_or_acts j old new (stage.InstallLeft a) f = or_refused f (taken (λ given. shortened_none a a.posting) (λ present. goes _ (λ v e. cc)))
       reads_or_acts j old new (stage.Post a) f = or_refused f (λ c. elim c [ inl k ↦ taken (λ given. root) (λ present. root) k.1 | inr k ↦ none_of _ k.1.1 root ])
       reads_or_acts j old new (stage.Hoist a) f = or_refused f (λ c. none_of _ c.is (goes _ (λ v e. cc)))
-      reads_or_acts j old new (stage.Crown a) f = or_refused f (λ c. none_of _ c.is (crowned_none a c.answer))
+      reads_or_acts j old new (stage.SwapRoot a) f = or_refused f (λ c. none_of _ c.is (crowned_none a c.answer))
       reads_or_acts j old new (stage.Free a) f = or_refused f (λ c. none_of _ c.is root)
       reads_or_acts j old new (stage.Intend a) f = or_refused f (taken (λ given. goes _ (λ v e. cc)) (λ present. root))
       reads_or_acts j old new (stage.Child a) f = inl (tt, f.0)
@@ -216,7 +216,7 @@ module _ (v : View) (n : Next) (is : n ≡ next.Go (stage.Act v)) where
   act_off : {P : Type 0} (j : Course) (old new : Store) (u : View) → follows_act j old new u n → P
   act_off {P} j old new u f = go (link_of (decision_at j.call u.node.content).effect (key_of j.call)) f
     where
-      go : (link : Option Link) → MatchOption link ((new ≡ old) × (n ≡ next.Go stage.Root)) (λ l. Takes (applied l) u.pid u.version old new n (λ _. next.Decided (decision_at j.call u.node.content).reply) (λ _. next.Go stage.Root)) → P
+      go : (link : Option Link) → MatchOption link ((new ≡ old) × (n ≡ next.Go stage.Root)) (λ l. TakesWay (after_link l) u.pid u.version old new n (λ _. next.Decided (decision_at j.call u.node.content).reply) (λ _. next.Go stage.Root)) → P
       go None e = off _ e.1 refl
       go (Some l) (inl k) = off _ k.2 refl
       go (Some l) (inr k) = off _ k.2 refl

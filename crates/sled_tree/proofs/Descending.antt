@@ -4,7 +4,7 @@ use Rattle.std.proofs.Common.{◌≡◌, ◌≢◌, ◌↔◌, IsTrue, ℕ, ◌+
 use Rattle.sled_pages.specs.Order.{Key}
 use Rattle.sled_pages.specs.Among.{IsPointer}
 use Rattle.sled_pages.specs.Node.{count, pointers}
-use Rattle.sled_pages.specs.Store.{Store, now, view_of, RefusedRead}
+use Rattle.sled_pages.specs.Store.{Store, now, view_of, IsReadRefused}
 use Rattle.sled_pages.specs.declared.error.Error.{Error}
 use Rattle.sled_pages.specs.declared.error.Error.TheVariants.{NoMemory}
 use Rattle.sled_pages.specs.declared.node.Data.{Data}
@@ -16,10 +16,10 @@ use Rattle.sled_model.specs.declared.reply.Reply.{Reply}
 use Rattle.sled_tree.specs.Change.{IsLeaf, IsIndex, decision_at}
 use Rattle.sled_tree.specs.Descent.{way_of, met_as, IsPlain, IsClean, Meets, Leads, Descends, Settles}
 use Rattle.sled_tree.specs.Follows.{follows_here, Follows, FollowsPage, by_effect, done_at, follows_read, follows_root, follows_leaf, follows_content}
-use Rattle.sled_tree.specs.Moves.{Arrives}
-use Rattle.sled_tree.specs.Passing.{PassesOn}
+use Rattle.sled_tree.specs.StageAction.{AfterPage}
+use Rattle.sled_tree.specs.Passing.{AdvancesFromPage}
 use Rattle.sled_tree.specs.declared.descent.Descent.TheVariants as descent
-use Rattle.sled_tree.specs.declared.flight.Flight.{Flight}
+use Rattle.sled_tree.specs.declared.flight.InFlight.{InFlight}
 use Rattle.sled_tree.specs.Course.{Course, course_of}
 use Rattle.sled_tree.specs.declared.flight.Next.{Next}
 use Rattle.sled_tree.specs.declared.flight.Next.TheVariants.{Go, Decided, Refused}
@@ -52,17 +52,17 @@ plain_follows j view (reached.FirstPointer parent) next plain f = f
 plain_follows j view (reached.LaterPointer parent) next plain f = inr ((λ merges. not_few plain merges.1), f)
   where
     not_few : 3 < count view.node.content → count view.node.content ≤ 3 → ⊥
-    not_few many few = omega (arith, many, few)
+    not_few many fits = omega (arith, many, fits)
 plain_follows j view (reached.Next parent) next plain f = absurd plain
 
 clean_follows : (j : Course) (view : View) (by : Reached) (next : Next) → IsClean j by view → follows_content view.node.content j view next → follows_read j view by next
-clean_follows j view by next clean f = opened j view by next clean.awake clean.free (inr (
-  (λ long. absurd (not_long clean.few long)),
+clean_follows j view by next clean f = opened j view by next clean.not_merging clean.free (inr (
+  (λ long. absurd (not_long clean.fits long)),
   inr (not_behind view.node j.aim clean.under, inl (clean.under, plain_follows j view by next clean.plain f)),
 ))
   where
     not_long : count view.node.content ≤ 16 → 16 < count view.node.content → ⊥
-    not_long few long = omega (arith, few, long)
+    not_long fits long = omega (arith, fits, long)
 
 -- at a leaf
 leaf_follows : (j : Course) (view : View) (next : Next) (d : Data) → IsLeaf d → follows_leaf j view next → follows_content d j view next
@@ -98,7 +98,7 @@ not_small b n told off p = elim (leb_tells n 3) [ inl a ↦ absurd (untrue b tol
 record IsAnswer (s : Store) (pid : ℕ) (found : Result (Option View) Error) : Type 0 where
   ok : IfOk found (λ view. view ≡ view_of pid ((now s).pages pid))
   readable : OnOk found (s.is_readable pid ≡ true)
-  err : IfErr found (λ e. RefusedRead pid s e)
+  err : IfErr found (λ e. IsReadRefused pid s e)
 
 module _ (j : Course) (s : Store) where
   -- the root of a tree,
@@ -119,11 +119,11 @@ module _ (j : Course) (s : Store) where
     }
     root_met_as (Err e) k = record {
       moves = unread j s stage.Root pid e k.err;
-      passes = record { told = λ path p. tt };
+      passes = record { is = λ path p. tt };
       follows = at_root _ (record { is = inr (e, refl, k.err) });
     }
 
-    pub root_met : (found : Result (Option View) Error) → IfOk found (λ view. view ≡ view_of pid ((now s).pages pid)) → OnOk found (s.is_readable pid ≡ true) → IfErr found (λ e. RefusedRead pid s e) → met_as s j stage.Root found
+    pub root_met : (found : Result (Option View) Error) → IfOk found (λ view. view ≡ view_of pid ((now s).pages pid)) → OnOk found (s.is_readable pid ≡ true) → IfErr found (λ e. IsReadRefused pid s e) → met_as s j stage.Root found
     root_met found ok readable err = root_met_as found (record { ok = ok; readable = readable; err = err })
 
   -- or the cursor of a walk
@@ -141,11 +141,11 @@ module _ (j : Course) (s : Store) where
     }
     cursor_met_as (Err e) k = record {
       moves = unread j s (stage.Walk a) a.cursor e k.err;
-      passes = record { told = λ path p. tt };
+      passes = record { is = λ path p. tt };
       follows = record { is = (refl, record { is = inr (e, refl, k.err) }) };
     }
 
-    pub cursor_met : (found : Result (Option View) Error) → IfOk found (λ view. view ≡ view_of a.cursor ((now s).pages a.cursor)) → OnOk found (s.is_readable a.cursor ≡ true) → IfErr found (λ e. RefusedRead a.cursor s e) → met_as s j (stage.Walk a) found
+    pub cursor_met : (found : Result (Option View) Error) → IfOk found (λ view. view ≡ view_of a.cursor ((now s).pages a.cursor)) → OnOk found (s.is_readable a.cursor ≡ true) → IfErr found (λ e. IsReadRefused a.cursor s e) → met_as s j (stage.Walk a) found
     cursor_met found ok readable err = cursor_met_as found (record { ok = ok; readable = readable; err = err })
 
   module _ (a : Stage) (view : View) (m : Meets s j a view) where
@@ -153,27 +153,27 @@ module _ (j : Course) (s : Store) where
     pub leads : (c : ℕ) (first : Bool) → IsClean j (way_of a) view → IsIndex view.node.content → IsPointer j.aim (pointers view.node.content) c first
         → Descends s j a descent.Further (stage.Walk (record { cursor = c; reached = by_pointer view first }))
     leads c first clean index k = record {
-      told = record {
-        moves = m.moves _ (descends j view (way_of a) clean.awake clean.free clean.under clean.few c first index k);
+      is = record {
+        moves = m.moves _ (descends j view (way_of a) clean.not_merging clean.free clean.under clean.fits c first index k);
         passes = m.passes _ (down_passes j view (way_of a) c first index k);
         follows = m.follows _ (clean_follows j view (way_of a) _ clean (index_follows j view c first _ index k));
       };
     }
 
     -- and where something is to be repaired the walk comes to that
-    pub repairs : (b : Stage) (next : Next) → Arrives j view (way_of a) next → PassesOn j view (way_of a) next → follows_read j view (way_of a) next → Descends s j a (descent.Next next) b
-    repairs b next arrives passes follows = record { told = record { moves = m.moves next arrives; passes = m.passes next passes; follows = m.follows next follows } }
+    pub repairs : (b : Stage) (next : Next) → AfterPage j view (way_of a) next → AdvancesFromPage j view (way_of a) next → follows_read j view (way_of a) next → Descends s j a (descent.Next next) b
+    repairs b next arrives passes follows = record { is = record { moves = m.moves next arrives; passes = m.passes next passes; follows = m.follows next follows } }
 
 -- a step that was made is one of the call
-module _ (s : Store) (f : Flight) where
+module _ (s : Store) (f : InFlight) where
   pub settles_go : (b : Stage) → Leads s (course_of f) f.stage (Go b) → Settles s f went.Moved (record { job = f.job; aim = f.aim; stage = b; turns = f.turns + 1 })
-  settles_go b l = record { advances = record { told = (refl, refl, refl, l.moves) }; passes = record { told = λ path k. l.passes.told path k }; follows = record { is = l.follows } }
+  settles_go b l = record { advances = record { is = (refl, refl, refl, l.moves) }; passes = record { is = λ path k. l.passes.is path k }; follows = record { is = l.follows } }
 
   pub settles_decided : (b : Stage) (reply : Reply) → Leads s (course_of f) f.stage (Decided reply) → Settles s f (went.Decided reply) (record { job = f.job; aim = f.aim; stage = b; turns = f.turns })
-  settles_decided b reply l = record { advances = record { told = l.moves }; passes = record { told = tt }; follows = record { is = l.follows } }
+  settles_decided b reply l = record { advances = record { is = l.moves }; passes = record { is = tt }; follows = record { is = l.follows } }
 
   pub settles_refused : (b : Stage) (e : Error) → Leads s (course_of f) f.stage (Refused e) → Settles s f (went.Refused e) (record { job = f.job; aim = f.aim; stage = b; turns = f.turns })
-  settles_refused b e l = record { advances = record { told = l.moves }; passes = record { told = tt }; follows = record { is = l.follows } }
+  settles_refused b e l = record { advances = record { is = l.moves }; passes = record { is = tt }; follows = record { is = l.follows } }
 
   -- at the leaf the call goes on to its change,
   module _ (view : View) (leaf : IsLeaf view.node.content) (clean : IsClean (course_of f) (way_of f.stage) view) (m : Meets s (course_of f) f.stage view) where
@@ -182,7 +182,7 @@ module _ (s : Store) (f : Flight) where
 
     pub comes_to_act : (decision_at f.job.call view.node.content).effect ≢ Nothing → Settles s f went.Moved (record { job = f.job; aim = f.aim; stage = stage.Act view; turns = f.turns + 1 })
     comes_to_act changes = settles_go (stage.Act view) (record {
-      moves = m.moves _ (acts (course_of f) view (way_of f.stage) clean.awake clean.free clean.under clean.few leaf changes);
+      moves = m.moves _ (acts (course_of f) view (way_of f.stage) clean.not_merging clean.free clean.under clean.fits leaf changes);
       passes = m.passes _ (leaf_passes (course_of f) view (way_of f.stage) leaf changes);
       follows = at_leaf_follows _ (inl (sym (acts_on _ view _ changes)));
     })
@@ -190,15 +190,15 @@ module _ (s : Store) (f : Flight) where
     -- or is decided,
     pub comes_to_reply : (reply : Reply) → decision_at f.job.call view.node.content ≡ record { effect = Nothing; reply = reply } → Settles s f (went.Decided reply) f
     comes_to_reply reply e = record {
-      advances = record { told = m.moves _ (answers (course_of f) view (way_of f.stage) clean.awake clean.free clean.under clean.few leaf reply e) };
-      passes = record { told = tt };
+      advances = record { is = m.moves _ (answers (course_of f) view (way_of f.stage) clean.not_merging clean.free clean.under clean.fits leaf reply e) };
+      passes = record { is = tt };
       follows = record { is = at_leaf_follows _ (inl (sym (ap (done_at view) e))) };
     }
 
     -- or there is no memory
     pub comes_to_nothing : (e : Error) → e ≡ NoMemory → Settles s f (went.Refused e) f
     comes_to_nothing e none = record {
-      advances = record { told = unable (course_of f) s f.stage e none };
-      passes = record { told = tt };
+      advances = record { is = unable (course_of f) s f.stage e none };
+      passes = record { is = tt };
       follows = record { is = at_leaf_follows _ (inr (ap Refused none)) };
     }

@@ -9,16 +9,16 @@ use Rattle.sled_pages.specs.Node.{count}
 use Rattle.sled_pages.specs.Update.{put_at}
 use Rattle.sled_pages.specs.State.{State, PageBecomes, RootBecomes}
 use Rattle.sled_pages.specs.Facts.{now_acts, now_acted, now_allocates}
-use Rattle.sled_pages.specs.Store.{Store, now, acted, view_of, Refused, RefusedRead, Changes, ActsAt, Allocates}
+use Rattle.sled_pages.specs.Store.{Store, now, after_action, view_of, IsRefused, IsReadRefused, Changes, ActsAt, Allocates}
 use Rattle.sled_pages.specs.declared.error.Error.{Error}
 use Rattle.sled_pages.specs.declared.error.Error.TheVariants as error
 use Rattle.sled_pages.specs.declared.node.Node.{Node}
 use Rattle.sled_pages.specs.declared.page.Page.{Page}
 use Rattle.sled_pages.specs.declared.page.View.{View}
 use Rattle.tree_laws.specs.Forest.{Tree, Forest, Place, place}
-use Rattle.tree_laws.specs.Laws.{replaced, allocated, freed, hoisted}
-use Rattle.tree_laws.specs.Moment.{Moment, moment_of, nodes_at, IsMoment, Acts, Grows}
-use Rattle.tree_laws.specs.StageLaws.{StageAction}
+use Rattle.tree_laws.specs.Laws.{after_replacement, after_allocation, after_free, after_hoist}
+use Rattle.tree_laws.specs.Snapshot.{Snapshot, snapshot_of, nodes_at, HasForest, KeepsForest, GrowsByReceiving}
+use Rattle.tree_laws.specs.StageLaws.{StageActionLaw}
 use Rattle.tree_laws.proofs.Known.{goes_same, root_in}
 use Rattle.tree_laws.proofs.Replace.{same_number}
 use Rattle.tree_laws.proofs.Update.{put_here, put_there, name_here}
@@ -28,29 +28,29 @@ use Rattle.tree_laws.specs.declared.flight.Stage.{Stage}
 use Rattle.tree_laws.specs.declared.flight.Stage.TheVariants as stage
 use Rattle.sled_tree.specs.declared.flight.Next.{Next}
 use Rattle.sled_tree.specs.declared.flight.Next.TheVariants as next
-use Rattle.sled_tree.specs.declared.flight.Flight.{Flight}
+use Rattle.sled_tree.specs.declared.flight.InFlight.{InFlight}
 use Rattle.sled_tree.specs.declared.flight.Went.TheVariants.{Moved}
 use Rattle.tree_laws.specs.Stages.{IsStage, owned}
 use Rattle.sled_tree.specs.Stages.{Knows, changes_at}
-use Rattle.sled_tree.specs.Moves.{Moves, ActsOnce, Same, Advances, LeavesNone, leaves_as, refuses_as}
+use Rattle.sled_tree.specs.StageAction.{StageAction, ActsOnce, KeepsContents, FlightStep, LeaksNoPage, leaks_no_page_as, is_action_refused_as}
 use Rattle.sled_tree.proofs.Basics.{none_some, some_is}
 
 -- a page that stays as it is does not grow
-pub grows_not : (m : Moment) (w : Forest) → Grows (nodes_at m) (nodes_at m) w
+pub grows_not : (m : Snapshot) (w : Forest) → GrowsByReceiving (nodes_at m) (nodes_at m) w
 grows_not m w = record { grows = λ x p n d i a b. inl (as_many n d (some_is (sym a ∙ b))) }
   where
     as_many : (n d : Node) → n ≡ d → count d.content ≤ count n.content
     as_many n d e = let same : count n.content ≡ count d.content = ap (λ (z : Node). count z.content) e in omega arith
 
 -- nothing is done, and nothing is owned that was not owned before
-pub rests : (mine own : List ℕ) (m : Moment) (w : Forest) → IsMoment m w → ((q : ℕ) → In q own → In q mine) → Acts mine own m w m w
+pub rests : (mine own : List ℕ) (m : Snapshot) (w : Forest) → HasForest m w → ((q : ℕ) → In q own → In q mine) → KeepsForest mine own m w m w
 rests mine own m w is kept = record { is = is; goes = goes_same (mine ++ own) m w is; fresh = λ q i. inl (kept q i); sized = λ s. s; grows = grows_not m w }
 
-pub same_here : (m : Moment) (w : Forest) → Same m w m w
+pub same_here : (m : Snapshot) (w : Forest) → KeepsContents m w m w
 same_here m w = record { same = λ t. refl }
 
 -- an action that does nothing leaves no page behind
-pub leaves_same : (mine own : List ℕ) (s : State) (v : Forest) → ((q : ℕ) → In q mine → In q own) → LeavesNone mine own s s v
+pub leaves_same : (mine own : List ℕ) (s : State) (v : Forest) → ((q : ℕ) → In q mine → In q own) → LeaksNoPage mine own s s v
 leaves_same mine own s v kept = record {
   kept = λ q i. inl (kept q i);
   made = λ q e. inl e;
@@ -58,14 +58,14 @@ leaves_same mine own s v kept = record {
 }
 
 -- .. nor does a read of a call that owns none
-pub leaves_read : (mine : List ℕ) (n : Next) (s : State) (v : Forest) → mine ≡ [] → leaves_as n mine s s v
+pub leaves_read : (mine : List ℕ) (n : Next) (s : State) (v : Forest) → mine ≡ [] → leaks_no_page_as n mine s s v
 leaves_read mine (next.Go b) s v none = leaves_same mine (owned b) s v (λ q i. absurd (subst (In q) none i))
 leaves_read mine (next.Decided reply) s v none = leaves_same mine [] s v (λ q i. subst (In q) none i)
 leaves_read mine (next.Refused e) s v none = tt
 
 -- a page changes, and is not rid of a merging child but to the call
-pub leaves_replaced : (mine own : List ℕ) (m : Moment) (p : ℕ) (g n : Page) (v : Forest) → m.state.pages p ≡ Some g → ((c : ℕ) → g.node.merging_child ≡ Some c → In c own)
-    → ((q : ℕ) → In q mine → (x : Place) × In q (v.chain x)) → LeavesNone mine own m.state (replaced m p n).state v
+pub leaves_replaced : (mine own : List ℕ) (m : Snapshot) (p : ℕ) (g n : Page) (v : Forest) → m.state.pages p ≡ Some g → ((c : ℕ) → g.node.merging_child ≡ Some c → In c own)
+    → ((q : ℕ) → In q mine → (x : Place) × In q (v.chain x)) → LeaksNoPage mine own m.state (after_replacement m p n).state v
 leaves_replaced mine own m p g n v live rid kept = record {
   kept = λ q i. inr (inr (kept q i));
   made = λ q e. elim (same_number q p) [
@@ -83,7 +83,7 @@ pub rid_of_none : (own : List ℕ) (g : Page) (n : Node) → g.node ≡ n → n.
 rid_of_none own g n e none c child = none_some (sym none ∙ ap (λ (z : Node). z.merging_child) (sym e) ∙ child)
 
 -- a page is made
-pub leaves_allocated : (m : Moment) (w : Forest) (p : ℕ) (n : Page) (v : Forest) → IsMoment m w → m.pids p ≡ false → LeavesNone [] (p ∷ []) m.state (allocated m p n).state v
+pub leaves_allocated : (m : Snapshot) (w : Forest) (p : ℕ) (n : Page) (v : Forest) → HasForest m w → m.pids p ≡ false → LeaksNoPage [] (p ∷ []) m.state (after_allocation m p n).state v
 leaves_allocated m w p n v is fresh = record {
   kept = λ q i. absurd i;
   made = λ q e. elim (same_number q p) [
@@ -100,7 +100,7 @@ leaves_allocated m w p n v is fresh = record {
     apart e = cc
 
 -- a page of the call's own becomes a root
-pub leaves_hoisted : (m : Moment) (t : Tree) (r : ℕ) (v : Forest) → IsMoment (hoisted m t r) v → LeavesNone (r ∷ []) [] m.state (hoisted m t r).state v
+pub leaves_hoisted : (m : Snapshot) (t : Tree) (r : ℕ) (v : Forest) → HasForest (after_hoist m t r) v → LeaksNoPage (r ∷ []) [] m.state (after_hoist m t r).state v
 leaves_hoisted m t r v is = record {
   kept = λ q i. elim i [
     | inl e ↦ let o = root_in is.formed t r (name_here m.state.roots t (Some r)) in inr (inr (place t o.0, subst (λ z. In z (v.chain (place t o.0))) (sym e) o.2))
@@ -111,7 +111,7 @@ leaves_hoisted m t r v is = record {
 }
 
 -- .. or is freed
-pub leaves_freed : (m : Moment) (p : ℕ) (v : Forest) → LeavesNone (p ∷ []) [] m.state (freed m p).state v
+pub leaves_freed : (m : Snapshot) (p : ℕ) (v : Forest) → LeaksNoPage (p ∷ []) [] m.state (after_free m p).state v
 leaves_freed m p v = record {
   kept = λ q i. elim i [
     | inl e ↦ inr (inl (ap (put_at m.state.pages p None) e ∙ put_here m.state.pages p None))
@@ -129,24 +129,24 @@ leaves_freed m p v = record {
 
 -- what comes of an action that does nothing
 pub stays : (j : Course) (s : Store) (a b : Stage) → ((q : ℕ) → In q (owned b) → In q (owned a)) → ((q : ℕ) → In q (owned a) → In q (owned b)) → changes_at j b
-    → ((m : Moment) (w : Forest) → IsMoment m w → m.numbers j.tree.name ≡ Some j.tree.number → IsStage m w j.tree.name j.tree.number j.aim a → IsStage m w j.tree.name j.tree.number j.aim b)
-    → Moves j s a (next.Go b) s
+    → ((m : Snapshot) (w : Forest) → HasForest m w → m.numbers j.tree.name ≡ Some j.tree.number → IsStage m w j.tree.name j.tree.number j.aim a → IsStage m w j.tree.name j.tree.number j.aim b)
+    → StageAction j s a (next.Go b) s
 stays j s a b from to plain known = record {
   touches = inl refl;
-  told = λ numbers given w is named k.
-      let m : Moment = moment_of s numbers given in
+  is = λ numbers given w is named k.
+      let m : Snapshot = snapshot_of s numbers given in
       (w, rests (owned a) (owned b) m w is from, ((known m w is named k.0, plain, k.2), same_here m w), leaves_same (owned a) (owned b) (now s) w to);
 }
 
 -- the call begins again, where it owns no page
-pub restarts : (j : Course) (s : Store) (a : Stage) → ((q : ℕ) → In q (owned a) → ⊥) → Moves j s a (next.Go stage.Root) s
+pub restarts : (j : Course) (s : Store) (a : Stage) → ((q : ℕ) → In q (owned a) → ⊥) → StageAction j s a (next.Go stage.Root) s
 restarts j s a none = stays j s a stage.Root (λ q i. absurd i) none tt (λ m w is named k. tt)
 
 -- a store that counted a fault shows the same moment
-same_moment : (old new : Store) (numbers : Tree → Option ℕ) (given : ℕ → Bool) (e : Error) → refuses_as e old new → moment_of new numbers given ≡ moment_of old numbers given
-same_moment old new numbers given error.NoMemory t = ap (λ (s : Store). moment_of s numbers given) t
-same_moment old new numbers given (error.Io fault) (inl t) = ap (λ (s : Store). moment_of s numbers given) t
-same_moment old new numbers given (error.Io fault) (inr (t, p)) = ap (λ (s : Store). moment_of s numbers given) t
+same_moment : (old new : Store) (numbers : Tree → Option ℕ) (given : ℕ → Bool) (e : Error) → is_action_refused_as e old new → snapshot_of new numbers given ≡ snapshot_of old numbers given
+same_moment old new numbers given error.NoMemory t = ap (λ (s : Store). snapshot_of s numbers given) t
+same_moment old new numbers given (error.Io fault) (inl t) = ap (λ (s : Store). snapshot_of s numbers given) t
+same_moment old new numbers given (error.Io fault) (inr (t, p)) = ap (λ (s : Store). snapshot_of s numbers given) t
 same_moment old new numbers given (error.CollectionNotFound name) t = absurd t
 same_moment old new numbers given (error.Unsupported text) t = absurd t
 same_moment old new numbers given (error.ReportableBug text) t = absurd t
@@ -154,23 +154,23 @@ same_moment old new numbers given (error.Corruption fault) t = absurd t
 same_moment old new numbers given error.FullQueue t = absurd t
 same_moment old new numbers given error.Closed t = absurd t
 
-refuses : (j : Course) (old new : Store) (a : Stage) (e : Error) → refuses_as e old new → Moves j old a (next.Refused e) new
+refuses : (j : Course) (old new : Store) (a : Stage) (e : Error) → is_action_refused_as e old new → StageAction j old a (next.Refused e) new
 refuses j old new a e t = record {
   touches = t;
-  told = λ numbers given w is named k.
+  is = λ numbers given w is named k.
       let same = sym (same_moment old new numbers given e t) in (
         w,
-        subst (λ (m : Moment). Acts (owned a) [] (moment_of old numbers given) w m w) same (rests (owned a) [] (moment_of old numbers given) w is (λ q i. absurd i)),
-        subst (λ (m : Moment). Same (moment_of old numbers given) w m w) same (same_here (moment_of old numbers given) w),
+        subst (λ (m : Snapshot). KeepsForest (owned a) [] (snapshot_of old numbers given) w m w) same (rests (owned a) [] (snapshot_of old numbers given) w is (λ q i. absurd i)),
+        subst (λ (m : Snapshot). KeepsContents (snapshot_of old numbers given) w m w) same (same_here (snapshot_of old numbers given) w),
         tt,
       );
 }
 
 -- a call of the store is refused,
-pub refused : (j : Course) (old new : Store) (a : Stage) (e : Error) → Refused e old new → Moves j old a (next.Refused e) new
-refused j old new a e r = refuses j old new a e (go e r.told)
+pub refused : (j : Course) (old new : Store) (a : Stage) (e : Error) → IsRefused e old new → StageAction j old a (next.Refused e) new
+refused j old new a e r = refuses j old new a e (go e r.is)
   where
-    go : (e : Error) → Rattle.sled_pages.specs.Store.refused_as e old new → refuses_as e old new
+    go : (e : Error) → Rattle.sled_pages.specs.Store.is_refused_as e old new → is_action_refused_as e old new
     go error.NoMemory t = t
     go (error.Io fault) t = inl t
     go (error.CollectionNotFound name) t = absurd t
@@ -181,10 +181,10 @@ refused j old new a e r = refuses j old new a e (go e r.told)
     go error.Closed t = absurd t
 
 -- a read is,
-pub unread : (j : Course) (s : Store) (a : Stage) (pid : ℕ) (e : Error) → RefusedRead pid s e → Moves j s a (next.Refused e) s
-unread j s a pid e r = refuses j s s a e (go e r.told)
+pub unread : (j : Course) (s : Store) (a : Stage) (pid : ℕ) (e : Error) → IsReadRefused pid s e → StageAction j s a (next.Refused e) s
+unread j s a pid e r = refuses j s s a e (go e r.is)
   where
-    go : (e : Error) → Rattle.sled_pages.specs.Store.refused_read_as pid s e → refuses_as e s s
+    go : (e : Error) → Rattle.sled_pages.specs.Store.is_read_refused_as pid s e → is_action_refused_as e s s
     go error.NoMemory t = refl
     go (error.Io fault) t = inr (refl, (pid, t))
     go (error.CollectionNotFound name) t = absurd t
@@ -195,20 +195,20 @@ unread j s a pid e r = refuses j s s a e (go e r.told)
     go error.Closed t = absurd t
 
 -- or there is no memory
-pub unable : (j : Course) (s : Store) (a : Stage) (e : Error) → e ≡ error.NoMemory → Moves j s a (next.Refused e) s
-unable j s a e none = subst (λ z. Moves j s a (next.Refused z) s) (sym none) (refuses j s s a error.NoMemory refl)
+pub unable : (j : Course) (s : Store) (a : Stage) (e : Error) → e ≡ error.NoMemory → StageAction j s a (next.Refused e) s
+unable j s a e none = subst (λ z. StageAction j s a (next.Refused z) s) (sym none) (refuses j s s a error.NoMemory refl)
 
 -- a changing action after which the call goes on
 pub moves_on : (j : Course) (old new : Store) (a b : Stage) → ActsOnce old new → changes_at j b
-    → ((numbers : Tree → Option ℕ) (given : ℕ → Bool) (w : Forest) → IsMoment (moment_of old numbers given) w → numbers j.tree.name ≡ Some j.tree.number → IsStage (moment_of old numbers given) w j.tree.name j.tree.number j.aim a
-    → (m : Moment) × (moment_of new numbers given ≡ m) × (v : Forest) × StageAction (moment_of old numbers given) w m v j.tree.name j.tree.number j.aim a b × LeavesNone (owned a) (owned b) (now old) m.state v)
-    → Moves j old a (next.Go b) new
+    → ((numbers : Tree → Option ℕ) (given : ℕ → Bool) (w : Forest) → HasForest (snapshot_of old numbers given) w → numbers j.tree.name ≡ Some j.tree.number → IsStage (snapshot_of old numbers given) w j.tree.name j.tree.number j.aim a
+    → (m : Snapshot) × (snapshot_of new numbers given ≡ m) × (v : Forest) × StageActionLaw (snapshot_of old numbers given) w m v j.tree.name j.tree.number j.aim a b × LeaksNoPage (owned a) (owned b) (now old) m.state v)
+    → StageAction j old a (next.Go b) new
 moves_on j old new a b once plain known = record {
   touches = inr once;
-  told = λ numbers given w is named k.
+  is = λ numbers given w is named k.
       let n = known numbers given w is named k.0 in
-      let mo : Moment = moment_of old numbers given in
-      subst (λ (z : Moment). (v : Forest) × Acts (owned a) (owned b) mo w z v × (Knows z v j b × Same mo w z v) × LeavesNone (owned a) (owned b) mo.state z.state v) (sym n.1) (n.2, n.3.acts, ((n.3.knows, plain, k.2), record { same = n.3.same }), n.4);
+      let mo : Snapshot = snapshot_of old numbers given in
+      subst (λ (z : Snapshot). (v : Forest) × KeepsForest (owned a) (owned b) mo w z v × (Knows z v j b × KeepsContents mo w z v) × LeaksNoPage (owned a) (owned b) mo.state z.state v) (sym n.1) (n.2, n.3.acts, ((n.3.knows, plain, k.2), record { same = n.3.same }), n.4);
 }
 
 -- what was given stays given when one more is
@@ -220,7 +220,7 @@ given_stays given p q e = elim (same_number q p) [
 
 -- one changing action: a page was changed, a page was made, a page went, or a root became another
 pub once_acts : {p given : ℕ} {page : Option Page} {old new : Store} → ActsAt (PageBecomes p page) given old new → ActsOnce old new
-once_acts {p} {given} {page} {old} {new} a = record { action = PageBecomes p page; pids = old.pids; versions = put_at old.versions given true; is = a.is; pids_stay = λ p e. e; versions_stay = given_stays old.versions given; calm = ap (λ (s : State). s.in_group) (now_acts _ _ old new a) }
+once_acts {p} {given} {page} {old} {new} a = record { action = PageBecomes p page; pids = old.pids; versions = put_at old.versions given true; is = a.is; pids_stay = λ p e. e; versions_stay = given_stays old.versions given; no_group = ap (λ (s : State). s.in_group) (now_acts _ _ old new a) }
 
 pub once_made : {node : Node} {p version : ℕ} {old new : Store} → Allocates node p version old new → ActsOnce old new
 once_made {node} {p} {version} {old} {new} a = record {
@@ -230,14 +230,14 @@ once_made {node} {p} {version} {old} {new} a = record {
   is = a.is;
   pids_stay = given_stays old.pids p;
   versions_stay = given_stays old.versions version;
-  calm = ap (λ (s : State). s.in_group) (now_allocates node p version old new a);
+  no_group = ap (λ (s : State). s.in_group) (now_allocates node p version old new a);
 }
 
-pub once_freed : (p : ℕ) (old new : Store) → new ≡ acted (PageBecomes p None) old → ActsOnce old new
-once_freed p old new e = record { action = PageBecomes p None; pids = old.pids; versions = old.versions; is = e; pids_stay = λ q e. e; versions_stay = λ v e. e; calm = ap (λ (s : State). s.in_group) (ap now e ∙ now_acted (PageBecomes p None) old) }
+pub once_freed : (p : ℕ) (old new : Store) → new ≡ after_action (PageBecomes p None) old → ActsOnce old new
+once_freed p old new e = record { action = PageBecomes p None; pids = old.pids; versions = old.versions; is = e; pids_stay = λ q e. e; versions_stay = λ v e. e; no_group = ap (λ (s : State). s.in_group) (ap now e ∙ now_acted (PageBecomes p None) old) }
 
-pub once_rooted : (t : Tree) (r : Option ℕ) (old new : Store) → new ≡ acted (RootBecomes t r) old → ActsOnce old new
-once_rooted t r old new e = record { action = RootBecomes t r; pids = old.pids; versions = old.versions; is = e; pids_stay = λ q e. e; versions_stay = λ v e. e; calm = ap (λ (s : State). s.in_group) (ap now e ∙ now_acted (RootBecomes t r) old) }
+pub once_rooted : (t : Tree) (r : Option ℕ) (old new : Store) → new ≡ after_action (RootBecomes t r) old → ActsOnce old new
+once_rooted t r old new e = record { action = RootBecomes t r; pids = old.pids; versions = old.versions; is = e; pids_stay = λ q e. e; versions_stay = λ v e. e; no_group = ap (λ (s : State). s.in_group) (ap now e ∙ now_acted (RootBecomes t r) old) }
 
 -- a node that should not split, though it is open, has room
 pub not_long : {P : Type 0} (b : Bool) (c : ℕ) → IsTrue b ↔ ((16 < c) × P) → b ≡ false → P → c ≤ 16
@@ -254,8 +254,8 @@ long_enough b c told is = more c (told.0 is).0
     more c h = omega arith
 
 -- the page had changed, and the call begins again
-pub stale : (j : Course) (old new : Store) (a : Stage) {change : Node → Node} {pid version : ℕ} {present : Option ℕ} → ((q : ℕ) → In q (owned a) → ⊥) → Changes change pid version old new (Err present) → Moves j old a (next.Go stage.Root) new
-stale j old new a none c = subst (λ (s : Store). Moves j old a (next.Go stage.Root) s) (sym c.told.0) (restarts j old a none)
+pub stale : (j : Course) (old new : Store) (a : Stage) {change : Node → Node} {pid version : ℕ} {present : Option ℕ} → ((q : ℕ) → In q (owned a) → ⊥) → Changes change pid version old new (Err present) → StageAction j old a (next.Go stage.Root) new
+stale j old new a none c = subst (λ (s : Store). StageAction j old a (next.Go stage.Root) s) (sym c.is.0) (restarts j old a none)
 
 -- what a test that failed tells
 pub untrue : {P : Type 0} (b : Bool) → IsTrue b ↔ P → b ≡ false → P → ⊥
@@ -282,5 +282,5 @@ pub live_view : (s : Store) (pid : ℕ) (v : View) → Some v ≡ view_of pid ((
 live_view s pid v e = let k = viewed pid ((now s).pages pid) v e in ap (now s).pages k.0 ∙ k.1
 
 -- a step after which the call goes on
-pub goes_on : (old new : Store) (f : Flight) (taken stage : Stage) (n : Next) → taken ≡ f.stage → n ≡ next.Go stage → Moves (course_of f) old taken n new → Advances old f Moved new (record { job = f.job; aim = f.aim; stage = stage; turns = f.turns + 1 })
-goes_on old new f taken stage n e is m = record { told = (refl, refl, refl, subst (λ z. Moves (course_of f) old z (next.Go stage) new) e (subst (λ z. Moves (course_of f) old taken z new) is m)) }
+pub goes_on : (old new : Store) (f : InFlight) (taken stage : Stage) (n : Next) → taken ≡ f.stage → n ≡ next.Go stage → StageAction (course_of f) old taken n new → FlightStep old f Moved new (record { job = f.job; aim = f.aim; stage = stage; turns = f.turns + 1 })
+goes_on old new f taken stage n e is m = record { is = (refl, refl, refl, subst (λ z. StageAction (course_of f) old z (next.Go stage) new) e (subst (λ z. StageAction (course_of f) old taken z new) is m)) }

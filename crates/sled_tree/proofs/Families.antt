@@ -3,14 +3,14 @@ use Rattle.std.proofs.Common.{◌≡◌, refl}
 use Rattle.sled_pages.specs.declared.page.View.{View}
 use Rattle.tree_laws.specs.declared.flight.Cap.{Cap}
 use Rattle.tree_laws.specs.declared.flight.Confirm.{Confirm}
-use Rattle.tree_laws.specs.declared.flight.Crown.{Crown}
+use Rattle.tree_laws.specs.declared.flight.SwapRoot.{SwapRoot}
 use Rattle.tree_laws.specs.declared.flight.Hoist.{Hoist}
 use Rattle.tree_laws.specs.declared.flight.Merge.{Merge}
-use Rattle.tree_laws.specs.declared.flight.Own.{Own}
+use Rattle.tree_laws.specs.declared.flight.Orphan.{Orphan}
 use Rattle.tree_laws.specs.declared.flight.Post.{Post}
 use Rattle.tree_laws.specs.declared.flight.Receive.{Receive}
 use Rattle.tree_laws.specs.declared.flight.Seek.{Seek}
-use Rattle.tree_laws.specs.declared.flight.Shorten.{Shorten}
+use Rattle.tree_laws.specs.declared.flight.InstallLeft.{InstallLeft}
 use Rattle.tree_laws.specs.declared.flight.Split.{Split}
 use Rattle.tree_laws.specs.declared.flight.Walk.{Walk}
 use Rattle.tree_laws.specs.declared.flight.Stage.{Stage}
@@ -18,17 +18,17 @@ use Rattle.tree_laws.specs.declared.flight.Stage.TheVariants as stage
 use Rattle.sled_tree.specs.Stages.{IsOfMerge}
 
 -- a stage that is none of these is of a merge
-pub of_merge : (s : Stage) → (s ≡ stage.Root → ⊥) → ((a : Walk) → s ≡ stage.Walk a → ⊥) → ((a : View) → s ≡ stage.Act a → ⊥) → ((a : Split) → s ≡ stage.Split a → ⊥) → ((a : Shorten) → s ≡ stage.Shorten a → ⊥) → ((a : Post) → s ≡ stage.Post a → ⊥) → ((a : Hoist) → s ≡ stage.Hoist a → ⊥) → ((a : Crown) → s ≡ stage.Crown a → ⊥) → ((a : Own) → s ≡ stage.Free a → ⊥) → IsOfMerge s
-of_merge stage.Root root walk act split shorten post hoist crown free = absurd (root refl)
-of_merge (stage.Walk a) root walk act split shorten post hoist crown free = absurd (walk a refl)
-of_merge (stage.Act a) root walk act split shorten post hoist crown free = absurd (act a refl)
-of_merge (stage.Split a) root walk act split shorten post hoist crown free = absurd (split a refl)
-of_merge (stage.Shorten a) root walk act split shorten post hoist crown free = absurd (shorten a refl)
-of_merge (stage.Post a) root walk act split shorten post hoist crown free = absurd (post a refl)
-of_merge (stage.Hoist a) root walk act split shorten post hoist crown free = absurd (hoist a refl)
-of_merge (stage.Crown a) root walk act split shorten post hoist crown free = absurd (crown a refl)
-of_merge (stage.Free a) root walk act split shorten post hoist crown free = absurd (free a refl)
-of_merge other root walk act split shorten post hoist crown free = tt
+pub of_merge : (s : Stage) → (s ≡ stage.Root → ⊥) → ((a : Walk) → s ≡ stage.Walk a → ⊥) → ((a : View) → s ≡ stage.Act a → ⊥) → ((a : Split) → s ≡ stage.Split a → ⊥) → ((a : InstallLeft) → s ≡ stage.InstallLeft a → ⊥) → ((a : Post) → s ≡ stage.Post a → ⊥) → ((a : Hoist) → s ≡ stage.Hoist a → ⊥) → ((a : SwapRoot) → s ≡ stage.SwapRoot a → ⊥) → ((a : Orphan) → s ≡ stage.Free a → ⊥) → IsOfMerge s
+of_merge stage.Root root walk act split install_left post hoist swap_root free = absurd (root refl)
+of_merge (stage.Walk a) root walk act split install_left post hoist swap_root free = absurd (walk a refl)
+of_merge (stage.Act a) root walk act split install_left post hoist swap_root free = absurd (act a refl)
+of_merge (stage.Split a) root walk act split install_left post hoist swap_root free = absurd (split a refl)
+of_merge (stage.InstallLeft a) root walk act split install_left post hoist swap_root free = absurd (install_left a refl)
+of_merge (stage.Post a) root walk act split install_left post hoist swap_root free = absurd (post a refl)
+of_merge (stage.Hoist a) root walk act split install_left post hoist swap_root free = absurd (hoist a refl)
+of_merge (stage.SwapRoot a) root walk act split install_left post hoist swap_root free = absurd (swap_root a refl)
+of_merge (stage.Free a) root walk act split install_left post hoist swap_root free = absurd (free a refl)
+of_merge other root walk act split install_left post hoist swap_root free = tt
 
 -- and one of a merge is one of these
 pub no_other : (s : Stage) → IsOfMerge s → ((a : Merge) → s ≡ stage.Intend a → ⊥) → ((a : Merge) → s ≡ stage.Child a → ⊥) → ((a : Cap) → s ≡ stage.Cap a → ⊥) → ((a : Seek) → s ≡ stage.Seek a → ⊥) → ((a : Receive) → s ≡ stage.Receive a → ⊥) → ((a : Confirm) → s ≡ stage.Confirm a → ⊥) → ⊥

@@ -2,7 +2,7 @@
 use Rattle.std.proofs.Common.{arith, ℕ, List, [], ◌∷◌, ◌++◌, Option, sym, refl, subst, inl, inr, ◌⊎◌}
 use Rattle.sled_pages.specs.In.{In}
 use Rattle.tree_laws.specs.Forest.{Tree, Forest}
-use Rattle.tree_laws.specs.Moment.{Moment, nodes_at, IsMoment, Goes, Grows, Acts}
+use Rattle.tree_laws.specs.Snapshot.{Snapshot, nodes_at, HasForest, Guarantee, GrowsByReceiving, KeepsForest}
 use Rattle.tree_laws.specs.Stages.{owned}
 use Rattle.sled_model.specs.declared.call.Call.{Call}
 use Rattle.sled_model.specs.declared.tree.Tree.{Tree as CallTree}
@@ -13,12 +13,12 @@ use Rattle.tree_laws.proofs.Staying.{stage_stays}
 use Rattle.tree_laws.proofs.Reading.{one_law}
 use Rattle.sled_tree.specs.Course.{Course, aim_of, course_of}
 use Rattle.sled_tree.specs.declared.flight.Aim.TheVariants.{OwnKey}
-use Rattle.sled_tree.specs.declared.flight.Flight.{Flight}
+use Rattle.sled_tree.specs.declared.flight.InFlight.{InFlight}
 use Rattle.sled_tree.specs.Stages.{Knows}
 use Rattle.sled_tree.specs.Known.{IsKnown}
 
 -- what an action of one call leaves of what another knows, whose own pages are none of its
-pub stage_kept : {mine : List ℕ} {lost : Option Tree} {old new : Moment} {w v : Forest} → IsMoment old w → Goes mine lost old w new v → Grows (nodes_at old) (nodes_at new) w → (j : Course) (s : Stage) → ((q : ℕ) → In q (owned s) → In q mine → ⊥) → Knows old w j s → Knows new v j s
+pub stage_kept : {mine : List ℕ} {lost : Option Tree} {old new : Snapshot} {w v : Forest} → HasForest old w → Guarantee mine lost old w new v → GrowsByReceiving (nodes_at old) (nodes_at new) w → (j : Course) (s : Stage) → ((q : ℕ) → In q (owned s) → In q mine → ⊥) → Knows old w j s → Knows new v j s
 stage_kept {mine} {lost} {old} {new} {w} {v} is g grows j s off k = (stage_stays mine lost old w new v (record { is = is; goes = g; grows = grows }) j.tree.name j.tree.number j.aim s off k.0, k.1, k.2)
 
 in_either : (q : ℕ) (xs ys : List ℕ) → In q (xs ++ ys) → In q xs ⊎ In q ys
@@ -27,19 +27,19 @@ in_either q (x ∷ xs) ys (inl e) = inl (inl e)
 in_either q (x ∷ xs) ys (inr i) = elim (in_either q xs ys i) [ inl a ↦ inl (inr a) | inr b ↦ inr b ]
 
 -- no page that a call comes to own is another's
-pub not_own : {mine own : List ℕ} {old new : Moment} {w v : Forest} → IsMoment old w → Acts mine own old w new v → (h : Flight) → IsKnown old h → ((q : ℕ) → In q mine → In q (owned h.stage) → ⊥) → (q : ℕ) → In q (owned h.stage) → In q own → ⊥
-not_own {mine} {own} {old} {new} {w} is a h k off q i o = apart_law mine own old w is a.fresh h.job.tree.name h.job.tree.number (aim_of h.job h.aim) h.stage (k.told w is).0 q i (λ m. off q m i) o
+pub not_own : {mine own : List ℕ} {old new : Snapshot} {w v : Forest} → HasForest old w → KeepsForest mine own old w new v → (h : InFlight) → IsKnown old h → ((q : ℕ) → In q mine → In q (owned h.stage) → ⊥) → (q : ℕ) → In q (owned h.stage) → In q own → ⊥
+not_own {mine} {own} {old} {new} {w} is a h k off q i o = apart_law mine own old w is a.fresh h.job.tree.name h.job.tree.number (aim_of h.job h.aim) h.stage (k.is w is).0 q i (λ m. off q m i) o
 
 -- what another call knows is true after the action
-pub known_kept : {mine own : List ℕ} {old new : Moment} {w v : Forest} → IsMoment old w → Acts mine own old w new v → (h : Flight) → IsKnown old h → ((q : ℕ) → In q mine → In q (owned h.stage) → ⊥) → IsKnown new h
+pub known_kept : {mine own : List ℕ} {old new : Snapshot} {w v : Forest} → HasForest old w → KeepsForest mine own old w new v → (h : InFlight) → IsKnown old h → ((q : ℕ) → In q mine → In q (owned h.stage) → ⊥) → IsKnown new h
 known_kept {mine} {own} {old} {new} {w} {v} is a h k off = record {
-  told = λ u at. subst (λ (z : Forest). Knows new z (course_of h) h.stage) (one_law (nodes_at new) new.state.roots v u a.is.formed at.formed)
-      (stage_kept is a.goes a.grows (course_of h) h.stage (λ q i m. elim (in_either q mine own m) [ inl x ↦ off q x i | inr y ↦ not_own is a h k off q i y ]) (k.told w is));
+  is = λ u at. subst (λ (z : Forest). Knows new z (course_of h) h.stage) (one_law (nodes_at new) new.state.roots v u a.is.formed at.formed)
+      (stage_kept is a.goes a.grows (course_of h) h.stage (λ q i m. elim (in_either q mine own m) [ inl x ↦ off q x i | inr y ↦ not_own is a h k off q i y ]) (k.is w is));
   aimed = k.aimed;
-  few = k.few;
+  fits = k.fits;
   begins = k.begins;
 }
 
 -- a call that begins knows nothing of the pages, and aims at its key
-pub known_new : (m : Moment) (tree : CallTree) (call : Call) → IsKnown m (record { job = record { tree = tree; call = call }; aim = OwnKey; stage = Root; turns = 0 })
-known_new m tree call = record { told = λ w is. (tt, tt, refl); aimed = refl; few = omega arith; begins = λ none. refl }
+pub known_new : (m : Snapshot) (tree : CallTree) (call : Call) → IsKnown m (record { job = record { tree = tree; call = call }; aim = OwnKey; stage = Root; turns = 0 })
+known_new m tree call = record { is = λ w is. (tt, tt, refl); aimed = refl; fits = omega arith; begins = λ none. refl }

@@ -2,9 +2,9 @@
 use Rattle.std.proofs.Common.{◌≡◌, ◌≢◌, ℕ, ◌≤◌, ◌⊎◌, true, false, List, [], ◌∷◌, Option, Some, None, Ok, Err, sym, refl, ap, ◌∙◌, subst, inl}
 use Rattle.sled_pages.specs.Order.{Key, Below, UpTo}
 use Rattle.sled_pages.specs.In.{In}
-use Rattle.sled_pages.specs.Halves.{received}
+use Rattle.sled_pages.specs.Halves.{after_receiving}
 use Rattle.sled_pages.specs.Among.{IsPointerBefore}
-use Rattle.sled_pages.specs.Node.{count, applied, intended, pointers}
+use Rattle.sled_pages.specs.Node.{count, after_link, after_intention, pointers}
 use Rattle.sled_pages.specs.Store.{Store, now, view_of, Changes}
 use Rattle.sled_pages.specs.declared.node.Node.{Node}
 use Rattle.sled_pages.specs.declared.node.Data.TheVariants.{Index}
@@ -12,8 +12,8 @@ use Rattle.sled_pages.specs.declared.link.Link.TheVariants.{ParentMergeIntention
 use Rattle.sled_pages.specs.declared.page.Page.{Page}
 use Rattle.sled_pages.specs.declared.page.View.{View}
 use Rattle.tree_laws.specs.Forest.{Forest, place}
-use Rattle.tree_laws.specs.Moment.{Moment, moment_of, IsMoment, IsFew, Stood}
-use Rattle.tree_laws.specs.Laws.{replaced}
+use Rattle.tree_laws.specs.Snapshot.{Snapshot, snapshot_of, HasForest, HasRoomForOne, StoodInChain}
+use Rattle.tree_laws.specs.Laws.{after_replacement}
 use Rattle.tree_laws.specs.Stages.{IsStage, owned}
 use Rattle.tree_laws.specs.StageLaws.{Finds}
 use Rattle.tree_laws.proofs.Known.{store_replaced}
@@ -32,160 +32,160 @@ use Rattle.tree_laws.specs.declared.flight.Stage.TheVariants as stage
 use Rattle.sled_tree.specs.declared.flight.Next.{Next}
 use Rattle.sled_tree.specs.declared.flight.Next.TheVariants as next
 use Rattle.sled_tree.specs.Stages.{Knows, changes_at}
-use Rattle.sled_tree.specs.Moves.{Moves, ReadsChild, Looks, IsLive, owned_next}
+use Rattle.sled_tree.specs.StageAction.{StageAction, AfterChild, AfterSeek, IsUnchangedNow, owned_next}
 use Rattle.sled_tree.specs.Follows.{ResumesMerge, resumed}
 use Rattle.sled_tree.proofs.Facts.{moves_on, once_acts, stays, rests, same_here, viewed, live_view, leaves_replaced, leaves_read, rid_of_none}
 use Rattle.sled_tree.proofs.Basics.{some_is}
 
 -- the parent takes the page for its merging child
-pub intends : (j : Course) (old new : Store) (a : Merge) (version : ℕ) → Changes (applied (ParentMergeIntention a.child)) a.parent.pid a.parent.version old new (Ok version)
-    → Moves j old (stage.Intend a) (next.Go (stage.Child (record { parent = record { pid = a.parent.pid; version = version; node = record (a.parent.node) { merging_child = Some a.child } }; child = a.child; before = a.before }))) new
-intends j old new a version c = moves_on j old new _ _ (once_acts c.told.2) tt (λ numbers gave w is named k.
-    let m : Moment = moment_of old numbers gave in
-    let g : Page = record { version = a.parent.version; node = c.told.0 } in
-    let n : Page = record { version = version; node = applied (ParentMergeIntention a.child) a.parent.node } in
-    let node : c.told.0 ≡ a.parent.node = k.above.seen.view.speaks g c.told.1 refl in
-    let did = intend_action m w j.tree.name j.tree.number j.aim a version c.told.0 is (record { named = named; page = c.told.1 }) c.told.2.fresh k in (
-      replaced m a.parent.pid n,
-      store_replaced numbers gave c.told.2 ∙ ap (λ (z : Node). replaced m a.parent.pid (record { version = version; node = applied (ParentMergeIntention a.child) z })) node,
+pub intends : (j : Course) (old new : Store) (a : Merge) (version : ℕ) → Changes (after_link (ParentMergeIntention a.child)) a.parent.pid a.parent.version old new (Ok version)
+    → StageAction j old (stage.Intend a) (next.Go (stage.Child (record { parent = record { pid = a.parent.pid; version = version; node = record (a.parent.node) { merging_child = Some a.child } }; child = a.child; before = a.before }))) new
+intends j old new a version c = moves_on j old new _ _ (once_acts c.is.2) tt (λ numbers gave w is named k.
+    let m : Snapshot = snapshot_of old numbers gave in
+    let g : Page = record { version = a.parent.version; node = c.is.0 } in
+    let n : Page = record { version = version; node = after_link (ParentMergeIntention a.child) a.parent.node } in
+    let node : c.is.0 ≡ a.parent.node = k.above.seen.view.speaks g c.is.1 refl in
+    let did = intend_action m w j.tree.name j.tree.number j.aim a version c.is.0 is (record { named = named; page = c.is.1 }) c.is.2.fresh k in (
+      after_replacement m a.parent.pid n,
+      store_replaced numbers gave c.is.2 ∙ ap (λ (z : Node). after_replacement m a.parent.pid (record { version = version; node = after_link (ParentMergeIntention a.child) z })) node,
       did.0,
       did.1,
-      leaves_replaced [] [] m a.parent.pid g n did.0 c.told.1 (rid_of_none [] g a.parent.node node k.above.seen.is_open.free) (λ q i. absurd i),
+      leaves_replaced [] [] m a.parent.pid g n did.0 c.is.1 (rid_of_none [] g a.parent.node node k.above.seen.is_open.free) (λ q i. absurd i),
     ))
 
 -- what a read of the merging child comes to, as a step
-pub child_read : (j : Course) (s : Store) (a : Merge) (view : View) (n : Next) → Some view ≡ view_of a.child ((now s).pages a.child) → ReadsChild j a view n → Moves j s (stage.Child a) n s
+pub child_read : (j : Course) (s : Store) (a : Merge) (view : View) (n : Next) → Some view ≡ view_of a.child ((now s).pages a.child) → AfterChild j a view n → StageAction j s (stage.Child a) n s
 child_read j s a view n read t = record {
   touches = t.touches s;
-  told = λ numbers gave w is named k.
-      let r = t.told s numbers gave w is named (viewed a.child ((now s).pages a.child) view read).0 (live_view s a.child view read) k in
-      (w, rests [] (owned_next n) (moment_of s numbers gave) w is (λ q i. subst (In q) r.0 i), r.1, leaves_read [] n (now s) w refl);
+  is = λ numbers gave w is named k.
+      let r = t.is s numbers gave w is named (viewed a.child ((now s).pages a.child) view read).0 (live_view s a.child view read) k in
+      (w, rests [] (owned_next n) (snapshot_of s numbers gave) w is (λ q i. subst (In q) r.0 i), r.1, leaves_read [] n (now s) w refl);
 }
 
 -- what comes after the child, or the search's cursor, was read and leads to a stage
 module _ (j : Course) (view : View) where
   child_goes : (a : Merge) (b : Stage) → owned b ≡ [] → changes_at j b
-      → ((m : Moment) (w : Forest) → IsMoment m w → m.numbers j.tree.name ≡ Some j.tree.number → view.pid ≡ a.child → IsLive m view → IsStage m w j.tree.name j.tree.number j.aim (stage.Child a) → IsStage m w j.tree.name j.tree.number j.aim b) → ReadsChild j a view (next.Go b)
+      → ((m : Snapshot) (w : Forest) → HasForest m w → m.numbers j.tree.name ≡ Some j.tree.number → view.pid ≡ a.child → IsUnchangedNow m view → IsStage m w j.tree.name j.tree.number j.aim (stage.Child a) → IsStage m w j.tree.name j.tree.number j.aim b) → AfterChild j a view (next.Go b)
   child_goes a b none plain known = record {
     touches = λ s. inl refl;
-    told = λ s numbers gave w is named here live k. (none, ((known (moment_of s numbers gave) w is named here live k.0, plain, k.2), same_here (moment_of s numbers gave) w));
+    is = λ s numbers gave w is named here live k. (none, ((known (snapshot_of s numbers gave) w is named here live k.0, plain, k.2), same_here (snapshot_of s numbers gave) w));
   }
 
   cursor_goes : (a : Seek) (b : Stage) → owned b ≡ [] → changes_at j b
-      → ((m : Moment) (w : Forest) → IsMoment m w → m.numbers j.tree.name ≡ Some j.tree.number → view.pid ≡ a.cursor → IsLive m view → IsStage m w j.tree.name j.tree.number j.aim (stage.Seek a) → IsStage m w j.tree.name j.tree.number j.aim b) → Looks j a view (next.Go b)
+      → ((m : Snapshot) (w : Forest) → HasForest m w → m.numbers j.tree.name ≡ Some j.tree.number → view.pid ≡ a.cursor → IsUnchangedNow m view → IsStage m w j.tree.name j.tree.number j.aim (stage.Seek a) → IsStage m w j.tree.name j.tree.number j.aim b) → AfterSeek j a view (next.Go b)
   cursor_goes a b none plain known = record {
     touches = λ s. inl refl;
-    told = λ s numbers gave w is named here live k. (none, ((known (moment_of s numbers gave) w is named here live k.0, plain, k.2), same_here (moment_of s numbers gave) w));
+    is = λ s numbers gave w is named here live k. (none, ((known (snapshot_of s numbers gave) w is named here live k.0, plain, k.2), same_here (snapshot_of s numbers gave) w));
   }
 
 -- a page with a merging child was read, whose own merge goes on first
-module _ (view : View) (child : ℕ) (awake : view.node.merging ≡ false) (is_child : view.node.merging_child ≡ Some child) where
-  pub child_helps : (j : Course) (a : Merge) (n : Next) → ResumesMerge view child n → ReadsChild j a view n
-  child_helps j a n h = subst (ReadsChild j a view) (sym h.is) (go h.before h.is_before)
+module _ (view : View) (child : ℕ) (not_merging : view.node.merging ≡ false) (is_child : view.node.merging_child ≡ Some child) where
+  pub child_helps : (j : Course) (a : Merge) (n : Next) → ResumesMerge view child n → AfterChild j a view n
+  child_helps j a n h = subst (AfterChild j a view) (sym h.is) (go h.before h.is_before)
     where
-      go : (before : Option ℕ) → IsPointerBefore child (pointers view.node.content) before → ReadsChild j a view (resumed view child before)
+      go : (before : Option ℕ) → IsPointerBefore child (pointers view.node.content) before → AfterChild j a view (resumed view child before)
       go None none = child_goes j view a stage.Root refl tt (λ m w is named here live k. tt)
       go (Some before) b = child_goes j view a _ refl tt (λ m w is named here live k.
-          stood_merges_law m w j.tree.name j.tree.number k.height view k.merging.lo is named (subst (λ p. Stood m w (place j.tree.name k.height) j.tree.number k.merging.lo p) (sym here) k.merging.c_stood) live awake child before is_child b)
+          stood_merges_law m w j.tree.name j.tree.number k.height view k.merging.lo is named (subst (λ p. StoodInChain m w (place j.tree.name k.height) j.tree.number k.merging.lo p) (sym here) k.merging.c_stood) live not_merging child before is_child b)
 
-  pub cursor_helps : (j : Course) (a : Seek) (n : Next) → ResumesMerge view child n → Looks j a view n
-  cursor_helps j a n h = subst (Looks j a view) (sym h.is) (go h.before h.is_before)
+  pub cursor_helps : (j : Course) (a : Seek) (n : Next) → ResumesMerge view child n → AfterSeek j a view n
+  cursor_helps j a n h = subst (AfterSeek j a view) (sym h.is) (go h.before h.is_before)
     where
-      go : (before : Option ℕ) → IsPointerBefore child (pointers view.node.content) before → Looks j a view (resumed view child before)
+      go : (before : Option ℕ) → IsPointerBefore child (pointers view.node.content) before → AfterSeek j a view (resumed view child before)
       go None none = cursor_goes j view a stage.Root refl tt (λ m w is named here live k. tt)
       go (Some before) b = cursor_goes j view a _ refl tt (λ m w is named here live k.
-          stood_merges_law m w j.tree.name j.tree.number k.height view k.lo is named (subst (λ p. Stood m w (place j.tree.name k.height) j.tree.number k.lo p) (sym here) k.stood) live awake child before is_child b)
+          stood_merges_law m w j.tree.name j.tree.number k.height view k.lo is named (subst (λ p. StoodInChain m w (place j.tree.name k.height) j.tree.number k.lo p) (sym here) k.stood) live not_merging child before is_child b)
 
 -- the child is merging already, or open
 module _ (j : Course) (a : Merge) (view : View) where
-  pub child_seeks : view.node.merging ≡ true → ReadsChild j a view (next.Go (stage.Seek (record { merge = a; version = view.version; node = view.node; cursor = a.before })))
+  pub child_seeks : view.node.merging ≡ true → AfterChild j a view (next.Go (stage.Seek (record { merge = a; version = view.version; node = view.node; cursor = a.before })))
   child_seeks capped = child_goes j view a _ refl tt (λ m w is named here live k. law.child_seeks m w j.tree.name j.tree.number j.aim a view.version view.node named (ap m.state.pages (sym here) ∙ live) capped k)
 
-  pub child_caps : view.node.merging ≡ false → view.node.merging_child ≡ None → ReadsChild j a view (next.Go (stage.Cap (record { merge = a; version = view.version; node = view.node })))
-  child_caps awake free = child_goes j view a _ refl tt (λ m w is named here live k. law.child_caps m w j.tree.name j.tree.number j.aim a view.version view.node is named (ap m.state.pages (sym here) ∙ live) (record { awake = awake; free = free }) k)
+  pub child_caps : view.node.merging ≡ false → view.node.merging_child ≡ None → AfterChild j a view (next.Go (stage.Cap (record { merge = a; version = view.version; node = view.node })))
+  child_caps not_merging free = child_goes j view a _ refl tt (λ m w is named here live k. law.child_caps m w j.tree.name j.tree.number j.aim a view.version view.node is named (ap m.state.pages (sym here) ∙ live) (record { not_merging = not_merging; free = free }) k)
 
 -- the child is capped, or was changed, or is gone
-pub caps : (j : Course) (old new : Store) (a : Cap) (version : ℕ) → Changes (applied ChildMergeCap) a.merge.child a.version old new (Ok version)
-    → Moves j old (stage.Cap a) (next.Go (stage.Seek (record { merge = a.merge; version = version; node = record (a.node) { merging = true }; cursor = a.merge.before }))) new
-caps j old new a version c = moves_on j old new _ _ (once_acts c.told.2) tt (λ numbers gave w is named k.
-    let m : Moment = moment_of old numbers gave in
-    let g : Page = record { version = a.version; node = c.told.0 } in
-    let n : Page = record { version = version; node = applied ChildMergeCap a.node } in
-    let node : c.told.0 ≡ a.node = k.view.speaks g c.told.1 refl in
-    let did = cap_action m w j.tree.name j.tree.number j.aim a version c.told.0 is (record { named = named; page = c.told.1 }) c.told.2.fresh k in (
-      replaced m a.merge.child n,
-      store_replaced numbers gave c.told.2 ∙ ap (λ (z : Node). replaced m a.merge.child (record { version = version; node = applied ChildMergeCap z })) node,
+pub caps : (j : Course) (old new : Store) (a : Cap) (version : ℕ) → Changes (after_link ChildMergeCap) a.merge.child a.version old new (Ok version)
+    → StageAction j old (stage.Cap a) (next.Go (stage.Seek (record { merge = a.merge; version = version; node = record (a.node) { merging = true }; cursor = a.merge.before }))) new
+caps j old new a version c = moves_on j old new _ _ (once_acts c.is.2) tt (λ numbers gave w is named k.
+    let m : Snapshot = snapshot_of old numbers gave in
+    let g : Page = record { version = a.version; node = c.is.0 } in
+    let n : Page = record { version = version; node = after_link ChildMergeCap a.node } in
+    let node : c.is.0 ≡ a.node = k.view.speaks g c.is.1 refl in
+    let did = cap_action m w j.tree.name j.tree.number j.aim a version c.is.0 is (record { named = named; page = c.is.1 }) c.is.2.fresh k in (
+      after_replacement m a.merge.child n,
+      store_replaced numbers gave c.is.2 ∙ ap (λ (z : Node). after_replacement m a.merge.child (record { version = version; node = after_link ChildMergeCap z })) node,
       did.0,
       did.1,
-      leaves_replaced [] [] m a.merge.child g n did.0 c.told.1 (rid_of_none [] g a.node node k.is_open.free) (λ q i. absurd i),
+      leaves_replaced [] [] m a.merge.child g n did.0 c.is.1 (rid_of_none [] g a.node node k.is_open.free) (λ q i. absurd i),
     ))
 
-pub cap_stale : (j : Course) (old new : Store) (a : Cap) (present : Option ℕ) → Changes (applied ChildMergeCap) a.merge.child a.version old new (Err present) → Moves j old (stage.Cap a) (next.Go (stage.Child a.merge)) new
-cap_stale j old new a present c = subst (λ (s : Store). Moves j old (stage.Cap a) (next.Go (stage.Child a.merge)) s) (sym c.told.0)
+pub cap_stale : (j : Course) (old new : Store) (a : Cap) (present : Option ℕ) → Changes (after_link ChildMergeCap) a.merge.child a.version old new (Err present) → StageAction j old (stage.Cap a) (next.Go (stage.Child a.merge)) new
+cap_stale j old new a present c = subst (λ (s : Store). StageAction j old (stage.Cap a) (next.Go (stage.Child a.merge)) s) (sym c.is.0)
     (stays j old (stage.Cap a) (stage.Child a.merge) (λ q i. i) (λ q i. i) tt (λ m w is named k. cap_late m w j.tree.name j.tree.number j.aim a k))
 
 -- what a read of the search's cursor comes to, as a step
-pub cursor_looks : (j : Course) (s : Store) (a : Seek) (view : View) (n : Next) → Some view ≡ view_of a.cursor ((now s).pages a.cursor) → Looks j a view n → Moves j s (stage.Seek a) n s
+pub cursor_looks : (j : Course) (s : Store) (a : Seek) (view : View) (n : Next) → Some view ≡ view_of a.cursor ((now s).pages a.cursor) → AfterSeek j a view n → StageAction j s (stage.Seek a) n s
 cursor_looks j s a view n read t = record {
   touches = t.touches s;
-  told = λ numbers gave w is named k.
-      let r = t.told s numbers gave w is named (viewed a.cursor ((now s).pages a.cursor) view read).0 (live_view s a.cursor view read) k in
-      (w, rests [] (owned_next n) (moment_of s numbers gave) w is (λ q i. subst (In q) r.0 i), r.1, leaves_read [] n (now s) w refl);
+  is = λ numbers gave w is named k.
+      let r = t.is s numbers gave w is named (viewed a.cursor ((now s).pages a.cursor) view read).0 (live_view s a.cursor view read) k in
+      (w, rests [] (owned_next n) (snapshot_of s numbers gave) w is (λ q i. subst (In q) r.0 i), r.1, leaves_read [] n (now s) w refl);
 }
 
 module _ (j : Course) (a : Seek) (view : View) where
   -- the search begins again
-  pub looks_again : Looks j a view (next.Go stage.Root)
+  pub looks_again : AfterSeek j a view (next.Go stage.Root)
   looks_again = cursor_goes j view a stage.Root refl tt (λ m w is named here live k. tt)
 
-  module _ (awake : view.node.merging ≡ false) (free : view.node.merging_child ≡ None) where
-    looks : (b : Stage) → owned b ≡ [] → changes_at j b → ((m : Moment) (w : Forest) → Finds m w j.tree.name j.tree.number j.aim a view → IsStage m w j.tree.name j.tree.number j.aim b) → Looks j a view (next.Go b)
-    looks b none plain known = cursor_goes j view a b none plain (λ m w is named here live k. known m w (seek_law m w j.tree.name j.tree.number j.aim a view is named here live (record { awake = awake; free = free }) k))
+  module _ (not_merging : view.node.merging ≡ false) (free : view.node.merging_child ≡ None) where
+    looks : (b : Stage) → owned b ≡ [] → changes_at j b → ((m : Snapshot) (w : Forest) → Finds m w j.tree.name j.tree.number j.aim a view → IsStage m w j.tree.name j.tree.number j.aim b) → AfterSeek j a view (next.Go b)
+    looks b none plain known = cursor_goes j view a b none plain (λ m w is named here live k. known m w (seek_law m w j.tree.name j.tree.number j.aim a view is named here live (record { not_merging = not_merging; free = free }) k))
 
-    pub looks_further : (q : ℕ) → view.node.hi ≢ [] → Below view.node.hi a.node.lo → view.node.next ≡ Some q → Looks j a view (next.Go (stage.Seek (record { merge = a.merge; version = a.version; node = a.node; cursor = q })))
+    pub looks_further : (q : ℕ) → view.node.hi ≢ [] → Below view.node.hi a.node.lo → view.node.next ≡ Some q → AfterSeek j a view (next.Go (stage.Seek (record { merge = a.merge; version = a.version; node = a.node; cursor = q })))
     looks_further q bounded before next = looks _ refl tt (λ m w f. f.further q bounded before next)
 
-    pub looks_done : (view.node.hi ≡ []) ⊎ UpTo a.node.lo view.node.hi → view.node.next ≢ Some a.merge.child → Looks j a view (next.Go (stage.Confirm (record { parent = a.merge.parent; child = a.merge.child; version = a.version })))
+    pub looks_done : (view.node.hi ≡ []) ⊎ UpTo a.node.lo view.node.hi → view.node.next ≢ Some a.merge.child → AfterSeek j a view (next.Go (stage.Confirm (record { parent = a.merge.parent; child = a.merge.child; version = a.version })))
     looks_done reaches off = looks _ refl tt (λ m w f. f.done reaches off)
 
-    pub looks_receives : view.node.next ≡ Some a.merge.child → count view.node.content ≤ 16 → Looks j a view (next.Go (stage.Receive (record { merge = a.merge; version = a.version; node = a.node; left = view })))
-    looks_receives next few = looks _ refl tt (λ m w f. f.receives next (record { few = few }))
+    pub looks_receives : view.node.next ≡ Some a.merge.child → count view.node.content ≤ 16 → AfterSeek j a view (next.Go (stage.Receive (record { merge = a.merge; version = a.version; node = a.node; left = view })))
+    looks_receives next fits = looks _ refl tt (λ m w f. f.receives next (record { fits = fits }))
 
-    pub looks_splits : Looks j a view (next.Go (stage.Split (record { page = view; posting = posting.Nowhere })))
+    pub looks_splits : AfterSeek j a view (next.Go (stage.Split (record { page = view; posting = posting.Nowhere })))
     looks_splits = looks _ refl tt (λ m w f. f.splits)
 
 -- the page before the child receives it, or had changed, or is gone
-pub receives : (j : Course) (old new : Store) (a : Receive) (both : Node) (version : ℕ) → both ≡ received a.left.node a.node → Changes (λ _. both) a.left.pid a.left.version old new (Ok version)
-    → Moves j old (stage.Receive a) (next.Go (stage.Confirm (record { parent = a.merge.parent; child = a.merge.child; version = a.version }))) new
-receives j old new a both version e c = moves_on j old new _ _ (once_acts c.told.2) tt (λ numbers gave w is named k.
-    let m : Moment = moment_of old numbers gave in
-    let g : Page = record { version = a.left.version; node = c.told.0 } in
-    let n : Page = record { version = version; node = received a.left.node a.node } in
-    let did = receive_action m w j.tree.name j.tree.number j.aim a version c.told.0 is (record { named = named; page = c.told.1 }) c.told.2.fresh k in (
-      replaced m a.left.pid n,
-      store_replaced numbers gave c.told.2 ∙ ap (λ (z : Node). replaced m a.left.pid (record { version = version; node = z })) e,
+pub receives : (j : Course) (old new : Store) (a : Receive) (both : Node) (version : ℕ) → both ≡ after_receiving a.left.node a.node → Changes (λ _. both) a.left.pid a.left.version old new (Ok version)
+    → StageAction j old (stage.Receive a) (next.Go (stage.Confirm (record { parent = a.merge.parent; child = a.merge.child; version = a.version }))) new
+receives j old new a both version e c = moves_on j old new _ _ (once_acts c.is.2) tt (λ numbers gave w is named k.
+    let m : Snapshot = snapshot_of old numbers gave in
+    let g : Page = record { version = a.left.version; node = c.is.0 } in
+    let n : Page = record { version = version; node = after_receiving a.left.node a.node } in
+    let did = receive_action m w j.tree.name j.tree.number j.aim a version c.is.0 is (record { named = named; page = c.is.1 }) c.is.2.fresh k in (
+      after_replacement m a.left.pid n,
+      store_replaced numbers gave c.is.2 ∙ ap (λ (z : Node). after_replacement m a.left.pid (record { version = version; node = z })) e,
       did.0,
       did.1,
-      leaves_replaced [] [] m a.left.pid g n did.0 c.told.1 (rid_of_none [] g a.left.node (k.seen.view.speaks g c.told.1 refl) k.seen.is_open.free) (λ q i. absurd i),
+      leaves_replaced [] [] m a.left.pid g n did.0 c.is.1 (rid_of_none [] g a.left.node (k.seen.view.speaks g c.is.1 refl) k.seen.is_open.free) (λ q i. absurd i),
     ))
 
 pub receive_stale : (j : Course) (old new : Store) (a : Receive) (both : Node) (present : Option ℕ) → Changes (λ _. both) a.left.pid a.left.version old new (Err present)
-    → Moves j old (stage.Receive a) (next.Go (stage.Seek (record { merge = a.merge; version = a.version; node = a.node; cursor = a.left.pid }))) new
-receive_stale j old new a both present c = subst (λ (s : Store). Moves j old (stage.Receive a) (next.Go (stage.Seek (record { merge = a.merge; version = a.version; node = a.node; cursor = a.left.pid }))) s) (sym c.told.0)
+    → StageAction j old (stage.Receive a) (next.Go (stage.Seek (record { merge = a.merge; version = a.version; node = a.node; cursor = a.left.pid }))) new
+receive_stale j old new a both present c = subst (λ (s : Store). StageAction j old (stage.Receive a) (next.Go (stage.Seek (record { merge = a.merge; version = a.version; node = a.node; cursor = a.left.pid }))) s) (sym c.is.0)
     (stays j old (stage.Receive a) (stage.Seek (record { merge = a.merge; version = a.version; node = a.node; cursor = a.left.pid })) (λ q i. i) (λ q i. i) tt (λ m w is named k. receive_late m w j.tree.name j.tree.number j.aim a k))
 
 -- the pointer to the child goes
-pub confirms : (j : Course) (old new : Store) (a : Confirm) (version : ℕ) → Changes (applied ParentMergeConfirm) a.parent.pid a.parent.version old new (Ok version)
-    → Moves j old (stage.Confirm a) (next.Go (stage.Free (record { pid = a.child; version = a.version }))) new
-confirms j old new a version c = moves_on j old new _ _ (once_acts c.told.2) tt (λ numbers gave w is named k.
-    let m : Moment = moment_of old numbers gave in
-    let g : Page = record { version = a.parent.version; node = c.told.0 } in
-    let n : Page = record { version = version; node = applied ParentMergeConfirm a.parent.node } in
-    let node : c.told.0 ≡ a.parent.node = k.merger.view.speaks g c.told.1 refl in
-    let did = confirm_action m w j.tree.name j.tree.number j.aim a version c.told.0 is (record { named = named; page = c.told.1 }) c.told.2.fresh k in (
-      replaced m a.parent.pid n,
-      store_replaced numbers gave c.told.2 ∙ ap (λ (z : Node). replaced m a.parent.pid (record { version = version; node = applied ParentMergeConfirm z })) node,
+pub confirms : (j : Course) (old new : Store) (a : Confirm) (version : ℕ) → Changes (after_link ParentMergeConfirm) a.parent.pid a.parent.version old new (Ok version)
+    → StageAction j old (stage.Confirm a) (next.Go (stage.Free (record { pid = a.child; version = a.version }))) new
+confirms j old new a version c = moves_on j old new _ _ (once_acts c.is.2) tt (λ numbers gave w is named k.
+    let m : Snapshot = snapshot_of old numbers gave in
+    let g : Page = record { version = a.parent.version; node = c.is.0 } in
+    let n : Page = record { version = version; node = after_link ParentMergeConfirm a.parent.node } in
+    let node : c.is.0 ≡ a.parent.node = k.merger.view.speaks g c.is.1 refl in
+    let did = confirm_action m w j.tree.name j.tree.number j.aim a version c.is.0 is (record { named = named; page = c.is.1 }) c.is.2.fresh k in (
+      after_replacement m a.parent.pid n,
+      store_replaced numbers gave c.is.2 ∙ ap (λ (z : Node). after_replacement m a.parent.pid (record { version = version; node = after_link ParentMergeConfirm z })) node,
       did.0,
       did.1,
-      leaves_replaced [] (a.child ∷ []) m a.parent.pid g n did.0 c.told.1 (λ q child. inl (some_is (sym child ∙ ap (λ (z : Node). z.merging_child) node ∙ k.merger.child))) (λ q i. absurd i),
+      leaves_replaced [] (a.child ∷ []) m a.parent.pid g n did.0 c.is.1 (λ q child. inl (some_is (sym child ∙ ap (λ (z : Node). z.merging_child) node ∙ k.merger.child))) (λ q i. absurd i),
     ))

@@ -13,14 +13,14 @@ use Rattle.sled_pages.specs.declared.node.Data.TheVariants.{Leaf, Index}
 use Rattle.sled_pages.specs.declared.page.Page.{Page}
 use Rattle.sled_pages.specs.declared.page.View.{View}
 use Rattle.sled_model.specs.declared.decision.Effect.TheVariants.{Nothing}
-use Rattle.tree_laws.specs.Moment.{LiesUnder}
-use Rattle.tree_laws.specs.Paths.{CleanFrom, IsPassed}
+use Rattle.tree_laws.specs.Snapshot.{LiesUnder}
+use Rattle.tree_laws.specs.Paths.{CleanFrom, NeedsNoRepair}
 use Rattle.tree_laws.specs.PathLaws.{CleanStep}
 use Rattle.tree_laws.proofs.Looking.{clean_step_law}
 use Rattle.sled_tree.specs.Change.{IsLeaf, IsIndex, decision_at}
 use Rattle.sled_tree.specs.Follows.{EndsWithin}
-use Rattle.sled_tree.specs.Passing.{IsUnchanged, IsAheadOf, IsOnPath, Passes, PassesOn, GoesFurther}
-use Rattle.sled_tree.specs.declared.flight.Flight.{Flight}
+use Rattle.sled_tree.specs.Passing.{IsUnchanged, IsAheadOf, IsOnPath, AdvancesOnPath, AdvancesFromPage, StepsOnPath}
+use Rattle.sled_tree.specs.declared.flight.InFlight.{InFlight}
 use Rattle.sled_tree.specs.Course.{Course, course_of}
 use Rattle.sled_tree.specs.declared.flight.Next.{Next}
 use Rattle.sled_tree.specs.declared.flight.Next.TheVariants as next
@@ -36,10 +36,10 @@ use Rattle.sled_tree.proofs.Facts.{viewed, untrue}
 use Rattle.sled_tree.proofs.Arriving.{leaf_is, index_is}
 
 -- a stage that no clean path leads to
-pub passes_never : (j : Course) (old new : State) (a : Stage) (n : Next) → ((path : List ℕ) → IsOnPath old j a path → ⊥) → Passes j old a n new
-passes_never j old new a n off = record { told = λ path k. absurd (off path k) }
+pub passes_never : (j : Course) (old new : State) (a : Stage) (n : Next) → ((path : List ℕ) → IsOnPath old j a path → ⊥) → AdvancesOnPath j old a n new
+passes_never j old new a n off = record { is = λ path k. absurd (off path k) }
 
-pub passes_nowhere : (j : Course) (old new : State) (taken a : Stage) (n : Next) → taken ≡ a → ((path : List ℕ) → IsOnPath old j a path → ⊥) → Passes j old taken n new
+pub passes_nowhere : (j : Course) (old new : State) (taken a : Stage) (n : Next) → taken ≡ a → ((path : List ℕ) → IsOnPath old j a path → ⊥) → AdvancesOnPath j old taken n new
 passes_nowhere j old new taken a n is off = passes_never j old new taken n (λ path k. off path (subst (λ z. IsOnPath old j z path) is k))
 
 -- the page of the path is there
@@ -60,33 +60,33 @@ clean_ahead nodes aim p (reached.Next parent) path k = absurd k
 
 module _ (j : Course) (s : State) where
   -- the tree has no root,
-  pub no_root : (name : Key) (found : Option ℕ) (n : Next) → name ≡ j.tree.name → found ≡ s.roots name → found ≡ None → Passes j s stage.Root n s
+  pub no_root : (name : Key) (found : Option ℕ) (n : Next) → name ≡ j.tree.name → found ≡ s.roots name → found ≡ None → AdvancesOnPath j s stage.Root n s
   no_root name found n called is_found none = passes_never j s s stage.Root n (λ path k. none_some (sym none ∙ is_found ∙ ap s.roots called ∙ k.is_root))
 
   -- the root is gone,
-  pub root_gone : (name : Key) (found : Option ℕ) (root : ℕ) (n : Next) → name ≡ j.tree.name → found ≡ s.roots name → found ≡ Some root → None ≡ view_of root (s.pages root) → Passes j s stage.Root n s
+  pub root_gone : (name : Key) (found : Option ℕ) (root : ℕ) (n : Next) → name ≡ j.tree.name → found ≡ s.roots name → found ≡ Some root → None ≡ view_of root (s.pages root) → AdvancesOnPath j s stage.Root n s
   root_gone name found root n called is_found is_some read = passes_never j s s stage.Root n
       (λ path k. live_at s j.aim k.root true path k.clean (subst (λ r. s.pages r ≡ None) (some_is (sym is_some ∙ is_found ∙ ap s.roots called ∙ k.is_root)) (gone_at root (s.pages root) read)))
 
   -- or it was read
   pub root_passes : (name : Key) (found : Option ℕ) (root : ℕ) (view : View) (n : Next) → name ≡ j.tree.name → found ≡ s.roots name → found ≡ Some root → Some view ≡ view_of root (s.pages root)
-      → PassesOn j view reached.Root n → Passes j s stage.Root n s
+      → AdvancesFromPage j view reached.Root n → AdvancesOnPath j s stage.Root n s
   root_passes name found root view n called is_found is_some read t = record {
-    told = λ path k.
+    is = λ path k.
         let v = viewed root (s.pages root) view read in
-        t.told s path (ap s.pages v.0 ∙ v.1) (subst (λ r. CleanFrom (nodes_of s) j.aim r true path) (some_is (sym k.is_root ∙ sym (ap s.roots called) ∙ sym is_found ∙ is_some) ∙ sym v.0) k.clean);
+        t.is s path (ap s.pages v.0 ∙ v.1) (subst (λ r. CleanFrom (nodes_of s) j.aim r true path) (some_is (sym k.is_root ∙ sym (ap s.roots called) ∙ sym is_found ∙ is_some) ∙ sym v.0) k.clean);
   }
 
   -- the cursor is gone,
-  pub cursor_gone : (a : Walk) (n : Next) → None ≡ view_of a.cursor (s.pages a.cursor) → Passes j s (stage.Walk a) n s
+  pub cursor_gone : (a : Walk) (n : Next) → None ≡ view_of a.cursor (s.pages a.cursor) → AdvancesOnPath j s (stage.Walk a) n s
   cursor_gone a n read = passes_never j s s (stage.Walk a) n (λ path k. let c = clean_ahead (nodes_of s) j.aim a.cursor a.reached path k in live_at s j.aim a.cursor c.0 path c.1 (gone_at a.cursor (s.pages a.cursor) read))
 
   -- or it was read
-  pub cursor_passes : (a : Walk) (view : View) (n : Next) → Some view ≡ view_of a.cursor (s.pages a.cursor) → PassesOn j view a.reached n → Passes j s (stage.Walk a) n s
+  pub cursor_passes : (a : Walk) (view : View) (n : Next) → Some view ≡ view_of a.cursor (s.pages a.cursor) → AdvancesFromPage j view a.reached n → AdvancesOnPath j s (stage.Walk a) n s
   cursor_passes a view n read t = record {
-    told = λ path k.
+    is = λ path k.
         let v = viewed a.cursor (s.pages a.cursor) view read in
-        t.told s path (ap s.pages v.0 ∙ v.1) (subst (λ c. IsAheadOf (nodes_of s) j.aim c a.reached path) (sym v.0) k);
+        t.is s path (ap s.pages v.0 ∙ v.1) (subst (λ c. IsAheadOf (nodes_of s) j.aim c a.reached path) (sym v.0) k);
   }
 
 -- a walk that comes to a page of a clean path passes it
@@ -99,33 +99,33 @@ not_behind n aim under ends = elim under.1 [ inl endless ↦ ends.0 endless | in
 
 module _ (j : Course) (view : View) (by : Reached) (n : Next) where
   -- no clean path comes here
-  pub shut : ((nodes : Nodes) (first : Bool) → IsPassed nodes j.aim view.pid first view.node → ⊥) → PassesOn j view by n
-  shut off = record { told = λ s path live k. let c = clean_ahead (nodes_of s) j.aim view.pid by path k in absurd (off (nodes_of s) c.0 (steps s j.aim path view c.0 live c.1).passed) }
+  pub shut : ((nodes : Nodes) (first : Bool) → NeedsNoRepair nodes j.aim view.pid first view.node → ⊥) → AdvancesFromPage j view by n
+  shut off = record { is = λ s path live k. let c = clean_ahead (nodes_of s) j.aim view.pid by path k in absurd (off (nodes_of s) c.0 (steps s j.aim path view c.0 live c.1).passed) }
 
-  pub shut_merging : view.node.merging ≡ true → PassesOn j view by n
-  shut_merging capped = shut (λ nodes first passed. true_false (sym capped ∙ passed.is_open.awake))
+  pub shut_merging : view.node.merging ≡ true → AdvancesFromPage j view by n
+  shut_merging capped = shut (λ nodes first passed. true_false (sym capped ∙ passed.is_open.not_merging))
 
-  pub shut_child : (child : ℕ) → view.node.merging_child ≡ Some child → PassesOn j view by n
+  pub shut_child : (child : ℕ) → view.node.merging_child ≡ Some child → AdvancesFromPage j view by n
   shut_child child e = shut (λ nodes first passed. none_some (sym passed.is_open.free ∙ e))
 
-  pub shut_long : {P : Type 0} (b : Bool) → IsTrue b ↔ ((16 < count view.node.content) × P) → b ≡ true → PassesOn j view by n
-  shut_long b told is = shut (λ nodes first passed. over (count view.node.content) (told.0 is).0 passed.few)
+  pub shut_long : {P : Type 0} (b : Bool) → IsTrue b ↔ ((16 < count view.node.content) × P) → b ≡ true → AdvancesFromPage j view by n
+  shut_long b told is = shut (λ nodes first passed. over (count view.node.content) (told.0 is).0 passed.fits)
     where
       over : (c : ℕ) → 16 < c → c ≤ 16 → ⊥
       over c a b = omega arith
 
-  pub shut_outside : (b : Bool) (bound : Bound Key) → bound ≡ j.aim → IsTrue b ↔ LiesUnder bound view.node → b ≡ false → PassesOn j view by n
+  pub shut_outside : (b : Bool) (bound : Bound Key) → bound ≡ j.aim → IsTrue b ↔ LiesUnder bound view.node → b ≡ false → AdvancesFromPage j view by n
   shut_outside b bound e told off = shut (λ nodes first passed. untrue b told off (subst (λ z. LiesUnder z view.node) (sym e) passed.under))
 
-  pub shut_behind : (b : Bool) (bound : Bound Key) → bound ≡ j.aim → IsTrue b ↔ EndsWithin view.node bound → b ≡ true → PassesOn j view by n
+  pub shut_behind : (b : Bool) (bound : Bound Key) → bound ≡ j.aim → IsTrue b ↔ EndsWithin view.node bound → b ≡ true → AdvancesFromPage j view by n
   shut_behind b bound e told is = shut (λ nodes first passed. not_behind view.node j.aim passed.under (subst (EndsWithin view.node) e (told.0 is)))
 
 -- a walk that came to a page by `next` is on no clean path, nor is one that came by a later pointer to a page of few entries
-pub shut_next : (j : Course) (view parent : View) (n : Next) → PassesOn j view (reached.Next parent) n
-shut_next j view parent n = record { told = λ s path live k. absurd k }
+pub shut_next : (j : Course) (view parent : View) (n : Next) → AdvancesFromPage j view (reached.Next parent) n
+shut_next j view parent n = record { is = λ s path live k. absurd k }
 
-pub shut_few : (j : Course) (view parent : View) (n : Next) → count view.node.content ≤ 3 → PassesOn j view (reached.LaterPointer parent) n
-shut_few j view parent n few = record { told = λ s path live k. true_false (sym ((steps s j.aim path view false live k).passed.many few)) }
+pub shut_few : (j : Course) (view parent : View) (n : Next) → count view.node.content ≤ 3 → AdvancesFromPage j view (reached.LaterPointer parent) n
+shut_few j view parent n fits = record { is = λ s path live k. true_false (sym ((steps s j.aim path view false live k).passed.many fits)) }
 
 -- one alone is the last, so that some element passes
 last_any : {X : Type 0} (p : X → Bool) (xs : List X) (x : X) → IsLast p xs x → list_any p xs ≡ false → ⊥
@@ -138,8 +138,8 @@ last_any p xs x k none = true_false (sym (some (list_any p k.before) (p x) (list
 
 module _ (j : Course) (view : View) (by : Reached) where
   -- an index without a pointer is on no clean path,
-  pub shut_pointless : (bound : Bound Key) → bound ≡ j.aim → IsIndex view.node.content → IsPointerFor bound (pointers view.node.content) None → (n : Next) → PassesOn j view by n
-  shut_pointless bound e index none n = record { told = λ s path live k. let c = clean_ahead (nodes_of s) j.aim view.pid by path k in absurd (go s path c.0 live c.1) }
+  pub shut_pointless : (bound : Bound Key) → bound ≡ j.aim → IsIndex view.node.content → IsPointerFor bound (pointers view.node.content) None → (n : Next) → AdvancesFromPage j view by n
+  shut_pointless bound e index none n = record { is = λ s path live k. let c = clean_ahead (nodes_of s) j.aim view.pid by path k in absurd (go s path c.0 live c.1) }
     where
       b : (es : List (Key × ℕ)) × (view.node.content ≡ Index es)
       b = index_is view.node.content index
@@ -164,9 +164,9 @@ module _ (j : Course) (view : View) (by : Reached) where
 
   -- below one with a pointer the rest of the path is ahead,
   pub down_passes : (c : ℕ) (first : Bool) → IsIndex view.node.content → IsPointer j.aim (pointers view.node.content) c first
-      → PassesOn j view by (next.Go (stage.Walk (record { cursor = c; reached = by_pointer view first })))
+      → AdvancesFromPage j view by (next.Go (stage.Walk (record { cursor = c; reached = by_pointer view first })))
   down_passes c first index is_last = record {
-    told = λ s path live k.
+    is = λ s path live k.
         let b = index_is view.node.content index in
         let a = clean_ahead (nodes_of s) j.aim view.pid by path k in
         let d = (steps s j.aim path view a.0 live a.1).down b.0 c first b.1 (subst (λ d. IsPointer j.aim (pointers d) c first) b.1 is_last) in
@@ -178,22 +178,22 @@ module _ (j : Course) (view : View) (by : Reached) where
       go false nodes rest k = k
 
   -- and a leaf is its end
-  pub leaf_passes : IsLeaf view.node.content → (decision_at j.call view.node.content).effect ≢ Nothing → PassesOn j view by (next.Go (stage.Act view))
+  pub leaf_passes : IsLeaf view.node.content → (decision_at j.call view.node.content).effect ≢ Nothing → AdvancesFromPage j view by (next.Go (stage.Act view))
   leaf_passes leaf changes = record {
-    told = λ s path live k.
+    is = λ s path live k.
         let b = leaf_is view.node.content leaf in
         let a = clean_ahead (nodes_of s) j.aim view.pid by path k in
         ([], ap length ((steps s j.aim path view a.0 live a.1).leaf b.0 b.1), (refl, live, changes));
   }
 
 -- the leaf is unchanged, so that the call does not begin again
-pub act_current : (j : Course) (old new : Store) (view : View) {change : Node → Node} {present : Option ℕ} (n : Next) → Changes change view.pid view.version old new (Err present) → Passes j (now old) (stage.Act view) n (now new)
-act_current j old new view n c = passes_never j (now old) (now new) (stage.Act view) n (λ path k. c.told.2 (c.told.1 ∙ ap (option_map (λ (g : Page). g.version)) k.1))
+pub act_current : (j : Course) (old new : Store) (view : View) {change : Node → Node} {present : Option ℕ} (n : Next) → Changes change view.pid view.version old new (Err present) → AdvancesOnPath j (now old) (stage.Act view) n (now new)
+act_current j old new view n c = passes_never j (now old) (now new) (stage.Act view) n (λ path k. c.is.2 (c.is.1 ∙ ap (option_map (λ (g : Page). g.version)) k.1))
 
 -- it changes the leaf
-pub act_changes : (j : Course) (old new : State) (view : View) (n : Next) → (decision_at j.call view.node.content).effect ≡ Nothing → Passes j old (stage.Act view) n new
+pub act_changes : (j : Course) (old new : State) (view : View) (n : Next) → (decision_at j.call view.node.content).effect ≡ Nothing → AdvancesOnPath j old (stage.Act view) n new
 act_changes j old new view n none = passes_never j old new (stage.Act view) n (λ path k. k.2 none)
 
 -- a step after which the call goes on
-pub passes_further : (old new : State) (f : Flight) (taken stage : Stage) (n : Next) → taken ≡ f.stage → n ≡ next.Go stage → Passes (course_of f) old taken n new → GoesFurther old f went.Moved new (record { job = f.job; aim = f.aim; stage = stage; turns = f.turns + 1 })
-passes_further old new f taken stage n e is p = record { told = λ path k. (subst (λ z. Passes (course_of f) old taken z new) is p).told path (subst (λ z. IsOnPath old (course_of f) z path) (sym e) k) }
+pub passes_further : (old new : State) (f : InFlight) (taken stage : Stage) (n : Next) → taken ≡ f.stage → n ≡ next.Go stage → AdvancesOnPath (course_of f) old taken n new → StepsOnPath old f went.Moved new (record { job = f.job; aim = f.aim; stage = stage; turns = f.turns + 1 })
+passes_further old new f taken stage n e is p = record { is = λ path k. (subst (λ z. AdvancesOnPath (course_of f) old taken z new) is p).is path (subst (λ z. IsOnPath old (course_of f) z path) (sym e) k) }

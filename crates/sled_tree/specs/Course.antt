@@ -8,7 +8,7 @@ use Rattle.sled_model.specs.declared.call.Call.{Call}
 use Rattle.sled_model.specs.declared.tree.Tree.{Tree}
 use Rattle.sled_tree.specs.declared.flight.Aim.{Aim}
 use Rattle.sled_tree.specs.declared.flight.Aim.TheVariants.{OwnKey, At}
-use Rattle.sled_tree.specs.declared.flight.Flight.{Flight}
+use Rattle.sled_tree.specs.declared.flight.InFlight.{InFlight}
 use Rattle.sled_tree.specs.declared.flight.Job.{Job}
 
 -- the bound that the walk of a call aims at
@@ -26,7 +26,7 @@ abbrev pub course : Job → Aim → Course
 course j aim = record { tree = j.tree; call = j.call; aim = aim_of j aim }
 
 -- the same of a call in flight
-abbrev pub course_of : Flight → Course
+abbrev pub course_of : InFlight → Course
 course_of f = course f.job f.aim
 
 -- a call at one key, as each call is, aims at its key

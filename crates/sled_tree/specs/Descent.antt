@@ -11,14 +11,14 @@ use Rattle.sled_model.specs.declared.reply.Reply.{Reply}
 use Rattle.sled_tree.specs.Change.{IsLeaf, decision_at}
 use Rattle.sled_tree.specs.Course.{Course}
 use Rattle.sled_tree.specs.Follows.{Follows, FollowsOn, follows_read}
-use Rattle.sled_tree.specs.Moves.{Moves, Arrives, Advances}
-use Rattle.sled_tree.specs.Passing.{Passes, PassesOn, GoesFurther}
+use Rattle.sled_tree.specs.StageAction.{StageAction, AfterPage, FlightStep}
+use Rattle.sled_tree.specs.Passing.{AdvancesOnPath, AdvancesFromPage, StepsOnPath}
 use Rattle.sled_tree.specs.declared.descent.Descent.{Descent}
 use Rattle.sled_tree.specs.declared.descent.Descent.TheVariants as descent
-use Rattle.sled_tree.specs.declared.flight.Flight.{Flight}
+use Rattle.sled_tree.specs.declared.flight.InFlight.{InFlight}
 use Rattle.sled_tree.specs.declared.flight.Next.{Next}
 use Rattle.sled_tree.specs.declared.flight.Next.TheVariants.{Go, Refused}
-use Rattle.tree_laws.specs.Moment.{LiesUnder}
+use Rattle.tree_laws.specs.Snapshot.{LiesUnder}
 use Rattle.tree_laws.specs.declared.flight.Stage.{Stage}
 use Rattle.tree_laws.specs.declared.flight.Stage.TheVariants as stage
 use Rattle.sled_tree.specs.declared.flight.Went.{Went}
@@ -39,22 +39,22 @@ IsPlain (reached.Next parent) n = ⊥
 
 -- The page lies under the aim, and neither a split nor a merge goes on there or is to begin, nor is its pointer to be posted
 pub record IsClean (j : Course) (by : Reached) (view : View) : Type 0 where
-  pub awake : view.node.merging ≡ false
+  pub not_merging : view.node.merging ≡ false
   pub free : view.node.merging_child ≡ None
-  pub few : count view.node.content ≤ 16
+  pub fits : count view.node.content ≤ 16
   pub plain : IsPlain by (count view.node.content)
   pub under : LiesUnder j.aim view.node
 
 -- the stage reads this page, and what comes of the page is what comes of the stage
 pub record Meets (s : Store) (j : Course) (a : Stage) (view : View) : Type 0 where
-  pub moves : (next : Next) → Arrives j view (way_of a) next → Moves j s a next s
-  pub passes : (next : Next) → PassesOn j view (way_of a) next → Passes j (now s) a next (now s)
+  pub moves : (next : Next) → AfterPage j view (way_of a) next → StageAction j s a next s
+  pub passes : (next : Next) → AdvancesFromPage j view (way_of a) next → AdvancesOnPath j (now s) a next (now s)
   pub follows : (next : Next) → follows_read j view (way_of a) next → Follows j s a next s
 
 -- this comes of the stage, which changes nothing
 pub record Leads (s : Store) (j : Course) (a : Stage) (next : Next) : Type 0 where
-  pub moves : Moves j s a next s
-  pub passes : Passes j (now s) a next (now s)
+  pub moves : StageAction j s a next s
+  pub passes : AdvancesOnPath j (now s) a next (now s)
   pub follows : Follows j s a next s
 
 -- what the stage reads
@@ -76,10 +76,10 @@ descends_as s j a (descent.Next next) b = Leads s j a next
 
 -- a step that reads a page, up to what comes next; or the stage stays, and its leaf may have been read
 pub record Descends (s : Store) (j : Course) (a : Stage) (d : Descent) (b : Stage) : Type 0 where
-  pub told : descends_as s j a d b
+  pub is : descends_as s j a d b
 
 -- a step that reads
-pub record Settles (s : Store) (f : Flight) (went : Went) (g : Flight) : Type 0 where
-  pub advances : Advances s f went s g
-  pub passes : GoesFurther (now s) f went (now s) g
+pub record Settles (s : Store) (f : InFlight) (went : Went) (g : InFlight) : Type 0 where
+  pub advances : FlightStep s f went s g
+  pub passes : StepsOnPath (now s) f went (now s) g
   pub follows : FollowsOn s f went s g

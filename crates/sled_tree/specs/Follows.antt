@@ -5,10 +5,10 @@ use Rattle.std.specs.Prelude.{◌≡◌, ◌≢◌, ℕ, ◌<◌, ◌≤◌, ◌
 use Rattle.std.specs.declared.ops.Bound.{Bound}
 use Rattle.sled_pages.specs.Order.{Key, UpTo}
 use Rattle.sled_pages.specs.Among.{is_up_to, IsPointerFor, IsPointerBefore}
-use Rattle.sled_pages.specs.Halves.{left_half, right_half, received}
-use Rattle.sled_pages.specs.Node.{count, pointers, applied}
+use Rattle.sled_pages.specs.Halves.{left_half, right_half, after_receiving}
+use Rattle.sled_pages.specs.Node.{count, pointers, after_link}
 use Rattle.sled_pages.specs.Posting.{IsOpen, IsIndex, with_pointer, takes_pointer}
-use Rattle.sled_pages.specs.Store.{Store, now, view_of, Allocates, Changes, Frees, SwapsRoot, RefusedRead, Refused as IsRefused}
+use Rattle.sled_pages.specs.Store.{Store, now, view_of, Allocates, Changes, Frees, SwapsRoot, IsReadRefused, IsRefused}
 use Rattle.sled_pages.specs.declared.error.Error.{Error}
 use Rattle.sled_pages.specs.declared.error.Error.TheVariants.{NoMemory}
 use Rattle.sled_pages.specs.declared.link.Link.TheVariants.{ParentMergeIntention, ParentMergeConfirm, ChildMergeCap}
@@ -21,18 +21,18 @@ use Rattle.sled_model.specs.declared.decision.Decision.{Decision}
 use Rattle.sled_model.specs.declared.decision.Effect.{Effect}
 use Rattle.sled_model.specs.declared.decision.Effect.TheVariants as effect
 use Rattle.sled_model.specs.declared.reply.Reply.{Reply}
-use Rattle.tree_laws.specs.Moment.{LiesUnder}
+use Rattle.tree_laws.specs.Snapshot.{LiesUnder}
 use Rattle.tree_laws.specs.Stages.{IsOver, parent_of, by_pointer}
 use Rattle.sled_tree.specs.Change.{decision_at, link_of}
 use Rattle.sled_tree.specs.Course.{Course, course_of}
-use Rattle.sled_tree.specs.declared.flight.Flight.{Flight}
+use Rattle.sled_tree.specs.declared.flight.InFlight.{InFlight}
 use Rattle.sled_tree.specs.declared.flight.Went.{Went}
 use Rattle.tree_laws.specs.declared.flight.Split.{Split}
-use Rattle.tree_laws.specs.declared.flight.Shorten.{Shorten}
+use Rattle.tree_laws.specs.declared.flight.InstallLeft.{InstallLeft}
 use Rattle.tree_laws.specs.declared.flight.Post.{Post}
 use Rattle.tree_laws.specs.declared.flight.Hoist.{Hoist}
-use Rattle.tree_laws.specs.declared.flight.Crown.{Crown}
-use Rattle.tree_laws.specs.declared.flight.Own.{Own}
+use Rattle.tree_laws.specs.declared.flight.SwapRoot.{SwapRoot}
+use Rattle.tree_laws.specs.declared.flight.Orphan.{Orphan}
 use Rattle.tree_laws.specs.declared.flight.Cap.{Cap}
 use Rattle.tree_laws.specs.declared.flight.Receive.{Receive}
 use Rattle.tree_laws.specs.declared.flight.Confirm.{Confirm}
@@ -193,7 +193,7 @@ follows_cursor seek v next = Where (v.node.merging ≡ true) (next ≡ Go stage.
 -- The page that a stage reads says what comes next. Where there is none the call begins again. Where the page is not readable
 -- the call is refused: for that, or for want of memory
 pub record FollowsPage (s : Store) (pid : ℕ) (found : View → Next → Type 0) (next : Next) : Type 0 where
-  pub is : ((s.is_readable pid ≡ true) × MatchOption (view_of pid ((now s).pages pid)) (next ≡ Go stage.Root) (λ v. found v next)) ⊎ ((e : Error) × (next ≡ Refused e) × RefusedRead pid s e)
+  pub is : ((s.is_readable pid ≡ true) × MatchOption (view_of pid ((now s).pages pid)) (next ≡ Go stage.Root) (λ v. found v next)) ⊎ ((e : Error) × (next ≡ Refused e) × IsReadRefused pid s e)
 
 abbrev pub follows_root : Course → Store → Option ℕ → Next → Type 0
 follows_root j s None next = next ≡ Go stage.Root
@@ -209,8 +209,8 @@ abbrev pub OrRefused : Store → Store → Next → Type 0 → Type 0
 OrRefused old new next comes = comes ⊎ ((e : Error) × (next ≡ Refused e) × IsRefused e old new)
 
 -- a page is changed where it has the version, and what comes is told by the new version; else by the one that it has
-abbrev pub Takes : (Node → Node) → ℕ → ℕ → Store → Store → Next → (ℕ → Next) → (Option ℕ → Next) → Type 0
-Takes change pid version old new next took late =
+abbrev pub TakesWay : (Node → Node) → ℕ → ℕ → Store → Store → Next → (ℕ → Next) → (Option ℕ → Next) → Type 0
+TakesWay change pid version old new next took late =
     ((given : ℕ) × Changes change pid version old new (Ok given) × (next ≡ took given))
     ⊎ ((present : Option ℕ) × Changes change pid version old new (Err present) × (next ≡ late present))
 
@@ -219,32 +219,32 @@ abbrev pub follows_act : Course → Store → Store → View → Next → Type 0
 follows_act j old new v next =
     MatchOption (link_of (decision_at j.call v.node.content).effect (key_of j.call))
     ((new ≡ old) × (next ≡ Go stage.Root))
-    (λ link. Takes (applied link) v.pid v.version old new next (λ _. Decided (decision_at j.call v.node.content).reply) (λ _. Go stage.Root))
+    (λ link. TakesWay (after_link link) v.pid v.version old new next (λ _. Decided (decision_at j.call v.node.content).reply) (λ _. Go stage.Root))
 
 -- the right half of a long page is made,
-pub record Halves (old new : Store) (a : Split) (next : Next) : Type 0 where
+pub record SplitsPage (old new : Store) (a : Split) (next : Next) : Type 0 where
   pub right : ℕ
   pub version : ℕ
   pub made : Allocates (right_half a.page.node) right version old new
-  pub is : next ≡ Go (stage.Shorten (record { page = a.page; posting = a.posting; left = record (left_half a.page.node) { next = Some right }; at = (right_half a.page.node).lo; right = right; version = version }))
+  pub is : next ≡ Go (stage.InstallLeft (record { page = a.page; posting = a.posting; left = record (left_half a.page.node) { next = Some right }; at = (right_half a.page.node).lo; right = right; version = version }))
 
 abbrev pub follows_split : Store → Store → Split → Next → Type 0
-follows_split old new a next = Where ((16 < count a.page.node.content) × IsOpen a.page.node) (Halves old new a next) ((new ≡ old) × (next ≡ Go stage.Root))
+follows_split old new a next = Where ((16 < count a.page.node.content) × IsOpen a.page.node) (SplitsPage old new a next) ((new ≡ old) × (next ≡ Go stage.Root))
 
 -- the page becomes the left one, and the right one gets its pointer, or else it goes,
-abbrev pub shortened : Shorten → Posting → Next
+abbrev pub shortened : InstallLeft → Posting → Next
 shortened a (posting.Parent parent) = Go (stage.Post (record { parent = parent; at = a.at; pid = a.right }))
 shortened a posting.Root = Go (stage.Hoist (record { left = a.page.pid; at = a.at; right = a.right }))
 shortened a posting.Nowhere = Go stage.Root
 
-abbrev pub follows_shorten : Store → Store → Shorten → Next → Type 0
-follows_shorten old new a next = Takes (λ _. a.left) a.page.pid a.page.version old new next (λ _. shortened a a.posting) (λ _. Go (stage.Free (record { pid = a.right; version = a.version })))
+abbrev pub follows_shorten : Store → Store → InstallLeft → Next → Type 0
+follows_shorten old new a next = TakesWay (λ _. a.left) a.page.pid a.page.version old new next (λ _. shortened a a.posting) (λ _. Go (stage.Free (record { pid = a.right; version = a.version })))
 
 -- in an index that has none at its key,
 abbrev pub follows_post : Store → Store → Post → Next → Type 0
 follows_post old new a next =
     Where (takes_pointer a.at a.parent.node.content ≡ true)
-    (Takes (λ _. record (a.parent.node) { content = with_pointer a.at a.pid a.parent.node.content }) a.parent.pid a.parent.version old new next (λ _. Go stage.Root) (λ _. Go stage.Root))
+    (TakesWay (λ _. record (a.parent.node) { content = with_pointer a.at a.pid a.parent.node.content }) a.parent.pid a.parent.version old new next (λ _. Go stage.Root) (λ _. Go stage.Root))
     ((new ≡ old) × (next ≡ Go stage.Root))
 
 -- or in a new root, which is made and then set
@@ -254,19 +254,19 @@ pub record Hoists (old new : Store) (a : Hoist) (next : Next) : Type 0 where
   pub node : Node
   pub over : IsOver node a.left a.at a.right
   pub made : Allocates node root version old new
-  pub is : next ≡ Go (stage.Crown (record { old = a.left; new = root; version = version }))
+  pub is : next ≡ Go (stage.SwapRoot (record { old = a.left; new = root; version = version }))
 
-abbrev pub crowned : Crown → Result (Unit {0}) (Option ℕ) → Next
+abbrev pub crowned : SwapRoot → Result (Unit {0}) (Option ℕ) → Next
 crowned a (Ok done) = Go stage.Root
 crowned a (Err present) = Go (stage.Free (record { pid = a.new; version = a.version }))
 
-pub record Crowns (name : Key) (old new : Store) (a : Crown) (next : Next) : Type 0 where
+pub record Crowns (name : Key) (old new : Store) (a : SwapRoot) (next : Next) : Type 0 where
   pub answer : Result (Unit {0}) (Option ℕ)
   pub swaps : SwapsRoot name (Some a.old) (Some a.new) old new answer
   pub is : next ≡ crowned a answer
 
 -- a page that no tree came to have is freed
-pub record FreesOwn (old new : Store) (a : Own) (next : Next) : Type 0 where
+pub record FreesOwn (old new : Store) (a : Orphan) (next : Next) : Type 0 where
   pub answer : Result (Unit {0}) (Option ℕ)
   pub frees : Frees a.pid a.version old new answer
   pub is : next ≡ Go stage.Root
@@ -274,7 +274,7 @@ pub record FreesOwn (old new : Store) (a : Own) (next : Next) : Type 0 where
 -- a merge: the parent takes the child,
 abbrev pub follows_intend : Store → Store → Merge → Next → Type 0
 follows_intend old new a next =
-    Takes (applied (ParentMergeIntention a.child)) a.parent.pid a.parent.version old new next
+    TakesWay (after_link (ParentMergeIntention a.child)) a.parent.pid a.parent.version old new next
     (λ given. Go (stage.Child (record { parent = record { pid = a.parent.pid; version = given; node = record (a.parent.node) { merging_child = Some a.child } }; child = a.child; before = a.before })))
     (λ _. Go stage.Root)
 
@@ -285,7 +285,7 @@ read_again a (Some present) = Go (stage.Child a)
 
 abbrev pub follows_cap : Store → Store → Cap → Next → Type 0
 follows_cap old new a next =
-    Takes (applied ChildMergeCap) a.merge.child a.version old new next
+    TakesWay (after_link ChildMergeCap) a.merge.child a.version old new next
     (λ given. Go (stage.Seek (record { merge = a.merge; version = given; node = record (a.node) { merging = true }; cursor = a.merge.before })))
     (read_again a.merge)
 
@@ -296,14 +296,14 @@ sought_again a (Some present) = Go (stage.Seek (record { merge = a.merge; versio
 
 abbrev pub follows_receive : Store → Store → Receive → Next → Type 0
 follows_receive old new a next =
-    Takes (λ _. received a.left.node a.node) a.left.pid a.left.version old new next
+    TakesWay (λ _. after_receiving a.left.node a.node) a.left.pid a.left.version old new next
     (λ _. Go (stage.Confirm (record { parent = a.merge.parent; child = a.merge.child; version = a.version })))
     (sought_again a)
 
 -- and loses its pointer, after which it is freed
 abbrev pub follows_confirm : Store → Store → Confirm → Next → Type 0
 follows_confirm old new a next =
-    Takes (applied ParentMergeConfirm) a.parent.pid a.parent.version old new next
+    TakesWay (after_link ParentMergeConfirm) a.parent.pid a.parent.version old new next
     (λ _. Go (stage.Free (record { pid = a.child; version = a.version })))
     (λ _. Go stage.Root)
 
@@ -313,10 +313,10 @@ follows_as j old stage.Root next new = (new ≡ old) × follows_root j old ((now
 follows_as j old (stage.Walk a) next new = (new ≡ old) × follows_walk j old a next
 follows_as j old (stage.Act v) next new = OrRefused old new next (follows_act j old new v next)
 follows_as j old (stage.Split a) next new = OrRefused old new next (follows_split old new a next)
-follows_as j old (stage.Shorten a) next new = OrRefused old new next (follows_shorten old new a next)
+follows_as j old (stage.InstallLeft a) next new = OrRefused old new next (follows_shorten old new a next)
 follows_as j old (stage.Post a) next new = OrRefused old new next (follows_post old new a next)
 follows_as j old (stage.Hoist a) next new = OrRefused old new next (Hoists old new a next)
-follows_as j old (stage.Crown a) next new = OrRefused old new next (Crowns j.tree.name old new a next)
+follows_as j old (stage.SwapRoot a) next new = OrRefused old new next (Crowns j.tree.name old new a next)
 follows_as j old (stage.Free a) next new = OrRefused old new next (FreesOwn old new a next)
 follows_as j old (stage.Intend a) next new = OrRefused old new next (follows_intend old new a next)
 follows_as j old (stage.Child a) next new = (new ≡ old) × FollowsPage old a.child (follows_child a) next
@@ -328,11 +328,11 @@ follows_as j old (stage.Confirm a) next new = OrRefused old new next (follows_co
 pub record Follows (j : Course) (old : Store) (stage : Stage) (next : Next) (new : Store) : Type 0 where
   pub is : follows_as j old stage next new
 
-abbrev pub went_as : Store → Flight → Went → Store → Flight → Type 0
+abbrev pub went_as : Store → InFlight → Went → Store → InFlight → Type 0
 went_as old f went.Moved new g = Follows (course_of f) old f.stage (Go g.stage) new
 went_as old f (went.Decided reply) new g = Follows (course_of f) old f.stage (Decided reply) new
 went_as old f (went.Refused e) new g = Follows (course_of f) old f.stage (Refused e) new
 
 -- a step of a call in flight leads where its stage does
-pub record FollowsOn (old : Store) (f : Flight) (went : Went) (new : Store) (g : Flight) : Type 0 where
+pub record FollowsOn (old : Store) (f : InFlight) (went : Went) (new : Store) (g : InFlight) : Type 0 where
   pub is : went_as old f went new g

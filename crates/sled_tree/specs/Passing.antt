@@ -8,7 +8,7 @@ use Rattle.sled_model.specs.declared.decision.Effect.TheVariants.{Nothing}
 use Rattle.tree_laws.specs.Paths.{IsClean, CleanFrom}
 use Rattle.sled_tree.specs.Change.{decision_at}
 use Rattle.sled_tree.specs.Course.{Course, course_of}
-use Rattle.sled_tree.specs.declared.flight.Flight.{Flight}
+use Rattle.sled_tree.specs.declared.flight.InFlight.{InFlight}
 use Rattle.sled_tree.specs.declared.flight.Next.{Next}
 use Rattle.sled_tree.specs.declared.flight.Next.TheVariants.{Go, Decided, Refused}
 use Rattle.tree_laws.specs.declared.flight.Stage.{Stage}
@@ -38,28 +38,28 @@ IsOnPath s j (stage.Act v) path = (path ≡ []) × IsUnchanged s v × ((decision
 IsOnPath s j other path = ⊥
 
 -- a path with one page less is ahead of the call
-abbrev pub IsFurther : State → Course → Stage → List ℕ → Type 0
-IsFurther s j stage path = (rest : List ℕ) × (length path ≡ suc (length rest)) × IsOnPath s j stage rest
+abbrev pub IsOneCloser : State → Course → Stage → List ℕ → Type 0
+IsOneCloser s j stage path = (rest : List ℕ) × (length path ≡ suc (length rest)) × IsOnPath s j stage rest
 
 -- where the call goes on, it is one page further
-abbrev pub passes_as : State → Course → Next → List ℕ → Type 0
-passes_as s j (Go stage) path = IsFurther s j stage path
-passes_as s j (Decided reply) path = Unit {0}
-passes_as s j (Refused e) path = Unit {0}
+abbrev pub is_one_closer_as : State → Course → Next → List ℕ → Type 0
+is_one_closer_as s j (Go stage) path = IsOneCloser s j stage path
+is_one_closer_as s j (Decided reply) path = Unit {0}
+is_one_closer_as s j (Refused e) path = Unit {0}
 
 -- an action from a stage: on a clean path it brings the call one page further, or is its last
-pub record Passes (j : Course) (old : State) (stage : Stage) (next : Next) (new : State) : Type 0 where
-  pub told : (path : List ℕ) → IsOnPath old j stage path → passes_as new j next path
+pub record AdvancesOnPath (j : Course) (old : State) (stage : Stage) (next : Next) (new : State) : Type 0 where
+  pub is : (path : List ℕ) → IsOnPath old j stage path → is_one_closer_as new j next path
 
 -- what comes after a page of a clean path was read
-pub record PassesOn (j : Course) (view : View) (by : Reached) (next : Next) : Type 0 where
-  pub told : (s : State) (path : List ℕ) → IsUnchanged s view → IsAheadOf (nodes_of s) j.aim view.pid by path → passes_as s j next path
+pub record AdvancesFromPage (j : Course) (view : View) (by : Reached) (next : Next) : Type 0 where
+  pub is : (s : State) (path : List ℕ) → IsUnchanged s view → IsAheadOf (nodes_of s) j.aim view.pid by path → is_one_closer_as s j next path
 
-abbrev pub goes_further_as : State → Flight → Went → State → Flight → Type 0
-goes_further_as old f went.Moved new g = (path : List ℕ) → IsOnPath old (course_of f) f.stage path → IsFurther new (course_of g) g.stage path
-goes_further_as old f (went.Decided reply) new g = Unit {0}
-goes_further_as old f (went.Refused e) new g = Unit {0}
+abbrev pub steps_on_path_as : State → InFlight → Went → State → InFlight → Type 0
+steps_on_path_as old f went.Moved new g = (path : List ℕ) → IsOnPath old (course_of f) f.stage path → IsOneCloser new (course_of g) g.stage path
+steps_on_path_as old f (went.Decided reply) new g = Unit {0}
+steps_on_path_as old f (went.Refused e) new g = Unit {0}
 
 -- a step of a call in flight: on a clean path it brings the call one page further, or is its last
-pub record GoesFurther (old : State) (f : Flight) (went : Went) (new : State) (g : Flight) : Type 0 where
-  pub told : goes_further_as old f went new g
+pub record StepsOnPath (old : State) (f : InFlight) (went : Went) (new : State) (g : InFlight) : Type 0 where
+  pub is : steps_on_path_as old f went new g

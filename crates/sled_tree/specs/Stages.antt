@@ -2,7 +2,7 @@
 use Rattle.std.specs.Prelude.{◌≢◌}
 use Rattle.sled_model.specs.declared.decision.Effect.TheVariants.{Nothing}
 use Rattle.tree_laws.specs.Forest.{Forest}
-use Rattle.tree_laws.specs.Moment.{Moment}
+use Rattle.tree_laws.specs.Snapshot.{Snapshot}
 use Rattle.tree_laws.specs.Stages.{IsStage}
 use Rattle.tree_laws.specs.declared.flight.Stage.{Stage}
 use Rattle.tree_laws.specs.declared.flight.Stage.TheVariants as stage
@@ -15,7 +15,7 @@ changes_at j (stage.Act v) = (decision_at j.call v.node.content).effect ≢ Noth
 changes_at j other = Unit {0}
 
 -- what a call knows at its stage; and that it aims at its key
-abbrev pub Knows : Moment → Forest → Course → Stage → Type 0
+abbrev pub Knows : Snapshot → Forest → Course → Stage → Type 0
 Knows m w j a = IsStage m w j.tree.name j.tree.number j.aim a × changes_at j a × IsAimed j
 
 -- the stage is one of a merge

@@ -2,9 +2,9 @@
 ghost use Rattle.std.specs.Prelude.{◌≡◌, IfOk, IfErr};
 ghost use Rattle.sled_pages.specs.Store.{now};
 ghost use Rattle.sled_pages.specs.declared.error.Error.TheVariants.{NoMemory};
-ghost use Rattle.sled_tree.specs.Moves.{Moves};
+ghost use Rattle.sled_tree.specs.StageAction.{StageAction};
 ghost use Rattle.sled_tree.specs.Follows.{OrRefused, follows_act};
-ghost use Rattle.sled_tree.specs.Passing.{Passes};
+ghost use Rattle.sled_tree.specs.Passing.{AdvancesOnPath};
 ghost use Rattle.sled_tree.specs.Change.{IsChangeOf, link_of};
 ghost use Rattle.sled_tree.specs.Course.{course};
 
@@ -60,8 +60,8 @@ fn prepare(job: &Job, node: &Node) -> Result<Option<Change>>
 
 // Links the call's change at the version of the leaf that it has read.
 pub(crate) fn act<P: Pages>(pages: &mut P, job: &Job, aim: &Aim, view: View) -> Next
-    ensures moves { Moves (course job.now aim.now) (P.store pages.old) (Stage.Act view) result (P.store pages.new) }
-    ensures passes { Passes (course job.now aim.now) (now (P.store pages.old)) (Stage.Act view) result (now (P.store pages.new)) }
+    ensures moves { StageAction (course job.now aim.now) (P.store pages.old) (Stage.Act view) result (P.store pages.new) }
+    ensures passes { AdvancesOnPath (course job.now aim.now) (now (P.store pages.old)) (Stage.Act view) result (now (P.store pages.new)) }
     ensures follows { OrRefused (P.store pages.old) (P.store pages.new) result (follows_act (course job.now aim.now) (P.store pages.old) (P.store pages.new) view result) }
 {
     let change = match prepare(job, &view.node) {

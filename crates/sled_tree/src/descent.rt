@@ -6,7 +6,7 @@ ghost use Rattle.sled_pages.specs.Among.{IsPointerFor};
 ghost use Rattle.sled_pages.specs.Node.{count, pointers};
 ghost use Rattle.sled_pages.specs.Posting.{IsOpen};
 ghost use Rattle.sled_pages.specs.Store.{Store};
-ghost use Rattle.tree_laws.specs.Moment.{LiesUnder};
+ghost use Rattle.tree_laws.specs.Snapshot.{LiesUnder};
 ghost use Rattle.tree_laws.specs.Stages.{by_pointer as reached_by};
 ghost use Rattle.sled_pages.specs.declared.error.Error.TheVariants.{NoMemory};
 ghost use Rattle.sled_tree.specs.Change.{IsLeaf, IsIndex};
@@ -15,7 +15,7 @@ ghost use Rattle.sled_tree.specs.Descent.{way_of, IsPlain, IsClean, Meets, Leads
 ghost use Rattle.tree_laws.specs.declared.flight.Stage.{Stage};
 ghost use Rattle.tree_laws.specs.declared.flight.Stage.TheVariants as variant;
 
-use crate::flight::{Aim, Flight, Job, Next, Went};
+use crate::flight::{Aim, InFlight, Job, Next, Went};
 use crate::walk::{arrive, by_pointer, lies_under, target};
 use sled_model::{Decision, Effect, MAX_LOOPS, Reply};
 use sled_pages::{Data, Node, Pages, Pid, Result, View};
@@ -223,7 +223,7 @@ pub(crate) fn descend<P: Pages>(
 }
 
 // The call goes on from a stage, or ends.
-pub(crate) fn settle(flight: &mut Flight, next: Next) -> Went
+pub(crate) fn settle(flight: &mut InFlight, next: Next) -> Went
     requires { flight.old.turns < MAX_LOOPS }
     ensures { (s : Store) (a : Stage) → Leads s (course_of flight.old) a next → Settles s (record { job = flight.old.job; aim = flight.old.aim; stage = a; turns = flight.old.turns }) result flight.new }
 {
@@ -239,7 +239,7 @@ pub(crate) fn settle(flight: &mut Flight, next: Next) -> Went
 }
 
 // The rest of the step at the leaf. A call that changes nothing is decided.
-pub(crate) fn at_leaf(flight: &mut Flight, view: View) -> Went
+pub(crate) fn at_leaf(flight: &mut InFlight, view: View) -> Went
     requires room { flight.old.turns < MAX_LOOPS }
     requires leaf { IsLeaf view.node.content }
     requires clean { IsClean (course_of flight.old) (way_of flight.old.stage) view }

@@ -2,17 +2,17 @@
 ghost use Rattle.std.specs.Prelude.{◌<◌};
 ghost use Rattle.sled_pages.specs.Store.{now};
 ghost use Rattle.sled_tree.specs.Course.{course};
-ghost use Rattle.sled_tree.specs.Moves.{Moves, Advances};
+ghost use Rattle.sled_tree.specs.StageAction.{StageAction, FlightStep};
 ghost use Rattle.sled_tree.specs.Follows.{Follows, FollowsOn};
-ghost use Rattle.sled_tree.specs.Passing.{Passes, GoesFurther};
+ghost use Rattle.sled_tree.specs.Passing.{AdvancesOnPath, StepsOnPath};
 ghost use Rattle.sled_tree.specs.Stages.{IsOfMerge};
 
 use crate::act::act;
 use crate::descent::{Descent, at_leaf, descend, settle};
-use crate::flight::{Aim, Flight, Job, Next, Went};
-use crate::hoist::{crown, hoist};
+use crate::flight::{Aim, InFlight, Job, Next, Went};
+use crate::hoist::{swap_root, hoist};
 use crate::merge::{cap, confirm, intend, read_child, receive, seek};
-use crate::split::{free, halve, post, shorten};
+use crate::split::{free, halve, post, install_left};
 use crate::walk::{read_cursor, read_root};
 use sled_model::MAX_LOOPS;
 use sled_pages::Pages;
@@ -21,8 +21,8 @@ use tree_laws::flight::Stage;
 
 // Does the action of a stage: at most one page action.
 fn step<P: Pages>(pages: &mut P, alloc: Global, job: &Job, aim: &Aim, stage: Stage) -> Next
-    ensures moves { Moves (course job.now aim.now) (P.store pages.old) stage result (P.store pages.new) }
-    ensures passes { Passes (course job.now aim.now) (now (P.store pages.old)) stage result (now (P.store pages.new)) }
+    ensures moves { StageAction (course job.now aim.now) (P.store pages.old) stage result (P.store pages.new) }
+    ensures passes { AdvancesOnPath (course job.now aim.now) (now (P.store pages.old)) stage result (now (P.store pages.new)) }
     ensures follows { Follows (course job.now aim.now) (P.store pages.old) stage result (P.store pages.new) }
 {
     match stage {
@@ -30,10 +30,10 @@ fn step<P: Pages>(pages: &mut P, alloc: Global, job: &Job, aim: &Aim, stage: Sta
         Stage::Walk(walk) => read_cursor(pages, alloc, job, aim, walk),
         Stage::Act(view) => act(pages, job, aim, view),
         Stage::Split(split) => halve(pages, alloc, job, aim, split),
-        Stage::Shorten(split) => shorten(pages, job, aim, split),
+        Stage::InstallLeft(split) => install_left(pages, job, aim, split),
         Stage::Post(pointer) => post(pages, alloc, job, aim, pointer),
         Stage::Hoist(pair) => hoist(pages, alloc, job, aim, pair),
-        Stage::Crown(root) => crown(pages, job, aim, root),
+        Stage::SwapRoot(root) => swap_root(pages, job, aim, root),
         Stage::Free(own) => free(pages, job, aim, own),
         _ => step_of_merge(pages, alloc, job, aim, stage),
     }
@@ -42,8 +42,8 @@ fn step<P: Pages>(pages: &mut P, alloc: Global, job: &Job, aim: &Aim, stage: Sta
 // The same, of the stages of a merge.
 fn step_of_merge<P: Pages>(pages: &mut P, alloc: Global, job: &Job, aim: &Aim, stage: Stage) -> Next
     requires { IsOfMerge stage }
-    ensures moves { Moves (course job.now aim.now) (P.store pages.old) stage result (P.store pages.new) }
-    ensures passes { Passes (course job.now aim.now) (now (P.store pages.old)) stage result (now (P.store pages.new)) }
+    ensures moves { StageAction (course job.now aim.now) (P.store pages.old) stage result (P.store pages.new) }
+    ensures passes { AdvancesOnPath (course job.now aim.now) (now (P.store pages.old)) stage result (now (P.store pages.new)) }
     ensures follows { Follows (course job.now aim.now) (P.store pages.old) stage result (P.store pages.new) }
 {
     match stage {
@@ -58,10 +58,10 @@ fn step_of_merge<P: Pages>(pages: &mut P, alloc: Global, job: &Job, aim: &Aim, s
 }
 
 // Does one step of a call in flight that has turns left, whatever its stage is: the stage is moved out, and the next one in.
-fn advance_stage<P: Pages>(pages: &mut P, alloc: Global, flight: &mut Flight) -> Went
+fn advance_stage<P: Pages>(pages: &mut P, alloc: Global, flight: &mut InFlight) -> Went
     requires { flight.old.turns < MAX_LOOPS }
-    ensures advances { Advances (P.store pages.old) flight.old result (P.store pages.new) flight.new }
-    ensures passes { GoesFurther (now (P.store pages.old)) flight.old result (now (P.store pages.new)) flight.new }
+    ensures advances { FlightStep (P.store pages.old) flight.old result (P.store pages.new) flight.new }
+    ensures passes { StepsOnPath (now (P.store pages.old)) flight.old result (now (P.store pages.new)) flight.new }
     ensures follows { FollowsOn (P.store pages.old) flight.old result (P.store pages.new) flight.new }
 {
     let stage = std::mem::replace(&mut flight.stage, Stage::Root);
@@ -78,10 +78,10 @@ fn advance_stage<P: Pages>(pages: &mut P, alloc: Global, flight: &mut Flight) ->
 }
 
 /// Does one step of a call in flight that has turns left: at most one page action.
-pub fn advance<P: Pages>(pages: &mut P, alloc: Global, flight: &mut Flight) -> Went
+pub fn advance<P: Pages>(pages: &mut P, alloc: Global, flight: &mut InFlight) -> Went
     requires { flight.old.turns < MAX_LOOPS }
-    ensures advances { Advances (P.store pages.old) flight.old result (P.store pages.new) flight.new }
-    ensures passes { GoesFurther (now (P.store pages.old)) flight.old result (now (P.store pages.new)) flight.new }
+    ensures advances { FlightStep (P.store pages.old) flight.old result (P.store pages.new) flight.new }
+    ensures passes { StepsOnPath (now (P.store pages.old)) flight.old result (now (P.store pages.new)) flight.new }
     ensures follows { FollowsOn (P.store pages.old) flight.old result (P.store pages.new) flight.new }
 {
     match descend(pages, alloc, &flight.job, &flight.aim, &mut flight.stage) {

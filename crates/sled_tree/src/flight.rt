@@ -26,19 +26,19 @@ pub enum Aim {
 
 /// A call in flight: what it is to do, what its walk aims at, where it stands, and how many of its steps went on so far.
 #[derive(Drop)]
-pub struct Flight {
+pub struct InFlight {
     pub job: Job,
     pub aim: Aim,
     pub stage: Stage,
     pub turns: u64,
 }
 
-impl Flight {
+impl InFlight {
     /// A call as it begins.
-    pub fn new(tree: Tree, call: Call) -> Flight
+    pub fn new(tree: Tree, call: Call) -> InFlight
         ensures { result ≡ record { job = record { tree = tree; call = call }; aim = OwnKey; stage = Root; turns = 0 } }
     {
-        Flight {
+        InFlight {
             job: Job { tree, call },
             aim: Aim::OwnKey,
             stage: Stage::Root,

@@ -3,13 +3,13 @@ ghost use Rattle.std.specs.Prelude.{◌≡◌, [], ◌∷◌, IfOk, IfErr};
 ghost use Rattle.sled_pages.specs.declared.error.Error.TheVariants.{NoMemory};
 ghost use Rattle.tree_laws.specs.Stages.{IsOver};
 ghost use Rattle.sled_tree.specs.Course.{course};
-ghost use Rattle.sled_tree.specs.Moves.{Moves};
+ghost use Rattle.sled_tree.specs.StageAction.{StageAction};
 ghost use Rattle.sled_tree.specs.Follows.{OrRefused, Hoists, Crowns};
 
 use crate::flight::{Aim, Job, Next};
 use sled_pages::{Data, IVec, Index, Node, Pages, Pid, Result, law_given};
 use std::alloc::Global;
-use tree_laws::flight::{Crown, Hoist, Own, Stage};
+use tree_laws::flight::{SwapRoot, Hoist, Orphan, Stage};
 
 // Two pointers: to the root now, and to the page beside it.
 fn pointers_to(alloc: Global, left: Pid, at: &IVec, right: Pid) -> Result<Index>
@@ -68,7 +68,7 @@ pub(crate) fn hoist<P: Pages>(
     aim: &Aim,
     hoist: Hoist,
 ) -> Next
-    ensures moves { Moves (course job.now aim.now) (P.store pages.old) (Stage.Hoist hoist) result (P.store pages.new) }
+    ensures moves { StageAction (course job.now aim.now) (P.store pages.old) (Stage.Hoist hoist) result (P.store pages.new) }
     ensures follows { OrRefused (P.store pages.old) (P.store pages.new) result (Hoists (P.store pages.old) (P.store pages.new) hoist result) }
 {
     let Hoist { left, at, right } = hoist;
@@ -83,7 +83,7 @@ pub(crate) fn hoist<P: Pages>(
         Ok(given) => given,
     };
     law_given(pages);
-    Next::Go(Stage::Crown(Crown {
+    Next::Go(Stage::SwapRoot(SwapRoot {
         old: left,
         new,
         version,
@@ -91,15 +91,15 @@ pub(crate) fn hoist<P: Pages>(
 }
 
 // Sets the new root, where the old one is still the root.
-pub(crate) fn crown<P: Pages>(pages: &mut P, job: &Job, aim: &Aim, crown: Crown) -> Next
-    ensures moves { Moves (course job.now aim.now) (P.store pages.old) (Stage.Crown crown) result (P.store pages.new) }
-    ensures follows { OrRefused (P.store pages.old) (P.store pages.new) result (Crowns job.now.tree.name (P.store pages.old) (P.store pages.new) crown result) }
+pub(crate) fn swap_root<P: Pages>(pages: &mut P, job: &Job, aim: &Aim, swap_root: SwapRoot) -> Next
+    ensures moves { StageAction (course job.now aim.now) (P.store pages.old) (Stage.SwapRoot swap_root) result (P.store pages.new) }
+    ensures follows { OrRefused (P.store pages.old) (P.store pages.new) result (Crowns job.now.tree.name (P.store pages.old) (P.store pages.new) swap_root result) }
 {
-    match pages.cas_root(job.tree.name.as_ref(), Some(crown.old), Some(crown.new)) {
+    match pages.cas_root(job.tree.name.as_ref(), Some(swap_root.old), Some(swap_root.new)) {
         Err(e) => Next::Refused(e),
-        Ok(Err(_)) => Next::Go(Stage::Free(Own {
-            pid: crown.new,
-            version: crown.version,
+        Ok(Err(_)) => Next::Go(Stage::Free(Orphan {
+            pid: swap_root.new,
+            version: swap_root.version,
         })),
         Ok(Ok(())) => Next::Go(Stage::Root),
     }

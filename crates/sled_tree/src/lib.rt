@@ -16,9 +16,9 @@ mod split;
 mod walk;
 
 pub use dispatch::advance;
-pub use flight::{Aim, Flight, Job, Next, Went};
+pub use flight::{Aim, InFlight, Job, Next, Went};
 pub use tree_laws::flight::{
-    Cap, Confirm, Crown, Hoist, Merge, Own, Post, Posting, Reached, Receive, Seek, Shorten, Split,
+    Cap, Confirm, SwapRoot, Hoist, Merge, Orphan, Post, Posting, Reached, Receive, Seek, InstallLeft, Split,
     Stage, Walk,
 };
 pub use tree_laws::half::Half;

@@ -7,16 +7,16 @@ ghost use Rattle.std.specs.Prelude.{◌≡◌, ◌≢◌, ◌↔◌, ◌⊎◌, 
 ghost use Rattle.sled_pages.specs.declared.error.Error.TheVariants.{NoMemory};
 ghost use Rattle.sled_pages.specs.Order.{UpTo};
 ghost use Rattle.sled_tree.specs.Course.{course};
-ghost use Rattle.sled_tree.specs.Moves.{Moves};
+ghost use Rattle.sled_tree.specs.StageAction.{StageAction};
 ghost use Rattle.sled_tree.specs.Follows.{ResumesMerge, BeginsMerge, follows_child, follows_cursor, follows_search, follows_met, FollowsPage, OrRefused, follows_intend, follows_cap, follows_receive, follows_confirm};
-ghost use Rattle.sled_tree.specs.Moves.{ReadsChild, Looks};
+ghost use Rattle.sled_tree.specs.StageAction.{AfterChild, AfterSeek};
 ghost use Rattle.sled_tree.specs.declared.flight.Next.TheVariants.{Go};
 ghost use Rattle.tree_laws.specs.declared.flight.Stage.TheVariants as stage;
 
 use crate::flight::{Aim, Job, Next};
 use sled_pages::{Link, Node, Pages, Pid, Result, Shared, View};
 use std::alloc::Global;
-use tree_laws::flight::{Cap, Confirm, Merge, Own, Posting, Receive, Seek, Split, Stage};
+use tree_laws::flight::{Cap, Confirm, Merge, Orphan, Posting, Receive, Seek, Split, Stage};
 
 // A page merges into the one before it.
 pub(crate) fn begin(parent: View, child: Pid) -> Next
@@ -63,7 +63,7 @@ pub(crate) fn intend<P: Pages>(
     aim: &Aim,
     merge: Merge,
 ) -> Next
-    ensures moves { Moves (course job.now aim.now) (P.store pages.old) (Stage.Intend merge) result (P.store pages.new) }
+    ensures moves { StageAction (course job.now aim.now) (P.store pages.old) (Stage.Intend merge) result (P.store pages.new) }
     ensures follows { OrRefused (P.store pages.old) (P.store pages.new) result (follows_intend (P.store pages.old) (P.store pages.new) merge result) }
 {
     let Merge {
@@ -122,7 +122,7 @@ pub(crate) fn read_child<P: Pages>(
     aim: &Aim,
     merge: Merge,
 ) -> Next
-    ensures moves { Moves (course job.now aim.now) (P.store pages.now) (Stage.Child merge) result (P.store pages.now) }
+    ensures moves { StageAction (course job.now aim.now) (P.store pages.now) (Stage.Child merge) result (P.store pages.now) }
     ensures follows { FollowsPage (P.store pages.now) merge.child (follows_child merge) result }
 {
     match pages.read(alloc, merge.child) {
@@ -140,7 +140,7 @@ pub(crate) fn read_child<P: Pages>(
 
 // What comes after the merging child was read.
 fn at_child(job: &Job, aim: &Aim, merge: Merge, view: View) -> Next
-    ensures reads { ReadsChild (course job.now aim.now) merge view result }
+    ensures reads { AfterChild (course job.now aim.now) merge view result }
     ensures follows { follows_child merge view result }
 {
     let read: &Node = &view.node;
@@ -168,7 +168,7 @@ fn at_child(job: &Job, aim: &Aim, merge: Merge, view: View) -> Next
 
 // Caps the merging child. All that wants memory comes before the link.
 pub(crate) fn cap<P: Pages>(pages: &mut P, alloc: Global, job: &Job, aim: &Aim, cap: Cap) -> Next
-    ensures moves { Moves (course job.now aim.now) (P.store pages.old) (Stage.Cap cap) result (P.store pages.new) }
+    ensures moves { StageAction (course job.now aim.now) (P.store pages.old) (Stage.Cap cap) result (P.store pages.new) }
     ensures follows { OrRefused (P.store pages.old) (P.store pages.new) result (follows_cap (P.store pages.old) (P.store pages.new) cap result) }
 {
     let Cap {
@@ -229,7 +229,7 @@ fn reaches(view: &View, seek: &Seek) -> bool
 
 // Reads the cursor of the search for the page before the merging child.
 pub(crate) fn seek<P: Pages>(pages: &P, alloc: Global, job: &Job, aim: &Aim, seek: Seek) -> Next
-    ensures moves { Moves (course job.now aim.now) (P.store pages.now) (Stage.Seek seek) result (P.store pages.now) }
+    ensures moves { StageAction (course job.now aim.now) (P.store pages.now) (Stage.Seek seek) result (P.store pages.now) }
     ensures follows { FollowsPage (P.store pages.now) seek.cursor (follows_cursor seek) result }
 {
     match pages.read(alloc, seek.cursor) {
@@ -247,7 +247,7 @@ pub(crate) fn seek<P: Pages>(pages: &P, alloc: Global, job: &Job, aim: &Aim, see
 
 // What comes after the cursor of the search was read.
 fn at_cursor(job: &Job, aim: &Aim, seek: Seek, view: View) -> Next
-    ensures looks { Looks (course job.now aim.now) seek view result }
+    ensures looks { AfterSeek (course job.now aim.now) seek view result }
     ensures follows { follows_cursor seek view result }
 {
     let node: &Node = &view.node;
@@ -265,9 +265,9 @@ fn at_cursor(job: &Job, aim: &Aim, seek: Seek, view: View) -> Next
 
 // An open page, before the merging child or at it.
 fn compare(job: &Job, aim: &Aim, seek: Seek, view: View) -> Next
-    requires awake { view.node.merging ≡ false }
+    requires not_merging { view.node.merging ≡ false }
     requires free { view.node.merging_child ≡ None }
-    ensures looks { Looks (course job.now aim.now) seek view result }
+    ensures looks { AfterSeek (course job.now aim.now) seek view result }
     ensures follows { follows_search seek view result }
 {
     if leads_to(&view, &seek) {
@@ -292,10 +292,10 @@ fn compare(job: &Job, aim: &Aim, seek: Seek, view: View) -> Next
 
 // The page before the merging child: it receives the child, or is split first.
 fn meet(job: &Job, aim: &Aim, seek: Seek, view: View) -> Next
-    requires awake { view.node.merging ≡ false }
+    requires not_merging { view.node.merging ≡ false }
     requires free { view.node.merging_child ≡ None }
     requires leads { view.node.next ≡ Some seek.merge.child }
-    ensures looks { Looks (course job.now aim.now) seek view result }
+    ensures looks { AfterSeek (course job.now aim.now) seek view result }
     ensures follows { follows_met seek view result }
 {
     if view.node.should_split() {
@@ -364,7 +364,7 @@ pub(crate) fn receive<P: Pages>(
     aim: &Aim,
     receive: Receive,
 ) -> Next
-    ensures moves { Moves (course job.now aim.now) (P.store pages.old) (Stage.Receive receive) result (P.store pages.new) }
+    ensures moves { StageAction (course job.now aim.now) (P.store pages.old) (Stage.Receive receive) result (P.store pages.new) }
     ensures follows { OrRefused (P.store pages.old) (P.store pages.new) result (follows_receive (P.store pages.old) (P.store pages.new) receive result) }
 {
     let Receive {
@@ -415,7 +415,7 @@ pub(crate) fn receive<P: Pages>(
 
 // The pointer to the received child goes.
 pub(crate) fn confirm<P: Pages>(pages: &mut P, job: &Job, aim: &Aim, confirm: Confirm) -> Next
-    ensures moves { Moves (course job.now aim.now) (P.store pages.old) (Stage.Confirm confirm) result (P.store pages.new) }
+    ensures moves { StageAction (course job.now aim.now) (P.store pages.old) (Stage.Confirm confirm) result (P.store pages.new) }
     ensures follows { OrRefused (P.store pages.old) (P.store pages.new) result (follows_confirm (P.store pages.old) (P.store pages.new) confirm result) }
 {
     let Confirm {
@@ -432,7 +432,7 @@ pub(crate) fn confirm<P: Pages>(pages: &mut P, job: &Job, aim: &Aim, confirm: Co
     match pages.link(pid, seen, Link::ParentMergeConfirm) {
         Err(e) => Next::Refused(e),
         Ok(Err(_)) => Next::Go(Stage::Root),
-        Ok(Ok(_)) => Next::Go(Stage::Free(Own {
+        Ok(Ok(_)) => Next::Go(Stage::Free(Orphan {
             pid: child,
             version,
         })),

@@ -2,13 +2,13 @@
 //!
 //! Between any two of these steps the tree is whole. A right half that nobody came to want is freed.
 ghost use Rattle.sled_tree.specs.Course.{course};
-ghost use Rattle.sled_tree.specs.Moves.{Moves};
+ghost use Rattle.sled_tree.specs.StageAction.{StageAction};
 ghost use Rattle.sled_tree.specs.Follows.{OrRefused, follows_split, follows_shorten, follows_post, FreesOwn};
 
 use crate::flight::{Aim, Job, Next};
 use sled_pages::{Pages, law_given};
 use std::alloc::Global;
-use tree_laws::flight::{Hoist, Own, Post, Posting, Shorten, Split, Stage};
+use tree_laws::flight::{Hoist, Orphan, Post, Posting, InstallLeft, Split, Stage};
 use tree_laws::half::Half;
 
 // Makes the right half.
@@ -19,7 +19,7 @@ pub(crate) fn halve<P: Pages>(
     aim: &Aim,
     split: Split,
 ) -> Next
-    ensures moves { Moves (course job.now aim.now) (P.store pages.old) (Stage.Split split) result (P.store pages.new) }
+    ensures moves { StageAction (course job.now aim.now) (P.store pages.old) (Stage.Split split) result (P.store pages.new) }
     ensures follows { OrRefused (P.store pages.old) (P.store pages.new) result (follows_split (P.store pages.old) (P.store pages.new) split result) }
 {
     if !split.page.node.should_split() {
@@ -62,7 +62,7 @@ pub(crate) fn halve<P: Pages>(
     law_given(pages);
     let Split { page, posting } = split;
     left.set_next(right);
-    Next::Go(Stage::Shorten(Shorten {
+    Next::Go(Stage::InstallLeft(InstallLeft {
         page,
         posting,
         left,
@@ -73,11 +73,11 @@ pub(crate) fn halve<P: Pages>(
 }
 
 // Replaces the page by its left half.
-pub(crate) fn shorten<P: Pages>(pages: &mut P, job: &Job, aim: &Aim, split: Shorten) -> Next
-    ensures moves { Moves (course job.now aim.now) (P.store pages.old) (Stage.Shorten split) result (P.store pages.new) }
+pub(crate) fn install_left<P: Pages>(pages: &mut P, job: &Job, aim: &Aim, split: InstallLeft) -> Next
+    ensures moves { StageAction (course job.now aim.now) (P.store pages.old) (Stage.InstallLeft split) result (P.store pages.new) }
     ensures follows { OrRefused (P.store pages.old) (P.store pages.new) result (follows_shorten (P.store pages.old) (P.store pages.new) split result) }
 {
-    let Shorten {
+    let InstallLeft {
         page,
         posting,
         left,
@@ -96,7 +96,7 @@ pub(crate) fn shorten<P: Pages>(pages: &mut P, job: &Job, aim: &Aim, split: Shor
         Ok(Err(_)) => {
             drop(posting);
             drop(at);
-            Next::Go(Stage::Free(Own {
+            Next::Go(Stage::Free(Orphan {
                 pid: right,
                 version,
             }))
@@ -126,7 +126,7 @@ pub(crate) fn shorten<P: Pages>(pages: &mut P, job: &Job, aim: &Aim, split: Shor
 
 // Puts a pointer to a page into its parent, where it has none.
 pub(crate) fn post<P: Pages>(pages: &mut P, alloc: Global, job: &Job, aim: &Aim, post: Post) -> Next
-    ensures moves { Moves (course job.now aim.now) (P.store pages.old) (Stage.Post post) result (P.store pages.new) }
+    ensures moves { StageAction (course job.now aim.now) (P.store pages.old) (Stage.Post post) result (P.store pages.new) }
     ensures follows { OrRefused (P.store pages.old) (P.store pages.new) result (follows_post (P.store pages.old) (P.store pages.new) post result) }
 {
     let Post { parent, at, pid } = post;
@@ -158,8 +158,8 @@ pub(crate) fn post<P: Pages>(pages: &mut P, alloc: Global, job: &Job, aim: &Aim,
 }
 
 // Frees a page that is no part of any tree.
-pub(crate) fn free<P: Pages>(pages: &mut P, job: &Job, aim: &Aim, own: Own) -> Next
-    ensures moves { Moves (course job.now aim.now) (P.store pages.old) (Stage.Free own) result (P.store pages.new) }
+pub(crate) fn free<P: Pages>(pages: &mut P, job: &Job, aim: &Aim, own: Orphan) -> Next
+    ensures moves { StageAction (course job.now aim.now) (P.store pages.old) (Stage.Free own) result (P.store pages.new) }
     ensures follows { OrRefused (P.store pages.old) (P.store pages.new) result (FreesOwn (P.store pages.old) (P.store pages.new) own result) }
 {
     match pages.free(own.pid, own.version) {

@@ -7,16 +7,16 @@ ghost use Rattle.std.specs.Prelude.{None, true, false, []};
 ghost use Rattle.sled_pages.specs.Among.{bound_of, is_up_to};
 ghost use Rattle.sled_pages.specs.Store.{now};
 ghost use Rattle.sled_pages.specs.Node.{count};
-ghost use Rattle.tree_laws.specs.Moment.{LiesUnder};
+ghost use Rattle.tree_laws.specs.Snapshot.{LiesUnder};
 ghost use Rattle.tree_laws.specs.Stages.{parent_of, by_pointer as reached_by};
 ghost use Rattle.tree_laws.specs.declared.flight.Reached.{Reached};
 ghost use Rattle.tree_laws.specs.declared.flight.Reached.TheVariants as way;
 ghost use Rattle.tree_laws.specs.declared.flight.Stage.TheVariants as stage;
 ghost use Rattle.sled_tree.specs.Change.{IsLeaf, IsIndex};
 ghost use Rattle.sled_tree.specs.Course.{aim_of, course};
-ghost use Rattle.sled_tree.specs.Moves.{Moves, Arrives};
+ghost use Rattle.sled_tree.specs.StageAction.{StageAction, AfterPage};
 ghost use Rattle.sled_tree.specs.Follows.{follows_root, follows_walk, follows_read, follows_here, follows_content, follows_leaf, posting_of, onward, pointed, OrNoMemory, BeginsMerge, GoesDown, EndsWithin};
-ghost use Rattle.sled_tree.specs.Passing.{Passes, PassesOn};
+ghost use Rattle.sled_tree.specs.Passing.{AdvancesOnPath, AdvancesFromPage};
 ghost use Rattle.sled_tree.specs.declared.flight.Next.TheVariants.{Go};
 
 use crate::flight::{Aim, Job, Next};
@@ -91,8 +91,8 @@ fn ends_within(node: &Node, target: Bound<&[u8]>) -> bool
 
 // Reads the root of the call's tree.
 pub(crate) fn read_root<P: Pages>(pages: &P, alloc: Global, job: &Job, aim: &Aim) -> Next
-    ensures moves { Moves (course job.now aim.now) (P.store pages.now) Stage.Root result (P.store pages.now) }
-    ensures passes { Passes (course job.now aim.now) (now (P.store pages.now)) Stage.Root result (now (P.store pages.now)) }
+    ensures moves { StageAction (course job.now aim.now) (P.store pages.now) Stage.Root result (P.store pages.now) }
+    ensures passes { AdvancesOnPath (course job.now aim.now) (now (P.store pages.now)) Stage.Root result (now (P.store pages.now)) }
     ensures follows { follows_root (course job.now aim.now) (P.store pages.now) ((now (P.store pages.now)).roots job.now.tree.name) result }
 {
     let Some(root) = pages.root(job.tree.name.as_ref()) else {
@@ -113,8 +113,8 @@ pub(crate) fn read_cursor<P: Pages>(
     aim: &Aim,
     walk: Walk,
 ) -> Next
-    ensures moves { Moves (course job.now aim.now) (P.store pages.now) (Stage.Walk walk) result (P.store pages.now) }
-    ensures passes { Passes (course job.now aim.now) (now (P.store pages.now)) (Stage.Walk walk) result (now (P.store pages.now)) }
+    ensures moves { StageAction (course job.now aim.now) (P.store pages.now) (Stage.Walk walk) result (P.store pages.now) }
+    ensures passes { AdvancesOnPath (course job.now aim.now) (now (P.store pages.now)) (Stage.Walk walk) result (now (P.store pages.now)) }
     ensures follows { follows_walk (course job.now aim.now) (P.store pages.now) walk result }
 {
     match pages.read(alloc, walk.cursor) {
@@ -132,8 +132,8 @@ pub(crate) fn read_cursor<P: Pages>(
 
 // What comes after a page was read.
 pub(crate) fn arrive(job: &Job, aim: &Aim, view: View, reached: Reached) -> Next
-    ensures arrives { Arrives (course job.now aim.now) view reached result }
-    ensures passes { PassesOn (course job.now aim.now) view reached result }
+    ensures arrives { AfterPage (course job.now aim.now) view reached result }
+    ensures passes { AdvancesFromPage (course job.now aim.now) view reached result }
     ensures follows { follows_read (course job.now aim.now) view reached result }
 {
     let node: &Node = &view.node;
@@ -162,9 +162,9 @@ pub(crate) fn arrive(job: &Job, aim: &Aim, view: View, reached: Reached) -> Next
 
 // A page that is too long.
 fn split(job: &Job, aim: &Aim, view: View, reached: Reached) -> Next
-    requires awake { view.node.merging ≡ false }
+    requires not_merging { view.node.merging ≡ false }
     requires free { view.node.merging_child ≡ None }
-    ensures arrives { Arrives (course job.now aim.now) view reached result }
+    ensures arrives { AfterPage (course job.now aim.now) view reached result }
     ensures follows { result ≡ Go (stage.Split (record { page = view; posting = posting_of (parent_of reached) })) }
 {
     match into_parent(reached) {
@@ -181,10 +181,10 @@ fn split(job: &Job, aim: &Aim, view: View, reached: Reached) -> Next
 
 // The target lies behind the page: a root is hoisted, and below a parent the walk goes on to the next page.
 fn go_on(job: &Job, aim: &Aim, view: View, reached: Reached) -> Next
-    requires awake { view.node.merging ≡ false }
+    requires not_merging { view.node.merging ≡ false }
     requires free { view.node.merging_child ≡ None }
     requires behind { EndsWithin view.node (aim_of job.now aim.now) }
-    ensures arrives { Arrives (course job.now aim.now) view reached result }
+    ensures arrives { AfterPage (course job.now aim.now) view reached result }
     ensures follows { OrNoMemory result (onward view view.node.next (parent_of reached)) }
 {
     let pid = view.pid;
@@ -218,12 +218,12 @@ fn go_on(job: &Job, aim: &Aim, view: View, reached: Reached) -> Next
 
 // A page that lies under the target.
 fn at_key(job: &Job, aim: &Aim, view: View, reached: Reached) -> Next
-    requires awake { view.node.merging ≡ false }
+    requires not_merging { view.node.merging ≡ false }
     requires free { view.node.merging_child ≡ None }
     requires under { LiesUnder (aim_of job.now aim.now) view.node }
-    requires few { count view.node.content ≤ 16 }
-    ensures arrives { Arrives (course job.now aim.now) view reached result }
-    ensures passes { PassesOn (course job.now aim.now) view reached result }
+    requires fits { count view.node.content ≤ 16 }
+    ensures arrives { AfterPage (course job.now aim.now) view reached result }
+    ensures passes { AdvancesFromPage (course job.now aim.now) view reached result }
     ensures follows { follows_here (course job.now aim.now) view reached result }
 {
     match reached {
@@ -239,9 +239,9 @@ fn at_key(job: &Job, aim: &Aim, view: View, reached: Reached) -> Next
 
 // A page that was reached by `next`: its pointer is posted.
 fn post(job: &Job, aim: &Aim, view: View, parent: View) -> Next
-    requires awake { view.node.merging ≡ false }
+    requires not_merging { view.node.merging ≡ false }
     requires free { view.node.merging_child ≡ None }
-    ensures arrives { Arrives (course job.now aim.now) view (way.Next parent) result }
+    ensures arrives { AfterPage (course job.now aim.now) view (way.Next parent) result }
     ensures follows { OrNoMemory result (pointed view parent) }
 {
     let pid = view.pid;
@@ -259,12 +259,12 @@ fn post(job: &Job, aim: &Aim, view: View, parent: View) -> Next
 // A page that was reached by a later pointer. One of few entries merges into the page before it, where the parent can have it
 // for its merging child.
 fn at_later(job: &Job, aim: &Aim, view: View, parent: View) -> Next
-    requires awake { view.node.merging ≡ false }
+    requires not_merging { view.node.merging ≡ false }
     requires free { view.node.merging_child ≡ None }
     requires under { LiesUnder (aim_of job.now aim.now) view.node }
-    requires few { count view.node.content ≤ 16 }
-    ensures arrives { Arrives (course job.now aim.now) view (way.LaterPointer parent) result }
-    ensures passes { PassesOn (course job.now aim.now) view (way.LaterPointer parent) result }
+    requires fits { count view.node.content ≤ 16 }
+    ensures arrives { AfterPage (course job.now aim.now) view (way.LaterPointer parent) result }
+    ensures passes { AdvancesFromPage (course job.now aim.now) view (way.LaterPointer parent) result }
     ensures follows { follows_here (course job.now aim.now) view (way.LaterPointer parent) result }
 {
     if parent.node.can_merge_child() && view.node.should_merge() {
@@ -276,10 +276,10 @@ fn at_later(job: &Job, aim: &Aim, view: View, parent: View) -> Next
 
 // A page of few entries merges into the one before it.
 fn merge(job: &Job, aim: &Aim, view: View, parent: View) -> Next
-    requires awake { view.node.merging ≡ false }
+    requires not_merging { view.node.merging ≡ false }
     requires free { view.node.merging_child ≡ None }
-    requires few { count view.node.content ≤ 3 }
-    ensures arrives { Arrives (course job.now aim.now) view (way.LaterPointer parent) result }
+    requires fits { count view.node.content ≤ 3 }
+    ensures arrives { AfterPage (course job.now aim.now) view (way.LaterPointer parent) result }
     ensures follows { BeginsMerge parent view.pid result }
 {
     let pid = view.pid;
@@ -289,12 +289,12 @@ fn merge(job: &Job, aim: &Aim, view: View, parent: View) -> Next
 
 // A page where nothing is to be repaired.
 fn at_content(job: &Job, aim: &Aim, view: View) -> Next
-    requires awake { view.node.merging ≡ false }
+    requires not_merging { view.node.merging ≡ false }
     requires free { view.node.merging_child ≡ None }
     requires under { LiesUnder (aim_of job.now aim.now) view.node }
-    requires few { count view.node.content ≤ 16 }
-    ensures arrives { (by : Reached) → Arrives (course job.now aim.now) view by result }
-    ensures passes { (by : Reached) → PassesOn (course job.now aim.now) view by result }
+    requires fits { count view.node.content ≤ 16 }
+    ensures arrives { (by : Reached) → AfterPage (course job.now aim.now) view by result }
+    ensures passes { (by : Reached) → AdvancesFromPage (course job.now aim.now) view by result }
     ensures follows { follows_content view.node.content (course job.now aim.now) view result }
 {
     match &view.node.content {
@@ -305,13 +305,13 @@ fn at_content(job: &Job, aim: &Aim, view: View) -> Next
 
 // An index that lies under the target.
 fn go_down(job: &Job, aim: &Aim, view: View) -> Next
-    requires awake { view.node.merging ≡ false }
+    requires not_merging { view.node.merging ≡ false }
     requires free { view.node.merging_child ≡ None }
     requires under { LiesUnder (aim_of job.now aim.now) view.node }
-    requires few { count view.node.content ≤ 16 }
+    requires fits { count view.node.content ≤ 16 }
     requires index { IsIndex view.node.content }
-    ensures arrives { (by : Reached) → Arrives (course job.now aim.now) view by result }
-    ensures passes { (by : Reached) → PassesOn (course job.now aim.now) view by result }
+    ensures arrives { (by : Reached) → AfterPage (course job.now aim.now) view by result }
+    ensures passes { (by : Reached) → AdvancesFromPage (course job.now aim.now) view by result }
     ensures follows { GoesDown (course job.now aim.now) view result }
 {
     match view.node.pointer(target(job, aim)) {
@@ -328,13 +328,13 @@ fn go_down(job: &Job, aim: &Aim, view: View) -> Next
 
 // The leaf under the target. A call that changes nothing is decided.
 fn at_leaf(job: &Job, aim: &Aim, view: View) -> Next
-    requires awake { view.node.merging ≡ false }
+    requires not_merging { view.node.merging ≡ false }
     requires free { view.node.merging_child ≡ None }
     requires under { LiesUnder (aim_of job.now aim.now) view.node }
-    requires few { count view.node.content ≤ 16 }
+    requires fits { count view.node.content ≤ 16 }
     requires leaf { IsLeaf view.node.content }
-    ensures arrives { (by : Reached) → Arrives (course job.now aim.now) view by result }
-    ensures passes { (by : Reached) → PassesOn (course job.now aim.now) view by result }
+    ensures arrives { (by : Reached) → AfterPage (course job.now aim.now) view by result }
+    ensures passes { (by : Reached) → AdvancesFromPage (course job.now aim.now) view by result }
     ensures follows { follows_leaf (course job.now aim.now) view result }
 {
     let value = match view.node.get(job.call.key().as_ref()) {

@@ -1,13 +1,13 @@
 -- Pages between two openings.
 use Rattle.std.specs.Prelude.{◌≡◌, Bool, true, is_some}
 use Rattle.sled_pages.specs.Store.{Store, now}
-use Rattle.tree_laws.specs.Crashes.{IsWhole, IsCrashWhole}
+use Rattle.tree_laws.specs.Crashes.{IsValid, IsCrashConsistent}
 use Rattle.sled.specs.declared.TheConstants.{DEFAULT_TREE}
 
 -- the pages are well formed, and where `crashes` says so every state that a crash may leave is. They can be opened where no group is open
 pub record IsKept (crashes : Bool) (s : Store) : Type 0 where
-  pub well : IsWhole (now s)
-  pub safe : crashes ≡ true → IsCrashWhole s
+  pub well : IsValid (now s)
+  pub safe : crashes ≡ true → IsCrashConsistent s
 
 -- there is a default tree
 abbrev pub HasDefault : Store → Type 0

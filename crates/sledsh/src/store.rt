@@ -1,7 +1,7 @@
 //! Pages between two openings.
 ghost use Rattle.std.specs.Prelude.{◌≡◌, true, IfOk};
 ghost use Rattle.sled_pages.specs.Memory.{store_of};
-ghost use Rattle.tree_laws.specs.Crashes.{IsCrashWhole};
+ghost use Rattle.tree_laws.specs.Crashes.{IsCrashConsistent};
 
 use crate::counting::Counting;
 use sled::{DEFAULT_TREE, Db, crash_pages, empty_pages};
@@ -133,7 +133,7 @@ impl Kept {
 
 // What a crash leaves of these pages.
 fn crashed(pages: MemPages, keep: usize) -> Result<Kept, Stopped>
-    requires { IsCrashWhole (store_of pages) }
+    requires { IsCrashConsistent (store_of pages) }
 {
     Ok(Kept {
         pages: crash_pages(pages, keep)?,
@@ -154,7 +154,7 @@ fn raise_mark(pages: &mut MemPages, upto: u64) -> Result<(), Error>
 
 // An empty store with this mark.
 fn marked(alloc: Global, mark: u64) -> Result<MemPages, Error>
-    ensures { IfOk result (λ pages. IsCrashWhole (store_of pages)) }
+    ensures { IfOk result (λ pages. IsCrashConsistent (store_of pages)) }
 {
     let mut pages = empty_pages(alloc);
     match raise_mark(&mut pages, mark) {

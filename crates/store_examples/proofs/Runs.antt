@@ -7,7 +7,7 @@ use Rattle.sled_pages.specs.Update.{put_name}
 use Rattle.sled_pages.specs.declared.node.Node.{Node}
 use Rattle.sled_pages.specs.declared.page.Page.{Page}
 use Rattle.sled_pages.specs.State.{Action, PageBecomes}
-use Rattle.sled_pages.specs.Store.{Store, now, flushed, ActsAt, Allocates, Changes, SwapsRoot, AreGiven}
+use Rattle.sled_pages.specs.Store.{Store, now, after_flush, ActsAt, Allocates, Changes, SwapsRoot, AreGiven}
 use Rattle.sled_pages.specs.Facts.{page_changed, now_allocates, now_swaps, swaps_group, fresh_page}
 use Rattle.store_examples.specs.Client.{Twice, Opens, links_as}
 
@@ -26,14 +26,14 @@ some_node {m = m} e = ap (node_or m) e
 pub twice : (f g : Node → Node) (pid v w : ℕ) (old mid new : Store) (q r : Result ℕ (Option ℕ)) → q ≡ Ok w → is_ok r ≡ true → Changes f pid v old mid q → Changes g pid w mid new r → Twice f g pid v old new
 twice f g pid v w old mid new q (Ok x) e ok h k =
     let h' : Changes f pid v old mid (Ok w) = subst (Changes f pid v old mid) e h in
-    let same : k.told.0 ≡ f h'.told.0 = some_node (sym k.told.1 ∙ page_changed pid w (Some (record { version = w; node = f h'.told.0 })) old mid h'.told.2) in
-    let acts : ActsAt (PageBecomes pid (Some (record { version = x; node = g (f h'.told.0) }))) x mid new = subst (λ (n : Node). ActsAt (PageBecomes pid (Some (record { version = x; node = g n }))) x mid new) same k.told.2 in
+    let same : k.is.0 ≡ f h'.is.0 = some_node (sym k.is.1 ∙ page_changed pid w (Some (record { version = w; node = f h'.is.0 })) old mid h'.is.2) in
+    let acts : ActsAt (PageBecomes pid (Some (record { version = x; node = g (f h'.is.0) }))) x mid new = subst (λ (n : Node). ActsAt (PageBecomes pid (Some (record { version = x; node = g n }))) x mid new) same k.is.2 in
     record {
-      node = h'.told.0;
-      was = h'.told.1;
+      node = h'.is.0;
+      was = h'.is.1;
       middle = w;
       last = x;
-      recent = recent_two _ _ w x old mid new h'.told.2 acts;
+      recent = recent_two _ _ w x old mid new h'.is.2 acts;
       is = page_changed pid x _ mid new acts;
     }
 twice f g pid v w old mid new q (Err o) e ok h k = cc
@@ -43,22 +43,22 @@ pub links_told : (f g : Node → Node) (pid v w : ℕ) (old mid new : Store) (q 
 links_told f g pid v w old mid new q (Ok x) e h k = twice f g pid v w old mid new q (Ok x) e refl h k
 links_told f g pid v w old mid new q (Err o) e h k =
     let h' : Changes f pid v old mid (Ok w) = subst (Changes f pid v old mid) e h in
-    absurd (k.told.2 (k.told.1 ∙ ap (option_map (λ (p : Page). p.version)) (page_changed pid w (Some (record { version = w; node = f h'.told.0 })) old mid h'.told.2)))
+    absurd (k.is.2 (k.is.1 ∙ ap (option_map (λ (p : Page). p.version)) (page_changed pid w (Some (record { version = w; node = f h'.is.0 })) old mid h'.is.2)))
 
 -- a new page and a swap keep the group
 pub opened_group : (node : Node) (pid version : ℕ) (name : Key) (expected proposed : Option ℕ) (old mid new : Store) (answer : Result (Unit {0}) (Option ℕ)) → Allocates node pid version old mid → SwapsRoot name expected proposed mid new answer → (now new).in_group ≡ (now old).in_group
 opened_group node pid version name expected proposed old mid new answer h k = swaps_group name expected proposed mid new answer k ∙ ap (λ s. s.in_group) (now_allocates node pid version old mid h)
 
-pub opened : (node : Node) (pid version : ℕ) (name : Key) (done : Unit {0}) (old mid new last : Store) (answer : Result (Unit {0}) (Option ℕ)) → answer ≡ Ok done → AreGiven old → Allocates node pid version old mid → SwapsRoot name None (Some pid) mid new answer → last ≡ flushed new → Opens name node (Some pid) old last
+pub opened : (node : Node) (pid version : ℕ) (name : Key) (done : Unit {0}) (old mid new last : Store) (answer : Result (Unit {0}) (Option ℕ)) → answer ≡ Ok done → AreGiven old → Allocates node pid version old mid → SwapsRoot name None (Some pid) mid new answer → last ≡ after_flush new → Opens name node (Some pid) old last
 opened node pid version name done old mid new last answer is given h swap e =
     let k : SwapsRoot name None (Some pid) mid new (Ok done) = subst (SwapsRoot name None (Some pid) mid new) is swap in
     let made = now_allocates node pid version old mid h in
     let swapped = now_swaps name None (Some pid) done mid new k in
     let here : now last ≡ now new = ap now e in
     record {
-      told = (
+      is = (
         version,
-        ap (λ s. s.roots name) (sym made) ∙ k.told.0,
+        ap (λ s. s.roots name) (sym made) ∙ k.is.0,
         fresh_page old pid given h.fresh_pid,
         ap (λ s. s.roots) (here ∙ swapped) ∙ ap (λ s. put_name s.roots name (Some pid)) made,
         ap (λ s. s.pages) (here ∙ swapped) ∙ ap (λ s. s.pages) made,
@@ -68,4 +68,4 @@ opened node pid version name done old mid new last answer is given h swap e =
 pub not_opened : (node : Node) (pid version : ℕ) (name : Key) (present : Option ℕ) (old mid new last : Store) (answer : Result (Unit {0}) (Option ℕ)) → answer ≡ Err present → Allocates node pid version old mid → SwapsRoot name None (Some pid) mid new answer → Opens name node None old last
 not_opened node pid version name present old mid new last answer is h swap =
     let k : SwapsRoot name None (Some pid) mid new (Err present) = subst (SwapsRoot name None (Some pid) mid new) is swap in
-    record { told = λ e. k.told.2 (k.told.1 ∙ (ap (λ s. s.roots name) (now_allocates node pid version old mid h) ∙ e)) }
+    record { is = λ e. k.is.2 (k.is.1 ∙ (ap (λ s. s.roots name) (now_allocates node pid version old mid h) ∙ e)) }

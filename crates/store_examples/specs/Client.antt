@@ -28,4 +28,4 @@ opens_as name node None old new = (now old).roots name ≢ None
 
 -- a name that had no root has one, which is a new page of this node; or the name had one
 pub record Opens (name : Key) (node : Node) (pid : Option ℕ) (old new : Store) : Type 0 where
-  pub told : opens_as name node pid old new
+  pub is : opens_as name node pid old new

@@ -2,10 +2,10 @@
 ghost use Rattle.std.specs.Prelude.{◌≡◌, ◌≤◌, IfOk, IfErr, OnOk, false, length};
 ghost use Rattle.sled_pages.specs.Among.{bound_of, IsPredecessor};
 ghost use Rattle.sled_pages.specs.Crash.{Crashes};
-ghost use Rattle.sled_pages.specs.Halves.{left_half, right_half, received};
+ghost use Rattle.sled_pages.specs.Halves.{left_half, right_half, after_receiving};
 ghost use Rattle.sled_pages.specs.Memory.{store_of};
-ghost use Rattle.sled_pages.specs.Node.{applied, count, pairs};
-ghost use Rattle.sled_pages.specs.Store.{now, flushed, Allocates, Changes};
+ghost use Rattle.sled_pages.specs.Node.{after_link, count, pairs};
+ghost use Rattle.sled_pages.specs.Store.{now, after_flush, Allocates, Changes};
 
 use sled_pages::{IVec, Link, MemPages, Node, Pages, Pid, Result, Version};
 use std::alloc::Global;
@@ -25,7 +25,7 @@ pub fn link<P: Pages>(
     version: Version,
     link: Link,
 ) -> Result<std::result::Result<Version, Option<Version>>>
-    ensures { IfOk result (Changes (applied link) pid version (P.store pages.old) (P.store pages.new)) }
+    ensures { IfOk result (Changes (after_link link) pid version (P.store pages.old) (P.store pages.new)) }
 {
     pages.link(pid, version, link)
 }
@@ -45,7 +45,7 @@ pub fn replace<P: Pages>(
 /// A flush of a store in memory, which counts the actions.
 pub fn flush(pages: &mut MemPages) -> Result<usize>
     requires { (now (store_of pages.old)).in_group ≡ false }
-    ensures ok { OnOk result (store_of pages.new ≡ flushed (store_of pages.old)) }
+    ensures ok { OnOk result (store_of pages.new ≡ after_flush (store_of pages.old)) }
     ensures count { IfOk result (λ n. n ≡ length (store_of pages.old).recent) }
 {
     pages.flush()
@@ -68,7 +68,7 @@ pub fn split(alloc: Global, node: &Node) -> Result<(Node, Node)>
 
 /// A node that took over the one behind it.
 pub fn receive_merge(alloc: Global, left: &Node, right: &Node) -> Result<Node>
-    ensures { IfOk result (λ both. both ≡ received left.now right.now) }
+    ensures { IfOk result (λ both. both ≡ after_receiving left.now right.now) }
 {
     left.receive_merge(alloc, right)
 }

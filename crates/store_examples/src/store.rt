@@ -1,15 +1,15 @@
 //! What a layer above can say of a store, whichever it is: tests of the contract, written against its clauses alone.
 ghost use Rattle.std.specs.Prelude.{◌≡◌, ◌++◌, ◌∷◌, [], true, false, Some, None, IfOk};
-ghost use Rattle.sled_pages.specs.Node.{applied};
+ghost use Rattle.sled_pages.specs.Node.{after_link};
 ghost use Rattle.store_examples.specs.Client.{links_as, Opens};
-ghost use Rattle.sled_pages.specs.Crash.{MayLeave, states_left};
+ghost use Rattle.sled_pages.specs.Crash.{IsCrashState, crash_states};
 ghost use Rattle.sled_pages.specs.Store.{now};
 
 use sled_pages::{Link, Node, Pages, Pid, Result, View, law_given, law_sealed};
 
 /// Two changes of one page, one after the other. `false` where another was there first.
 pub fn two_links<P: Pages>(pages: &mut P, view: &View, first: Link, second: Link) -> Result<bool>
-    ensures { IfOk result (links_as (applied first) (applied second) view.now.pid view.now.version (P.store pages.old) (P.store pages.new)) }
+    ensures { IfOk result (links_as (after_link first) (after_link second) view.now.pid view.now.version (P.store pages.old) (P.store pages.new)) }
 {
     match pages.link(view.pid, view.version, first) {
         Ok(Ok(version)) => Ok(pages.link(view.pid, version, second)?.is_ok()),
@@ -28,7 +28,7 @@ pub fn two_links<P: Pages>(pages: &mut P, view: &View, first: Link, second: Link
 pub fn open_tree<P: Pages>(pages: &mut P, name: &[u8], node: Node) -> Result<Option<Pid>>
     requires { (now (P.store pages.old)).in_group ≡ false }
     ensures opened { IfOk result (λ pid. Opens name.now node pid (P.store pages.old) (P.store pages.new)) }
-    ensures durable { IfOk result (λ _. states_left (P.store pages.new) ≡ now (P.store pages.new) ∷ []) }
+    ensures durable { IfOk result (λ _. crash_states (P.store pages.new) ≡ now (P.store pages.new) ∷ []) }
 {
     law_given(pages);
     let (pid, _) = pages.allocate(node)?;
@@ -43,7 +43,7 @@ pub fn open_tree<P: Pages>(pages: &mut P, name: &[u8], node: Node) -> Result<Opt
 /// A crash may always leave the state at the last flush.
 #[tactic(auto, using(sled_pages::specs::Facts::may_leave_base))]
 pub fn may_leave_base<P: Pages>(pages: &P)
-    ensures { MayLeave (P.store pages.now) (P.store pages.now).base }
+    ensures { IsCrashState (P.store pages.now) (P.store pages.now).base }
 {
     law_sealed(pages);
 }

@@ -71,7 +71,7 @@ pub record IsStanding (nodes : Nodes) (w : Forest) (t : Tree) (h p : ℕ) : Type
 pub record IsAtHome (nodes : Nodes) (w : Forest) (t : Tree) (p h : ℕ) : Type 0 where
   pub node : Node
   pub is : IsHomed nodes w p (place t h) node
-  pub few : count node.content ≤ 33
+  pub fits : count node.content ≤ 33
 
 pub record IsForest (nodes : Nodes) (roots : Tree → Option ℕ) (t : Tree) (r : ℕ) (levels : List (List ℕ)) (homes : List (ℕ × ℕ)) : Type 0 where
   pub standing : Each (IsStanding nodes (forest_of t levels homes) t) levels
@@ -155,9 +155,9 @@ module _ {nodes : Nodes} {roots : Tree → Option ℕ} {t : Tree} {r : ℕ} {lev
 
   pub sized : IsSized nodes w
   sized = record {
-    few = λ x p n e live.
+    fits = λ x p n e live.
         let a = home_in t (IsAtHome nodes w t) homes p x f.at_home e in
-        subst (λ (z : Node). count z.content ≤ 33) (some_is a.2.node n (sym a.2.is.live ∙ live)) a.2.few;
+        subst (λ (z : Node). count z.content ≤ 33) (some_is a.2.node n (sym a.2.is.live ∙ live)) a.2.fits;
     child = λ x p c n d i live e at.
         let s = (stands_in x p i).1 in
         s.small c d (ap (λ (z : Node). z.merging_child) (node_is x.height p n s live) ∙ e) at;

@@ -15,7 +15,7 @@ empty_law = (
     top = λ t h. refl;
   },
   record {
-    few = λ x p n e. none_some e;
+    fits = λ x p n e. none_some e;
     child = λ x p c n d i. absurd i;
   },
 )

@@ -84,7 +84,7 @@ early w f z =
     no e = cc
 
 many : Refuses too_many
-many w f z = let t = f.top one_tree in no (z.few _ 1 (leaf [] [] None (selves 34 0)) (f.homed _ 1 (head_in _ 1 t.1)) refl)
+many w f z = let t = f.top one_tree in no (z.fits _ 1 (leaf [] [] None (selves 34 0)) (f.homed _ 1 (head_in _ 1 t.1)) refl)
   where
     no : 34 ≤ 33 → ⊥
     no l = omega arith

@@ -5,7 +5,7 @@ use Rattle.std.specs.List.{AllByRecursion}
 use Rattle.std.specs.FinMap.{is_sorted}
 use Rattle.std.specs.FinMap.Entries.{below_all}
 use Rattle.sled_pages.specs.In.{In}
-use Rattle.sled_pages.specs.Node.{Within, pairs, pointers, count, unpointed, applied, intended, confirmed}
+use Rattle.sled_pages.specs.Node.{Within, pairs, pointers, count, unpointed, after_link, after_intention, after_confirm}
 use Rattle.sled_pages.specs.Order.{Key, key_cmp, Below}
 use Rattle.sled_pages.specs.State.{Nodes}
 use Rattle.sled_pages.specs.Update.{put_at}
@@ -15,7 +15,7 @@ use Rattle.sled_pages.specs.declared.link.Link.TheVariants.{ParentMergeIntention
 use Rattle.sled_pages.specs.declared.node.Node.{Node}
 use Rattle.tree_laws.specs.Action.{put_node}
 use Rattle.tree_laws.specs.Forest.{first_key, first_child, later, Holds, IsNodeAt, Forest, Place, place, IsPointer, WellFormed, Tree}
-use Rattle.tree_laws.specs.Moment.{IsStray}
+use Rattle.tree_laws.specs.Snapshot.{IsOrphan}
 use Rattle.tree_laws.specs.PageLaws.{Unseen, CapLaw, IntentionLaw, ConfirmLaw}
 use Rattle.tree_laws.proofs.Order.{below_irrefl}
 use Rattle.tree_laws.proofs.Update.{put_here, put_there}
@@ -32,7 +32,7 @@ pub cap_law : CapLaw
 cap_law nodes roots w f x p n o q d j up is =
     let i = o.chained in
     let live = o.live in
-    let awake = o.is_open.awake in
+    let not_merging = o.is_open.not_merging in
     let free = o.is_open.free in
     let r : Reflags nodes (put_node nodes p (record n { merging = true })) w w.home x p n (record n { merging = true }) = record {
       chained = i;
@@ -44,7 +44,7 @@ cap_law nodes roots w f x p n o q d j up is =
       next = refl;
       sound = let s = sound_at f x p n i live in record { holds = s.holds };
       smaller = le_refl _;
-      awake = awake;
+      not_merging = not_merging;
       calm = λ t. free;
       parent = λ t. (q, d, j, up, is);
       comes = λ z y e. e;
@@ -56,7 +56,7 @@ cap_law nodes roots w f x p n o q d j up is =
     } in
     record { after = after r f; kept = reflagged_kept r f; same = reflagged_contents r f refl; keeps = reflagged_keeps r f []; sized = λ e. reflagged_sized r f (λ c d e. none_some (sym free ∙ e)); grows = λ e. reflagged_grows r f }
 
-intended_some : (t : Tree) (h : ℕ) (lo hi : Key) (c : Data) (d : ℕ) (before : Option ℕ) → Holds (suc h) lo hi c → intended c d before ≡ Some d
+intended_some : (t : Tree) (h : ℕ) (lo hi : Key) (c : Data) (d : ℕ) (before : Option ℕ) → Holds (suc h) lo hi c → after_intention c d before ≡ Some d
 intended_some t h lo hi (Leaf es) d before s = absurd s
 intended_some t h lo hi (Index es) d before s = refl
 
@@ -64,9 +64,9 @@ pub intention_law : IntentionLaw
 intention_law nodes roots w f t h p c n k o j =
     let i = o.chained in
     let live = o.live in
-    let awake = o.is_open.awake in
+    let not_merging = o.is_open.not_merging in
     let free = o.is_open.free in
-    let m : Node = applied (ParentMergeIntention c) n in
+    let m : Node = after_link (ParentMergeIntention c) n in
     let child_is : m.merging_child ≡ Some c = intended_some t h n.lo n.hi n.content c n.merging_child (holds_at f (place t (suc h)) p n i live) in
     let r : Reflags nodes (put_node nodes p m) w w.home (place t (suc h)) p n m = record {
       chained = i;
@@ -78,9 +78,9 @@ intention_law nodes roots w f t h p c n k o j =
       next = refl;
       sound = let s = sound_at f (place t (suc h)) p n i live in record { holds = s.holds };
       smaller = le_refl _;
-      awake = awake;
-      calm = λ u. false_true n.merging awake u;
-      parent = λ u. false_true n.merging awake u;
+      not_merging = not_merging;
+      calm = λ u. false_true n.merging not_merging u;
+      parent = λ u. false_true n.merging not_merging u;
       comes = λ z y e. e;
       stays = λ z y e. inl e;
       keeps_child = λ d y g e. none_some (sym free ∙ e);
@@ -175,7 +175,7 @@ first_stays c lo (a ∷ es) e off =
 holds_unpointed : (h : ℕ) (lo hi : Key) (c : ℕ) (es : List (Key × ℕ)) → Holds (suc h) lo hi (Index es) → ((d : ℕ) → first_child es ≡ Some d → d ≢ c) → Holds (suc h) lo hi (Index (unpointed c es))
 holds_unpointed h lo hi c es s off = (sorted_unpointed c es s.0, each_unpointed (Within lo hi) c es s.1, (first_stays c lo es s.2 off).0)
 
-module _ (nodes : Nodes) (roots : Tree → Option ℕ) (w : Forest) (f : WellFormed nodes roots w) (t : Tree) (h p c : ℕ) (n : Node) (es : List (Key × ℕ)) (i : In p (w.chain (place t (suc h)))) (live : nodes p ≡ Some n) (awake : n.merging ≡ false) (has : n.merging_child ≡ Some c) (index : n.content ≡ Index es) (out : ¬ (In c (w.chain (place t h)))) where
+module _ (nodes : Nodes) (roots : Tree → Option ℕ) (w : Forest) (f : WellFormed nodes roots w) (t : Tree) (h p c : ℕ) (n : Node) (es : List (Key × ℕ)) (i : In p (w.chain (place t (suc h)))) (live : nodes p ≡ Some n) (not_merging : n.merging ≡ false) (has : n.merging_child ≡ Some c) (index : n.content ≡ Index es) (out : ¬ (In c (w.chain (place t h)))) where
   holds : Holds (suc h) n.lo n.hi (Index es)
   holds = subst (λ z. Holds (suc h) n.lo n.hi z) index (holds_at f (place t (suc h)) p n i live)
 
@@ -228,9 +228,9 @@ module _ (nodes : Nodes) (roots : Tree → Option ℕ) (w : Forest) (f : WellFor
     next = refl;
     sound = record { holds = holds_unpointed h n.lo n.hi c es holds first_off };
     smaller = subst (λ z. length (unpointed c es) ≤ count z) (sym index) (length_unpointed c es);
-    awake = awake;
+    not_merging = not_merging;
     calm = λ u. refl;
-    parent = λ u. false_true n.merging awake u;
+    parent = λ u. false_true n.merging not_merging u;
     comes = λ q y e. elim (same_number q c) [ inl a ↦ none_some (sym (ap home a ∙ home_c) ∙ e) | inr a ↦ sym (home_other q a) ∙ e ];
     stays = λ q y e. elim (same_number q c) [
       | inl a ↦ inr (has ∙ ap Some (sym a), λ j. out (subst (λ z. In z (w.chain (place t h))) a (subst (λ z. In q (w.chain z)) (some_is y (place t h) (sym e ∙ ap w.home a ∙ c_pointer.homed)) j)))
@@ -257,7 +257,7 @@ module _ (nodes : Nodes) (roots : Tree → Option ℕ) (w : Forest) (f : WellFor
       lower : (t : Tree) (h : ℕ) (u : Tree) (g : ℕ) → place t (suc h) ≡ place u (suc g) → place t h ≡ place u g
       lower t h u g e = let a : t ≡ u = ap (λ (z : Place). z.tree) e in let b : suc h ≡ suc g = ap (λ (z : Place). z.height) e in let d : h ≡ g = omega arith in λ i. place (a i) (d i)
 
-  pub unlinked : (u : Unseen [] nodes (put_node nodes p dropped) roots w (Unit {0})) × IsStray u.after c
+  pub unlinked : (u : Unseen [] nodes (put_node nodes p dropped) roots w (Unit {0})) × IsOrphan u.after c
   unlinked = (record { after = after parts f; kept = reflagged_kept parts f; same = reflagged_contents parts f (sym (ap pairs index)); keeps = reflagged_keeps parts f []; sized = λ e. reflagged_sized parts f (λ d b e. none_some e); grows = λ e. reflagged_grows parts f }, λ y e. none_some (sym home_c ∙ e))
 
 -- an index's content
@@ -269,8 +269,8 @@ pub index_at : {nodes : Nodes} {roots : Tree → Option ℕ} {w : Forest} (f : W
 index_at f t h p n i live = index_is h n.lo n.hi n.content (holds_at f (place t (suc h)) p n i live)
 
 pub confirm_law : ConfirmLaw
-confirm_law nodes roots w f t h p c n i live awake has out =
+confirm_law nodes roots w f t h p c n i live not_merging has out =
     let b = index_at f t h p n i live in
-    let same : record n { merging_child = None; content = Index (unpointed c b.0) } ≡ applied ParentMergeConfirm n =
-    ap (λ (z : Data × Option ℕ). record n { content = z.0; merging_child = z.1 }) (sym (ap (λ z. confirmed z n.merging_child) b.1 ∙ ap (confirmed (Index b.0)) has)) in
-    subst (λ (m : Node). (u : Unseen [] nodes (put_node nodes p m) roots w (Unit {0})) × IsStray u.after c) same (unlinked nodes roots w f t h p c n b.0 i live awake has b.1 out)
+    let same : record n { merging_child = None; content = Index (unpointed c b.0) } ≡ after_link ParentMergeConfirm n =
+    ap (λ (z : Data × Option ℕ). record n { content = z.0; merging_child = z.1 }) (sym (ap (λ z. after_confirm z n.merging_child) b.1 ∙ ap (after_confirm (Index b.0)) has)) in
+    subst (λ (m : Node). (u : Unseen [] nodes (put_node nodes p m) roots w (Unit {0})) × IsOrphan u.after c) same (unlinked nodes roots w f t h p c n b.0 i live not_merging has b.1 out)

@@ -158,8 +158,8 @@ contents_law s w f below t = go (s.roots t) (f.top t)
         → option_map (pairs_under (nodes_of s)) o ≡ option_map (λ _. contents (nodes_of s) w t) o
     go None m = refl
     go (Some r) m =
-        let few = levels_few f page_numbers nodes_below t m.0 r m.1 in
-        let first = leads_down f t m.0 page_numbers r (under m.0 page_numbers few) m.1 in
+        let fits = levels_few f page_numbers nodes_below t m.0 r m.1 in
+        let first = leads_down f t m.0 page_numbers r (under m.0 page_numbers fits) m.1 in
         let i = head_in _ _ first in
         ap Some (ap (along page_numbers (nodes_of s)) (sym first) ∙ along_run page_numbers (nodes_of s) (w.chain (place t 0)) _ [] [] (chain_few f page_numbers nodes_below (place t 0)) (chain_run f (place t 0) _ i))
       where

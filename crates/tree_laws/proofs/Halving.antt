@@ -7,7 +7,7 @@ use Rattle.std.specs.FinMap.Entries.{below_all}
 use Rattle.sled_pages.specs.In.{In}
 use Rattle.sled_pages.specs.Order.{Key, key_cmp, Below, UpTo}
 use Rattle.sled_pages.specs.Node.{Within, pointers, count}
-use Rattle.sled_pages.specs.Halves.{first_half, second_half, first_half_of, second_half_of, first_key_of, left_half, right_half, appended, received}
+use Rattle.sled_pages.specs.Halves.{first_half, second_half, first_half_of, second_half_of, first_key_of, left_half, right_half, appended, after_receiving}
 use Rattle.sled_pages.specs.Halves as halves
 use Rattle.sled_pages.specs.Posting as posting
 use Rattle.tree_laws.specs.StageLaws.{HalvedLaw, JoinedLaw, BeforeLaw}
@@ -16,9 +16,9 @@ use Rattle.sled_pages.specs.declared.node.Node.{Node}
 use Rattle.sled_pages.specs.declared.node.Data.{Data}
 use Rattle.sled_pages.specs.declared.node.Data.TheVariants.{Leaf, Index}
 use Rattle.tree_laws.specs.Forest.{Holds, IsNodeAt, first_key}
-use Rattle.tree_laws.specs.Action.{Halves, IsSplit}
+use Rattle.tree_laws.specs.Action.{AreHalvesOf, IsSplit}
 use Rattle.tree_laws.specs.StageLaws.{IsHalved, IsJoined}
-use Rattle.tree_laws.specs.Moment.{IsOpen}
+use Rattle.tree_laws.specs.Snapshot.{IsOpen}
 use Rattle.tree_laws.proofs.Order.{upto-refl, upto-below, upto-trans, below-trans, upto_below-trans}
 use Rattle.tree_laws.proofs.Pairs.{each_weaker, each_append, under}
 use Rattle.tree_laws.proofs.Reading.{sorted-append}
@@ -130,12 +130,12 @@ cut {X} lo hi es two sorted within =
 pub halved : (n : Node) (q : ℕ) → 2 ≤ count n.content → IsHalved n (record (left_half n) { next = Some q }) (right_half n) q
 halved n q two = record { split = λ h sound calm. go h n.content refl two sound.holds }
   where
-    made : (h : ℕ) (a b : Data) (k : Key) → first_half_of n.content ≡ a → second_half_of n.content ≡ b → first_key_of (second_half_of n.content) ≡ k → Holds h n.lo k a → Holds h k n.hi b → Halves n.content a b → Below n.lo k → Within n.lo n.hi k
+    made : (h : ℕ) (a b : Data) (k : Key) → first_half_of n.content ≡ a → second_half_of n.content ≡ b → first_key_of (second_half_of n.content) ≡ k → Holds h n.lo k a → Holds h k n.hi b → AreHalvesOf n.content a b → Below n.lo k → Within n.lo n.hi k
         → IsSplit h n (record (left_half n) { next = Some q }) (right_half n) q
     made h a b k ea eb ek left right cut_in apart within = record {
       left_sound = record { holds = subst (λ z. Holds h n.lo (first_key_of (second_half_of n.content)) z) (sym ea) (subst (λ z. Holds h n.lo z a) (sym ek) left) };
       right_sound = record { holds = subst (λ z. Holds h (first_key_of (second_half_of n.content)) n.hi z) (sym eb) (subst (λ z. Holds h z n.hi b) (sym ek) right) };
-      halves = subst (λ z. Halves n.content z (second_half_of n.content)) (sym ea) (subst (λ z. Halves n.content a z) (sym eb) cut_in);
+      halves = subst (λ z. AreHalvesOf n.content z (second_half_of n.content)) (sym ea) (subst (λ z. AreHalvesOf n.content a z) (sym eb) cut_in);
       left_lo = refl;
       left_hi = refl;
       left_next = refl;
@@ -152,19 +152,19 @@ halved n q two = record { split = λ h sound calm. go h n.content refl two sound
         let right_is : first_key_of (second_half_of n.content) ≡ c.y.0 = ap (λ z. first_key_of (second_half_of z)) e ∙ ap halves.first_key c.right in
         made zero (Leaf (c.x ∷ c.xs)) (Leaf (c.y ∷ c.ys)) c.y.0 (ap first_half_of e ∙ ap Leaf c.left) (ap second_half_of e ∙ ap Leaf c.right) right_is
         (c.left_sorted, c.left_within) (c.right_sorted, c.right_within)
-        (subst (λ z. Halves z (Leaf (c.x ∷ c.xs)) (Leaf (c.y ∷ c.ys))) (sym e) (c.is ∙ ap (λ z. z ++ second_half es) c.left ∙ ap (λ z. (c.x ∷ c.xs) ++ z) c.right)) c.apart c.within
+        (subst (λ z. AreHalvesOf z (Leaf (c.x ∷ c.xs)) (Leaf (c.y ∷ c.ys))) (sym e) (c.is ∙ ap (λ z. z ++ second_half es) c.left ∙ ap (λ z. (c.x ∷ c.xs) ++ z) c.right)) c.apart c.within
     go (suc h) (Index es) e two s =
         let c = cut n.lo n.hi es two s.0 s.1 in
         let parts : es ≡ (c.x ∷ c.xs) ++ c.y ∷ c.ys = c.is ∙ ap (λ z. z ++ second_half es) c.left ∙ ap (λ z. (c.x ∷ c.xs) ++ z) c.right in
         let right_is : first_key_of (second_half_of n.content) ≡ c.y.0 = ap (λ z. first_key_of (second_half_of z)) e ∙ ap halves.first_key c.right in
         made (suc h) (Index (c.x ∷ c.xs)) (Index (c.y ∷ c.ys)) c.y.0 (ap first_half_of e ∙ ap Index c.left) (ap second_half_of e ∙ ap Index c.right) right_is
         (c.left_sorted, c.left_within, sym (ap first_key parts) ∙ s.2) (c.right_sorted, c.right_within, refl)
-        (subst (λ z. Halves z (Index (c.x ∷ c.xs)) (Index (c.y ∷ c.ys))) (sym e) parts) c.apart c.within
+        (subst (λ z. AreHalvesOf z (Index (c.x ∷ c.xs)) (Index (c.y ∷ c.ys))) (sym e) parts) c.apart c.within
     go zero (Index es) e two s = absurd s
     go (suc h) (Leaf es) e two s = absurd s
 
 -- a node with what the node behind it holds is joined, as the laws ask
-pub joined : (n d : Node) → IsJoined n d (received n d)
+pub joined : (n d : Node) → IsJoined n d (after_receiving n d)
 joined n d = record {
   joined = λ h sn sd meets low up. record {
     sound = record { holds = (go h n.content d.content sn.holds sd.holds meets low up).0 };
@@ -199,7 +199,7 @@ joined n d = record {
     first_on [] fs e = none_some e
     first_on (x ∷ es) fs e = e
 
-    go : (h : ℕ) (a b : Data) → Holds h n.lo n.hi a → Holds h d.lo d.hi b → n.hi ≡ d.lo → Below n.lo d.lo → (d.hi ≡ []) ⊎ Below d.lo d.hi → Holds h n.lo d.hi (appended a b) × Halves (appended a b) a b
+    go : (h : ℕ) (a b : Data) → Holds h n.lo n.hi a → Holds h d.lo d.hi b → n.hi ≡ d.lo → Below n.lo d.lo → (d.hi ≡ []) ⊎ Below d.lo d.hi → Holds h n.lo d.hi (appended a b) × AreHalvesOf (appended a b) a b
     go zero (Leaf es) (Leaf fs) s u meets low up = ((sorted es fs meets low s.0 u.0 s.1 u.1, each_append _ es fs (wider es meets low up s.1) (later_on fs low u.1)), refl)
     go (suc h) (Index es) (Index fs) s u meets low up = ((sorted es fs meets low s.0 u.0 s.1 u.1, each_append _ es fs (wider es meets low up s.1) (later_on fs low u.1), first_on es fs s.2), refl)
     go zero (Index es) b s u meets low up = absurd s
@@ -228,7 +228,7 @@ before_child h n c b sound k =
 
 -- an open node, in the words of nodes
 pub opens : {n : Node} → posting.IsOpen n → IsOpen n
-opens k = record { awake = k.0; free = k.1 }
+opens k = record { not_merging = k.0; free = k.1 }
 
 pub halved_law : HalvedLaw
 halved_law = halved

@@ -5,19 +5,20 @@ use Rattle.std.specs.declared.ops.Bound.{Bound}
 use Rattle.std.specs.declared.ops.Bound.TheVariants.{Included}
 use Rattle.sled_pages.specs.In.{In}
 use Rattle.sled_pages.specs.Order.{Key, key_cmp}
-use Rattle.sled_pages.specs.Node.{pairs, count, Covers, with_pair, value_at, without, applied}
+use Rattle.sled_pages.specs.Node.{pairs, count, Covers, with_pair, value_at, without, after_link}
 use Rattle.sled_pages.specs.State.{State, Nodes, Action, PageBecomes, RootBecomes, nodes_of, after}
 use Rattle.sled_pages.specs.Update.{put_at, put_name}
-use Rattle.sled_pages.specs.Store.{Store, now, acted, ActsAt, Allocates, AreGiven}
+use Rattle.sled_pages.specs.Store.{Store, now, after_action, ActsAt, Allocates, AreGiven}
 use Rattle.sled_pages.specs.Facts.{now_acted}
 use Rattle.sled_pages.specs.declared.node.Node.{Node}
 use Rattle.sled_pages.specs.declared.node.Data.{Data}
 use Rattle.sled_pages.specs.declared.node.Data.TheVariants.{Leaf, Index}
 use Rattle.sled_pages.specs.declared.page.Page.{Page}
 use Rattle.tree_laws.specs.Forest.{Tree, Forest, Place, place, head, Holds, IsNodeAt, Run, WellFormed, IsSized, contents}
-use Rattle.tree_laws.specs.Moment.{Moment, moment_of, nodes_at, IsMoment, Goes, Viewed, Stood, Look, IsOpen, IsFresh, IsFew, Seen, LiesUnder, IsActing, Grows}
+use Rattle.sled_pages.specs.declared.page.View.{View}
+use Rattle.tree_laws.specs.Snapshot.{Snapshot, snapshot_of, nodes_at, HasForest, Guarantee, IsReadAs, StoodInChain, IsOpen, IsAtVersion, HasRoomForOne, SeenOpen, LiesUnder, IsActing, GrowsByReceiving}
 use Rattle.tree_laws.specs.Action.{put_node}
-use Rattle.tree_laws.specs.Laws.{WriteLaw, EraseLaw, AnswerLaw, ActingLaw, IsAt, IsCurrent, Changed, Written, Steps, replaced, allocated, freed, planted, hoisted, dropped}
+use Rattle.tree_laws.specs.Laws.{WriteLaw, EraseLaw, AnswerLaw, ActingLaw, IsAt, IsNodeNow, Changed, Written, StepsForest, after_replacement, after_allocation, after_free, after_creation, after_hoist, after_drop}
 use Rattle.tree_laws.proofs.Order.{under_covers}
 use Rattle.tree_laws.proofs.Replace.{some_is, head_in}
 use Rattle.tree_laws.proofs.Cover.{holds_at}
@@ -29,7 +30,7 @@ use Rattle.sled_pages.specs.declared.link.Link.TheVariants.{Set, Del}
 use Rattle.tree_laws.proofs.Basics.{none_some}
 
 -- a call that does nothing
-pub goes_same : (mine : List ℕ) (m : Moment) (w : Forest) → IsMoment m w → Goes mine None m w m w
+pub goes_same : (mine : List ℕ) (m : Snapshot) (w : Forest) → HasForest m w → Guarantee mine None m w m w
 goes_same mine m w is = record {
   pids = λ p e. e;
   versions = λ p e. e;
@@ -47,7 +48,7 @@ goes_same mine m w is = record {
     capped = λ p n live t. inl live;
     stray = λ p stray off. (refl, stray);
     left = λ x p n live t off i. off i;
-    wakes = λ x p n m i was awake now t. let e : n ≡ m = some_is n m (sym was ∙ now) in absurd (apart (sym (subst (λ (z : Node). z.merging ≡ false) e awake) ∙ t));
+    wakes = λ x p n m i was not_merging now t. let e : n ≡ m = some_is n m (sym was ∙ now) in absurd (apart (sym (subst (λ (z : Node). z.merging ≡ false) e not_merging) ∙ t));
     child = λ x p c n o i live is. inl (i, (n, live, is));
   };
 }
@@ -56,7 +57,7 @@ goes_same mine m w is = record {
     apart e = cc
 
 -- a group begins or ends
-pub grouped : (b : Bool) (m : Moment) (w : Forest) → IsMoment m w → let new : Moment = record m { state = record (m.state) { in_group = b } } in Steps [] None m w new w
+pub grouped : (b : Bool) (m : Snapshot) (w : Forest) → HasForest m w → let new : Snapshot = record m { state = record (m.state) { in_group = b } } in StepsForest [] None m w new w
 grouped b m w is =
     let g = goes_same [] m w is in
     record {
@@ -65,7 +66,7 @@ grouped b m w is =
     }
 
 -- more pages may be the call's own
-pub goes_more : {old new : Moment} {w v : Forest} (mine more : List ℕ) (lost : Option Tree) → ((p : ℕ) → In p mine → In p more) → Goes mine lost old w new v → Goes more lost old w new v
+pub goes_more : {old new : Snapshot} {w v : Forest} (mine more : List ℕ) (lost : Option Tree) → ((p : ℕ) → In p mine → In p more) → Guarantee mine lost old w new v → Guarantee more lost old w new v
 goes_more mine more lost sub g = record {
   pids = g.pids;
   versions = g.versions;
@@ -91,32 +92,32 @@ goes_more mine more lost sub g = record {
 -- a store's moment after each of its changing calls
 
 module _ (numbers : Tree → Option ℕ) (given : ℕ → Bool) where
-  at_state : (s : Store) (x : State) (pids versions : ℕ → Bool) → now s ≡ x → s.pids ≡ pids → s.versions ≡ versions → moment_of s numbers given ≡ record { state = x; pids = pids; versions = versions; numbers = numbers; given = given }
+  at_state : (s : Store) (x : State) (pids versions : ℕ → Bool) → now s ≡ x → s.pids ≡ pids → s.versions ≡ versions → snapshot_of s numbers given ≡ record { state = x; pids = pids; versions = versions; numbers = numbers; given = given }
   at_state s x pids versions a b c = λ i. record { state = a i; pids = b i; versions = c i; numbers = numbers; given = given }
 
-  pub store_replaced : {p : ℕ} {g : Page} {old new : Store} → ActsAt (PageBecomes p (Some g)) g.version old new → moment_of new numbers given ≡ replaced (moment_of old numbers given) p g
+  pub store_replaced : {p : ℕ} {g : Page} {old new : Store} → ActsAt (PageBecomes p (Some g)) g.version old new → snapshot_of new numbers given ≡ after_replacement (snapshot_of old numbers given) p g
   store_replaced {p} {g} {old} {new} a = at_state new _ _ _ (ap now a.is ∙ now_acted (PageBecomes p (Some g)) old) (ap (λ (s : Store). s.pids) a.is) (ap (λ (s : Store). s.versions) a.is)
 
-  pub store_allocated : {node : Node} {p version : ℕ} {old new : Store} → Allocates node p version old new → moment_of new numbers given ≡ allocated (moment_of old numbers given) p (record { version = version; node = node })
+  pub store_allocated : {node : Node} {p version : ℕ} {old new : Store} → Allocates node p version old new → snapshot_of new numbers given ≡ after_allocation (snapshot_of old numbers given) p (record { version = version; node = node })
   store_allocated {node} {p} {version} {old} {new} a = at_state new _ _ _ (ap now a.is ∙ now_acted (PageBecomes p (Some (record { version = version; node = node }))) old) (ap (λ (s : Store). s.pids) a.is) (ap (λ (s : Store). s.versions) a.is)
 
-  pub store_acted : (act : Action) (old new : Store) → new ≡ acted act old → moment_of new numbers given ≡ record (moment_of old numbers given) { state = after act (now old) }
+  pub store_acted : (act : Action) (old new : Store) → new ≡ after_action act old → snapshot_of new numbers given ≡ record (snapshot_of old numbers given) { state = after act (now old) }
   store_acted act old new a = at_state new _ _ _ (ap now a ∙ now_acted act old) (ap (λ (s : Store). s.pids) a) (ap (λ (s : Store). s.versions) a)
 
 -- a page that went, and a root that became another
-pub store_freed : (numbers : Tree → Option ℕ) (given : ℕ → Bool) (p : ℕ) (old new : Store) → new ≡ acted (PageBecomes p None) old → moment_of new numbers given ≡ freed (moment_of old numbers given) p
+pub store_freed : (numbers : Tree → Option ℕ) (given : ℕ → Bool) (p : ℕ) (old new : Store) → new ≡ after_action (PageBecomes p None) old → snapshot_of new numbers given ≡ after_free (snapshot_of old numbers given) p
 store_freed numbers given p old new a = store_acted numbers given (PageBecomes p None) old new a
 
-pub store_hoisted : (numbers : Tree → Option ℕ) (given : ℕ → Bool) (t : Tree) (r : ℕ) (old new : Store) → new ≡ acted (RootBecomes t (Some r)) old → moment_of new numbers given ≡ hoisted (moment_of old numbers given) t r
+pub store_hoisted : (numbers : Tree → Option ℕ) (given : ℕ → Bool) (t : Tree) (r : ℕ) (old new : Store) → new ≡ after_action (RootBecomes t (Some r)) old → snapshot_of new numbers given ≡ after_hoist (snapshot_of old numbers given) t r
 store_hoisted numbers given t r old new a = store_acted numbers given (RootBecomes t (Some r)) old new a
 
 -- a name that got its first root and its number, and one that lost both
-pub store_planted : (numbers : Tree → Option ℕ) (given : ℕ → Bool) (t : Tree) (r number : ℕ) (old new : Store) → new ≡ acted (RootBecomes t (Some r)) old
-    → moment_of new (put_name numbers t (Some number)) (put_at given number true) ≡ planted (moment_of old numbers given) t r number
+pub store_planted : (numbers : Tree → Option ℕ) (given : ℕ → Bool) (t : Tree) (r number : ℕ) (old new : Store) → new ≡ after_action (RootBecomes t (Some r)) old
+    → snapshot_of new (put_name numbers t (Some number)) (put_at given number true) ≡ after_creation (snapshot_of old numbers given) t r number
 store_planted numbers given t r number old new a = store_acted (put_name numbers t (Some number)) (put_at given number true) (RootBecomes t (Some r)) old new a
 
-pub store_dropped : (numbers : Tree → Option ℕ) (given : ℕ → Bool) (t : Tree) (old new : Store) → new ≡ acted (RootBecomes t None) old
-    → moment_of new (put_name numbers t None) given ≡ dropped (moment_of old numbers given) t
+pub store_dropped : (numbers : Tree → Option ℕ) (given : ℕ → Bool) (t : Tree) (old new : Store) → new ≡ after_action (RootBecomes t None) old
+    → snapshot_of new (put_name numbers t None) given ≡ after_drop (snapshot_of old numbers given) t
 store_dropped numbers given t old new a = store_acted (put_name numbers t None) given (RootBecomes t None) old new a
 
 -- a store's moment, from the law of stores
@@ -125,7 +126,7 @@ pub store_moment : (s : Store) (numbers : Tree → Option ℕ) (given : ℕ → 
     → ((t : Tree) (n : ℕ) → numbers t ≡ Some n → (r : ℕ) × ((now s).roots t ≡ Some r))
     → ((t : Tree) (n : ℕ) → numbers t ≡ Some n → given n ≡ true)
     → ((t u : Tree) (n : ℕ) → numbers t ≡ Some n → numbers u ≡ Some n → t ≡ u)
-    → WellFormed (nodes_of (now s)) (now s).roots w → IsMoment (moment_of s numbers given) w
+    → WellFormed (nodes_of (now s)) (now s).roots w → HasForest (snapshot_of s numbers given) w
 store_moment s numbers given w are numbered rooted of apart formed = record { pids = are.pid; versions = are.version; below = are.numbered; numbered = numbered; rooted = rooted; given = of; apart = apart; formed = formed }
 
 -- what is known of the root
@@ -135,7 +136,7 @@ root_in {nodes} {roots} {w} f t r e =
     let a = subst (λ o. MatchOption o ((h : ℕ) → w.chain (place t h) ≡ []) (λ r. (h : ℕ) × (head (w.chain (place t h)) ≡ Some r) × (w.chain (place t (suc h)) ≡ []))) e (f.top t) in
     let i = head_in (w.chain (place t a.0)) r a.1 in
     let p = f.page (place t a.0) r (f.homed (place t a.0) r i) in
-    (a.0, p.0, i, p.1.live, first (f.run (place t a.0)) a.1 p.0 p.1.live, awake p.0.merging (λ g. let q = p.1.parent g in subst (λ l. In q.0 l) a.2 q.2))
+    (a.0, p.0, i, p.1.live, first (f.run (place t a.0)) a.1 p.0 p.1.live, not_merging p.0.merging (λ g. let q = p.1.parent g in subst (λ l. In q.0 l) a.2 q.2))
   where
     first : {x : Place} → (w.chain x ≡ []) ⊎ Run nodes (w.chain x) (head (w.chain x)) [] None [] → head (w.chain x) ≡ Some r → (n : Node) → nodes r ≡ Some n → n.lo ≡ []
     first {x} o is n live = elim o [
@@ -147,9 +148,9 @@ root_in {nodes} {roots} {w} f t r e =
         go [] is run = none_some is
         go (p ∷ ps) is run = ap (λ (z : Node). z.lo) (some_is n run.0 (sym live ∙ ap nodes (sym (some_is p r is)) ∙ run.1.live)) ∙ sym run.1.lo_is
 
-    awake : (b : Bool) → (b ≡ true → ⊥) → b ≡ false
-    awake true off = absurd (off refl)
-    awake false off = refl
+    not_merging : (b : Bool) → (b ≡ true → ⊥) → b ≡ false
+    not_merging true off = absurd (off refl)
+    not_merging false off = refl
 
 -- the kind of a page gives its height
 pub leaf_low : (h : ℕ) (lo hi : Key) (es : List (Key × Key)) → Holds h lo hi (Leaf es) → h ≡ 0
@@ -180,37 +181,37 @@ few_more k v (Leaf es) = put_few k v es
 few_more k v (Index es) = omega arith
 
 -- a page, as a node and with its version
-pub as_page : (m : Moment) (c : ℕ) (n : Node) → nodes_at m c ≡ Some n → (g : Page) × (m.state.pages c ≡ Some g) × (g.node ≡ n)
+pub as_page : (m : Snapshot) (c : ℕ) (n : Node) → nodes_at m c ≡ Some n → (g : Page) × (m.state.pages c ≡ Some g) × (g.node ≡ n)
 as_page m c n e = go (m.state.pages c) refl e
   where
     go : (o : Option Page) → m.state.pages c ≡ o → option_map (λ (z : Page). z.node) o ≡ Some n → (g : Page) × (m.state.pages c ≡ Some g) × (g.node ≡ n)
     go None a b = none_some b
     go (Some g) a b = (g, a, some_is g.node n b)
 
-module _ {m : Moment} {w : Forest} {x : Place} {number : ℕ} {look : Look} (k : Seen m w x number look) where
+module _ {m : Snapshot} {w : Forest} {x : Place} {number : ℕ} {look : View} (k : SeenOpen m w x number look) where
   -- while the page has the version at which it was read, it is the node that was read
-  pub fresh_node : IsFresh m look → nodes_at m look.pid ≡ Some look.node
+  pub fresh_node : IsAtVersion m look → nodes_at m look.pid ≡ Some look.node
   fresh_node f = ap (option_map (λ (z : Page). z.node)) f.live ∙ ap Some (k.view.speaks f.page f.live f.same)
 
   -- .. and stands in its chain, if the tree has its number
-  pub fresh_in : IsFresh m look → m.numbers x.tree ≡ Some number → In look.pid (w.chain x)
-  fresh_in f named = (now_law m w x number look.node.lo look.pid k.stood named look.node (fresh_node f) k.is_open.awake).0
+  pub fresh_in : IsAtVersion m look → m.numbers x.tree ≡ Some number → In look.pid (w.chain x)
+  fresh_in f named = (now_law m w x number look.node.lo look.pid k.stood named look.node (fresh_node f) k.is_open.not_merging).0
 
 -- a page of a chain stands there
-pub stands_here : {m : Moment} {w : Forest} → IsMoment m w → (x : Place) (number p : ℕ) (n : Node) → m.numbers x.tree ≡ Some number → In p (w.chain x) → nodes_at m p ≡ Some n → Stood m w x number n.lo p
+pub stands_here : {m : Snapshot} {w : Forest} → HasForest m w → (x : Place) (number p : ℕ) (n : Node) → m.numbers x.tree ≡ Some number → In p (w.chain x) → nodes_at m p ≡ Some n → StoodInChain m w x number n.lo p
 stands_here {m} is x number p n named i live =
     let g = as_page m p n live in
     record { page = is.pids p g.0 g.1; tree = is.given x.tree number named; now = inr (inr (n, live, refl, inl i)) }
 
 -- a page that is read is viewed
-pub view_here : {m : Moment} {w : Forest} → IsMoment m w → (p version : ℕ) (n : Node) → m.state.pages p ≡ Some (record { version = version; node = n }) → Viewed m p version n
+pub view_here : {m : Snapshot} {w : Forest} → HasForest m w → (p version : ℕ) (n : Node) → m.state.pages p ≡ Some (record { version = version; node = n }) → IsReadAs m p version n
 view_here is p version n live = record {
   given = is.versions p _ live;
   speaks = λ g e same. ap (λ (z : Page). z.node) (some_is _ _ (sym e ∙ live));
 }
 
 -- an open page of a chain, as it is read
-pub seen_here : {m : Moment} {w : Forest} → IsMoment m w → (x : Place) (number : ℕ) (look : Look) → m.numbers x.tree ≡ Some number → m.state.pages look.pid ≡ Some (record { version = look.version; node = look.node }) → In look.pid (w.chain x) → IsOpen look.node → Seen m w x number look
+pub seen_here : {m : Snapshot} {w : Forest} → HasForest m w → (x : Place) (number : ℕ) (look : View) → m.numbers x.tree ≡ Some number → m.state.pages look.pid ≡ Some (record { version = look.version; node = look.node }) → In look.pid (w.chain x) → IsOpen look.node → SeenOpen m w x number look
 seen_here {m} is x number look named live i calm =
     let node : nodes_at m look.pid ≡ Some look.node = ap (option_map (λ (z : Page). z.node)) live in
     record {
@@ -221,14 +222,14 @@ seen_here {m} is x number look named live i calm =
     }
 
 -- an open leaf of a chain that covers the key, as it is read
-pub acting_here : {m : Moment} {w : Forest} → IsMoment m w → (t : Tree) (number : ℕ) (aim : Bound Key) (look : Look) → m.numbers t ≡ Some number → m.state.pages look.pid ≡ Some (record { version = look.version; node = look.node }) → In look.pid (w.chain (place t 0)) → IsOpen look.node → LiesUnder aim look.node → IsActing m w t number aim look
+pub acting_here : {m : Snapshot} {w : Forest} → HasForest m w → (t : Tree) (number : ℕ) (aim : Bound Key) (look : View) → m.numbers t ≡ Some number → m.state.pages look.pid ≡ Some (record { version = look.version; node = look.node }) → In look.pid (w.chain (place t 0)) → IsOpen look.node → LiesUnder aim look.node → IsActing m w t number aim look
 acting_here {m} is t number aim look named live i calm under =
     let b = leaf_at is.formed t look.pid look.node i (ap (option_map (λ (z : Page). z.node)) live) in
     record { seen = seen_here is (place t 0) number look named live i calm; under = under; es = b.0; content = b.1 }
 
 -- what a call knows survives each action of others
-module _ {mine : List ℕ} {lost : Option Tree} {old new : Moment} {w v : Forest} (g : Goes mine lost old w new v) where
-  pub seen_kept : (x : Place) (number : ℕ) (look : Look) → Seen old w x number look → Seen new v x number look
+module _ {mine : List ℕ} {lost : Option Tree} {old new : Snapshot} {w v : Forest} (g : Guarantee mine lost old w new v) where
+  pub seen_kept : (x : Place) (number : ℕ) (look : View) → SeenOpen old w x number look → SeenOpen new v x number look
   seen_kept x number look k = record {
     view = view_law mine lost old new w v g look.pid look.version look.node k.view;
     stood = stood_law mine lost old new w v g x number look.node.lo look.pid k.stood;
@@ -236,12 +237,12 @@ module _ {mine : List ℕ} {lost : Option Tree} {old new : Moment} {w v : Forest
     sound = k.sound;
   }
 
-  pub acting_kept : (t : Tree) (number : ℕ) (aim : Bound Key) (look : Look) → IsActing old w t number aim look → IsActing new v t number aim look
+  pub acting_kept : (t : Tree) (number : ℕ) (aim : Bound Key) (look : View) → IsActing old w t number aim look → IsActing new v t number aim look
   acting_kept t number aim look k = record { seen = seen_kept (place t 0) number look k.seen; under = k.under; es = k.es; content = k.content }
 
 -- the change of a leaf that was read, where it has its version and the tree its number
-module _ {m : Moment} {w : Forest} (is : IsMoment m w) (t : Tree) (number : ℕ) (key : Key) (look : Look) (node : Node) (k : IsActing m w t number (Included key) look) (c : IsCurrent m t number look node) where
-  fresh : IsFresh m look
+module _ {m : Snapshot} {w : Forest} (is : HasForest m w) (t : Tree) (number : ℕ) (key : Key) (look : View) (node : Node) (k : IsActing m w t number (Included key) look) (c : IsNodeNow m t number look node) where
+  fresh : IsAtVersion m look
   fresh = record { page = record { version = look.version; node = node }; live = c.page; same = refl }
 
   node_is : node ≡ look.node
@@ -251,7 +252,7 @@ module _ {m : Moment} {w : Forest} (is : IsMoment m w) (t : Tree) (number : ℕ)
   leaf_now = record {
     chained = fresh_in k.seen fresh c.named;
     live = ap (option_map (λ (z : Page). z.node)) c.page;
-    awake = subst (λ (z : Node). z.merging ≡ false) (sym node_is) k.seen.is_open.awake;
+    not_merging = subst (λ (z : Node). z.merging ≡ false) (sym node_is) k.seen.is_open.not_merging;
   }
 
   pub covers_now : Covers node key
@@ -268,31 +269,31 @@ module _ {m : Moment} {w : Forest} (is : IsMoment m w) (t : Tree) (number : ℕ)
           apart : Leaf k.es ≡ Index es → ⊥
           apart e = cc
 
-  module _ (version : ℕ) (unused : m.versions version ≡ false) (n : Node) (change : List (Key × Key) → List (Key × Key)) (few : Type 0) (d : Changed (nodes_at m) (put_node (nodes_at m) look.pid n) m.state.roots w t change few) where
-    abbrev then_is : Moment
-    then_is = replaced m look.pid (record { version = version; node = n })
+  module _ (version : ℕ) (unused : m.versions version ≡ false) (n : Node) (change : List (Key × Key) → List (Key × Key)) (fits : Type 0) (d : Changed (nodes_at m) (put_node (nodes_at m) look.pid n) m.state.roots w t change fits) where
+    abbrev then_is : Snapshot
+    then_is = after_replacement m look.pid (record { version = version; node = n })
 
     nodes_new : nodes_at then_is ≡ put_node (nodes_at m) look.pid n
     nodes_new = nodes_replaced m look.pid (record { version = version; node = n })
 
-    written : Written m w then_is t change few
+    written : Written m w then_is t change fits
     written = record {
-      steps = replace_law [] m w w look.pid _ (record { version = version; node = n }) is c.page leaf_now.awake unused (inl (place t 0, is.formed.homed (place t 0) look.pid leaf_now.chained)) d.kept d.keeps;
+      steps = replace_law [] m w w look.pid _ (record { version = version; node = n }) is c.page leaf_now.not_merging unused (inl (place t 0, is.formed.homed (place t 0) look.pid leaf_now.chained)) d.kept d.keeps;
       here = ap (λ z. contents z w t) nodes_new ∙ d.here;
       others = λ u off. ap (λ z. contents z w u) nodes_new ∙ d.others u off;
       sized = λ e z. subst (λ y. IsSized y w) (sym nodes_new) (d.sized e z);
-      grows = λ e. subst (λ y. Grows (nodes_at m) y w) (sym nodes_new) (d.grows e);
+      grows = λ e. subst (λ y. GrowsByReceiving (nodes_at m) y w) (sym nodes_new) (d.grows e);
     }
 
-  pub set_written : (v : Key) (version : ℕ) → m.versions version ≡ false → Written m w (replaced m look.pid (record { version = version; node = applied (Set key v) node })) t (put key_cmp key v) (count (applied (Set key v) node).content ≤ 17)
-  set_written v version unused = written version unused (applied (Set key v) node) (put key_cmp key v) _ (set_law (nodes_at m) m.state.roots w is.formed t look.pid node key v leaf_now covers_now)
+  pub set_written : (v : Key) (version : ℕ) → m.versions version ≡ false → Written m w (after_replacement m look.pid (record { version = version; node = after_link (Set key v) node })) t (put key_cmp key v) (count (after_link (Set key v) node).content ≤ 17)
+  set_written v version unused = written version unused (after_link (Set key v) node) (put key_cmp key v) _ (set_law (nodes_at m) m.state.roots w is.formed t look.pid node key v leaf_now covers_now)
 
-  pub del_written : (version : ℕ) → m.versions version ≡ false → Written m w (replaced m look.pid (record { version = version; node = applied (Del key) node })) t (without key) (Unit {0})
-  del_written version unused = written version unused (applied (Del key) node) (without key) _ (del_law (nodes_at m) m.state.roots w is.formed t look.pid node key leaf_now covers_now)
+  pub del_written : (version : ℕ) → m.versions version ≡ false → Written m w (after_replacement m look.pid (record { version = version; node = after_link (Del key) node })) t (without key) (Unit {0})
+  del_written version unused = written version unused (after_link (Del key) node) (without key) _ (del_law (nodes_at m) m.state.roots w is.formed t look.pid node key leaf_now covers_now)
 
   -- a view of few pairs leaves room for one more
-  pub set_few : (v : Key) → IsFew look → count (applied (Set key v) node).content ≤ 17
-  set_few v f = subst (λ (z : Node). count (with_pair key v z.content) ≤ 17) (sym node_is) (small (count look.node.content) (count (with_pair key v look.node.content)) f.few (few_more key v look.node.content))
+  pub set_few : (v : Key) → HasRoomForOne look → count (after_link (Set key v) node).content ≤ 17
+  set_few v f = subst (λ (z : Node). count (with_pair key v z.content) ≤ 17) (sym node_is) (small (count look.node.content) (count (with_pair key v look.node.content)) f.fits (few_more key v look.node.content))
     where
       small : (a b : ℕ) → a ≤ 16 → b ≤ a + 1 → b ≤ 17
       small a b p q = omega arith

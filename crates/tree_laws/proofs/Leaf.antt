@@ -12,7 +12,7 @@ use Rattle.sled_pages.specs.declared.node.Data.TheVariants.{Leaf, Index}
 use Rattle.sled_pages.specs.declared.node.Node.{Node}
 use Rattle.tree_laws.specs.Action.{put_node}
 use Rattle.tree_laws.specs.Forest.{IsSized, first_child, later, Holds, IsNodeAt, Forest, Place, place, IsPointer, WellFormed, contents, node_pairs, Tree}
-use Rattle.tree_laws.specs.Moment.{Grows, Keeps}
+use Rattle.tree_laws.specs.Snapshot.{GrowsByReceiving, KeepsNodes}
 use Rattle.tree_laws.specs.Laws.{IsAt, Changed, SetLaw, DelLaw}
 use Rattle.tree_laws.proofs.Order.{key_total, below_upto-trans}
 use Rattle.tree_laws.proofs.Pairs.{each_weaker, put-middle, without-middle}
@@ -26,7 +26,7 @@ abbrev pub with_content : Node → Data → Node
 with_content n c = record n { content = c }
 
 -- a page keeps its place, and only its entries change
-module _ (nodes : Nodes) (roots : Tree → Option ℕ) (w : Forest) (f : WellFormed nodes roots w) (x : Place) (p : ℕ) (n : Node) (c : Data) (i : In p (w.chain x)) (live : nodes p ≡ Some n) (awake : n.merging ≡ false) (sound : IsNodeAt x.height (with_content n c)) (first : first_child (pointers c) ≡ first_child (pointers n.content))
+module _ (nodes : Nodes) (roots : Tree → Option ℕ) (w : Forest) (f : WellFormed nodes roots w) (x : Place) (p : ℕ) (n : Node) (c : Data) (i : In p (w.chain x)) (live : nodes p ≡ Some n) (not_merging : n.merging ≡ false) (sound : IsNodeAt x.height (with_content n c)) (first : first_child (pointers c) ≡ first_child (pointers n.content))
     (child : (d : ℕ) → n.merging_child ≡ Some d → (k : Key) × In (k, d) (later (pointers c)))
     (pointer : (t : Tree) (h : ℕ) → x ≡ place t (suc h) → (k : Key) (d : ℕ) → In (k, d) (pointers c) → IsPointer nodes w (with_content n c) t h k d) where
   pub in_place : let s = In_split (w.chain x) p i in Replaces nodes (put_node nodes p (with_content n c)) w w x p n (with_content n c) s.0 [] [] s.1
@@ -49,8 +49,8 @@ module _ (nodes : Nodes) (roots : Tree → Option ℕ) (w : Forest) (f : WellFor
           (ap (λ (z : Node). z.next) (sym is) ∙ r.2.0, ap (λ (z : Node). z.hi) (sym is) ∙ r.2.1),
         );
         lo = refl;
-        merging_was = awake;
-        merging = awake;
+        merging_was = not_merging;
+        merging = not_merging;
         merging_child = refl;
         sound = sound;
         first = first;
@@ -61,27 +61,27 @@ module _ (nodes : Nodes) (roots : Tree → Option ℕ) (w : Forest) (f : WellFor
   pub in_place_kept : WellFormed (put_node nodes p (with_content n c)) roots w
   in_place_kept = replaced_kept in_place f
 
-  pub in_place_keeps : Keeps [] None nodes (put_node nodes p (with_content n c)) w w
+  pub in_place_keeps : KeepsNodes [] None nodes (put_node nodes p (with_content n c)) w w
   in_place_keeps = replaced_keeps in_place f [] (λ z h. h)
 
   pub in_place_sized : count c ≤ 17 → IsSized nodes w → IsSized (put_node nodes p (with_content n c)) w
-  in_place_sized few = replaced_sized in_place f (record { few = omega arith; added_few = λ q d i. absurd i; child = λ q d i live is. few })
+  in_place_sized fits = replaced_sized in_place f (record { fits = omega arith; added_few = λ q d i. absurd i; child = λ q d i live is. fits })
 
-  pub in_place_grows : count c ≤ 17 → Grows nodes (put_node nodes p (with_content n c)) w
-  in_place_grows few = replaced_grows in_place f (inr (inl few))
+  pub in_place_grows : count c ≤ 17 → GrowsByReceiving nodes (put_node nodes p (with_content n c)) w
+  in_place_grows fits = replaced_grows in_place f (inr (inl fits))
 
   -- a page that only loses entries
   pub in_place_shrinks : count c ≤ count n.content → IsSized nodes w → IsSized (put_node nodes p (with_content n c)) w
   in_place_shrinks less z = replaced_sized in_place f (record {
-    few = le_trans less (z.few x p n (f.homed x p i) live);
+    fits = le_trans less (z.fits x p n (f.homed x p i) live);
     added_few = λ q d i. absurd i;
     child = λ q d j there is. le_trans less (z.child _ q p d n j there is live);
   }) z
 
-  pub in_place_grows_not : count c ≤ count n.content → Grows nodes (put_node nodes p (with_content n c)) w
+  pub in_place_grows_not : count c ≤ count n.content → GrowsByReceiving nodes (put_node nodes p (with_content n c)) w
   in_place_grows_not less = replaced_grows in_place f (inl less)
 
-module _ (nodes : Nodes) (roots : Tree → Option ℕ) (w : Forest) (f : WellFormed nodes roots w) (t : Tree) (p : ℕ) (n : Node) (es new : List (Key × Key)) (i : In p (w.chain (place t 0))) (live : nodes p ≡ Some n) (leaf : n.content ≡ Leaf es) (awake : n.merging ≡ false) (holds : Holds 0 n.lo n.hi (Leaf new)) where
+module _ (nodes : Nodes) (roots : Tree → Option ℕ) (w : Forest) (f : WellFormed nodes roots w) (t : Tree) (p : ℕ) (n : Node) (es new : List (Key × Key)) (i : In p (w.chain (place t 0))) (live : nodes p ≡ Some n) (leaf : n.content ≡ Leaf es) (not_merging : n.merging ≡ false) (holds : Holds 0 n.lo n.hi (Leaf new)) where
   sound : IsNodeAt 0 (with_content n (Leaf new))
   sound = record { holds = holds }
 
@@ -92,24 +92,24 @@ module _ (nodes : Nodes) (roots : Tree → Option ℕ) (w : Forest) (f : WellFor
   child d e = let h = f.child (place t 0) p n i live d e in (h.0, subst (λ c. In (h.0, d) (later (pointers c))) leaf h.1)
 
   parts : let s = In_split (w.chain (place t 0)) p i in Replaces nodes (put_node nodes p (with_content n (Leaf new))) w w (place t 0) p n (with_content n (Leaf new)) s.0 [] [] s.1
-  parts = in_place nodes roots w f (place t 0) p n (Leaf new) i live awake sound first child (λ u h e k d j. absurd j)
+  parts = in_place nodes roots w f (place t 0) p n (Leaf new) i live not_merging sound first child (λ u h e k d j. absurd j)
 
   pub leaf_kept : WellFormed (put_node nodes p (with_content n (Leaf new))) roots w
-  leaf_kept = in_place_kept nodes roots w f (place t 0) p n (Leaf new) i live awake sound first child (λ u h e k d j. absurd j)
+  leaf_kept = in_place_kept nodes roots w f (place t 0) p n (Leaf new) i live not_merging sound first child (λ u h e k d j. absurd j)
 
   pub leaf_sized : length new ≤ 17 → IsSized nodes w → IsSized (put_node nodes p (with_content n (Leaf new))) w
-  leaf_sized = in_place_sized nodes roots w f (place t 0) p n (Leaf new) i live awake sound first child (λ u h e k d j. absurd j)
+  leaf_sized = in_place_sized nodes roots w f (place t 0) p n (Leaf new) i live not_merging sound first child (λ u h e k d j. absurd j)
 
-  pub leaf_grows : length new ≤ 17 → Grows nodes (put_node nodes p (with_content n (Leaf new))) w
-  leaf_grows = in_place_grows nodes roots w f (place t 0) p n (Leaf new) i live awake sound first child (λ u h e k d j. absurd j)
+  pub leaf_grows : length new ≤ 17 → GrowsByReceiving nodes (put_node nodes p (with_content n (Leaf new))) w
+  leaf_grows = in_place_grows nodes roots w f (place t 0) p n (Leaf new) i live not_merging sound first child (λ u h e k d j. absurd j)
 
   pub leaf_shrinks : length new ≤ count n.content → IsSized nodes w → IsSized (put_node nodes p (with_content n (Leaf new))) w
-  leaf_shrinks = in_place_shrinks nodes roots w f (place t 0) p n (Leaf new) i live awake sound first child (λ u h e k d j. absurd j)
+  leaf_shrinks = in_place_shrinks nodes roots w f (place t 0) p n (Leaf new) i live not_merging sound first child (λ u h e k d j. absurd j)
 
-  pub leaf_grows_not : length new ≤ count n.content → Grows nodes (put_node nodes p (with_content n (Leaf new))) w
-  leaf_grows_not = in_place_grows_not nodes roots w f (place t 0) p n (Leaf new) i live awake sound first child (λ u h e k d j. absurd j)
+  pub leaf_grows_not : length new ≤ count n.content → GrowsByReceiving nodes (put_node nodes p (with_content n (Leaf new))) w
+  leaf_grows_not = in_place_grows_not nodes roots w f (place t 0) p n (Leaf new) i live not_merging sound first child (λ u h e k d j. absurd j)
 
-  pub leaf_keeps : Keeps [] None nodes (put_node nodes p (with_content n (Leaf new))) w w
+  pub leaf_keeps : KeepsNodes [] None nodes (put_node nodes p (with_content n (Leaf new))) w w
   leaf_keeps = replaced_keeps parts f [] (λ z h. h)
 
   pub leaf_else : (u : Tree) → u ≢ t → contents (put_node nodes p (with_content n (Leaf new))) w u ≡ contents nodes w u
@@ -162,19 +162,19 @@ leaf_at f t p n i live = leaf_is n.lo n.hi n.content (holds_at f (place t 0) p n
 module _ (nodes : Nodes) (roots : Tree → Option ℕ) (w : Forest) (f : WellFormed nodes roots w) (t : Tree) (p : ℕ) (n : Node) (a : IsAt nodes w (place t 0) p n) (es new : List (Key × Key)) (leaf : n.content ≡ Leaf es) (holds : Holds 0 n.lo n.hi (Leaf new))
     (change : List (Key × Key) → List (Key × Key)) (k : Key) (within : Covers n k) (is : change es ≡ new)
     (middle : (xs ms ys : List (Key × Key)) → AllByRecursion (λ e. Below e.0 k) xs → AllByRecursion (λ e. Below k e.0) ys → change (xs ++ (ms ++ ys)) ≡ xs ++ (change ms ++ ys)) where
-  leaf_law : (few : Type 0) → (few → (length new ≤ 17) ⊎ (length new ≤ count n.content)) → Changed nodes (put_node nodes p (with_content n (Leaf new))) roots w t change few
-  leaf_law few small = record {
-    kept = leaf_kept nodes roots w f t p n es new a.chained a.live leaf a.awake holds;
-    here = leaf_contents nodes roots w f t p n es new a.chained a.live leaf a.awake holds change k within is middle;
-    others = leaf_else nodes roots w f t p n es new a.chained a.live leaf a.awake holds;
-    keeps = leaf_keeps nodes roots w f t p n es new a.chained a.live leaf a.awake holds;
+  leaf_law : (fits : Type 0) → (fits → (length new ≤ 17) ⊎ (length new ≤ count n.content)) → Changed nodes (put_node nodes p (with_content n (Leaf new))) roots w t change fits
+  leaf_law fits small = record {
+    kept = leaf_kept nodes roots w f t p n es new a.chained a.live leaf a.not_merging holds;
+    here = leaf_contents nodes roots w f t p n es new a.chained a.live leaf a.not_merging holds change k within is middle;
+    others = leaf_else nodes roots w f t p n es new a.chained a.live leaf a.not_merging holds;
+    keeps = leaf_keeps nodes roots w f t p n es new a.chained a.live leaf a.not_merging holds;
     sized = λ e z. elim (small e) [
-      | inl l ↦ leaf_sized nodes roots w f t p n es new a.chained a.live leaf a.awake holds l z
-      | inr l ↦ leaf_shrinks nodes roots w f t p n es new a.chained a.live leaf a.awake holds l z
+      | inl l ↦ leaf_sized nodes roots w f t p n es new a.chained a.live leaf a.not_merging holds l z
+      | inr l ↦ leaf_shrinks nodes roots w f t p n es new a.chained a.live leaf a.not_merging holds l z
     ];
     grows = λ e. elim (small e) [
-      | inl l ↦ leaf_grows nodes roots w f t p n es new a.chained a.live leaf a.awake holds l
-      | inr l ↦ leaf_grows_not nodes roots w f t p n es new a.chained a.live leaf a.awake holds l
+      | inl l ↦ leaf_grows nodes roots w f t p n es new a.chained a.live leaf a.not_merging holds l
+      | inr l ↦ leaf_grows_not nodes roots w f t p n es new a.chained a.live leaf a.not_merging holds l
     ];
   }
 

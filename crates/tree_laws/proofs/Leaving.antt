@@ -5,9 +5,9 @@ use Rattle.sled_pages.specs.Order.{Key}
 use Rattle.sled_pages.specs.State.{Nodes}
 use Rattle.sled_pages.specs.declared.node.Node.{Node}
 use Rattle.tree_laws.specs.Forest.{Tree, Forest, Place, place, head, Run}
-use Rattle.tree_laws.specs.Moment.{Moment, nodes_at, IsStray}
+use Rattle.tree_laws.specs.Snapshot.{Snapshot, nodes_at, IsOrphan}
 use Rattle.tree_laws.specs.Drops.{Leads, Different, IsLeft}
-use Rattle.tree_laws.specs.Laws.{Steps, LeftLaw, FreesLeftLaw, freed}
+use Rattle.tree_laws.specs.Laws.{StepsForest, LeftLaw, FreesLeftLaw, after_free}
 use Rattle.tree_laws.proofs.Update.{put_there}
 use Rattle.tree_laws.proofs.Replace.{some_is}
 use Rattle.tree_laws.proofs.Fuel.{run_different}
@@ -38,32 +38,32 @@ left_law m w t is u stray h = record {
 }
 
 -- no page that is left is another call's own
-pub left_off : {m : Moment} {w was : Forest} {t : Tree} {h : ℕ} {from : Option ℕ} {left : List ℕ} → IsLeft m w was t h from left → (q : ℕ) → IsStray was q → ¬ (In q left)
+pub left_off : {m : Snapshot} {w was : Forest} {t : Tree} {h : ℕ} {from : Option ℕ} {left : List ℕ} → IsLeft m w was t h from left → (q : ℕ) → IsOrphan was q → ¬ (In q left)
 left_off {t} {h} k q stray i = stray (place t h) (k.had q i)
 
 -- a page that is freed leaves the others of a list that it is not in
-frees_other : {m : Moment} {w was : Forest} {t : Tree} {h : ℕ} {from : Option ℕ} {left : List ℕ} (p : ℕ) → ((q : ℕ) → In q left → q ≢ p) → IsLeft m w was t h from left → IsLeft (freed m p) w was t h from left
+frees_other : {m : Snapshot} {w was : Forest} {t : Tree} {h : ℕ} {from : Option ℕ} {left : List ℕ} (p : ℕ) → ((q : ℕ) → In q left → q ≢ p) → IsLeft m w was t h from left → IsLeft (after_free m p) w was t h from left
 frees_other {m} p off k = record {
-  leads = leads_frame (nodes_at m) (nodes_at (freed m p)) _ _ (λ q i. ap (λ z. z q) (nodes_freed m p) ∙ put_there (nodes_at m) p None q (off q i)) k.leads;
+  leads = leads_frame (nodes_at m) (nodes_at (after_free m p)) _ _ (λ q i. ap (λ z. z q) (nodes_freed m p) ∙ put_there (nodes_at m) p None q (off q i)) k.leads;
   different = k.different;
   stray = k.stray;
   had = k.had;
 }
 
 -- a page of another level, or of what was left before
-pub frees_level : {m : Moment} {w was : Forest} {t : Tree} {h : ℕ} {from : Option ℕ} {left : List ℕ} (p g : ℕ) → was.home p ≡ Some (place t g) → g ≢ h → IsLeft m w was t h from left → IsLeft (freed m p) w was t h from left
+pub frees_level : {m : Snapshot} {w was : Forest} {t : Tree} {h : ℕ} {from : Option ℕ} {left : List ℕ} (p g : ℕ) → was.home p ≡ Some (place t g) → g ≢ h → IsLeft m w was t h from left → IsLeft (after_free m p) w was t h from left
 frees_level {was} {t} {h} p g home off k = frees_other p (λ q i e. off (sym (ap (λ (z : Place). z.height) (some_is (place t h) (place t g) (sym (k.had q i) ∙ ap was.home e ∙ home))))) k
 
 -- the first page that is left is freed, and the rest of the level is left
 pub frees_left_law : FreesLeftLaw
 frees_left_law m w was t h p left n is live k = go left k
   where
-    go : (left : List ℕ) → IsLeft m w was t h (Some p) left → (rest : List ℕ) × (left ≡ p ∷ rest) × Steps (p ∷ []) None m w (freed m p) w × IsLeft (freed m p) w was t h n.next rest
+    go : (left : List ℕ) → IsLeft m w was t h (Some p) left → (rest : List ℕ) × (left ≡ p ∷ rest) × StepsForest (p ∷ []) None m w (after_free m p) w × IsLeft (after_free m p) w was t h n.next rest
     go [] k = none_some (sym k.leads)
     go (q ∷ rest) k =
         let e : q ≡ p = sym (some_is p q k.leads.0) in
         let node : k.leads.1 ≡ n = some_is k.leads.1 n (sym k.leads.2 ∙ ap (nodes_at m) e ∙ live) in
-        let stray : IsStray w p = subst (λ z. IsStray w z) e (k.stray q (inl refl)) in
+        let stray : IsOrphan w p = subst (λ z. IsOrphan w z) e (k.stray q (inl refl)) in
         let after : IsLeft m w was t h n.next rest = record {
           leads = subst (λ (z : Node). Leads (nodes_at m) z.next rest) node k.leads.3;
           different = k.different.1;

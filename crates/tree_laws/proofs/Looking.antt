@@ -13,7 +13,7 @@ use Rattle.sled_pages.specs.declared.node.Data.TheVariants.{Leaf, Index}
 use Rattle.sled_pages.specs.declared.page.Page.{Page}
 use Rattle.tree_laws.specs.Forest.{Tree, Forest, Place, place, head, first_child, Holds, Run, WellFormed, later}
 use Rattle.tree_laws.specs.Contents.{page_numbers, next_of, first_of}
-use Rattle.tree_laws.specs.Paths.{IsPassed, CleanFrom, length_along, pages_under, pages_below, IsAhead}
+use Rattle.tree_laws.specs.Paths.{NeedsNoRepair, CleanFrom, length_along, pages_under, pages_below, IsAhead}
 use Rattle.tree_laws.specs.PathLaws.{PointerInLaw, NextInLaw, AheadLaw, CleanStepLaw, LastPointerLaw}
 use Rattle.tree_laws.specs.Laws.{PagesLaw, CleanLaw}
 use Rattle.tree_laws.proofs.Runs.{In_split, In-right, run_parts}
@@ -202,9 +202,9 @@ last_is {bound} {es} p q =
     (ap (λ (z : Key × ℕ). z.1) r.1, p.is_first ∙ ap (λ l. nat_eq (length l) 0) r.0 ∙ sym q.is_first)
 
 -- the page at which a clean path stands is passed
-pub clean_page : (nodes : Nodes) (aim : Bound Key) (path : List ℕ) (p : ℕ) (first : Bool) → CleanFrom nodes aim p first path → (n : Node) → nodes p ≡ Some n → IsPassed nodes aim p first n
+pub clean_page : (nodes : Nodes) (aim : Bound Key) (path : List ℕ) (p : ℕ) (first : Bool) → CleanFrom nodes aim p first path → (n : Node) → nodes p ≡ Some n → NeedsNoRepair nodes aim p first n
 clean_page nodes aim [] p first c n live = absurd c
-clean_page nodes aim (q ∷ rest) p first c n live = subst (λ (z : Node). IsPassed nodes aim p first z) (some_is c.1 n (sym c.2.live ∙ live)) c.2
+clean_page nodes aim (q ∷ rest) p first c n live = subst (λ (z : Node). NeedsNoRepair nodes aim p first z) (some_is c.1 n (sym c.2.live ∙ live)) c.2
 
 -- from an index it goes one down the list
 pub clean_down : (nodes : Nodes) (aim : Bound Key) (path : List ℕ) (p : ℕ) (first : Bool) → CleanFrom nodes aim p first path → (n : Node) (es : List (Key × ℕ)) → nodes p ≡ Some n → n.content ≡ Index es → (c : ℕ) (b : Bool) → IsPointer aim es c b
@@ -280,7 +280,7 @@ pub next_in_law : NextInLaw
 next_in_law nodes roots w f x p n i live = (λ q. next_in f x p q n i live, next_some f x p n i live)
 
 pub ahead_law : AheadLaw
-ahead_law nodes roots w f t = record { begins = ahead_at f t; few = ahead_few f t; along = ahead_next f t; down = ahead_down f t }
+ahead_law nodes roots w f t = record { begins = ahead_at f t; fits = ahead_few f t; along = ahead_next f t; down = ahead_down f t }
 
 pub clean_step_law : CleanStepLaw
 clean_step_law nodes aim path p first n k live = record {

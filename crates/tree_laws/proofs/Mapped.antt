@@ -3,8 +3,8 @@ use Rattle.std.proofs.Common.{◌≡◌, ℕ, suc, [], Option, Some, None, Match
 use Rattle.sled_pages.specs.declared.node.Data.TheVariants.{Leaf}
 use Rattle.tree_laws.specs.Forest.{Tree, Forest, place, head, contents}
 use Rattle.tree_laws.specs.Contents.{trees_of}
-use Rattle.tree_laws.specs.Moment.{Moment, moment_of, nodes_at, IsMoment}
-use Rattle.tree_laws.specs.Laws.{no_forest, IsAlone, planted, dropped}
+use Rattle.tree_laws.specs.Snapshot.{Snapshot, snapshot_of, nodes_at, HasForest}
+use Rattle.tree_laws.specs.Laws.{no_forest, IsAlone, after_creation, after_drop}
 use Rattle.tree_laws.specs.MapLaws.{MapLaw, QuietLaw, ChangedLaw, QuietCrashLaw, WellLaw, PlantsLaw, DropsLaw, NewLaw}
 use Rattle.tree_laws.proofs.Update.{name_here, name_there}
 use Rattle.tree_laws.proofs.Roots.{plant_law, drop_law}
@@ -20,7 +20,7 @@ pub map_law : MapLaw
 map_law m w is t = contents_law m.state w is.formed is.below t
 
 -- a name has a root at both moments, or at neither, where it has one number at both
-roots_like : {m n : Moment} {w v : Forest} → IsMoment m w → IsMoment n v → (t : Tree) → n.numbers t ≡ m.numbers t → {X : Type 0} (x : X) → option_map (λ _. x) (n.state.roots t) ≡ option_map (λ _. x) (m.state.roots t)
+roots_like : {m n : Snapshot} {w v : Forest} → HasForest m w → HasForest n v → (t : Tree) → n.numbers t ≡ m.numbers t → {X : Type 0} (x : X) → option_map (λ _. x) (n.state.roots t) ≡ option_map (λ _. x) (m.state.roots t)
 roots_like {m} {n} is is' t e {X} x = go (m.state.roots t) (n.state.roots t) refl refl
   where
     go : (a b : Option ℕ) → m.state.roots t ≡ a → n.state.roots t ≡ b → option_map (λ _. x) b ≡ option_map (λ _. x) a
@@ -53,7 +53,7 @@ well_law m w is sized = record { forest = w; formed = is.formed; sized = sized }
 
 -- an action that no tree's contents show leaves what a crash may leave as it was, outside every group
 pub quiet_crash_law : QuietCrashLaw
-quiet_crash_law act a b numbers given w v adds before after is is' sized same = adds_unseen adds before after (well_law _ v is' sized) (quiet_law (moment_of a numbers given) w (moment_of b numbers given) v is is' (λ t. refl) same)
+quiet_crash_law act a b numbers given w v adds before after is is' sized same = adds_unseen adds before after (well_law _ v is' sized) (quiet_law (snapshot_of a numbers given) w (snapshot_of b numbers given) v is is' (λ t. refl) same)
 
 -- a new tree, over a page that is the call's own
 pub plants_law : PlantsLaw
@@ -62,7 +62,7 @@ plants_law m w t r version number n is unnamed free own alone =
     let lone : IsAlone (nodes_at m) r n (Leaf []) = record { live = own_node own; lo = alone.lo; hi = alone.hi; next = alone.next; merging = alone.merging; merging_child = alone.merging_child; content = alone.content } in
     let u = plant_law (nodes_at m) m.state.roots w is.formed t r n none own.stray lone in
     let s = planted_law m w t r number n is none free own.stray alone.merging (own_node own) u.0 in
-    let new : Moment = planted m t r number in
+    let new : Snapshot = after_creation m t r number in
     record {
       after = u.0.after;
       steps = s;
@@ -82,7 +82,7 @@ pub drops_law : DropsLaw
 drops_law m w t is =
     let u = drop_law (nodes_at m) m.state.roots w is.formed t in
     let s = dropped_law m w t is u.0 in
-    let new : Moment = dropped m t in
+    let new : Snapshot = after_drop m t in
     record {
       after = u.0.after;
       steps = s;
@@ -114,5 +114,5 @@ new_law m pages roots numbers = (
       top = λ t. subst (λ o. MatchOption o ((h : ℕ) → no_forest.chain (place t h) ≡ []) (λ r. (h : ℕ) × (head (no_forest.chain (place t h)) ≡ Some r) × (no_forest.chain (place t (suc h)) ≡ []))) (sym (roots t)) (λ h. refl);
     };
   },
-  record { few = λ x p n e. none_some e; child = λ x p c n d i. absurd i },
+  record { fits = λ x p n e. none_some e; child = λ x p c n d i. absurd i },
 )

@@ -1,7 +1,7 @@
 -- When lists match.
 use Rattle.std.proofs.Common.{◌≡◌, ℕ, Bool, true, false, cond, nat_eq, List, [], ◌∷◌, sym, refl, ap, ◌∙◌, subst, inl, inr, arith}
 use Rattle.std.proofs.lemmas.Bool.Decides.{nat_tests}
-use Rattle.tree_laws.specs.Crashes.{Repeats}
+use Rattle.tree_laws.specs.Crashes.{Stutters}
 use Rattle.tree_laws.specs.CrashLaws.{ahead, once_each, MatchesLaw}
 
 same_is : (x y : ℕ) → nat_eq x y ≡ true → x ≡ y
@@ -19,27 +19,27 @@ ahead_twice x (y ∷ ys) = go (nat_eq x y) refl
     go true e = ap (λ b. cond b (y ∷ ys) (x ∷ y ∷ ys)) e
     go false e = ap (λ b. cond b (x ∷ y ∷ ys) (x ∷ x ∷ y ∷ ys)) (itself x)
 
-repeats_once : (once xs : List ℕ) → Repeats once xs → once_each xs ≡ once_each once
+repeats_once : (once xs : List ℕ) → Stutters once xs → once_each xs ≡ once_each once
 repeats_once [] [] r = refl
 repeats_once [] (x ∷ xs) r = absurd r
 repeats_once (a ∷ once) [] r = absurd r
 repeats_once (a ∷ once) (x ∷ xs) (e, inl r) = ap (λ z. ahead z (once_each xs)) (sym e) ∙ ap (ahead a) (repeats_once once xs r)
 repeats_once (a ∷ once) (x ∷ xs) (e, inr r) = ap (λ z. ahead z (once_each xs)) (sym e) ∙ ap (ahead a) (repeats_once (a ∷ once) xs r) ∙ ahead_twice a (once_each once)
 
-ahead_repeats : (x : ℕ) (zs xs : List ℕ) → Repeats zs xs → Repeats (ahead x zs) (x ∷ xs)
+ahead_repeats : (x : ℕ) (zs xs : List ℕ) → Stutters zs xs → Stutters (ahead x zs) (x ∷ xs)
 ahead_repeats x [] xs r = (refl, inl r)
 ahead_repeats x (y ∷ ys) xs r = go (nat_eq x y) refl
   where
-    go : (b : Bool) → nat_eq x y ≡ b → Repeats (cond b (y ∷ ys) (x ∷ y ∷ ys)) (x ∷ xs)
+    go : (b : Bool) → nat_eq x y ≡ b → Stutters (cond b (y ∷ ys) (x ∷ y ∷ ys)) (x ∷ xs)
     go true e = (sym (same_is x y e), inr r)
     go false e = (refl, inl r)
 
-once_repeats : (xs : List ℕ) → Repeats (once_each xs) xs
+once_repeats : (xs : List ℕ) → Stutters (once_each xs) xs
 once_repeats [] = tt
 once_repeats (x ∷ xs) = ahead_repeats x (once_each xs) xs (once_repeats xs)
 
 pub matches_law : MatchesLaw
 matches_law xs ys = (
   λ m. repeats_once m.once xs m.left ∙ sym (repeats_once m.once ys m.right),
-  λ e. record { once = once_each xs; left = once_repeats xs; right = subst (λ z. Repeats z ys) (sym e) (once_repeats ys) },
+  λ e. record { once = once_each xs; left = once_repeats xs; right = subst (λ z. Stutters z ys) (sym e) (once_repeats ys) },
 )

@@ -11,7 +11,7 @@ use Rattle.sled_pages.specs.Order.{Key, key_cmp, Below, UpTo}
 use Rattle.sled_pages.specs.Among.{is_up_to}
 use Rattle.sled_pages.specs.Node.{Covers}
 use Rattle.sled_pages.specs.declared.node.Node.{Node}
-use Rattle.tree_laws.specs.Moment.{LiesUnder}
+use Rattle.tree_laws.specs.Snapshot.{LiesUnder}
 
 pub key_total : IsTotalOrder key_cmp
 unfolding key_cmp

@@ -7,7 +7,7 @@ use Rattle.sled_pages.specs.State.{Nodes}
 use Rattle.sled_pages.specs.declared.node.Node.{Node}
 use Rattle.tree_laws.specs.Forest.{IsSized, Forest, Place, place, IsHomed, IsPointer, WellFormed, contents, node_pairs, head, Tree}
 use Rattle.tree_laws.proofs.Cover.{child_below}
-use Rattle.tree_laws.specs.Moment.{Grows, Keeps, IsStray}
+use Rattle.tree_laws.specs.Snapshot.{GrowsByReceiving, KeepsNodes, IsOrphan}
 use Rattle.tree_laws.proofs.Runs.{run_frame}
 
 no_wake : {P : Type 0} (b : Bool) → b ≡ false → b ≡ true → P
@@ -55,24 +55,24 @@ module _ (nodes new : Nodes) (roots : Tree → Option ℕ) (w : Forest) (same : 
   outside_contents t = pairs_on (w.chain (place t 0)) (chained (place t 0))
 
   -- each page that changes is one of the caller's own, and no live merging page becomes another
-  pub outside_keeps : (mine : List ℕ) (lost : Option Tree) → ((p : ℕ) → IsStray w p → ¬ (In p mine) → new p ≡ nodes p) → ((p : ℕ) (n : Node) → nodes p ≡ Some n → (new p ≡ Some n) ⊎ (new p ≡ None)) → Keeps mine lost nodes new w w
+  pub outside_keeps : (mine : List ℕ) (lost : Option Tree) → ((p : ℕ) → IsOrphan w p → ¬ (In p mine) → new p ≡ nodes p) → ((p : ℕ) (n : Node) → nodes p ≡ Some n → (new p ≡ Some n) ⊎ (new p ≡ None)) → KeepsNodes mine lost nodes new w w
   outside_keeps mine lost own keep = record {
     stood = λ x p n o i live. (n, chained x p i ∙ live, refl, inl i);
     capped = λ p n live t. keep p n live;
     stray = λ p s o. (own p s o, s);
     left = λ x p n live t o. o;
-    wakes = λ x p n m i was awake now t. no_wake m.merging (subst (λ (z : Node). z.merging ≡ false) (one (sym was ∙ sym (chained x p i) ∙ now)) awake) t;
+    wakes = λ x p n m i was not_merging now t. no_wake m.merging (subst (λ (z : Node). z.merging ≡ false) (one (sym was ∙ sym (chained x p i) ∙ now)) not_merging) t;
     child = λ x p c n o i was is. inl (i, (n, chained x p i ∙ was, is));
   }
 
   pub outside_sized : IsSized nodes w → IsSized new w
   outside_sized z = record {
-    few = λ x p n h live. z.few x p n h (sym (same p x h) ∙ live);
+    fits = λ x p n h live. z.fits x p n h (sym (same p x h) ∙ live);
     child = λ x p c n d i live is there.
         let was : nodes p ≡ Some n = sym (chained x p i) ∙ live in
         let u = child_below f x p n c i was is in
         z.child x p c n d i was is (sym (same c _ u.4.homed) ∙ there);
   }
 
-  pub outside_grows : Grows nodes new w
+  pub outside_grows : GrowsByReceiving nodes new w
   outside_grows = record { grows = λ x p n m i was now. inl (le_of_eq (ap (λ (z : Node). count z.content) (one (sym now ∙ chained x p i ∙ was)))) }

@@ -44,10 +44,10 @@ leaf_stands nodes w t p lo hi next m es live home = record {
 
 -- a page of a chain that is not merging
 pub open_home : (nodes : Nodes) (w : Forest) (t : Tree) (p h : ℕ) (n : Node) → nodes p ≡ Some n → In p (w.chain (place t h)) → n.merging ≡ false → IsNodeAt h n → count n.content ≤ 33 → IsAtHome nodes w t p h
-open_home nodes w t p h n live i awake sound few = record {
+open_home nodes w t p h n live i not_merging sound fits = record {
   node = n;
-  is = record { live = live; sound = sound; stands = inl i; calm = λ e. false_true n.merging awake e; parent = λ e. false_true n.merging awake e };
-  few = few;
+  is = record { live = live; sound = sound; stands = inl i; calm = λ e. false_true n.merging not_merging e; parent = λ e. false_true n.merging not_merging e };
+  fits = fits;
 }
 
 found_below : (passes : ℕ → Bool) (es : List (ℕ × Node)) (p : ℕ) (g : Page) → ((q : ℕ) → passes q ≡ true → q ≡ p) → AllByRecursion (λ e. e.0 < 2 ^ 64) es
@@ -196,18 +196,18 @@ module _ (nodes : Nodes) (w : Forest) where
   }
 
   pub pointer_open : (n d : Node) (k : Key) (c : ℕ) → nodes c ≡ Some d → w.home c ≡ Some (place one_tree 0) → d.lo ≡ k → d.merging ≡ false → IsPointer nodes w n one_tree 0 k c
-  pointer_open n d k c live home lo awake = record { node = d; live = live; homed = home; key = lo; merged = λ e. false_true d.merging awake e }
+  pointer_open n d k c live home lo not_merging = record { node = d; live = live; homed = home; key = lo; merged = λ e. false_true d.merging not_merging e }
 
   -- the index 3 with the pointer to the first leaf alone
   first_stands : (n : Node) → nodes 1 ≡ Some n → n.lo ≡ [] → n.merging ≡ false → nodes 3 ≡ Some (over first_only) → w.home 1 ≡ Some (place one_tree 0) → w.home 3 ≡ Some (place one_tree 1) → head (w.chain (place one_tree 0)) ≡ Some 1 → IsStanding nodes w one_tree 1 3
-  first_stands n live lo awake index_live home index_home down = index_stands 3 (over first_only) index_live index_home (pointer_open (over first_only) n [] 1 live home lo awake, tt) (λ c e. none_some e) down (λ c d e i. none_some e)
+  first_stands n live lo not_merging index_live home index_home down = index_stands 3 (over first_only) index_live index_home (pointer_open (over first_only) n [] 1 live home lo not_merging, tt) (λ c e. none_some e) down (λ c d e i. none_some e)
 
   -- the index 3 whose merging child is the leaf 2, capped or not
   module _ (m : Bool) (live_2 : nodes 2 ≡ Some (record right { merging = m })) (home_2 : w.home 2 ≡ Some (place one_tree 0)) where
     merger_stands : (n : Node) → nodes 1 ≡ Some n → n.lo ≡ [] → n.merging ≡ false → nodes 3 ≡ Some (merging 2 (over both)) → w.home 1 ≡ Some (place one_tree 0) → w.home 3 ≡ Some (place one_tree 1) → head (w.chain (place one_tree 0)) ≡ Some 1 → IsStanding nodes w one_tree 1 3
-    merger_stands n live lo awake index_live home index_home down =
+    merger_stands n live lo not_merging index_live home index_home down =
         index_stands 3 (merging 2 (over both)) index_live index_home
-        (pointer_open (merging 2 (over both)) n [] 1 live home lo awake, (record { node = record right { merging = m }; live = live_2; homed = home_2; key = refl; merged = λ e. refl }, tt))
+        (pointer_open (merging 2 (over both)) n [] 1 live home lo not_merging, (record { node = record right { merging = m }; live = live_2; homed = home_2; key = refl; merged = λ e. refl }, tt))
         (λ c e. (key 8, inl (λ i. (key 8, some_is c 2 (sym e) i)))) down
         (λ c d e i. subst (λ (z : Node). count z.content ≤ 17) (some_is (record right { merging = m }) d (sym live_2 ∙ ap nodes (some_is 2 c e) ∙ i)) three_small)
 
@@ -215,7 +215,7 @@ module _ (nodes : Nodes) (w : Forest) where
   capped_home live index_live i = record {
     node = capped right;
     is = record { live = live; sound = record { holds = right_sound.holds }; stands = inr refl; calm = λ e. refl; parent = λ e. (3, merging 2 (over both), i, index_live, refl) };
-    few = three;
+    fits = three;
   }
 
 not_posted_is : Accepts not_posted 3 (selves 11 0) 3

@@ -44,8 +44,8 @@ module _ (nodes : Nodes) (roots : Tree → Option ℕ) (w : Forest) (f : WellFor
   live : nodes p ≡ Some n
   live = o.live
 
-  awake : n.merging ≡ false
-  awake = o.is_open.awake
+  not_merging : n.merging ≡ false
+  not_merging = o.is_open.not_merging
 
   free : n.merging_child ≡ None
   free = o.is_open.free
@@ -80,14 +80,14 @@ module _ (nodes : Nodes) (roots : Tree → Option ℕ) (w : Forest) (f : WellFor
   posted : Unseen [] nodes (put_node nodes p (with_content n (Index (put key_cmp d.lo q es)))) roots w (length (put key_cmp d.lo q es) ≤ 17)
   posted =
       let child : (c : ℕ) → n.merging_child ≡ Some c → (k : Key) × In (k, c) (later (put key_cmp d.lo q es)) = λ c e. none_some (sym free ∙ e) in
-      let r = in_place nodes roots w f (place t (suc h)) p n (Index (put key_cmp d.lo q es)) i live awake sound first_on_node child pointer in
+      let r = in_place nodes roots w f (place t (suc h)) p n (Index (put key_cmp d.lo q es)) i live not_merging sound first_on_node child pointer in
       record {
         after = w;
         kept = replaced_kept r f;
         same = pairs_kept r f (ap (λ z. node_pairs z ++ []) (put_here nodes p (Some (with_content n (Index (put key_cmp d.lo q es))))) ∙ sym (ap (λ z. node_pairs z ++ []) live ∙ ap (λ z. pairs z ++ []) index));
         keeps = replaced_keeps r f [] (λ z e. e);
-        sized = in_place_sized nodes roots w f (place t (suc h)) p n (Index (put key_cmp d.lo q es)) i live awake sound first_on_node child pointer;
-        grows = in_place_grows nodes roots w f (place t (suc h)) p n (Index (put key_cmp d.lo q es)) i live awake sound first_on_node child pointer;
+        sized = in_place_sized nodes roots w f (place t (suc h)) p n (Index (put key_cmp d.lo q es)) i live not_merging sound first_on_node child pointer;
+        grows = in_place_grows nodes roots w f (place t (suc h)) p n (Index (put key_cmp d.lo q es)) i live not_merging sound first_on_node child pointer;
       }
 
 pub post_law : PostLaw

@@ -39,8 +39,8 @@ module _ (nodes : Nodes) (roots : Tree → Option ℕ) (w : Forest) (f : WellFor
   live : nodes p ≡ Some n
   live = o.live
 
-  awake : n.merging ≡ false
-  awake = o.is_open.awake
+  not_merging : n.merging ≡ false
+  not_merging = o.is_open.not_merging
 
   free : n.merging_child ≡ None
   free = o.is_open.free
@@ -97,8 +97,8 @@ module _ (nodes : Nodes) (roots : Tree → Option ℕ) (w : Forest) (f : WellFor
     goes = λ q h. elim h [ inl e ↦ (d, ap nodes e ∙ there, capped) | inr e ↦ absurd e ];
     run = run;
     lo = s.lo;
-    merging_was = awake;
-    merging = s.merging ∙ awake;
+    merging_was = not_merging;
+    merging = s.merging ∙ not_merging;
     merging_child = s.merging_child;
     sound = s.sound;
     first = sym (halves_first x.height n.lo n.hi _ _ _ s.halves (holds_at f x p n i live));
@@ -137,14 +137,14 @@ module _ (nodes : Nodes) (roots : Tree → Option ℕ) (w : Forest) (f : WellFor
   no_child q a j qa e =
       let h = f.page x c c_home in
       let u = h.1.parent (subst (λ (z : Node). z.merging ≡ true) (some_is d h.0 (sym there ∙ h.1.live)) capped) in
-      not_both_children f x.tree x.height around.0 around.1 p c n d around.2 live there awake capped q u.0 a u.1 j u.2 qa u.3 e u.4
+      not_both_children f x.tree x.height around.0 around.1 p c n d around.2 live there not_merging capped q u.0 a u.1 j u.2 qa u.3 e u.4
 
   -- c was a merging child, so it has at most 17 entries
   joined_few : count n.content ≤ 16 → IsSized nodes w → count both.content ≤ 33
-  joined_few few z =
+  joined_few fits z =
       let h = f.page x c c_home in
       let u = h.1.parent (subst (λ (z : Node). z.merging ≡ true) (some_is d h.0 (sym there ∙ h.1.live)) capped) in
-      sum (count n.content) (count d.content) (count both.content) few (z.child (place x.tree (suc x.height)) u.0 c u.1 d u.2 u.3 u.4 there) (halves_count both.content n.content d.content s.halves)
+      sum (count n.content) (count d.content) (count both.content) fits (z.child (place x.tree (suc x.height)) u.0 c u.1 d u.2 u.3 u.4 there) (halves_count both.content n.content d.content s.halves)
     where
       sum : (a b c : ℕ) → a ≤ 16 → b ≤ 17 → c ≡ a + b → c ≤ 33
       sum a b c p q r = omega arith
@@ -157,8 +157,8 @@ module _ (nodes : Nodes) (roots : Tree → Option ℕ) (w : Forest) (f : WellFor
       kept = replaced_kept parts f;
       same = pairs_kept parts f same_pairs;
       keeps = replaced_keeps parts f [] (λ z h. h);
-      sized = λ few z. replaced_sized parts f (record { few = joined_few few z; added_few = λ q a h. absurd h; child = λ q a j qa e. absurd (no_child q a j qa e) }) z;
-      grows = λ few. replaced_grows parts f (inr (inr (c, next, inl refl)));
+      sized = λ fits z. replaced_sized parts f (record { fits = joined_few fits z; added_few = λ q a h. absurd h; child = λ q a j qa e. absurd (no_child q a j qa e) }) z;
+      grows = λ fits. replaced_grows parts f (inr (inr (c, next, inl refl)));
     },
     λ y j. elim (same_place y x) [
       | inl e ↦ c_out (subst (λ z. In c (after.chain z)) e j)

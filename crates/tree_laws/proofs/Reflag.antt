@@ -6,7 +6,7 @@ use Rattle.sled_pages.specs.Order.{Key, Below}
 use Rattle.sled_pages.specs.State.{Nodes}
 use Rattle.sled_pages.specs.declared.node.Node.{Node}
 use Rattle.tree_laws.specs.Forest.{first_child, later, IsNodeAt, Forest, Place, place, Run, IsHomed, IsPointer, WellFormed, IsSized, contents, node_pairs, head, Tree}
-use Rattle.tree_laws.specs.Moment.{Keeps, Grows}
+use Rattle.tree_laws.specs.Snapshot.{KeepsNodes, GrowsByReceiving}
 use Rattle.tree_laws.proofs.Replace.{same_number, some_is, false_true, pairs_of}
 use Rattle.tree_laws.proofs.Cover.{later_in, one_parent, child_below}
 
@@ -20,7 +20,7 @@ pub record Reflags (nodes new : Nodes) (w : Forest) (home : ℕ → Option Place
   pub next : m.next ≡ n.next
   pub sound : IsNodeAt x.height m
   pub smaller : count m.content ≤ count n.content
-  pub awake : n.merging ≡ false
+  pub not_merging : n.merging ≡ false
   pub calm : m.merging ≡ true → m.merging_child ≡ None
   pub parent : m.merging ≡ true → (q : ℕ) × (d : Node) × In q (w.chain (place x.tree (suc x.height))) × (nodes q ≡ Some d) × (d.merging_child ≡ Some p)
   pub comes : (q : ℕ) (y : Place) → home q ≡ Some y → w.home q ≡ Some y
@@ -179,7 +179,7 @@ module _ {nodes new : Nodes} {roots : Tree → Option ℕ} {w : Forest} {home : 
     top = f.top;
   }
 
-  pub reflagged_keeps : (mine : List ℕ) → Keeps mine None nodes new w after
+  pub reflagged_keeps : (mine : List ℕ) → KeepsNodes mine None nodes new w after
   reflagged_keeps mine = record {
     stood = λ y q d o i live. elim (same_number q p) [
       | inl e ↦ (m, ap new e ∙ r.now, r.lo ∙ ap (λ (z : Node). z.lo) (sym (is_n q d e live)), inl i)
@@ -191,12 +191,12 @@ module _ {nodes new : Nodes} {roots : Tree → Option ℕ} {w : Forest} {home : 
     ];
     stray = λ q s o. (r.others q (λ e. s x (ap w.home e ∙ p_home)), λ y h. s y (r.comes q y h));
     left = λ y q d live t o. o;
-    wakes = λ y q d e i was awake now t. elim (same_number q p) [
+    wakes = λ y q d e i was not_merging now t. elim (same_number q p) [
       | inl g ↦
           let at : x ≡ y = some_is x y (sym p_home ∙ ap w.home (sym g) ∙ f.homed y q i) in
           let o = r.parent (subst (λ (z : Node). z.merging ≡ true) (is_m q e g now) t) in
           (o.0, o.1, subst (λ (z : Place). In o.0 (w.chain (place z.tree (suc z.height)))) at o.2, o.3, o.4 ∙ ap Some (sym g))
-      | inr g ↦ false_true e.merging (subst (λ (z : Node). z.merging ≡ false) (some_is d e (sym was ∙ sym (r.others q g) ∙ now)) awake) t
+      | inr g ↦ false_true e.merging (subst (λ (z : Node). z.merging ≡ false) (some_is d e (sym was ∙ sym (r.others q g) ∙ now)) not_merging) t
     ];
     child = λ y q c d o i was is.
         let b = child_below f y q d c i was is in
@@ -212,9 +212,9 @@ module _ {nodes new : Nodes} {roots : Tree → Option ℕ} {w : Forest} {home : 
   }
     where
       asleep : (q : ℕ) (d : Node) → q ≡ p → nodes q ≡ Some d → d.merging ≡ true → (new q ≡ Some d) ⊎ (new q ≡ None)
-      asleep q d e live t = false_true n.merging r.awake (subst (λ (z : Node). z.merging ≡ true) (is_n q d e live) t)
+      asleep q d e live t = false_true n.merging r.not_merging (subst (λ (z : Node). z.merging ≡ true) (is_n q d e live) t)
 
-  pub reflagged_grows : Grows nodes new w
+  pub reflagged_grows : GrowsByReceiving nodes new w
   reflagged_grows = record {
     grows = λ y q d e i was now. elim (same_number q p) [
       | inl g ↦ inl (subst (λ (z : Node). count e.content ≤ count z.content) (sym (is_n q d g was)) (subst (λ (z : Node). count z.content ≤ count n.content) (sym (is_m q e g now)) r.smaller))
@@ -225,9 +225,9 @@ module _ {nodes new : Nodes} {roots : Tree → Option ℕ} {w : Forest} {home : 
   -- the size is kept, where the merging child that there is now is small
   pub reflagged_sized : ((c : ℕ) (d : Node) → m.merging_child ≡ Some c → nodes c ≡ Some d → count d.content ≤ 17) → IsSized nodes w → IsSized new after
   reflagged_sized small z = record {
-    few = λ y q d h live. elim (same_number q p) [
-      | inl e ↦ subst (λ (k : Node). count k.content ≤ 33) (sym (is_m q d e live)) (le_trans r.smaller (z.few x p n p_home r.was))
-      | inr e ↦ z.few y q d (r.comes q y h) (sym (r.others q e) ∙ live)
+    fits = λ y q d h live. elim (same_number q p) [
+      | inl e ↦ subst (λ (k : Node). count k.content ≤ 33) (sym (is_m q d e live)) (le_trans r.smaller (z.fits x p n p_home r.was))
+      | inr e ↦ z.fits y q d (r.comes q y h) (sym (r.others q e) ∙ live)
     ];
     child = λ y q c d e i live is there.
         let was : (b : Node) → nodes c ≡ Some b → count b.content ≤ 17 = λ b at. elim (same_number q p) [

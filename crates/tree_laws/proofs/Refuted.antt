@@ -2,7 +2,7 @@
 use Rattle.std.proofs.Common.{◌≡◌, ◌≢◌, ℕ, ◌<◌, ◌≤◌, ◌^◌, true, false, [], ◌∷◌, Some, None, sym, refl, ap, ◌∙◌, subst, inl, inr, arith}
 use Rattle.sled_pages.specs.In.{In}
 use Rattle.sled_pages.specs.Image.{root_in}
-use Rattle.sled_pages.specs.Node.{count, Within, applied}
+use Rattle.sled_pages.specs.Node.{count, Within, after_link}
 use Rattle.sled_pages.specs.Order.{Key, key_cmp}
 use Rattle.sled_pages.specs.State.{Nodes, nodes_of}
 use Rattle.sled_pages.specs.Update.{put_at, put_name}
@@ -14,7 +14,7 @@ use Rattle.tree_laws.specs.FalseLaws.{SetOfMany, ReceiveOfAny, SplitToAny, Repla
 use Rattle.tree_laws.specs.Forest.{Forest, Place, place, IsNodeAt, WellFormed}
 use Rattle.tree_laws.specs.Images.{Pages, image, selves, key, leaf, merging, one_tree, other_tree, root, left, right, over, both, all_in_one, intended}
 use Rattle.tree_laws.specs.Laws.{no_forest}
-use Rattle.tree_laws.specs.Moment.{Moment, IsMoment, Keeps}
+use Rattle.tree_laws.specs.Snapshot.{Snapshot, HasForest, KeepsNodes}
 use Rattle.tree_laws.proofs.Accepted.{forest_of, IsForest, formed, sized}
 use Rattle.tree_laws.proofs.Faulty.{run_on, run_at, homed_is, index_first}
 use Rattle.tree_laws.proofs.Pictures.{leaf_stands, open_home, index_stands, pointer_open, rooted, alone, left_sound, whole_sound, both_sound, left_below, intended_forest, eight, two_few}
@@ -65,9 +65,9 @@ unfolding key_cmp
 set_of_many law =
     let nodes : Nodes = nodes_of (image large_child (root 3)) in
     let w : Forest = forest_of one_tree ((1 ∷ 2 ∷ []) ∷ (3 ∷ []) ∷ []) ((1, 0) ∷ (2, 0) ∷ (3, 1) ∷ []) in
-    let c = law nodes (root_in (root 3)) w (formed large_forest) one_tree 2 long (key 30) [] (record { chained = inr (inl refl); live = refl; awake = refl }) (refl, inl refl) in
+    let c = law nodes (root_in (root 3)) w (formed large_forest) one_tree 2 long (key 30) [] (record { chained = inr (inl refl); live = refl; not_merging = refl }) (refl, inl refl) in
     let s = c.sized seventeen.2 (sized large_forest) in
-    no (s.child (place one_tree 1) 3 2 (merging 2 (over both)) (applied (Set (key 30) []) long) (inl refl) refl refl refl)
+    no (s.child (place one_tree 1) 3 2 (merging 2 (over both)) (after_link (Set (key 30) []) long) (inl refl) refl refl refl)
   where
     no : 18 ≤ 17 → ⊥
     no l = omega arith
@@ -77,7 +77,7 @@ receive_of_any law =
     let nodes : Nodes = nodes_of (image intended (root 3)) in
     let w : Forest = forest_of one_tree ((1 ∷ 2 ∷ []) ∷ (3 ∷ []) ∷ []) ((1, 0) ∷ (2, 0) ∷ (3, 1) ∷ []) in
     let is : IsReceived 0 left.1 right all_in_one.1 = record { sound = whole_sound; halves = refl; lo = refl; hi = refl; next = refl; merging = refl; merging_child = refl } in
-    let r = law nodes (root_in (root 3)) w (formed intended_forest) (place one_tree 0) 1 2 left.1 right all_in_one.1 (record { chained = inl refl; live = refl; is_open = record { awake = refl; free = refl } }) refl refl is in
+    let r = law nodes (root_in (root 3)) w (formed intended_forest) (place one_tree 0) 1 2 left.1 right all_in_one.1 (record { chained = inl refl; live = refl; is_open = record { not_merging = refl; free = refl } }) refl refl is in
     let f = r.0.kept in
     let t = f.top one_tree in
     let i = index_first f one_tree t.0 3 (merging 2 (over both)) both t.1 refl refl in
@@ -123,7 +123,7 @@ split_to_any law =
     let w : Forest = forest_of one_tree ((1 ∷ 2 ∷ []) ∷ []) ((1, 0) ∷ (2, 0) ∷ []) in
     let p = plant_law nodes (root_in (root 1)) w (formed apart_forest) other_tree 4 empty refl (λ y e. none_some e) (record { live = refl; lo = refl; hi = refl; next = refl; merging = refl; merging_child = refl; content = refl }) in
     let is : IsSplit 0 empty begin end 2 = record { left_sound = record { holds = (tt, tt) }; right_sound = record { holds = (tt, tt) }; halves = refl; left_lo = refl; left_hi = refl; left_next = refl; right_hi = refl; right_next = refl; apart = left_below; within = all_within; calm = (refl, refl, refl, refl) } in
-    let r = law nodes (put_name (root_in (root 1)) other_tree (Some 4)) p.0.after p.0.kept (place other_tree 0) 4 2 empty begin end (record { chained = p.2; live = refl; is_open = record { awake = refl; free = refl } }) refl off is in
+    let r = law nodes (put_name (root_in (root 1)) other_tree (Some 4)) p.0.after p.0.kept (place other_tree 0) 4 2 empty begin end (record { chained = p.2; live = refl; is_open = record { not_merging = refl; free = refl } }) refl off is in
     let f = r.0.kept in
     let t = f.top one_tree in
     let a = run_on _ _ 1 begin [] refl (run_at f (place one_tree t.0) 1 t.1) in
@@ -142,7 +142,7 @@ split_to_any law =
 abbrev page : ℕ → Page
 page version = record { version = version; node = empty }
 
-abbrev lone : Moment
+abbrev lone : Snapshot
 lone = record {
   state = record { pages = put_at (λ p. None) 1 (Some (page 0)); roots = λ t. None; in_group = false };
   pids = λ p. true;
@@ -171,7 +171,7 @@ no_trees nodes = record {
   top = λ t h. refl;
 }
 
-lone_is : IsMoment lone no_forest
+lone_is : HasForest lone no_forest
 lone_is = record {
   pids = λ p g e. refl;
   versions = λ p g e. ap (λ (z : Page). lone.versions z.version) (sym (lone_page p g e).1);
@@ -195,7 +195,7 @@ replace_of_stray law =
       | inr off ↦ put_there (nodes_of lone.state) 1 (Some empty) p off
     ]
 
-    keeps : Keeps [] None (nodes_of lone.state) (put_node (nodes_of lone.state) 1 empty) no_forest no_forest
+    keeps : KeepsNodes [] None (nodes_of lone.state) (put_node (nodes_of lone.state) 1 empty) no_forest no_forest
     keeps = record {
       stood = λ x p n l i. absurd i;
       capped = λ p n e m. inl (same p ∙ e);

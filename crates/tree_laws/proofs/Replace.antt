@@ -9,7 +9,7 @@ use Rattle.sled_pages.specs.Order.{Key, Below}
 use Rattle.sled_pages.specs.State.{Nodes}
 use Rattle.sled_pages.specs.declared.node.Node.{Node}
 use Rattle.tree_laws.specs.Forest.{Holds, first_child, later, IsNodeAt, Forest, Place, place, Run, IsHomed, IsPointer, WellFormed, contents, node_pairs, head, Tree}
-use Rattle.tree_laws.specs.Moment.{Keeps, Stands}
+use Rattle.tree_laws.specs.Snapshot.{KeepsNodes, IsInChain}
 use Rattle.tree_laws.proofs.Order.{below_irrefl, below_upto-trans}
 use Rattle.tree_laws.proofs.Pairs.{pairs_before, pairs_above, Leaves}
 use Rattle.std.specs.List.{AllByRecursion}
@@ -375,7 +375,7 @@ module _ {nodes new : Nodes} {roots : Tree → Option ℕ} {w v : Forest} {x : P
   off_merging : (q : ℕ) (d : Node) → nodes q ≡ Some d → d.merging ≡ true → q ≢ p
   off_merging q d live t e = false_true d.merging (subst (λ (z : Node). z.merging ≡ false) (some_is n d (sym r.was ∙ ap nodes (sym e) ∙ live)) r.merging_was) t
 
-  stood_on : (y : Place) (q : ℕ) (d : Node) → In q (w.chain y) → nodes q ≡ Some d → Stands new v y d.lo q
+  stood_on : (y : Place) (q : ℕ) (d : Node) → In q (w.chain y) → nodes q ≡ Some d → IsInChain new v y d.lo q
   stood_on y q d i live = elim (chained_after y q i) [
     | inl a ↦ elim (same_number q p) [
       | inl e ↦ (m, ap new e ∙ r.now, r.lo ∙ ap (λ (z : Node). z.lo) (some_is n d (sym r.was ∙ ap nodes (sym e) ∙ live)), inl a)
@@ -387,7 +387,7 @@ module _ {nodes new : Nodes} {roots : Tree → Option ℕ} {w v : Forest} {x : P
         (d, r.others q (off_merging q d live t) ∙ live, refl, inr t)
   ]
 
-  pub replaced_keeps : (mine : List ℕ) → ((q : ℕ) → In q added → In q mine) → Keeps mine None nodes new w v
+  pub replaced_keeps : (mine : List ℕ) → ((q : ℕ) → In q added → In q mine) → KeepsNodes mine None nodes new w v
   replaced_keeps mine own = record {
     stood = λ y q d k i live. stood_on y q d i live;
     capped = λ q d live t. inl (r.others q (off_merging q d live t) ∙ live);
@@ -399,9 +399,9 @@ module _ {nodes new : Nodes} {roots : Tree → Option ℕ} {w v : Forest} {x : P
       | inl a ↦ out a
       | inr b ↦ let a = r.adds q b.0 in false_true a.node.merging a.merging (subst (λ (z : Node). z.merging ≡ true) (some_is d a.node (sym live ∙ a.live)) t)
     ];
-    wakes = λ y q d e i was awake now t. elim (same_number q p) [
+    wakes = λ y q d e i was not_merging now t. elim (same_number q p) [
       | inl g ↦ false_true e.merging (subst (λ (z : Node). z.merging ≡ false) (some_is m e (sym r.now ∙ ap new (sym g) ∙ now)) r.merging) t
-      | inr g ↦ false_true e.merging (subst (λ (z : Node). z.merging ≡ false) (some_is d e (sym was ∙ sym (r.others q g) ∙ now)) awake) t
+      | inr g ↦ false_true e.merging (subst (λ (z : Node). z.merging ≡ false) (some_is d e (sym was ∙ sym (r.others q g) ∙ now)) not_merging) t
     ];
     child = λ y q c d k i was is. let o = parent_on y q c d i was is in inl o;
   }

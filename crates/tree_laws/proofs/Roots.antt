@@ -10,7 +10,7 @@ use Rattle.sled_pages.specs.declared.node.Data.{Data}
 use Rattle.sled_pages.specs.declared.node.Data.TheVariants.{Leaf, Index}
 use Rattle.sled_pages.specs.declared.node.Node.{Node}
 use Rattle.tree_laws.specs.Forest.{first_child, later, Holds, IsNodeAt, Forest, Place, place, Run, IsHomed, IsPointer, WellFormed, contents, node_pairs, head, Tree}
-use Rattle.tree_laws.specs.Moment.{IsStray}
+use Rattle.tree_laws.specs.Snapshot.{IsOrphan}
 use Rattle.tree_laws.specs.Laws.{Rooted, HoistLaw, PlantLaw, DropLaw}
 use Rattle.tree_laws.proofs.Order.{upto-refl, upto-below}
 use Rattle.tree_laws.proofs.Update.{put_here, put_there, name_here, name_there, put_chain, chain_here, chain_there}
@@ -21,7 +21,7 @@ use Rattle.tree_laws.proofs.Basics.{none_some}
 pub record Raises (nodes : Nodes) (roots : Tree → Option ℕ) (w : Forest) (t : Tree) (h r : ℕ) (n : Node) : Type 0 where
   pub empty : w.chain (place t h) ≡ []
   pub over : w.chain (place t (suc h)) ≡ []
-  pub stray : IsStray w r
+  pub stray : IsOrphan w r
   pub live : nodes r ≡ Some n
   pub lo : n.lo ≡ []
   pub hi : n.hi ≡ []
@@ -31,7 +31,7 @@ pub record Raises (nodes : Nodes) (roots : Tree → Option ℕ) (w : Forest) (t 
   pub sound : IsNodeAt h n
   pub pointer : (g : ℕ) → h ≡ suc g → (k : Key) (c : ℕ) → In (k, c) (pointers n.content) → IsPointer nodes w n t g k c
   pub down : (g : ℕ) → h ≡ suc g → head (w.chain (place t g)) ≡ first_child (pointers n.content)
-  pub few : count n.content ≤ 33
+  pub fits : count n.content ≤ 33
 
 module _ {nodes : Nodes} {roots : Tree → Option ℕ} {w : Forest} {t : Tree} {h r : ℕ} {n : Node} (a : Raises nodes roots w t h r n) (f : WellFormed nodes roots w) where
   x : Place
@@ -175,13 +175,13 @@ module _ {nodes : Nodes} {roots : Tree → Option ℕ} {w : Forest} {t : Tree} {
       capped = λ p d live v. inl live;
       stray = λ p s o. (refl, λ y e. elim (same_number p r) [ inl g ↦ o (inl g) | inr g ↦ s y (sym (put_there w.home r (Some (place t h)) p g) ∙ e) ]);
       left = λ y p d live v o i. elim (split_in y p i) [ inl b ↦ o b | inr b ↦ false_true d.merging (subst (λ (z : Node). z.merging ≡ false) (sym (is_r p d b.0 live)) a.merging) v ];
-      wakes = λ y p d e i was awake now v. false_true e.merging (subst (λ (z : Node). z.merging ≡ false) (some_is d e (sym was ∙ now)) awake) v;
+      wakes = λ y p d e i was not_merging now v. false_true e.merging (subst (λ (z : Node). z.merging ≡ false) (some_is d e (sym was ∙ now)) not_merging) v;
       child = λ y p c d o i was e. inl (in_on y p i, (d, was, e));
     };
     sized = λ z. record {
-      few = λ y p d e live. elim (same_number p r) [
-        | inl s ↦ subst (λ (k : Node). count k.content ≤ 33) (sym (is_r p d s live)) a.few
-        | inr s ↦ z.few y p d (sym (put_there w.home r (Some (place t h)) p s) ∙ e) live
+      fits = λ y p d e live. elim (same_number p r) [
+        | inl s ↦ subst (λ (k : Node). count k.content ≤ 33) (sym (is_r p d s live)) a.fits
+        | inr s ↦ z.fits y p d (sym (put_there w.home r (Some (place t h)) p s) ∙ e) live
       ];
       child = λ y p c d e i live is there. elim (split_in y p i) [
         | inl b ↦ z.child y p c d e b live is there
@@ -281,7 +281,7 @@ hoist_law nodes roots w f t h left right r n d root stray il ir live low alone =
             ]
           ]);
       down = λ g e. let at : g ≡ h = omega arith in ap (λ z. head (w.chain (place t z))) at ∙ top.0 ∙ ap (λ z. first_child (pointers z)) (sym alone.content);
-      few = subst (λ c. count c ≤ 33) (sym alone.content) two;
+      fits = subst (λ c. count c ≤ 33) (sym alone.content) two;
     } in
     (raised_rooted a f, raised_pairs a f t (λ e. heights h (ap (λ (z : Place). z.height) e)), raised_in a f)
   where
@@ -308,7 +308,7 @@ plant_law nodes roots w f t r n root stray alone =
       sound = record { holds = subst (λ c. Holds 0 n.lo n.hi c) (sym alone.content) (tt, tt) };
       pointer = λ g e k c j. absurd (heights g e);
       down = λ g e. absurd (heights g e);
-      few = subst (λ c. count c ≤ 33) (sym alone.content) zero_le;
+      fits = subst (λ c. count c ≤ 33) (sym alone.content) zero_le;
     } in
     (raised_rooted a f, raised_leaf a f refl ∙ ap (λ z. pairs z ++ []) alone.content, raised_in a f)
   where
@@ -387,7 +387,7 @@ module _ (nodes : Nodes) (roots : Tree → Option ℕ) (w : Forest) (f : WellFor
       go None e b = λ g. chain_stays (place u g) e ∙ b g
       go (Some q) e b = (b.0, ap head (chain_stays (place u b.0) e) ∙ b.1, chain_stays (place u (suc b.0)) e ∙ b.2)
 
-  pub dropped_tree : (u : Rooted [] (Some t) nodes roots w t None) × ((p h : ℕ) → w.home p ≡ Some (place t h) → IsStray u.after p)
+  pub dropped_tree : (u : Rooted [] (Some t) nodes roots w t None) × ((p h : ℕ) → w.home p ≡ Some (place t h) → IsOrphan u.after p)
   dropped_tree = (
     record {
       after = cut;
@@ -407,11 +407,11 @@ module _ (nodes : Nodes) (roots : Tree → Option ℕ) (w : Forest) (f : WellFor
         capped = λ p d live v. inl live;
         stray = λ p s o. (refl, λ y e. s y (home_back p y e).0);
         left = λ y p d live v o i. o (in_back y p i).1;
-        wakes = λ y p d e i was awake now v. false_true e.merging (subst (λ (z : Node). z.merging ≡ false) (some_is d e (sym was ∙ now)) awake) v;
+        wakes = λ y p d e i was not_merging now v. false_true e.merging (subst (λ (z : Node). z.merging ≡ false) (some_is d e (sym was ∙ now)) not_merging) v;
         child = λ y p c d o i was e. inl (in_cut y p (λ g. o (ap Some (sym g))) i, (d, was, e));
       };
       sized = λ z. record {
-        few = λ y p d e live. z.few y p d (home_back p y e).0 live;
+        fits = λ y p d e live. z.fits y p d (home_back p y e).0 live;
         child = λ y p c d e i live is there. z.child y p c d e (in_back y p i).1 live is there;
       };
     },

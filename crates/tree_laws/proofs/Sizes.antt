@@ -5,13 +5,13 @@ use Rattle.sled_pages.specs.Node.{count}
 use Rattle.sled_pages.specs.State.{Nodes}
 use Rattle.sled_pages.specs.declared.node.Node.{Node}
 use Rattle.tree_laws.specs.Forest.{Tree, Forest, Place, place, WellFormed, IsSized}
-use Rattle.tree_laws.specs.Moment.{Grows}
+use Rattle.tree_laws.specs.Snapshot.{GrowsByReceiving}
 use Rattle.tree_laws.proofs.Replace.{same_number, some_is, Replaces, p_home, chained_before}
 use Rattle.tree_laws.proofs.Cover.{child_below}
 use Rattle.tree_laws.proofs.Basics.{none_some}
 
 pub record IsSmall (nodes : Nodes) (w : Forest) (x : Place) (p : ℕ) (n m : Node) (added : List ℕ) : Type 0 where
-  pub few : count m.content ≤ 33
+  pub fits : count m.content ≤ 33
   pub added_few : (q : ℕ) (d : Node) → In q added → nodes q ≡ Some d → count d.content ≤ 33
   pub child : (q : ℕ) (d : Node) → In q (w.chain (place x.tree (suc x.height))) → nodes q ≡ Some d → d.merging_child ≡ Some p → count m.content ≤ 17
 
@@ -35,11 +35,11 @@ module _ {nodes new : Nodes} {roots : Tree → Option ℕ} {w v : Forest} {x : P
 
   pub replaced_sized : IsSmall nodes w x p n m added → IsSized nodes w → IsSized new v
   replaced_sized s z = record {
-    few = λ y q d h live. elim (same_number q p) [
-      | inl e ↦ subst (λ (k : Node). count k.content ≤ 33) (some_is m d (sym r.now ∙ ap new (sym e) ∙ live)) s.few
+    fits = λ y q d h live. elim (same_number q p) [
+      | inl e ↦ subst (λ (k : Node). count k.content ≤ 33) (some_is m d (sym r.now ∙ ap new (sym e) ∙ live)) s.fits
       | inr e ↦
           let was : nodes q ≡ Some d = sym (r.others q e) ∙ live in
-          elim (r.comes q y h) [ inl a ↦ z.few y q d a was | inr b ↦ s.added_few q d b.0 was ]
+          elim (r.comes q y h) [ inl a ↦ z.fits y q d a was | inr b ↦ s.added_few q d b.0 was ]
     ];
     child = λ y q c d e i live is there.
         let b = had_child y q c d i live is in
@@ -53,7 +53,7 @@ module _ {nodes new : Nodes} {roots : Tree → Option ℕ} {w v : Forest} {x : P
         ];
   }
 
-  pub replaced_grows : (count m.content ≤ count n.content) ⊎ ((count m.content ≤ 17) ⊎ ((c : ℕ) × (n.next ≡ Some c) × In c gone)) → Grows nodes new w
+  pub replaced_grows : (count m.content ≤ count n.content) ⊎ ((count m.content ≤ 17) ⊎ ((c : ℕ) × (n.next ≡ Some c) × In c gone)) → GrowsByReceiving nodes new w
   replaced_grows size = record {
     grows = λ y q d e i was now. elim (same_number q p) [
       | inl g ↦

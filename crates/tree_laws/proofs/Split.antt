@@ -8,7 +8,7 @@ use Rattle.sled_pages.specs.Update.{put_at}
 use Rattle.sled_pages.specs.declared.node.Data.{Data}
 use Rattle.sled_pages.specs.declared.node.Data.TheVariants.{Leaf, Index}
 use Rattle.sled_pages.specs.declared.node.Node.{Node}
-use Rattle.tree_laws.specs.Action.{put_node, Halves, IsSplit}
+use Rattle.tree_laws.specs.Action.{put_node, AreHalvesOf, IsSplit}
 use Rattle.tree_laws.specs.Forest.{first_child, Holds, Forest, Place, place, Run, IsPointer, WellFormed, node_pairs, Tree}
 use Rattle.tree_laws.specs.PageLaws.{IsOpenAt, Unseen, SplitLaw}
 use Rattle.tree_laws.proofs.Pairs.{not_below_empty}
@@ -18,7 +18,7 @@ use Rattle.tree_laws.proofs.Sizes.{replaced_sized, replaced_grows}
 use Rattle.tree_laws.proofs.Replace.{same_number, some_is, IsAdded, Replaces, replaced_kept, replaced_keeps, pairs_of, pairs_kept}
 
 -- how many entries two halves have together
-pub halves_count : (c a b : Data) → Halves c a b → count c ≡ count a + count b
+pub halves_count : (c a b : Data) → AreHalvesOf c a b → count c ≡ count a + count b
 halves_count (Leaf es) (Leaf a) (Leaf b) h = ap length h ∙ length-append a b
 halves_count (Index es) (Index a) (Index b) h = ap length h ∙ length-append a b
 halves_count (Leaf es) (Index a) b h = absurd h
@@ -26,7 +26,7 @@ halves_count (Leaf es) (Leaf a) (Index b) h = absurd h
 halves_count (Index es) (Leaf a) b h = absurd h
 halves_count (Index es) (Index a) (Leaf b) h = absurd h
 
-pub halves_pairs : (c a b : Data) → Halves c a b → pairs c ≡ pairs a ++ pairs b
+pub halves_pairs : (c a b : Data) → AreHalvesOf c a b → pairs c ≡ pairs a ++ pairs b
 halves_pairs (Leaf es) (Leaf a) (Leaf b) h = h
 halves_pairs (Index es) (Index a) (Index b) h = refl
 halves_pairs (Leaf es) (Index a) b h = absurd h
@@ -34,7 +34,7 @@ halves_pairs (Leaf es) (Leaf a) (Index b) h = absurd h
 halves_pairs (Index es) (Leaf a) b h = absurd h
 halves_pairs (Index es) (Index a) (Leaf b) h = absurd h
 
-pub halves_pointers : (c a b : Data) → Halves c a b → pointers c ≡ pointers a ++ pointers b
+pub halves_pointers : (c a b : Data) → AreHalvesOf c a b → pointers c ≡ pointers a ++ pointers b
 halves_pointers (Leaf es) (Leaf a) (Leaf b) h = refl
 halves_pointers (Index es) (Index a) (Index b) h = h
 halves_pointers (Leaf es) (Index a) b h = absurd h
@@ -43,7 +43,7 @@ halves_pointers (Index es) (Leaf a) b h = absurd h
 halves_pointers (Index es) (Index a) (Leaf b) h = absurd h
 
 -- an index has a first pointer, so it is that of what it begins
-pub halves_first : (h : ℕ) (lo hi : Key) (c a b : Data) → Halves c a b → Holds h lo hi a → first_child (pointers a) ≡ first_child (pointers c)
+pub halves_first : (h : ℕ) (lo hi : Key) (c a b : Data) → AreHalvesOf c a b → Holds h lo hi a → first_child (pointers a) ≡ first_child (pointers c)
 halves_first h lo hi (Leaf es) (Leaf a) (Leaf b) e s = refl
 halves_first zero lo hi (Index es) (Index a) (Index b) e s = absurd s
 halves_first (suc h) lo hi (Index es) (Index []) (Index b) e s = absurd (none s.2)
@@ -67,8 +67,8 @@ module _ (nodes : Nodes) (roots : Tree → Option ℕ) (w : Forest) (f : WellFor
   live : nodes p ≡ Some n
   live = o.live
 
-  awake : n.merging ≡ false
-  awake = o.is_open.awake
+  not_merging : n.merging ≡ false
+  not_merging = o.is_open.not_merging
 
   free : n.merging_child ≡ None
   free = o.is_open.free
@@ -148,7 +148,7 @@ module _ (nodes : Nodes) (roots : Tree → Option ℕ) (w : Forest) (f : WellFor
         goes = λ z h. absurd h;
         run = run;
         lo = s.left_lo;
-        merging_was = awake;
+        merging_was = not_merging;
         merging = s.calm.0;
         merging_child = s.calm.1 ∙ sym free;
         sound = s.left_sound;
@@ -187,8 +187,8 @@ module _ (nodes : Nodes) (roots : Tree → Option ℕ) (w : Forest) (f : WellFor
       same = pairs_kept parts f same_pairs;
       keeps = replaced_keeps parts f (q ∷ []) (λ z h. h);
       sized = λ e z. replaced_sized parts f (record {
-        few = le_trans left_le (z.few x p n (f.homed x p i) live);
-        added_few = λ y d h is. elim h [ inl e ↦ subst (λ (k : Node). count k.content ≤ 33) (some_is right d (sym there ∙ ap nodes (sym e) ∙ is)) (le_trans right_le (z.few x p n (f.homed x p i) live)) | inr e ↦ absurd e ];
+        fits = le_trans left_le (z.fits x p n (f.homed x p i) live);
+        added_few = λ y d h is. elim h [ inl e ↦ subst (λ (k : Node). count k.content ≤ 33) (some_is right d (sym there ∙ ap nodes (sym e) ∙ is)) (le_trans right_le (z.fits x p n (f.homed x p i) live)) | inr e ↦ absurd e ];
         child = λ y d j is e. le_trans left_le (z.child (place x.tree (suc x.height)) y p d n j is e live);
       }) z;
       grows = λ e. replaced_grows parts f (inl left_le);

@@ -12,14 +12,15 @@ use Rattle.sled_pages.specs.declared.node.Data.TheVariants.{Index}
 use Rattle.sled_pages.specs.declared.page.Page.{Page}
 use Rattle.tree_laws.specs.Forest.{Tree, Forest, Place, place, IsSized, contents}
 use Rattle.tree_laws.specs.Action.{put_node}
-use Rattle.tree_laws.specs.Moment.{Moment, IsMoment, nodes_at, Goes, Grows, Acts, Stood, Look, IsFresh, IsFew, Seen}
-use Rattle.tree_laws.specs.Laws.{IsCurrent, IsAlone, replaced, allocated, freed, hoisted}
+use Rattle.sled_pages.specs.declared.page.View.{View}
+use Rattle.tree_laws.specs.Snapshot.{Snapshot, HasForest, nodes_at, Guarantee, GrowsByReceiving, KeepsForest, StoodInChain, IsAtVersion, HasRoomForOne, SeenOpen}
+use Rattle.tree_laws.specs.Laws.{IsNodeNow, IsAlone, after_replacement, after_allocation, after_free, after_hoist}
 use Rattle.tree_laws.specs.PageLaws.{IsOpenAt, Unseen}
 use Rattle.tree_laws.specs.Stages.{IsPlace, IsOwn, IsStage, IsPosting, IsHoisting, IsReplacing}
-use Rattle.tree_laws.specs.StageLaws.{StageAction, SplitAction, posts_half, ShortenAction, PostAction, HoistAction, CrownAction, FreeAction}
+use Rattle.tree_laws.specs.StageLaws.{StageActionLaw, SplitAction, posts_half, InstallLeftAction, PostAction, HoistAction, SwapRootAction, FreeAction}
 use Rattle.tree_laws.specs.declared.flight.Posting.{Posting}
 use Rattle.tree_laws.specs.declared.flight.Posting.TheVariants as posting
-use Rattle.tree_laws.specs.declared.flight.Shorten.{Shorten}
+use Rattle.tree_laws.specs.declared.flight.InstallLeft.{InstallLeft}
 use Rattle.tree_laws.specs.declared.flight.Stage.TheVariants as stage
 use Rattle.tree_laws.proofs.Order.{upto_below-trans}
 use Rattle.tree_laws.proofs.Update.{put_here, put_there}
@@ -36,8 +37,8 @@ use Rattle.tree_laws.proofs.Staying.{parent_kept, place_kept, hoisting_kept, was
 use Rattle.tree_laws.proofs.Basics.{none_some}
 
 -- the page of a view, where it has the view's version still and the tree has its number
-module _ {m : Moment} {w : Forest} {x : Place} {number : ℕ} {look : Look} {node : Node} (k : Seen m w x number look) (c : IsCurrent m x.tree number look node) where
-  pub current_fresh : IsFresh m look
+module _ {m : Snapshot} {w : Forest} {x : Place} {number : ℕ} {look : View} {node : Node} (k : SeenOpen m w x number look) (c : IsNodeNow m x.tree number look node) where
+  pub current_fresh : IsAtVersion m look
   current_fresh = record { page = record { version = look.version; node = node }; live = c.page; same = refl }
 
   -- an open page stands in its chain
@@ -46,33 +47,33 @@ module _ {m : Moment} {w : Forest} {x : Place} {number : ℕ} {look : Look} {nod
 
   -- the page is not merging
   pub awake_now : node.merging ≡ false
-  awake_now = subst (λ (z : Node). z.merging ≡ false) (sym (k.view.speaks (record { version = look.version; node = node }) c.page refl)) k.is_open.awake
+  awake_now = subst (λ (z : Node). z.merging ≡ false) (sym (k.view.speaks (record { version = look.version; node = node }) c.page refl)) k.is_open.not_merging
 
 -- the node of a page that is the call's own
-pub own_node : {m : Moment} {w : Forest} {pid version : ℕ} {n : Node} → IsOwn m w pid version n → nodes_at m pid ≡ Some n
+pub own_node : {m : Snapshot} {w : Forest} {pid version : ℕ} {n : Node} → IsOwn m w pid version n → nodes_at m pid ≡ Some n
 own_node k = ap (option_map (λ (z : Page). z.node)) k.live
 
 -- a law on the nodes, as an action
-pub unseen_acts : {m : Moment} {w : Forest} {mine : List ℕ} {few : Type 0} (p : ℕ) (g new : Page) → IsMoment m w → m.state.pages p ≡ Some g → g.node.merging ≡ false → m.versions new.version ≡ false → ((x : Place) × (w.home p ≡ Some x)) ⊎ In p mine
-    → (u : Unseen mine (nodes_at m) (put_node (nodes_at m) p new.node) m.state.roots w few) → few → Acts mine [] m w (replaced m p new) u.after
-unseen_acts {m} {w} {mine} p g new is live awake unused owner u few =
-    let s = replace_law mine m w u.after p g new is live awake unused owner u.kept u.keeps in
-    let nodes : nodes_at (replaced m p new) ≡ put_node (nodes_at m) p new.node = nodes_replaced m p new in
+pub unseen_acts : {m : Snapshot} {w : Forest} {mine : List ℕ} {fits : Type 0} (p : ℕ) (g new : Page) → HasForest m w → m.state.pages p ≡ Some g → g.node.merging ≡ false → m.versions new.version ≡ false → ((x : Place) × (w.home p ≡ Some x)) ⊎ In p mine
+    → (u : Unseen mine (nodes_at m) (put_node (nodes_at m) p new.node) m.state.roots w fits) → fits → KeepsForest mine [] m w (after_replacement m p new) u.after
+unseen_acts {m} {w} {mine} p g new is live not_merging unused owner u fits =
+    let s = replace_law mine m w u.after p g new is live not_merging unused owner u.kept u.keeps in
+    let nodes : nodes_at (after_replacement m p new) ≡ put_node (nodes_at m) p new.node = nodes_replaced m p new in
     record {
       is = s.is;
-      goes = subst (λ l. Goes l None m w (replaced m p new) u.after) (sym (append-nil mine)) s.goes;
+      goes = subst (λ l. Guarantee l None m w (after_replacement m p new) u.after) (sym (append-nil mine)) s.goes;
       fresh = λ q i. absurd i;
-      sized = λ z. subst (λ y. IsSized y u.after) (sym nodes) (u.sized few z);
-      grows = subst (λ y. Grows (nodes_at m) y w) (sym nodes) (u.grows few);
+      sized = λ z. subst (λ y. IsSized y u.after) (sym nodes) (u.sized fits z);
+      grows = subst (λ y. GrowsByReceiving (nodes_at m) y w) (sym nodes) (u.grows fits);
     }
 
 -- .. that no tree's contents show
-pub unseen_same : (m : Moment) {w : Forest} {mine : List ℕ} {few : Type 0} (p : ℕ) (new : Page) → (u : Unseen mine (nodes_at m) (put_node (nodes_at m) p new.node) m.state.roots w few) → (t : Tree) → contents (nodes_at (replaced m p new)) u.after t ≡ contents (nodes_at m) w t
+pub unseen_same : (m : Snapshot) {w : Forest} {mine : List ℕ} {fits : Type 0} (p : ℕ) (new : Page) → (u : Unseen mine (nodes_at m) (put_node (nodes_at m) p new.node) m.state.roots w fits) → (t : Tree) → contents (nodes_at (after_replacement m p new)) u.after t ≡ contents (nodes_at m) w t
 unseen_same m p new u t = ap (λ z. contents z u.after t) (nodes_replaced m p new) ∙ u.same t
 
 -- a new page is the call's own
-pub allocates : {m : Moment} {w : Forest} {q version : ℕ} {n : Node} → IsMoment m w → m.pids q ≡ false → m.versions version ≡ false → q < 2 ^ 64
-    → let new : Moment = allocated m q (record { version = version; node = n }) in Acts [] (q ∷ []) m w new w × ((t : Tree) → contents (nodes_at new) w t ≡ contents (nodes_at m) w t) × IsOwn new w q version n
+pub allocates : {m : Snapshot} {w : Forest} {q version : ℕ} {n : Node} → HasForest m w → m.pids q ≡ false → m.versions version ≡ false → q < 2 ^ 64
+    → let new : Snapshot = after_allocation m q (record { version = version; node = n }) in KeepsForest [] (q ∷ []) m w new w × ((t : Tree) → contents (nodes_at new) w t ≡ contents (nodes_at m) w t) × IsOwn new w q version n
 allocates {m} {w} {q} {version} {n} is fresh unused small =
     let g : Page = record { version = version; node = n } in
     let a = allocate_law m w q g is fresh unused small in (
@@ -107,7 +108,7 @@ split_action m w t number aim a q version is fresh unused small many k =
     }
 
 -- the page becomes the left half, and the right half is to be posted at the parent, or under a new root
-pub shorten_action : ShortenAction
+pub shorten_action : InstallLeftAction
 shorten_action m w t number aim a version node is c unused k = (u.0.after, go a.posting k.posted, (place t k.height, u.1))
   where
     here : IsOpenAt (nodes_at m) w (place t k.height) a.page.pid a.page.node
@@ -119,23 +120,23 @@ shorten_action m w t number aim a version node is c unused k = (u.0.after, go a.
     u : (u : Unseen (a.right ∷ []) (nodes_at m) (put_node (nodes_at m) a.page.pid a.left) m.state.roots w (Unit {0})) × In a.right (u.after.chain (place t k.height))
     u = split_law (nodes_at m) m.state.roots w is.formed (place t k.height) a.page.pid a.right a.page.node a.left k.right here (own_node k.own) k.own.stray k.split
 
-    acts : Acts (a.right ∷ []) [] m w (replaced m a.page.pid (record { version = version; node = a.left })) u.0.after
+    acts : KeepsForest (a.right ∷ []) [] m w (after_replacement m a.page.pid (record { version = version; node = a.left })) u.0.after
     acts = unseen_acts a.page.pid _ (record { version = version; node = a.left }) is c.page (awake_now k.seen c) unused (inl (place t k.height, home)) u.0 tt
 
-    live : nodes_at (replaced m a.page.pid (record { version = version; node = a.left })) a.right ≡ Some k.right
+    live : nodes_at (after_replacement m a.page.pid (record { version = version; node = a.left })) a.right ≡ Some k.right
     live = ap (λ z. z a.right) (nodes_replaced m a.page.pid (record { version = version; node = a.left })) ∙ put_there (nodes_at m) a.page.pid (Some a.left) a.right (λ e. k.own.stray (place t k.height) (ap w.home e ∙ home)) ∙ own_node k.own
 
-    same : (z : Tree) → contents (nodes_at (replaced m a.page.pid (record { version = version; node = a.left }))) u.0.after z ≡ contents (nodes_at m) w z
+    same : (z : Tree) → contents (nodes_at (after_replacement m a.page.pid (record { version = version; node = a.left }))) u.0.after z ≡ contents (nodes_at m) w z
     same = unseen_same m a.page.pid (record { version = version; node = a.left }) u.0
 
-    go : (p : Posting) → IsPlace m w t number k.height a.page p → StageAction m w (replaced m a.page.pid (record { version = version; node = a.left })) u.0.after t number aim (stage.Shorten a) (posts_half a p)
+    go : (p : Posting) → IsPlace m w t number k.height a.page p → StageActionLaw m w (after_replacement m a.page.pid (record { version = version; node = a.left })) u.0.after t number aim (stage.InstallLeft a) (posts_half a p)
     go (posting.Parent parent) b = record {
       acts = acts;
       same = same;
       knows = record {
         height = k.height;
         above = parent_kept is acts.goes t number k.height parent b.0;
-        few = b.2;
+        fits = b.2;
         beyond = subst (λ l. Below parent.node.lo l) k.begins (upto_below-trans parent.node.lo a.page.node.lo k.right.lo b.1.0 k.split.apart);
         under = λ named f.
             let was = was_fresh is acts.goes parent b.0.seen.view f in
@@ -147,7 +148,7 @@ shorten_action m w t number aim a version node is c unused k = (u.0.after, go a.
               chained = u.1;
               live = live;
               lo = k.begins;
-              awake = k.split.calm.2;
+              not_merging = k.split.calm.2;
             };
       };
     }
@@ -156,7 +157,7 @@ shorten_action m w t number aim a version node is c unused k = (u.0.after, go a.
       same = same;
       knows = record {
         height = k.height;
-        stood = subst (λ l. Stood (replaced m a.page.pid (record { version = version; node = a.left })) u.0.after (place t k.height) number l a.page.pid) b (seen_kept acts.goes (place t k.height) number a.page k.seen).stood;
+        stood = subst (λ l. StoodInChain (after_replacement m a.page.pid (record { version = version; node = a.left })) u.0.after (place t k.height) number l a.page.pid) b (seen_kept acts.goes (place t k.height) number a.page k.seen).stood;
         beyond = subst (λ l. Below [] l) k.begins (subst (λ l. Below l k.right.lo) b k.split.apart);
         beside = λ named root. (k.right, u.1, live, k.begins);
       };
@@ -166,21 +167,21 @@ shorten_action m w t number aim a version node is c unused k = (u.0.after, go a.
 -- the pointer goes into the parent
 pub post_action : PostAction
 post_action m w t number aim a version node is c unused k =
-    subst (λ z. (v : Forest) × StageAction m w (replaced m a.parent.pid (record { version = version; node = record (a.parent.node) { content = z } })) v t number aim (stage.Post a) stage.Root) (sym (ap (with_pointer a.at a.pid) k.above.content))
-    (subst (λ l. (v : Forest) × StageAction m w (replaced m a.parent.pid (record { version = version; node = record (a.parent.node) { content = Index (put key_cmp l a.pid k.above.es) } })) v t number aim (stage.Post a) stage.Root) (k.under c.named (current_fresh k.above.seen c)).lo done)
+    subst (λ z. (v : Forest) × StageActionLaw m w (after_replacement m a.parent.pid (record { version = version; node = record (a.parent.node) { content = z } })) v t number aim (stage.Post a) stage.Root) (sym (ap (with_pointer a.at a.pid) k.above.content))
+    (subst (λ l. (v : Forest) × StageActionLaw m w (after_replacement m a.parent.pid (record { version = version; node = record (a.parent.node) { content = Index (put key_cmp l a.pid k.above.es) } })) v t number aim (stage.Post a) stage.Root) (k.under c.named (current_fresh k.above.seen c)).lo done)
   where
     room : (a b : ℕ) → a ≤ 16 → b ≤ a + 1 → b ≤ 17
     room a b p q = omega arith
 
-    done : (v : Forest) × StageAction m w (replaced m a.parent.pid (record { version = version; node = record (a.parent.node) { content = Index (put key_cmp (k.under c.named (current_fresh k.above.seen c)).node.lo a.pid k.above.es) } })) v t number aim (stage.Post a) stage.Root
+    done : (v : Forest) × StageActionLaw m w (after_replacement m a.parent.pid (record { version = version; node = record (a.parent.node) { content = Index (put key_cmp (k.under c.named (current_fresh k.above.seen c)).node.lo a.pid k.above.es) } })) v t number aim (stage.Post a) stage.Root
     done =
         let here = open_now k.above.seen c in
         let d = k.under c.named (current_fresh k.above.seen c) in
         let g : Page = record { version = version; node = record (a.parent.node) { content = Index (put key_cmp d.node.lo a.pid k.above.es) } } in
-        let u = post_law (nodes_at m) m.state.roots w is.formed t k.height a.parent.pid a.pid a.parent.node d.node k.above.es here k.above.content (is.formed.homed (place t k.height) a.pid d.chained) d.live d.awake
+        let u = post_law (nodes_at m) m.state.roots w is.formed t k.height a.parent.pid a.pid a.parent.node d.node k.above.es here k.above.content (is.formed.homed (place t k.height) a.pid d.chained) d.live d.not_merging
         (subst (λ l. Below a.parent.node.lo l) (sym d.lo) k.beyond) (subst (λ l. Covers a.parent.node l) (sym d.lo) d.covers) in
-        let few = room (length k.above.es) (length (put key_cmp d.node.lo a.pid k.above.es)) (subst (λ z. count z ≤ 16) k.above.content k.few.few) (put_few d.node.lo a.pid k.above.es) in
-        let acts = unseen_acts a.parent.pid _ g is c.page (awake_now k.above.seen c) unused (inl (place t (suc k.height), is.formed.homed (place t (suc k.height)) a.parent.pid here.chained)) u few in
+        let fits = room (length k.above.es) (length (put key_cmp d.node.lo a.pid k.above.es)) (subst (λ z. count z ≤ 16) k.above.content k.fits.fits) (put_few d.node.lo a.pid k.above.es) in
+        let acts = unseen_acts a.parent.pid _ g is c.page (awake_now k.above.seen c) unused (inl (place t (suc k.height), is.formed.homed (place t (suc k.height)) a.parent.pid here.chained)) u fits in
         (u.after, record { acts = acts; same = unseen_same m a.parent.pid g u; knows = tt })
 
 -- the new root is a new page
@@ -190,7 +191,7 @@ hoist_action m w t number aim a q version n is fresh unused small over k =
     record { acts = o.0; same = o.1; knows = record { at = a.at; right = a.right; hoisting = hoisting_kept is o.0.goes t number a k; root = n; over = over; own = o.2 } }
 
 -- .. and becomes the root
-pub crown_action : CrownAction
+pub crown_action : SwapRootAction
 crown_action m w t number aim a is named root k =
     let h : ℕ = k.hoisting.height in
     let o = root_in is.formed t a.old root in

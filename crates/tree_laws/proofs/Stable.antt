@@ -3,7 +3,7 @@ use Rattle.std.proofs.Common.{◌≡◌, ◌≢◌, ℕ, true, false, List, Opti
 use Rattle.sled_pages.specs.declared.node.Node.{Node}
 use Rattle.sled_pages.specs.declared.page.Page.{Page}
 use Rattle.tree_laws.specs.Forest.{Tree, Forest}
-use Rattle.tree_laws.specs.Moment.{Moment, Goes}
+use Rattle.tree_laws.specs.Snapshot.{Snapshot, Guarantee}
 use Rattle.tree_laws.specs.Laws.{ViewLaw, StoodLaw, NowLaw}
 use Rattle.tree_laws.proofs.Replace.{same_number}
 
@@ -29,7 +29,7 @@ is_number (Some m) n = elim (same_number m n) [ inl e ↦ inl (ap Some e) | inr 
     one : Some m ≡ Some n → m ≡ n
     one g = cc
 
-module _ {mine : List ℕ} {lost : Option Tree} {old new : Moment} {w v : Forest} (s : Goes mine lost old w new v) where
+module _ {mine : List ℕ} {lost : Option Tree} {old new : Snapshot} {w v : Forest} (s : Guarantee mine lost old w new v) where
   -- a tree that has its number still had it before, and is not the one that is lost
   pub had_number : (t : Tree) (n : ℕ) → old.given n ≡ true → new.numbers t ≡ Some n → old.numbers t ≡ Some n
   had_number t n given e = elim (is_number (old.numbers t) n) [ inl a ↦ a | inr b ↦ absurd (s.dropped t n given b e) ]
@@ -60,7 +60,7 @@ stood_law mine lost old new w v s x number lo p k = record {
 }
 
 pub now_law : NowLaw
-now_law m w x number lo p k root n live awake = elim k.now [
+now_law m w x number lo p k root n live not_merging = elim k.now [
   | inl e ↦ absurd (e root)
   | inr h ↦ elim h [
     | inl e ↦ absurd (apart (sym live ∙ e))
@@ -68,7 +68,7 @@ now_law m w x number lo p k root n live awake = elim k.now [
         let is : a.0 ≡ n = one (sym a.1 ∙ live) in
         elim a.3 [
           | inl i ↦ (i, ap (λ (z : Node). z.lo) (sym is) ∙ a.2)
-          | inr t ↦ absurd (wakes (sym (subst (λ (z : Node). z.merging ≡ true) is t) ∙ awake))
+          | inr t ↦ absurd (wakes (sym (subst (λ (z : Node). z.merging ≡ true) is t) ∙ not_merging))
         ]
   ]
 ]

@@ -5,21 +5,21 @@ use Rattle.sled_pages.specs.In.{In}
 use Rattle.sled_pages.specs.Order.{Key}
 use Rattle.sled_pages.specs.declared.node.Node.{Node}
 use Rattle.tree_laws.specs.Forest.{Tree, Forest}
-use Rattle.tree_laws.specs.Moment.{Moment, IsMoment}
+use Rattle.tree_laws.specs.Snapshot.{Snapshot, HasForest}
 use Rattle.tree_laws.specs.Stages.{IsOwn, IsStage, owned}
-use Rattle.tree_laws.specs.StageLaws.{ApartLaw, HereLaw, RootHereLaw, CursorHereLaw, ShortenLate, CrownLate, CapLate}
+use Rattle.tree_laws.specs.StageLaws.{ApartLaw, HereLaw, RootHereLaw, CursorHereLaw, InstallLeftLate, SwapRootLate, CapLate}
 use Rattle.tree_laws.specs.declared.flight.Stage.{Stage}
 use Rattle.tree_laws.specs.declared.flight.Stage.TheVariants as stage
 use Rattle.tree_laws.proofs.Walks as walks
 
-own_is : {m : Moment} {w : Forest} (p q : ℕ) → In q (p ∷ []) → (version : ℕ) × (n : Node) × IsOwn m w p version n → (version : ℕ) × (n : Node) × IsOwn m w q version n
+own_is : {m : Snapshot} {w : Forest} (p q : ℕ) → In q (p ∷ []) → (version : ℕ) × (n : Node) × IsOwn m w p version n → (version : ℕ) × (n : Node) × IsOwn m w q version n
 own_is {m} {w} p q (inl e) f = subst (λ z. (version : ℕ) × (n : Node) × IsOwn m w z version n) (sym e) f
 own_is p q (inr e) f = absurd e
 
 -- a page of the call's own is live, and no part of any tree
-own_of : (m : Moment) (w : Forest) (t : Tree) (number : ℕ) (aim : Bound Key) (a : Stage) → IsStage m w t number aim a → (q : ℕ) → In q (owned a) → (version : ℕ) × (n : Node) × IsOwn m w q version n
-own_of m w t number aim (stage.Shorten a) k q i = own_is a.right q i (a.version, k.right, k.own)
-own_of m w t number aim (stage.Crown a) k q i = own_is a.new q i (a.version, k.root, k.own)
+own_of : (m : Snapshot) (w : Forest) (t : Tree) (number : ℕ) (aim : Bound Key) (a : Stage) → IsStage m w t number aim a → (q : ℕ) → In q (owned a) → (version : ℕ) × (n : Node) × IsOwn m w q version n
+own_of m w t number aim (stage.InstallLeft a) k q i = own_is a.right q i (a.version, k.right, k.own)
+own_of m w t number aim (stage.SwapRoot a) k q i = own_is a.new q i (a.version, k.root, k.own)
 own_of m w t number aim (stage.Free a) k q i = own_is a.pid q i (a.version, k.node, k.own)
 own_of m w t number aim other k q i = absurd i
 
@@ -58,10 +58,10 @@ cursor_here_law m w is t number aim a look named k at live = walks.cursor_here i
 
 -- what came too late
 
-pub shorten_late : ShortenLate
+pub shorten_late : InstallLeftLate
 shorten_late m w t number aim a k = record { node = k.right; own = k.own }
 
-pub crown_late : CrownLate
+pub crown_late : SwapRootLate
 crown_late m w t number aim a k = record { node = k.root; own = k.own }
 
 pub cap_late : CapLate

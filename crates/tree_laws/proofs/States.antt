@@ -7,8 +7,8 @@ use Rattle.sled_pages.specs.declared.node.Node.{Node}
 use Rattle.sled_pages.specs.declared.page.Page.{Page}
 use Rattle.tree_laws.specs.Action.{put_node}
 use Rattle.tree_laws.specs.Forest.{Tree, Forest, Place, WellFormed, IsSized, contents}
-use Rattle.tree_laws.specs.Moment.{Moment, IsMoment, nodes_at, IsStray, Keeps, Grows}
-use Rattle.tree_laws.specs.Laws.{ReplaceLaw, AllocateLaw, FreeLaw, PlantedLaw, HoistedLaw, DroppedLaw, Rooted, Steps, replaced, freed, planted, hoisted, dropped}
+use Rattle.tree_laws.specs.Snapshot.{Snapshot, HasForest, nodes_at, IsOrphan, KeepsNodes, GrowsByReceiving}
+use Rattle.tree_laws.specs.Laws.{ReplaceLaw, AllocateLaw, FreeLaw, PlantedLaw, HoistedLaw, DroppedLaw, Rooted, StepsForest, after_replacement, after_free, after_creation, after_hoist, after_drop}
 use Rattle.tree_laws.proofs.Update.{put_here, put_there, name_here, name_there}
 use Rattle.tree_laws.proofs.Outside.{outside_kept, outside_contents, outside_keeps, outside_sized, outside_grows}
 use Rattle.tree_laws.proofs.Replace.{same_number, same_tree, some_is}
@@ -29,9 +29,9 @@ not_both : {P : Type 0} (b : Bool) → b ≡ true → b ≡ false → P
 not_both b e f = cc
 
 pub replace_law : ReplaceLaw
-replace_law mine m w v p g new is live awake fresh owner formed keeps =
+replace_law mine m w v p g new is live not_merging fresh owner formed keeps =
     let s = m.state in
-    let same : put_node (nodes_at m) p new.node ≡ nodes_at (replaced m p new) = sym (nodes_put s.pages p (Some new)) in
+    let same : put_node (nodes_at m) p new.node ≡ nodes_at (after_replacement m p new) = sym (nodes_put s.pages p (Some new)) in
     record {
       is = record {
         pids = λ q h e. elim (same_number q p) [
@@ -73,15 +73,15 @@ replace_law mine m w v p g new is live awake fresh owner formed keeps =
           | inr a ↦ put_there s.pages p (Some new) q a
         ];
         frozen = λ q h e t. elim (same_number q p) [
-          | inl a ↦ not_both g.node.merging (ap (λ (z : Page). z.node.merging) (some_is g h (sym live ∙ ap s.pages (sym a) ∙ e)) ∙ t) awake
+          | inl a ↦ not_both g.node.merging (ap (λ (z : Page). z.node.merging) (some_is g h (sym live ∙ ap s.pages (sym a) ∙ e)) ∙ t) not_merging
           | inr a ↦ inl (put_there s.pages p (Some new) q a ∙ e)
         ];
-        keeps = subst (λ (z : Nodes). Keeps mine None (nodes_at m) z w v) same keeps;
+        keeps = subst (λ (z : Nodes). KeepsNodes mine None (nodes_at m) z w v) same keeps;
       };
     }
 
 -- a page with no place is put or taken
-module _ (m : Moment) (w : Forest) (p : ℕ) (o : Option Page) (is : IsMoment m w) (stray : IsStray w p) where
+module _ (m : Snapshot) (w : Forest) (p : ℕ) (o : Option Page) (is : HasForest m w) (stray : IsOrphan w p) where
   off : (q : ℕ) (x : Place) → w.home q ≡ Some x → put_at (nodes_at m) p (option_map (λ (g : Page). g.node) o) q ≡ nodes_at m q
   off q x e = put_there (nodes_at m) p _ q (λ a. stray x (ap w.home (sym a) ∙ e))
 
@@ -97,13 +97,13 @@ module _ (m : Moment) (w : Forest) (p : ℕ) (o : Option Page) (is : IsMoment m 
   pub put_sized : IsSized (nodes_at m) w → IsSized nodes_then w
   put_sized z = subst (λ (z : Nodes). IsSized z w) (sym (nodes_put m.state.pages p o)) (outside_sized (nodes_at m) _ m.state.roots w off is.formed z)
 
-  pub put_grows : Grows (nodes_at m) nodes_then w
-  put_grows = subst (λ (z : Nodes). Grows (nodes_at m) z w) (sym (nodes_put m.state.pages p o)) (outside_grows (nodes_at m) _ m.state.roots w off is.formed)
+  pub put_grows : GrowsByReceiving (nodes_at m) nodes_then w
+  put_grows = subst (λ (z : Nodes). GrowsByReceiving (nodes_at m) z w) (sym (nodes_put m.state.pages p o)) (outside_grows (nodes_at m) _ m.state.roots w off is.formed)
 
   pub put_keeps : (mine : List ℕ) → ((q : ℕ) → q ≡ p → ¬ (In q mine) → put_at (nodes_at m) p (option_map (λ (g : Page). g.node) o) q ≡ nodes_at m q)
       → ((n : Node) → nodes_at m p ≡ Some n → option_map (λ (g : Page). g.node) o ≡ None)
-      → Keeps mine None (nodes_at m) nodes_then w w
-  put_keeps mine own gone = subst (λ (z : Nodes). Keeps mine None (nodes_at m) z w w) (sym (nodes_put m.state.pages p o))
+      → KeepsNodes mine None (nodes_at m) nodes_then w w
+  put_keeps mine own gone = subst (λ (z : Nodes). KeepsNodes mine None (nodes_at m) z w w) (sym (nodes_put m.state.pages p o))
       (outside_keeps (nodes_at m) _ m.state.roots w off is.formed mine None
       (λ q u k. elim (same_number q p) [ inl a ↦ own q a k | inr a ↦ put_there (nodes_at m) p _ q a ])
       (λ q n live. elim (same_number q p) [
@@ -111,7 +111,7 @@ module _ (m : Moment) (w : Forest) (p : ℕ) (o : Option Page) (is : IsMoment m 
         | inr a ↦ inl (put_there (nodes_at m) p _ q a ∙ live)
       ]))
 
-no_page_yet : (m : Moment) (w : Forest) (p : ℕ) → IsMoment m w → m.pids p ≡ false → m.state.pages p ≡ None
+no_page_yet : (m : Snapshot) (w : Forest) (p : ℕ) → HasForest m w → m.pids p ≡ false → m.state.pages p ≡ None
 no_page_yet m w p is e = go (m.state.pages p) refl
   where
     go : (o : Option Page) → m.state.pages p ≡ o → o ≡ None
@@ -123,7 +123,7 @@ allocate_law m w p g is new fresh small =
     let s = m.state in
     let none : s.pages p ≡ None = no_page_yet m w p is new in
     let none_node : nodes_at m p ≡ None = ap (option_map (λ (g : Page). g.node)) none in
-    let stray : IsStray w p = λ x e. let h = is.formed.page x p e in none_some (sym none_node ∙ h.1.live) in (
+    let stray : IsOrphan w p = λ x e. let h = is.formed.page x p e in none_some (sym none_node ∙ h.1.live) in (
       record {
         is = record {
           pids = λ q h e. elim (same_number q p) [
@@ -218,7 +218,7 @@ free_law m w p is stray =
     )
 
 -- an action on a root alone: what it does to the names and their numbers is told apart
-module _ (mine : List ℕ) (lost : Option Tree) (m new : Moment) (w : Forest) (t : Tree) (root : Option ℕ) (is : IsMoment m w) (u : Rooted mine lost (nodes_at m) m.state.roots w t root) where
+module _ (mine : List ℕ) (lost : Option Tree) (m new : Snapshot) (w : Forest) (t : Tree) (root : Option ℕ) (is : HasForest m w) (u : Rooted mine lost (nodes_at m) m.state.roots w t root) where
   rooted_steps : new.state ≡ after (RootBecomes t root) m.state → new.pids ≡ m.pids → new.versions ≡ m.versions
       → ((n : ℕ) → m.given n ≡ true → new.given n ≡ true)
       → ((z : Tree) (r : ℕ) → put_name m.state.roots t root z ≡ Some r → (n : ℕ) × (new.numbers z ≡ Some n))
@@ -228,8 +228,8 @@ module _ (mine : List ℕ) (lost : Option Tree) (m new : Moment) (w : Forest) (t
       → ((z : Tree) (n : ℕ) → lost ≢ Some z → m.numbers z ≡ Some n → new.numbers z ≡ Some n)
       → ((z : Tree) (n : ℕ) → m.given n ≡ true → m.numbers z ≢ Some n → new.numbers z ≢ Some n)
       → ((z : Tree) → lost ≡ Some z → new.numbers z ≡ None)
-      → ((r : ℕ) → root ≡ Some r → IsStray w r × ((n : Node) × (nodes_at m r ≡ Some n) × (n.merging ≡ false)))
-      → Steps mine lost m w new u.after
+      → ((r : ℕ) → root ≡ Some r → IsOrphan w r × ((n : Node) × (nodes_at m r ≡ Some n) × (n.merging ≡ false)))
+      → StepsForest mine lost m w new u.after
   rooted_steps state pids versions given numbered rooted of apart lasts gone loses fresh =
       let pages : (q : ℕ) → new.state.pages q ≡ m.state.pages q = λ q. ap (λ (z : State). z.pages q) state in
       let nodes : nodes_at new ≡ nodes_at m = ap nodes_of state in
@@ -260,12 +260,12 @@ module _ (mine : List ℕ) (lost : Option Tree) (m new : Moment) (w : Forest) (t
           ];
           own = λ q stray off. pages q;
           frozen = λ q h e t. inl (pages q ∙ e);
-          keeps = subst (λ f. Keeps mine lost (nodes_at m) f w u.after) (sym nodes) u.keeps;
+          keeps = subst (λ f. KeepsNodes mine lost (nodes_at m) f w u.after) (sym nodes) u.keeps;
         };
       }
 
 pub planted_law : PlantedLaw
-planted_law m w t r number n is none free stray awake live u =
+planted_law m w t r number n is none free stray not_merging live u =
     let unnamed : m.numbers t ≡ None = no_number (m.numbers t) refl in
     let fresh : (z : Tree) (k : ℕ) → m.numbers z ≡ Some k → k ≢ number = λ z k e a. not_both (m.given number) (ap m.given (sym a) ∙ is.given z k e) free in
     let old : (z : Tree) (k : ℕ) → put_name m.numbers t (Some number) z ≡ Some k → ((z ≡ t) × (k ≡ number)) ⊎ ((z ≢ t) × (m.numbers z ≡ Some k)) =
@@ -273,7 +273,7 @@ planted_law m w t r number n is none free stray awake live u =
       | inl a ↦ inl (a, some_is k number (sym e ∙ ap (put_name m.numbers t (Some number)) a ∙ name_here m.numbers t (Some number)))
       | inr a ↦ inr (a, sym (name_there m.numbers t (Some number) z a) ∙ e)
     ] in
-    rooted_steps (r ∷ []) None m (planted m t r number) w t (Some r) is u refl refl refl
+    rooted_steps (r ∷ []) None m (after_creation m t r number) w t (Some r) is u refl refl refl
     (λ k e. true_on m.given number k e)
     (λ z q e. elim (same_tree z t) [
       | inl a ↦ (number, ap (put_name m.numbers t (Some number)) a ∙ name_here m.numbers t (Some number))
@@ -297,17 +297,17 @@ planted_law m w t r number n is none free stray awake live u =
       | inr a ↦ no a.1
     ])
     (λ z e. none_some e)
-    (λ q e. (subst (λ z. IsStray w z) (some_is r q e) stray, (n, ap (nodes_at m) (sym (some_is r q e)) ∙ live, awake)))
+    (λ q e. (subst (λ z. IsOrphan w z) (some_is r q e) stray, (n, ap (nodes_at m) (sym (some_is r q e)) ∙ live, not_merging)))
   where
     no_number : (o : Option ℕ) → m.numbers t ≡ o → o ≡ None
     no_number None e = refl
     no_number (Some k) e = let a = is.rooted t k e in none_some (sym none ∙ a.1)
 
 pub hoisted_law : HoistedLaw
-hoisted_law m w t left r n is root stray awake live u =
+hoisted_law m w t left r n is root stray not_merging live u =
     let old : (z : Tree) (k : ℕ) → put_name m.state.roots t (Some r) z ≡ Some k → (j : ℕ) × (m.state.roots z ≡ Some j) =
     λ z k e. elim (same_tree z t) [ inl a ↦ (left, ap m.state.roots a ∙ root) | inr a ↦ (k, sym (name_there m.state.roots t (Some r) z a) ∙ e) ] in
-    rooted_steps (r ∷ []) None m (hoisted m t r) w t (Some r) is u refl refl refl
+    rooted_steps (r ∷ []) None m (after_hoist m t r) w t (Some r) is u refl refl refl
     (λ k e. e)
     (λ z q e. let b = old z q e in is.numbered z b.0 b.1)
     (λ z k e. elim (same_tree z t) [
@@ -319,7 +319,7 @@ hoisted_law m w t left r n is root stray awake live u =
     (λ z k o e. e)
     (λ z k given no e. no e)
     (λ z e. none_some e)
-    (λ q e. (subst (λ z. IsStray w z) (some_is r q e) stray, (n, ap (nodes_at m) (sym (some_is r q e)) ∙ live, awake)))
+    (λ q e. (subst (λ z. IsOrphan w z) (some_is r q e) stray, (n, ap (nodes_at m) (sym (some_is r q e)) ∙ live, not_merging)))
 
 pub dropped_law : DroppedLaw
 dropped_law m w t is u =
@@ -328,7 +328,7 @@ dropped_law m w t is u =
       | inl a ↦ none_some (sym (ap (put_name m.numbers t None) a ∙ name_here m.numbers t None) ∙ e)
       | inr a ↦ (a, sym (name_there m.numbers t None z a) ∙ e)
     ] in
-    rooted_steps [] (Some t) m (dropped m t) w t None is u refl refl refl
+    rooted_steps [] (Some t) m (after_drop m t) w t None is u refl refl refl
     (λ k e. e)
     (λ z q e. elim (same_tree z t) [
       | inl a ↦ none_some (sym (ap (put_name m.state.roots t None) a ∙ name_here m.state.roots t None) ∙ e)
@@ -342,8 +342,8 @@ dropped_law m w t is u =
     (λ z e. ap (put_name m.numbers t None) (sym (some_is t z e)) ∙ name_here m.numbers t None)
     (λ q e. none_some e)
 
-pub nodes_replaced : (m : Moment) (p : ℕ) (g : Page) → nodes_at (replaced m p g) ≡ put_node (nodes_at m) p g.node
+pub nodes_replaced : (m : Snapshot) (p : ℕ) (g : Page) → nodes_at (after_replacement m p g) ≡ put_node (nodes_at m) p g.node
 nodes_replaced m p g = nodes_put m.state.pages p (Some g)
 
-pub nodes_freed : (m : Moment) (p : ℕ) → nodes_at (freed m p) ≡ put_at (nodes_at m) p None
+pub nodes_freed : (m : Snapshot) (p : ℕ) → nodes_at (after_free m p) ≡ put_at (nodes_at m) p None
 nodes_freed m p = nodes_put m.state.pages p None

@@ -8,7 +8,8 @@ use Rattle.sled_pages.specs.State.{Nodes}
 use Rattle.sled_pages.specs.declared.node.Node.{Node}
 use Rattle.sled_pages.specs.declared.page.Page.{Page}
 use Rattle.tree_laws.specs.Forest.{Tree, Forest, Place, place, head, WellFormed}
-use Rattle.tree_laws.specs.Moment.{Moment, IsMoment, nodes_at, Goes, Grows, Viewed, Stood, Look, IsFresh}
+use Rattle.sled_pages.specs.declared.page.View.{View}
+use Rattle.tree_laws.specs.Snapshot.{Snapshot, HasForest, nodes_at, Guarantee, GrowsByReceiving, IsReadAs, StoodInChain, IsAtVersion}
 use Rattle.tree_laws.specs.Stages.{IsParent, IsBelowParent, IsReached, IsWalking, IsPlace, IsSplitting, IsOwn, IsReplacing, IsUnder, IsPosting, IsHoisting, IsSwapping, IsFreeing, IsIntending, IsFrozen, IsChild, IsWanted, IsMerger, IsMerging, IsReadingChild, child_of, IsCapping, IsSeeking, IsReceiving, IsOut, IsConfirming}
 use Rattle.tree_laws.specs.StageLaws.{StageStays}
 use Rattle.tree_laws.specs.declared.flight.Reached.{Reached}
@@ -17,11 +18,11 @@ use Rattle.tree_laws.specs.declared.flight.Walk.{Walk}
 use Rattle.tree_laws.specs.declared.flight.Posting.{Posting}
 use Rattle.tree_laws.specs.declared.flight.Posting.TheVariants as posting
 use Rattle.tree_laws.specs.declared.flight.Split.{Split}
-use Rattle.tree_laws.specs.declared.flight.Shorten.{Shorten}
+use Rattle.tree_laws.specs.declared.flight.InstallLeft.{InstallLeft}
 use Rattle.tree_laws.specs.declared.flight.Post.{Post}
 use Rattle.tree_laws.specs.declared.flight.Hoist.{Hoist}
-use Rattle.tree_laws.specs.declared.flight.Crown.{Crown}
-use Rattle.tree_laws.specs.declared.flight.Own.{Own}
+use Rattle.tree_laws.specs.declared.flight.SwapRoot.{SwapRoot}
+use Rattle.tree_laws.specs.declared.flight.Orphan.{Orphan}
 use Rattle.tree_laws.specs.declared.flight.Merge.{Merge}
 use Rattle.tree_laws.specs.declared.flight.Cap.{Cap}
 use Rattle.tree_laws.specs.declared.flight.Seek.{Seek}
@@ -53,32 +54,32 @@ parent_covers f t h r q d e i live is there =
     subst (λ k. Within d.lo d.hi k) (sym a.key ∙ ap (λ (z : Node). z.lo) (some_is a.node e (sym a.live ∙ there)))
     (pointer_within h d.lo d.hi d.content (holds_at f (place t (suc h)) r d i live) b.0 q j)
 
-module _ {mine : List ℕ} {lost : Option Tree} {old new : Moment} {w v : Forest} (is : IsMoment old w) (g : Goes mine lost old w new v) where
+module _ {mine : List ℕ} {lost : Option Tree} {old new : Snapshot} {w v : Forest} (is : HasForest old w) (g : Guarantee mine lost old w new v) where
   -- a page that has a version that was given had it before
-  pub was_fresh : (look : Look) → Viewed old look.pid look.version look.node → IsFresh new look → IsFresh old look
+  pub was_fresh : (look : View) → IsReadAs old look.pid look.version look.node → IsAtVersion new look → IsAtVersion old look
   was_fresh look view f = elim (g.fresh look.pid f.page f.live) [
     | inl was ↦ record { page = f.page; live = was; same = f.same }
     | inr unused ↦ false_true (old.versions f.page.version) unused (ap old.versions f.same ∙ view.given)
   ]
 
-  fresh_was : (look : Look) → Viewed old look.pid look.version look.node → IsFresh old look → nodes_at old look.pid ≡ Some look.node
+  fresh_was : (look : View) → IsReadAs old look.pid look.version look.node → IsAtVersion old look → nodes_at old look.pid ≡ Some look.node
   fresh_was look view f = ap (option_map (λ (z : Page). z.node)) f.live ∙ ap Some (view.speaks f.page f.live f.same)
 
   pub own_kept : (pid version : ℕ) (n : Node) → ¬ (In pid mine) → IsOwn old w pid version n → IsOwn new v pid version n
   own_kept pid version n off k = record { live = g.own pid k.stray off ∙ k.live; stray = (g.keeps.stray pid k.stray off).1 }
 
-  pub parent_kept : (t : Tree) (number h : ℕ) (look : Look) → IsParent old w t number h look → IsParent new v t number h look
+  pub parent_kept : (t : Tree) (number h : ℕ) (look : View) → IsParent old w t number h look → IsParent new v t number h look
   parent_kept t number h look k = record { seen = seen_kept g (place t (suc h)) number look k.seen; es = k.es; content = k.content }
 
-  stood_kept : (x : Place) (number : ℕ) (lo : Key) (p : ℕ) → Stood old w x number lo p → Stood new v x number lo p
+  stood_kept : (x : Place) (number : ℕ) (lo : Key) (p : ℕ) → StoodInChain old w x number lo p → StoodInChain new v x number lo p
   stood_kept = stood_law mine lost old new w v g
 
-  view_kept : (look : Look) → Viewed old look.pid look.version look.node → Viewed new look.pid look.version look.node
+  view_kept : (look : View) → IsReadAs old look.pid look.version look.node → IsReadAs new look.pid look.version look.node
   view_kept look = view_law mine lost old new w v g look.pid look.version look.node
 
   -- while an open index keeps its version, a page under it stays in the chain, and does not begin to merge
-  pub under_kept : (t : Tree) (number h : ℕ) (parent : Look) (at : Key) (q : ℕ) → IsParent old w t number h parent
-      → (old.numbers t ≡ Some number → IsFresh old parent → IsUnder old w (place t h) parent at q) → new.numbers t ≡ Some number → IsFresh new parent → IsUnder new v (place t h) parent at q
+  pub under_kept : (t : Tree) (number h : ℕ) (parent : View) (at : Key) (q : ℕ) → IsParent old w t number h parent
+      → (old.numbers t ≡ Some number → IsAtVersion old parent → IsUnder old w (place t h) parent at q) → new.numbers t ≡ Some number → IsAtVersion new parent → IsUnder new v (place t h) parent at q
   under_kept t number h parent at q above under named f =
       let seen = above.seen in
       let before = had_number g t number seen.stood.tree named in
@@ -88,15 +89,15 @@ module _ {mine : List ℕ} {lost : Option Tree} {old new : Moment} {w v : Forest
       let p_is = fresh_node seen fresh in
       let m = g.keeps.stood (place t h) q u.node (not_lost g t number named) u.chained u.live in
       let up : m.0.merging ≡ true → ⊥ = λ y.
-      let r = g.keeps.wakes (place t h) q u.node m.0 u.chained u.live u.awake m.1 y in
+      let r = g.keeps.wakes (place t h) q u.node m.0 u.chained u.live u.not_merging m.1 y in
       let same : parent.pid ≡ r.0 = one_cover is.formed (place t (suc h)) parent.pid r.0 parent.node r.1 at p_in r.2 p_is r.3 u.covers
       (subst (λ z. Within r.1.lo r.1.hi z) u.lo (parent_covers is.formed t h r.0 q r.1 u.node r.2 r.3 r.4 u.live)) in
       let n_is : r.1 ≡ parent.node = some_is r.1 parent.node (sym r.3 ∙ ap (nodes_at old) (sym same) ∙ p_is) in
       none_some (sym (subst (λ (z : Node). z.merging_child ≡ None) (sym n_is) seen.is_open.free) ∙ r.4) in
-      record { covers = u.covers; node = m.0; chained = elim m.3 [ inl i ↦ i | inr y ↦ absurd (up y) ]; live = m.1; lo = m.2 ∙ u.lo; awake = not_true m.0.merging up }
+      record { covers = u.covers; node = m.0; chained = elim m.3 [ inl i ↦ i | inr y ↦ absurd (up y) ]; live = m.1; lo = m.2 ∙ u.lo; not_merging = not_true m.0.merging up }
 
-  below_kept : (t : Tree) (number h : ℕ) (aim : Bound Key) (parent : Look) (lo : Key) → IsBelowParent old w t number h aim parent lo → IsBelowParent new v t number h aim parent lo
-  below_kept t number h aim parent lo k = record { above = parent_kept t number h parent k.above; under = k.under; within = k.within; few = k.few }
+  below_kept : (t : Tree) (number h : ℕ) (aim : Bound Key) (parent : View) (lo : Key) → IsBelowParent old w t number h aim parent lo → IsBelowParent new v t number h aim parent lo
+  below_kept t number h aim parent lo k = record { above = parent_kept t number h parent k.above; under = k.under; within = k.within; fits = k.fits }
 
   reached_kept : (t : Tree) (number h : ℕ) (aim : Bound Key) (by : Reached) (lo : Key) (p : ℕ) → IsReached old w t number h aim by lo p → IsReached new v t number h aim by lo p
   reached_kept t number h aim reached.Root lo p k = k
@@ -112,7 +113,7 @@ module _ {mine : List ℕ} {lost : Option Tree} {old new : Moment} {w v : Forest
     is_reached = reached_kept t number k.height aim a.reached k.lo a.cursor k.is_reached;
   }
 
-  pub place_kept : (t : Tree) (number h : ℕ) (page : Look) (posting : Posting) → IsPlace old w t number h page posting → IsPlace new v t number h page posting
+  pub place_kept : (t : Tree) (number h : ℕ) (page : View) (posting : Posting) → IsPlace old w t number h page posting → IsPlace new v t number h page posting
   place_kept t number h page (posting.Parent parent) k = (parent_kept t number h parent k.0, k.1, k.2)
   place_kept t number h page posting.Root k = k
   place_kept t number h page posting.Nowhere k = k
@@ -120,7 +121,7 @@ module _ {mine : List ℕ} {lost : Option Tree} {old new : Moment} {w v : Forest
   pub splitting_kept : (t : Tree) (number : ℕ) (a : Split) → IsSplitting old w t number a → IsSplitting new v t number a
   splitting_kept t number a k = record { height = k.height; seen = seen_kept g (place t k.height) number a.page k.seen; posted = place_kept t number k.height a.page a.posting k.posted }
 
-  pub replacing_kept : (t : Tree) (number : ℕ) (a : Shorten) → ¬ (In a.right mine) → IsReplacing old w t number a → IsReplacing new v t number a
+  pub replacing_kept : (t : Tree) (number : ℕ) (a : InstallLeft) → ¬ (In a.right mine) → IsReplacing old w t number a → IsReplacing new v t number a
   replacing_kept t number a off k = record {
     height = k.height;
     seen = seen_kept g (place t k.height) number a.page k.seen;
@@ -135,7 +136,7 @@ module _ {mine : List ℕ} {lost : Option Tree} {old new : Moment} {w v : Forest
   posting_kept t number a k = record {
     height = k.height;
     above = parent_kept t number k.height a.parent k.above;
-    few = k.few;
+    fits = k.fits;
     beyond = k.beyond;
     under = under_kept t number k.height a.parent a.at a.pid k.above k.under;
   }
@@ -179,14 +180,14 @@ module _ {mine : List ℕ} {lost : Option Tree} {old new : Moment} {w v : Forest
           go true e = top_awake is.formed t k.height a.right r.0 over (is.formed.homed (place t k.height) a.right r.1) r.2 e
           go false e = let q = g.keeps.wakes (place t k.height) a.right r.0 m r.1 r.2 e live y in subst (λ l. In q.0 l) over q.2
 
-  pub swapping_kept : (t : Tree) (number : ℕ) (a : Crown) → ¬ (In a.new mine) → IsSwapping old w t number a → IsSwapping new v t number a
+  pub swapping_kept : (t : Tree) (number : ℕ) (a : SwapRoot) → ¬ (In a.new mine) → IsSwapping old w t number a → IsSwapping new v t number a
   swapping_kept t number a off k = record { at = k.at; right = k.right; hoisting = hoisting_kept t number (record { left = a.old; at = k.at; right = k.right }) k.hoisting; root = k.root; over = k.over; own = own_kept a.new a.version k.root off k.own }
 
-  pub freeing_kept : (a : Own) → ¬ (In a.pid mine) → IsFreeing old w a → IsFreeing new v a
+  pub freeing_kept : (a : Orphan) → ¬ (In a.pid mine) → IsFreeing old w a → IsFreeing new v a
   freeing_kept a off k = record { node = k.node; own = own_kept a.pid a.version k.node off k.own }
 
   -- the child of an intention takes in no page while the parent has its version: that page's parent would be this one
-  small_kept : Grows (nodes_at old) (nodes_at new) w → (t : Tree) (number : ℕ) (a : Merge) → IsIntending old w t number a → new.numbers t ≡ Some number → IsFresh new a.parent → (m : Node) → nodes_at new a.child ≡ Some m → count m.content ≤ 17
+  small_kept : GrowsByReceiving (nodes_at old) (nodes_at new) w → (t : Tree) (number : ℕ) (a : Merge) → IsIntending old w t number a → new.numbers t ≡ Some number → IsAtVersion new a.parent → (m : Node) → nodes_at new a.child ≡ Some m → count m.content ≤ 17
   small_kept grows t number a k named f m live =
       let seen = k.above.seen in
       let before = had_number g t number seen.stood.tree named in
@@ -194,9 +195,9 @@ module _ {mine : List ℕ} {lost : Option Tree} {old new : Moment} {w v : Forest
       let u = k.under before fresh in
       let p_in = fresh_in seen fresh before in
       let p_is = fresh_node seen fresh in
-      let few = k.small before fresh u.node u.live in
+      let fits = k.small before fresh u.node u.live in
       elim (grows.grows (place t k.height) a.child u.node m u.chained u.live live) [
-        | inl le ↦ le_trans le few
+        | inl le ↦ le_trans le fits
         | inr e ↦ elim e [
           | inl le ↦ le
           | inr r ↦ absurd (not_received p_in p_is u.node u.chained u.live r.0 r.1 r.2 r.3 r.4)
@@ -218,7 +219,7 @@ module _ {mine : List ℕ} {lost : Option Tree} {old new : Moment} {w v : Forest
           at [] ys = inr (inl refl)
           at (x ∷ xs) ys = inr (at xs ys)
 
-  pub intending_kept : Grows (nodes_at old) (nodes_at new) w → (t : Tree) (number : ℕ) (a : Merge) → IsIntending old w t number a → IsIntending new v t number a
+  pub intending_kept : GrowsByReceiving (nodes_at old) (nodes_at new) w → (t : Tree) (number : ℕ) (a : Merge) → IsIntending old w t number a → IsIntending new v t number a
   intending_kept grows t number a k = record {
     height = k.height;
     above = parent_kept t number k.height a.parent k.above;
@@ -288,11 +289,11 @@ module _ {mine : List ℕ} {lost : Option Tree} {old new : Moment} {w v : Forest
     ];
   }
 
-  pub merger_kept : (t : Tree) (number h c : ℕ) (look : Look) → IsMerger old w t number h c look → IsMerger new v t number h c look
+  pub merger_kept : (t : Tree) (number h c : ℕ) (look : View) → IsMerger old w t number h c look → IsMerger new v t number h c look
   merger_kept t number h c look k = record {
     view = view_kept look k.view;
     stood = stood_kept (place t (suc h)) number look.node.lo look.pid k.stood;
-    awake = k.awake;
+    not_merging = k.not_merging;
     child = k.child;
     es = k.es;
     content = k.content;
@@ -323,7 +324,7 @@ module _ {mine : List ℕ} {lost : Option Tree} {old new : Moment} {w v : Forest
         let before = had_number g t number k.tree named in
         let fresh = was_fresh (child_of a) k.view f in
         elim (child_kept t k.height a.merge.child (not_lost g t number named) (k.wanted before fresh)) [
-          | inl c ↦ false_true a.node.merging k.is_open.awake (subst (λ (z : Node). z.merging ≡ true) (some_is c.0 a.node (sym c.1 ∙ fresh_was (child_of a) k.view fresh)) c.2)
+          | inl c ↦ false_true a.node.merging k.is_open.not_merging (subst (λ (z : Node). z.merging ≡ true) (some_is c.0 a.node (sym c.1 ∙ fresh_was (child_of a) k.view fresh)) c.2)
           | inr c ↦ c
         ];
   }
@@ -346,7 +347,7 @@ module _ {mine : List ℕ} {lost : Option Tree} {old new : Moment} {w v : Forest
     next = k.next;
     before = k.before;
     frozen = frozen_kept a.merge.child a.version a.node k.frozen;
-    few = k.few;
+    fits = k.fits;
   }
 
   pub confirming_kept : (t : Tree) (number : ℕ) (a : Confirm) → IsConfirming old w t number a → IsConfirming new v t number a
@@ -362,10 +363,10 @@ stage_stays mine lost old w new v o t number aim stage.Root off k = tt
 stage_stays mine lost old w new v o t number aim (stage.Walk a) off k = walking_kept o.is o.goes t number aim a k
 stage_stays mine lost old w new v o t number aim (stage.Act look) off k = (acting_kept o.goes t number aim look k.0, k.1)
 stage_stays mine lost old w new v o t number aim (stage.Split a) off k = splitting_kept o.is o.goes t number a k
-stage_stays mine lost old w new v o t number aim (stage.Shorten a) off k = replacing_kept o.is o.goes t number a (off a.right (inl refl)) k
+stage_stays mine lost old w new v o t number aim (stage.InstallLeft a) off k = replacing_kept o.is o.goes t number a (off a.right (inl refl)) k
 stage_stays mine lost old w new v o t number aim (stage.Post a) off k = posting_kept o.is o.goes t number a k
 stage_stays mine lost old w new v o t number aim (stage.Hoist a) off k = hoisting_kept o.is o.goes t number a k
-stage_stays mine lost old w new v o t number aim (stage.Crown a) off k = swapping_kept o.is o.goes t number a (off a.new (inl refl)) k
+stage_stays mine lost old w new v o t number aim (stage.SwapRoot a) off k = swapping_kept o.is o.goes t number a (off a.new (inl refl)) k
 stage_stays mine lost old w new v o t number aim (stage.Free a) off k = freeing_kept o.is o.goes a (off a.pid (inl refl)) k
 stage_stays mine lost old w new v o t number aim (stage.Intend a) off k = intending_kept o.is o.goes o.grows t number a k
 stage_stays mine lost old w new v o t number aim (stage.Child a) off k = reading_kept o.is o.goes t number a k

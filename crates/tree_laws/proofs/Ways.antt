@@ -8,7 +8,7 @@ use Rattle.sled_pages.specs.State.{State, Nodes, nodes_of}
 use Rattle.sled_pages.specs.declared.node.Node.{Node}
 use Rattle.tree_laws.specs.Forest.{Tree}
 use Rattle.tree_laws.specs.Images.{Pages, Unclean, image, selves, key, leaf, capped, merging, one_tree, root, left, right, over, first_only, both, not_hoisted, not_posted, intended, unnamed, too_many_in_the_root, CleanPaths}
-use Rattle.tree_laws.specs.Paths.{IsPassed, CleanFrom, IsClean}
+use Rattle.tree_laws.specs.Paths.{NeedsNoRepair, CleanFrom, IsClean}
 use Rattle.tree_laws.specs.PathLaws.{CleanStep}
 use Rattle.tree_laws.proofs.Looking.{clean_step_law}
 use Rattle.tree_laws.proofs.Order.{covers_under, under_covers}
@@ -28,8 +28,8 @@ unfolding key_cmp
 to_only = record { key = []; last = record { before = []; after = []; is = refl; passed = refl; none = refl }; is_first = refl }
 
 -- an open page without bounds, and the left leaf
-wide : (nodes : Nodes) (k : Key) (p : ℕ) (n : Node) → nodes p ≡ Some n → Covers n k → n.merging ≡ false → n.merging_child ≡ None → count n.content ≤ 16 → IsPassed nodes (Included k) p true n
-wide nodes k p n live covers awake free few = record { live = live; under = covers_under k n covers; is_open = record { awake = awake; free = free }; few = few; many = λ l. refl }
+wide : (nodes : Nodes) (k : Key) (p : ℕ) (n : Node) → nodes p ≡ Some n → Covers n k → n.merging ≡ false → n.merging_child ≡ None → count n.content ≤ 16 → NeedsNoRepair nodes (Included k) p true n
+wide nodes k p n live covers not_merging free fits = record { live = live; under = covers_under k n covers; is_open = record { not_merging = not_merging; free = free }; fits = fits; many = λ l. refl }
 
 covers_all : (hi : Key) → hi ≡ [] → Covers (leaf [] hi None []) (key 0)
 unfolding key_cmp
@@ -39,8 +39,8 @@ covers_left : Covers left.1 (key 0)
 unfolding key_cmp
 covers_left = (refl, inr refl)
 
-few : (0 ≤ 16) × (2 ≤ 16) × (3 ≤ 16) × (8 ≤ 16) × (16 ≤ 16)
-few = (omega arith, omega arith, omega arith, omega arith, omega arith)
+fits : (0 ≤ 16) × (2 ≤ 16) × (3 ≤ 16) × (8 ≤ 16) × (16 ≤ 16)
+fits = (omega arith, omega arith, omega arith, omega arith, omega arith)
 
 clean_at : (s : State) (t : Tree) (k : Key) (path : List ℕ) (r : ℕ) → s.roots t ≡ Some r → IsClean s t (Included k) path → CleanFrom (nodes_of s) (Included k) r true path
 clean_at s t k path r e c = subst (λ p. CleanFrom (nodes_of s) (Included k) p true path) (some_is c.root r (sym c.is_root ∙ e)) c.clean
@@ -73,13 +73,13 @@ later_pointer path c =
     few_enough = omega arith
 
 too_long : Unclean too_many_in_the_root 1 (key 0)
-too_long path c = no (first_step too_many_in_the_root 1 (key 0) path (leaf [] [] None (selves 17 0)) refl c).passed.few
+too_long path c = no (first_step too_many_in_the_root 1 (key 0) path (leaf [] [] None (selves 17 0)) refl c).passed.fits
   where
     no : 17 ≤ 16 → ⊥
     no l = omega arith
 
 is_merging : Unclean ((1, capped (leaf [] [] None [])) ∷ []) 1 (key 0)
-is_merging path c = true_false (first_step ((1, capped (leaf [] [] None [])) ∷ []) 1 (key 0) path (capped (leaf [] [] None [])) refl c).passed.is_open.awake
+is_merging path c = true_false (first_step ((1, capped (leaf [] [] None [])) ∷ []) 1 (key 0) path (capped (leaf [] [] None [])) refl c).passed.is_open.not_merging
 
 has_a_child : Unclean intended 3 (key 0)
 has_a_child path c = some_none (first_step intended 3 (key 0) path (merging 2 (over both)) refl c).passed.is_open.free
@@ -95,16 +95,16 @@ beyond_the_leaf path c =
 
 pub clean_paths : CleanPaths
 clean_paths = record {
-  empty_root = record { root = 1; is_root = refl; clean = (refl, leaf [] [] None [], wide _ (key 0) 1 (leaf [] [] None []) refl (covers_all [] refl) refl refl few.0, inl ([], refl, refl)) };
-  long_root = record { root = 1; is_root = refl; clean = (refl, leaf [] [] None (selves 16 0), wide _ (key 0) 1 (leaf [] [] None (selves 16 0)) refl (covers_all [] refl) refl refl few.4, inl (selves 16 0, refl, refl)) };
+  empty_root = record { root = 1; is_root = refl; clean = (refl, leaf [] [] None [], wide _ (key 0) 1 (leaf [] [] None []) refl (covers_all [] refl) refl refl fits.0, inl ([], refl, refl)) };
+  long_root = record { root = 1; is_root = refl; clean = (refl, leaf [] [] None (selves 16 0), wide _ (key 0) 1 (leaf [] [] None (selves 16 0)) refl (covers_all [] refl) refl refl fits.4, inl (selves 16 0, refl, refl)) };
   two_levels = record {
     root = 3;
     is_root = refl;
     clean = (
       refl,
       over both,
-      wide _ (key 0) 3 (over both) refl (covers_all [] refl) refl refl few.1,
-      inr (both, refl, 1, true, to_first, (refl, left.1, wide _ (key 0) 1 left.1 refl covers_left refl refl few.3, inl (selves 8 0, refl, refl))),
+      wide _ (key 0) 3 (over both) refl (covers_all [] refl) refl refl fits.1,
+      inr (both, refl, 1, true, to_first, (refl, left.1, wide _ (key 0) 1 left.1 refl covers_left refl refl fits.3, inl (selves 8 0, refl, refl))),
     );
   };
   first_pointer = record {
@@ -113,8 +113,8 @@ clean_paths = record {
     clean = (
       refl,
       over both,
-      wide _ (key 0) 3 (over both) refl (covers_all [] refl) refl refl few.1,
-      inr (both, refl, 1, true, to_first, (refl, leaf [] (key 8) (Some 2) (selves 3 0), wide _ (key 0) 1 (leaf [] (key 8) (Some 2) (selves 3 0)) refl covers_left refl refl few.2, inl (selves 3 0, refl, refl))),
+      wide _ (key 0) 3 (over both) refl (covers_all [] refl) refl refl fits.1,
+      inr (both, refl, 1, true, to_first, (refl, leaf [] (key 8) (Some 2) (selves 3 0), wide _ (key 0) 1 (leaf [] (key 8) (Some 2) (selves 3 0)) refl covers_left refl refl fits.2, inl (selves 3 0, refl, refl))),
     );
   };
   later_pointer = later_pointer;

@@ -14,19 +14,19 @@ abbrev pub put_node : Nodes → ℕ → Node → Nodes
 put_node nodes p n = put_at nodes p (Some n)
 
 -- two halves of the same kind
-abbrev pub Halves : Data → Data → Data → Type 0
-Halves (Leaf es) (Leaf a) (Leaf b) = es ≡ a ++ b
-Halves (Index es) (Index a) (Index b) = es ≡ a ++ b
-Halves (Leaf es) (Index a) c = ⊥
-Halves (Leaf es) (Leaf a) (Index b) = ⊥
-Halves (Index es) (Leaf a) c = ⊥
-Halves (Index es) (Index a) (Leaf b) = ⊥
+abbrev pub AreHalvesOf : Data → Data → Data → Type 0
+AreHalvesOf (Leaf es) (Leaf a) (Leaf b) = es ≡ a ++ b
+AreHalvesOf (Index es) (Index a) (Index b) = es ≡ a ++ b
+AreHalvesOf (Leaf es) (Index a) c = ⊥
+AreHalvesOf (Leaf es) (Leaf a) (Index b) = ⊥
+AreHalvesOf (Index es) (Leaf a) c = ⊥
+AreHalvesOf (Index es) (Index a) (Leaf b) = ⊥
 
 -- n is split at the key right.lo, and the right half is the page q
 pub record IsSplit (h : ℕ) (n : Node) (left right : Node) (q : ℕ) : Type 0 where
   pub left_sound : IsNodeAt h left
   pub right_sound : IsNodeAt h right
-  pub halves : Halves n.content left.content right.content
+  pub halves : AreHalvesOf n.content left.content right.content
   pub left_lo : left.lo ≡ n.lo
   pub left_hi : left.hi ≡ right.lo
   pub left_next : left.next ≡ Some q
@@ -39,7 +39,7 @@ pub record IsSplit (h : ℕ) (n : Node) (left right : Node) (q : ℕ) : Type 0 w
 -- n takes the entries, the end and the next page of c
 pub record IsReceived (h : ℕ) (n c both : Node) : Type 0 where
   pub sound : IsNodeAt h both
-  pub halves : Halves both.content n.content c.content
+  pub halves : AreHalvesOf both.content n.content c.content
   pub lo : both.lo ≡ n.lo
   pub hi : both.hi ≡ c.hi
   pub next : both.next ≡ c.next

@@ -3,39 +3,39 @@ use Rattle.std.specs.Prelude.{◌≡◌, ℕ, nat_eq, true, false, List, [], ◌
 use Rattle.sled_pages.specs.State.{Action}
 use Rattle.sled_pages.specs.Store.{Store, now}
 use Rattle.tree_laws.specs.Contents.{trees_of}
-use Rattle.tree_laws.specs.Crashes.{IsWhole, IsCrashWhole, Trees, Matches, Extends, Flushes, Adds}
+use Rattle.tree_laws.specs.Crashes.{IsValid, IsCrashConsistent, Trees, StutterEquivalent, AddsCrashStates, Flushes, AddsAction}
 
 -- growths follow one another, and their trees stand one behind the other
 abbrev pub ExtendsLaw : Type 0
-ExtendsLaw = (k l : List Trees) (a b c : Store) → Extends k a b → Extends l b c → Extends (k ++ l) a c
+ExtendsLaw = (k l : List Trees) (a b c : Store) → AddsCrashStates k a b → AddsCrashStates l b c → AddsCrashStates (k ++ l) a c
 
 -- where no action was added, nothing grew: faults, the mark and what can be read do not matter
 abbrev pub RestsLaw : Type 0
-RestsLaw = (a b : Store) → b.base ≡ a.base → b.recent ≡ a.recent → b.actions ≡ a.actions → Extends [] a b
+RestsLaw = (a b : Store) → b.base ≡ a.base → b.recent ≡ a.recent → b.actions ≡ a.actions → AddsCrashStates [] a b
 
 -- an action outside every group that leaves a well-formed state adds the trees of that state
 abbrev pub DecidesLaw : Type 0
-DecidesLaw = (act : Action) (a b : Store) → Adds act a b → (now b).in_group ≡ false → IsWhole (now b) → Extends (trees_of (now b) ∷ []) a b
+DecidesLaw = (act : Action) (a b : Store) → AddsAction act a b → (now b).in_group ≡ false → IsValid (now b) → AddsCrashStates (trees_of (now b) ∷ []) a b
 
 -- .. and adds no trees where they are as they were
 abbrev pub UnseenLaw : Type 0
-UnseenLaw = (act : Action) (a b : Store) → Adds act a b → (now a).in_group ≡ false → (now b).in_group ≡ false → IsWhole (now b) → trees_of (now b) ≡ trees_of (now a) → Extends [] a b
+UnseenLaw = (act : Action) (a b : Store) → AddsAction act a b → (now a).in_group ≡ false → (now b).in_group ≡ false → IsValid (now b) → trees_of (now b) ≡ trees_of (now a) → AddsCrashStates [] a b
 
 -- an action inside a group adds nothing that a crash may leave
 abbrev pub InsideGroupLaw : Type 0
-InsideGroupLaw = (act : Action) (a b : Store) → Adds act a b → (now b).in_group ≡ true → Extends [] a b
+InsideGroupLaw = (act : Action) (a b : Store) → AddsAction act a b → (now b).in_group ≡ true → AddsCrashStates [] a b
 
 -- a call that is decided without a change adds the trees as they are
 abbrev pub AgainLaw : Type 0
-AgainLaw = (maps : List Trees) (a b : Store) → Extends maps a b → (now b).in_group ≡ false → Extends (maps ++ trees_of (now b) ∷ []) a b
+AgainLaw = (maps : List Trees) (a b : Store) → AddsCrashStates maps a b → (now b).in_group ≡ false → AddsCrashStates (maps ++ trees_of (now b) ∷ []) a b
 
 -- the shape and the size are kept in each state that a crash may leave
 abbrev pub WholeLaw : Type 0
-WholeLaw = (act : Action) (a b : Store) → Adds act a b → IsCrashWhole a → ((now b).in_group ≡ false → IsWhole (now b)) → IsCrashWhole b
+WholeLaw = (act : Action) (a b : Store) → AddsAction act a b → IsCrashConsistent a → ((now b).in_group ≡ false → IsValid (now b)) → IsCrashConsistent b
 
 -- and after a flush of a state that has them
 abbrev pub FlushesWholeLaw : Type 0
-FlushesWholeLaw = (a b : Store) → Flushes a b → (now a).in_group ≡ false → IsWhole (now a) → IsCrashWhole b
+FlushesWholeLaw = (a b : Store) → Flushes a b → (now a).in_group ≡ false → IsValid (now a) → IsCrashConsistent b
 
 -- a number comes before a list, unless the list begins with it
 abbrev pub ahead : ℕ → List ℕ → List ℕ
@@ -49,4 +49,4 @@ once_each (x ∷ xs) = ahead x (once_each xs)
 
 -- what it is that lists match, said of numbers, which can be compared
 abbrev pub MatchesLaw : Type 0
-MatchesLaw = (xs ys : List ℕ) → (Matches xs ys → once_each xs ≡ once_each ys) × (once_each xs ≡ once_each ys → Matches xs ys)
+MatchesLaw = (xs ys : List ℕ) → (StutterEquivalent xs ys → once_each xs ≡ once_each ys) × (once_each xs ≡ once_each ys → StutterEquivalent xs ys)

@@ -3,21 +3,21 @@ use Rattle.std.specs.Prelude.{◌≡◌, ◌≢◌, ℕ, ◌≤◌, false, List,
 use Rattle.std.specs.FinMap.Entries.{put}
 use Rattle.sled_pages.specs.Order.{Key, key_cmp}
 use Rattle.sled_pages.specs.In.{In}
-use Rattle.sled_pages.specs.Node.{count, Covers, applied}
+use Rattle.sled_pages.specs.Node.{count, Covers, after_link}
 use Rattle.sled_pages.specs.State.{Nodes}
 use Rattle.sled_pages.specs.declared.node.Node.{Node}
 use Rattle.sled_pages.specs.declared.link.Link.TheVariants.{Set}
 use Rattle.sled_pages.specs.declared.page.Page.{Page}
 use Rattle.tree_laws.specs.Forest.{Tree, Forest, Place, place, WellFormed}
 use Rattle.tree_laws.specs.Action.{put_node, IsSplit, IsReceived}
-use Rattle.tree_laws.specs.Moment.{Moment, IsMoment, nodes_at, IsStray, Keeps}
-use Rattle.tree_laws.specs.Laws.{IsAt, Changed, Steps, replaced}
+use Rattle.tree_laws.specs.Snapshot.{Snapshot, HasForest, nodes_at, IsOrphan, KeepsNodes}
+use Rattle.tree_laws.specs.Laws.{IsAt, Changed, StepsForest, after_replacement}
 use Rattle.tree_laws.specs.PageLaws.{IsOpenAt, Unseen}
 
 -- a `Set` that may make any page hold 33 entries, a merging child too
 abbrev pub SetOfMany : Type 0
 SetOfMany = (nodes : Nodes) (roots : Tree → Option ℕ) (w : Forest) → WellFormed nodes roots w → (t : Tree) (p : ℕ) (n : Node) (k v : Key)
-    → IsAt nodes w (place t 0) p n → Covers n k → Changed nodes (put_node nodes p (applied (Set k v) n)) roots w t (put key_cmp k v) (count (applied (Set k v) n).content ≤ 33)
+    → IsAt nodes w (place t 0) p n → Covers n k → Changed nodes (put_node nodes p (after_link (Set k v) n)) roots w t (put key_cmp k v) (count (after_link (Set k v) n).content ≤ 33)
 
 -- a page that receives the page behind it, capped or not
 abbrev pub ReceiveOfAny : Type 0
@@ -34,10 +34,10 @@ SplitToAny = (nodes : Nodes) (roots : Tree → Option ℕ) (w : Forest) → Well
 
 -- a change of a page that is not the call's own and that has no home, so that it may be another call's own
 abbrev pub ReplaceOfStray : Type 0
-ReplaceOfStray = (mine : List ℕ) (m : Moment) (w v : Forest) (p : ℕ) (g new : Page) → IsMoment m w → m.state.pages p ≡ Some g → g.node.merging ≡ false → m.versions new.version ≡ false
-    → IsStray w p
-    → WellFormed (put_node (nodes_at m) p new.node) m.state.roots v → Keeps mine None (nodes_at m) (put_node (nodes_at m) p new.node) w v
-    → Steps mine None m w (replaced m p new) v
+ReplaceOfStray = (mine : List ℕ) (m : Snapshot) (w v : Forest) (p : ℕ) (g new : Page) → HasForest m w → m.state.pages p ≡ Some g → g.node.merging ≡ false → m.versions new.version ≡ false
+    → IsOrphan w p
+    → WellFormed (put_node (nodes_at m) p new.node) m.state.roots v → KeepsNodes mine None (nodes_at m) (put_node (nodes_at m) p new.node) w v
+    → StepsForest mine None m w (after_replacement m p new) v
 
 pub record FalseLaws : Type 0 where
   -- a merging child would hold 18 entries

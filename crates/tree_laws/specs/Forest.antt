@@ -104,7 +104,7 @@ pub record WellFormed (nodes : Nodes) (roots : Tree → Option ℕ) (w : Forest)
 
 -- The pages have at most this size: 33 entries, and 17 of a merging child
 pub record IsSized (nodes : Nodes) (w : Forest) : Type 0 where
-  pub few : (x : Place) (p : ℕ) (n : Node) → w.home p ≡ Some x → nodes p ≡ Some n → count n.content ≤ 33
+  pub fits : (x : Place) (p : ℕ) (n : Node) → w.home p ≡ Some x → nodes p ≡ Some n → count n.content ≤ 33
   pub child : (x : Place) (p c : ℕ) (n d : Node) → In p (w.chain x) → nodes p ≡ Some n → n.merging_child ≡ Some c → nodes c ≡ Some d → count d.content ≤ 17
 
 -- the pairs of a page that may be there

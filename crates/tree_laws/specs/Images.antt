@@ -10,7 +10,7 @@ use Rattle.sled_pages.specs.declared.node.Node.{Node}
 use Rattle.sled_pages.specs.declared.node.Data.TheVariants.{Leaf, Index}
 use Rattle.tree_laws.specs.Forest.{Tree, Forest, WellFormed, IsSized}
 use Rattle.tree_laws.specs.Contents.{trees_of}
-use Rattle.tree_laws.specs.Crashes.{IsWhole}
+use Rattle.tree_laws.specs.Crashes.{IsValid}
 use Rattle.tree_laws.specs.Paths.{IsClean, tree_pages}
 
 -- the pages of an image
@@ -58,7 +58,7 @@ root r = (one_tree, r) ∷ []
 
 -- with this root it is well formed, and its tree has these pairs, and so many pages in its chains
 pub record Accepts (pages : Pages) (r : ℕ) (es : List (Key × Key)) (count : ℕ) : Type 0 where
-  pub whole : IsWhole (image pages (root r))
+  pub whole : IsValid (image pages (root r))
   pub pairs : trees_of (image pages (root r)) one_tree ≡ Some es
   pub counted : tree_pages (image pages (root r)) one_tree ≡ count
 

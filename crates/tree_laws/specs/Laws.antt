@@ -7,7 +7,7 @@ use Rattle.std.specs.declared.ops.Bound.TheVariants.{Included}
 use Rattle.sled_pages.specs.Order.{Key, key_cmp, Below, UpTo}
 use Rattle.sled_pages.specs.In.{In}
 use Rattle.sled_pages.specs.Update.{put_at, put_name}
-use Rattle.sled_pages.specs.Node.{pairs, count, Covers, without, applied, value_at}
+use Rattle.sled_pages.specs.Node.{pairs, count, Covers, without, after_link, value_at}
 use Rattle.sled_pages.specs.State.{State, Nodes, nodes_of, PageBecomes, RootBecomes, after}
 use Rattle.sled_pages.specs.declared.node.Node.{Node}
 use Rattle.sled_pages.specs.declared.node.Data.{Data}
@@ -19,41 +19,42 @@ use Rattle.tree_laws.specs.Contents.{trees_of}
 use Rattle.tree_laws.specs.Paths.{tree_pages, pages_below, IsClean}
 use Rattle.tree_laws.specs.Drops.{IsLeft}
 use Rattle.tree_laws.specs.Action.{put_node}
-use Rattle.tree_laws.specs.Moment.{Moment, IsMoment, nodes_at, IsStray, Keeps, Goes, Grows, Viewed, Stood, Look, IsActing}
+use Rattle.sled_pages.specs.declared.page.View.{View}
+use Rattle.tree_laws.specs.Snapshot.{Snapshot, HasForest, nodes_at, IsOrphan, KeepsNodes, Guarantee, GrowsByReceiving, IsReadAs, StoodInChain, IsActing}
 
 -- a page of the chain at x that is not merging
 pub record IsAt (nodes : Nodes) (w : Forest) (x : Place) (p : ℕ) (n : Node) : Type 0 where
   pub chained : In p (w.chain x)
   pub live : nodes p ≡ Some n
-  pub awake : n.merging ≡ false
+  pub not_merging : n.merging ≡ false
 
 -- After a change of one page of the tree t: the shape is kept, the tree's contents are changed so and no other tree's are.
 -- Where it is small enough, the size is kept too
-pub record Changed (nodes new : Nodes) (roots : Tree → Option ℕ) (w : Forest) (t : Tree) (change : List (Key × Key) → List (Key × Key)) (few : Type 0) : Type 0 where
+pub record Changed (nodes new : Nodes) (roots : Tree → Option ℕ) (w : Forest) (t : Tree) (change : List (Key × Key) → List (Key × Key)) (fits : Type 0) : Type 0 where
   pub kept : WellFormed new roots w
   pub here : contents new w t ≡ change (contents nodes w t)
   pub others : (u : Tree) → u ≢ t → contents new w u ≡ contents nodes w u
-  pub keeps : Keeps [] None nodes new w w
-  pub sized : few → IsSized nodes w → IsSized new w
-  pub grows : few → Grows nodes new w
+  pub keeps : KeepsNodes [] None nodes new w w
+  pub sized : fits → IsSized nodes w → IsSized new w
+  pub grows : fits → GrowsByReceiving nodes new w
 
 -- a `Set` at a leaf that covers the key puts the pair into the tree's contents
 abbrev pub SetLaw : Type 0
 SetLaw = (nodes : Nodes) (roots : Tree → Option ℕ) (w : Forest) → WellFormed nodes roots w → (t : Tree) (p : ℕ) (n : Node) (k v : Key)
-    → IsAt nodes w (place t 0) p n → Covers n k → Changed nodes (put_node nodes p (applied (Set k v) n)) roots w t (put key_cmp k v) (count (applied (Set k v) n).content ≤ 17)
+    → IsAt nodes w (place t 0) p n → Covers n k → Changed nodes (put_node nodes p (after_link (Set k v) n)) roots w t (put key_cmp k v) (count (after_link (Set k v) n).content ≤ 17)
 
 -- a `Del` at a leaf that covers the key takes it out of the tree's contents
 abbrev pub DelLaw : Type 0
 DelLaw = (nodes : Nodes) (roots : Tree → Option ℕ) (w : Forest) → WellFormed nodes roots w → (t : Tree) (p : ℕ) (n : Node) (k : Key)
     → IsAt nodes w (place t 0) p n → Covers n k
-    → Changed nodes (put_node nodes p (applied (Del k) n)) roots w t (without k) (Unit {0})
+    → Changed nodes (put_node nodes p (after_link (Del k) n)) roots w t (without k) (Unit {0})
 
 -- The pages stay, and the tree t's root becomes this
 pub record Rooted (mine : List ℕ) (lost : Option Tree) (nodes : Nodes) (roots : Tree → Option ℕ) (w : Forest) (t : Tree) (root : Option ℕ) : Type 0 where
   pub after : Forest
   pub kept : WellFormed nodes (put_name roots t root) after
   pub others : (u : Tree) → u ≢ t → contents nodes after u ≡ contents nodes w u
-  pub keeps : Keeps mine lost nodes nodes w after
+  pub keeps : KeepsNodes mine lost nodes nodes w after
   pub sized : IsSized nodes w → IsSized nodes after
 
 -- a page with empty bounds, alone on its level
@@ -69,20 +70,20 @@ pub record IsAlone (nodes : Nodes) (p : ℕ) (n : Node) (c : Data) : Type 0 wher
 -- a new tree, whose root is an empty leaf without a home, is empty
 abbrev pub PlantLaw : Type 0
 PlantLaw = (nodes : Nodes) (roots : Tree → Option ℕ) (w : Forest) → WellFormed nodes roots w → (t : Tree) (r : ℕ) (n : Node)
-    → roots t ≡ None → IsStray w r → IsAlone nodes r n (Leaf [])
+    → roots t ≡ None → IsOrphan w r → IsAlone nodes r n (Leaf [])
     → (u : Rooted (r ∷ []) None nodes roots w t (Some r)) × (contents nodes u.after t ≡ []) × In r (u.after.chain (place t 0))
 
 -- the root of t becomes the index r over the old root and a page of the old root's level
 abbrev pub HoistLaw : Type 0
 HoistLaw = (nodes : Nodes) (roots : Tree → Option ℕ) (w : Forest) → WellFormed nodes roots w → (t : Tree) (h left right r : ℕ) (n d : Node)
-    → roots t ≡ Some left → IsStray w r → In left (w.chain (place t h)) → In right (w.chain (place t h)) → nodes right ≡ Some d → Below [] d.lo
+    → roots t ≡ Some left → IsOrphan w r → In left (w.chain (place t h)) → In right (w.chain (place t h)) → nodes right ≡ Some d → Below [] d.lo
     → IsAlone nodes r n (Index (([], left) ∷ (d.lo, right) ∷ []))
     → (u : Rooted (r ∷ []) None nodes roots w t (Some r)) × (contents nodes u.after t ≡ contents nodes w t) × In r (u.after.chain (place t (suc h)))
 
 -- a tree goes, and its pages have no home then
 abbrev pub DropLaw : Type 0
 DropLaw = (nodes : Nodes) (roots : Tree → Option ℕ) (w : Forest) → WellFormed nodes roots w → (t : Tree)
-    → (u : Rooted [] (Some t) nodes roots w t None) × ((p h : ℕ) → w.home p ≡ Some (place t h) → IsStray u.after p)
+    → (u : Rooted [] (Some t) nodes roots w t None) × ((p h : ℕ) → w.home p ≡ Some (place t h) → IsOrphan u.after p)
 
 -- what the leaf that covers a key has at it is what the tree has at it
 abbrev pub FindLaw : Type 0
@@ -105,80 +106,80 @@ abbrev pub EmptyLaw : Type 0
 EmptyLaw = WellFormed (λ p. None) (λ t. None) no_forest × IsSized (λ p. None) no_forest
 
 -- the moment after a page got a new version, after a new page, and after a page went
-abbrev pub replaced : Moment → ℕ → Page → Moment
-replaced m p g = record m { state = after (PageBecomes p (Some g)) m.state; versions = put_at m.versions g.version true }
+abbrev pub after_replacement : Snapshot → ℕ → Page → Snapshot
+after_replacement m p g = record m { state = after (PageBecomes p (Some g)) m.state; versions = put_at m.versions g.version true }
 
-abbrev pub allocated : Moment → ℕ → Page → Moment
-allocated m p g = record m { state = after (PageBecomes p (Some g)) m.state; pids = put_at m.pids p true; versions = put_at m.versions g.version true }
+abbrev pub after_allocation : Snapshot → ℕ → Page → Snapshot
+after_allocation m p g = record m { state = after (PageBecomes p (Some g)) m.state; pids = put_at m.pids p true; versions = put_at m.versions g.version true }
 
-abbrev pub freed : Moment → ℕ → Moment
-freed m p = record m { state = after (PageBecomes p None) m.state }
+abbrev pub after_free : Snapshot → ℕ → Snapshot
+after_free m p = record m { state = after (PageBecomes p None) m.state }
 
 -- the moment after a name got its first root, after a tree's root became another, and after a tree went
-abbrev pub planted : Moment → Tree → ℕ → ℕ → Moment
-planted m t r number = record m { state = after (RootBecomes t (Some r)) m.state; numbers = put_name m.numbers t (Some number); given = put_at m.given number true }
+abbrev pub after_creation : Snapshot → Tree → ℕ → ℕ → Snapshot
+after_creation m t r number = record m { state = after (RootBecomes t (Some r)) m.state; numbers = put_name m.numbers t (Some number); given = put_at m.given number true }
 
-abbrev pub hoisted : Moment → Tree → ℕ → Moment
-hoisted m t r = record m { state = after (RootBecomes t (Some r)) m.state }
+abbrev pub after_hoist : Snapshot → Tree → ℕ → Snapshot
+after_hoist m t r = record m { state = after (RootBecomes t (Some r)) m.state }
 
-abbrev pub dropped : Moment → Tree → Moment
-dropped m t = record m { state = after (RootBecomes t None) m.state; numbers = put_name m.numbers t None }
+abbrev pub after_drop : Snapshot → Tree → Snapshot
+after_drop m t = record m { state = after (RootBecomes t None) m.state; numbers = put_name m.numbers t None }
 
 -- one action of a call, to a moment with a forest, that keeps what others know
-pub record Steps (mine : List ℕ) (lost : Option Tree) (old : Moment) (w : Forest) (new : Moment) (v : Forest) : Type 0 where
-  pub is : IsMoment new v
-  pub goes : Goes mine lost old w new v
+pub record StepsForest (mine : List ℕ) (lost : Option Tree) (old : Snapshot) (w : Forest) (new : Snapshot) (v : Forest) : Type 0 where
+  pub is : HasForest new v
+  pub goes : Guarantee mine lost old w new v
 
 -- what a law says of the nodes holds of the pages with versions, where the version was never given, and the page is not
 -- merging and has a home or is the call's own
 abbrev pub ReplaceLaw : Type 0
-ReplaceLaw = (mine : List ℕ) (m : Moment) (w v : Forest) (p : ℕ) (g new : Page) → IsMoment m w → m.state.pages p ≡ Some g → g.node.merging ≡ false → m.versions new.version ≡ false
+ReplaceLaw = (mine : List ℕ) (m : Snapshot) (w v : Forest) (p : ℕ) (g new : Page) → HasForest m w → m.state.pages p ≡ Some g → g.node.merging ≡ false → m.versions new.version ≡ false
     → ((x : Place) × (w.home p ≡ Some x)) ⊎ In p mine
-    → WellFormed (put_node (nodes_at m) p new.node) m.state.roots v → Keeps mine None (nodes_at m) (put_node (nodes_at m) p new.node) w v
-    → Steps mine None m w (replaced m p new) v
+    → WellFormed (put_node (nodes_at m) p new.node) m.state.roots v → KeepsNodes mine None (nodes_at m) (put_node (nodes_at m) p new.node) w v
+    → StepsForest mine None m w (after_replacement m p new) v
 
 -- a new page has no home, and no tree's contents change
 abbrev pub AllocateLaw : Type 0
-AllocateLaw = (m : Moment) (w : Forest) (p : ℕ) (g : Page) → IsMoment m w → m.pids p ≡ false → m.versions g.version ≡ false → p < 2 ^ 64
-    → Steps (p ∷ []) None m w (allocated m p g) w × IsStray w p × ((t : Tree) → contents (nodes_at (allocated m p g)) w t ≡ contents (nodes_at m) w t)
-    × (IsSized (nodes_at m) w → IsSized (nodes_at (allocated m p g)) w)
-    × Grows (nodes_at m) (nodes_at (allocated m p g)) w
+AllocateLaw = (m : Snapshot) (w : Forest) (p : ℕ) (g : Page) → HasForest m w → m.pids p ≡ false → m.versions g.version ≡ false → p < 2 ^ 64
+    → StepsForest (p ∷ []) None m w (after_allocation m p g) w × IsOrphan w p × ((t : Tree) → contents (nodes_at (after_allocation m p g)) w t ≡ contents (nodes_at m) w t)
+    × (IsSized (nodes_at m) w → IsSized (nodes_at (after_allocation m p g)) w)
+    × GrowsByReceiving (nodes_at m) (nodes_at (after_allocation m p g)) w
 
 -- a page without a home goes, and no tree's contents change
 abbrev pub FreeLaw : Type 0
-FreeLaw = (m : Moment) (w : Forest) (p : ℕ) → IsMoment m w → IsStray w p
-    → Steps (p ∷ []) None m w (freed m p) w × ((t : Tree) → contents (nodes_at (freed m p)) w t ≡ contents (nodes_at m) w t)
-    × (IsSized (nodes_at m) w → IsSized (nodes_at (freed m p)) w)
-    × Grows (nodes_at m) (nodes_at (freed m p)) w
+FreeLaw = (m : Snapshot) (w : Forest) (p : ℕ) → HasForest m w → IsOrphan w p
+    → StepsForest (p ∷ []) None m w (after_free m p) w × ((t : Tree) → contents (nodes_at (after_free m p)) w t ≡ contents (nodes_at m) w t)
+    × (IsSized (nodes_at m) w → IsSized (nodes_at (after_free m p)) w)
+    × GrowsByReceiving (nodes_at m) (nodes_at (after_free m p)) w
 
 -- a name without a root gets a root and a number that was never given
 abbrev pub PlantedLaw : Type 0
-PlantedLaw = (m : Moment) (w : Forest) (t : Tree) (r number : ℕ) (n : Node) → IsMoment m w → m.state.roots t ≡ None → m.given number ≡ false
-    → IsStray w r → n.merging ≡ false → nodes_at m r ≡ Some n → (u : Rooted (r ∷ []) None (nodes_at m) m.state.roots w t (Some r))
-    → Steps (r ∷ []) None m w (planted m t r number) u.after
+PlantedLaw = (m : Snapshot) (w : Forest) (t : Tree) (r number : ℕ) (n : Node) → HasForest m w → m.state.roots t ≡ None → m.given number ≡ false
+    → IsOrphan w r → n.merging ≡ false → nodes_at m r ≡ Some n → (u : Rooted (r ∷ []) None (nodes_at m) m.state.roots w t (Some r))
+    → StepsForest (r ∷ []) None m w (after_creation m t r number) u.after
 
 -- a tree's root becomes another, a page without a home
 abbrev pub HoistedLaw : Type 0
-HoistedLaw = (m : Moment) (w : Forest) (t : Tree) (left r : ℕ) (n : Node) → IsMoment m w → m.state.roots t ≡ Some left
-    → IsStray w r → n.merging ≡ false → nodes_at m r ≡ Some n → (u : Rooted (r ∷ []) None (nodes_at m) m.state.roots w t (Some r))
-    → Steps (r ∷ []) None m w (hoisted m t r) u.after
+HoistedLaw = (m : Snapshot) (w : Forest) (t : Tree) (left r : ℕ) (n : Node) → HasForest m w → m.state.roots t ≡ Some left
+    → IsOrphan w r → n.merging ≡ false → nodes_at m r ≡ Some n → (u : Rooted (r ∷ []) None (nodes_at m) m.state.roots w t (Some r))
+    → StepsForest (r ∷ []) None m w (after_hoist m t r) u.after
 
 -- a tree goes, with its number
 abbrev pub DroppedLaw : Type 0
-DroppedLaw = (m : Moment) (w : Forest) (t : Tree) → IsMoment m w → (u : Rooted [] (Some t) (nodes_at m) m.state.roots w t None)
-    → Steps [] (Some t) m w (dropped m t) u.after
+DroppedLaw = (m : Snapshot) (w : Forest) (t : Tree) → HasForest m w → (u : Rooted [] (Some t) (nodes_at m) m.state.roots w t None)
+    → StepsForest [] (Some t) m w (after_drop m t) u.after
 
 -- what a call knows survives each action of others: a view
 abbrev pub ViewLaw : Type 0
-ViewLaw = (mine : List ℕ) (lost : Option Tree) (old new : Moment) (w v : Forest) → Goes mine lost old w new v → (p version : ℕ) (n : Node) → Viewed old p version n → Viewed new p version n
+ViewLaw = (mine : List ℕ) (lost : Option Tree) (old new : Snapshot) (w v : Forest) → Guarantee mine lost old w new v → (p version : ℕ) (n : Node) → IsReadAs old p version n → IsReadAs new p version n
 
 -- .. and that a page stood in a chain
 abbrev pub StoodLaw : Type 0
-StoodLaw = (mine : List ℕ) (lost : Option Tree) (old new : Moment) (w v : Forest) → Goes mine lost old w new v → (x : Place) (number : ℕ) (lo : Key) (p : ℕ) → Stood old w x number lo p → Stood new v x number lo p
+StoodLaw = (mine : List ℕ) (lost : Option Tree) (old new : Snapshot) (w v : Forest) → Guarantee mine lost old w new v → (x : Place) (number : ℕ) (lo : Key) (p : ℕ) → StoodInChain old w x number lo p → StoodInChain new v x number lo p
 
 -- a page that stood in a chain, is live and not merging, and whose tree has its number still, stands there now
 abbrev pub NowLaw : Type 0
-NowLaw = (m : Moment) (w : Forest) (x : Place) (number : ℕ) (lo : Key) (p : ℕ) → Stood m w x number lo p → m.numbers x.tree ≡ Some number → (n : Node) → nodes_at m p ≡ Some n → n.merging ≡ false → In p (w.chain x) × (n.lo ≡ lo)
+NowLaw = (m : Snapshot) (w : Forest) (x : Place) (number : ℕ) (lo : Key) (p : ℕ) → StoodInChain m w x number lo p → m.numbers x.tree ≡ Some number → (n : Node) → nodes_at m p ≡ Some n → n.merging ≡ false → In p (w.chain x) × (n.lo ≡ lo)
 
 -- the contents as a function of the state are the forest's
 abbrev pub ContentsLaw : Type 0
@@ -186,39 +187,39 @@ ContentsLaw = (s : State) (w : Forest) → WellFormed (nodes_of s) s.roots w →
     → (t : Tree) → trees_of s t ≡ option_map (λ _. contents (nodes_of s) w t) (s.roots t)
 
 -- the page of a view has the view's version still, and is this node; and the tree has its number
-pub record IsCurrent (m : Moment) (t : Tree) (number : ℕ) (look : Look) (node : Node) : Type 0 where
+pub record IsNodeNow (m : Snapshot) (t : Tree) (number : ℕ) (look : View) (node : Node) : Type 0 where
   pub named : m.numbers t ≡ Some number
   pub page : m.state.pages look.pid ≡ Some (record { version = look.version; node = node })
 
 -- a step that changes the contents of the tree t so and no other tree's, and the forest not at all. Where the page is small
 -- enough, the size is kept too
-pub record Written (old : Moment) (w : Forest) (new : Moment) (t : Tree) (change : List (Key × Key) → List (Key × Key)) (few : Type 0) : Type 0 where
-  pub steps : Steps [] None old w new w
+pub record Written (old : Snapshot) (w : Forest) (new : Snapshot) (t : Tree) (change : List (Key × Key) → List (Key × Key)) (fits : Type 0) : Type 0 where
+  pub steps : StepsForest [] None old w new w
   pub here : contents (nodes_at new) w t ≡ change (contents (nodes_at old) w t)
   pub others : (u : Tree) → u ≢ t → contents (nodes_at new) w u ≡ contents (nodes_at old) w u
-  pub sized : few → IsSized (nodes_at old) w → IsSized (nodes_at new) w
-  pub grows : few → Grows (nodes_at old) (nodes_at new) w
+  pub sized : fits → IsSized (nodes_at old) w → IsSized (nodes_at new) w
+  pub grows : fits → GrowsByReceiving (nodes_at old) (nodes_at new) w
 
 -- a `Set` at the leaf that a call means to change puts the pair into the tree's contents
 abbrev pub WriteLaw : Type 0
-WriteLaw = (m : Moment) (w : Forest) → IsMoment m w → (t : Tree) (number : ℕ) (key : Key) (look : Look) (node : Node) → IsActing m w t number (Included key) look → IsCurrent m t number look node
+WriteLaw = (m : Snapshot) (w : Forest) → HasForest m w → (t : Tree) (number : ℕ) (key : Key) (look : View) (node : Node) → IsActing m w t number (Included key) look → IsNodeNow m t number look node
     → (value : Key) (version : ℕ) → m.versions version ≡ false
-    → Written m w (replaced m look.pid (record { version = version; node = applied (Set key value) node })) t (put key_cmp key value) (count (applied (Set key value) node).content ≤ 17)
+    → Written m w (after_replacement m look.pid (record { version = version; node = after_link (Set key value) node })) t (put key_cmp key value) (count (after_link (Set key value) node).content ≤ 17)
 
 -- a `Del` takes it out
 abbrev pub EraseLaw : Type 0
-EraseLaw = (m : Moment) (w : Forest) → IsMoment m w → (t : Tree) (number : ℕ) (key : Key) (look : Look) (node : Node) → IsActing m w t number (Included key) look → IsCurrent m t number look node
+EraseLaw = (m : Snapshot) (w : Forest) → HasForest m w → (t : Tree) (number : ℕ) (key : Key) (look : View) (node : Node) → IsActing m w t number (Included key) look → IsNodeNow m t number look node
     → (version : ℕ) → m.versions version ≡ false
-    → Written m w (replaced m look.pid (record { version = version; node = applied (Del key) node })) t (without key) (Unit {0})
+    → Written m w (after_replacement m look.pid (record { version = version; node = after_link (Del key) node })) t (without key) (Unit {0})
 
 -- and what the view has at the key is what the tree has at it then
 abbrev pub AnswerLaw : Type 0
-AnswerLaw = (m : Moment) (w : Forest) → IsMoment m w → (t : Tree) (number : ℕ) (key : Key) (look : Look) (node : Node) → IsActing m w t number (Included key) look → IsCurrent m t number look node
+AnswerLaw = (m : Snapshot) (w : Forest) → HasForest m w → (t : Tree) (number : ℕ) (key : Key) (look : View) (node : Node) → IsActing m w t number (Included key) look → IsNodeNow m t number look node
     → find key_cmp key (contents (nodes_at m) w t) ≡ value_at look.node.content key
 
 -- a leaf that a call means to change stays so through each action of others
 abbrev pub ActingLaw : Type 0
-ActingLaw = (mine : List ℕ) (lost : Option Tree) (old new : Moment) (w v : Forest) → Goes mine lost old w new v → (t : Tree) (number : ℕ) (aim : Bound Key) (look : Look) → IsActing old w t number aim look → IsActing new v t number aim look
+ActingLaw = (mine : List ℕ) (lost : Option Tree) (old new : Snapshot) (w v : Forest) → Guarantee mine lost old w new v → (t : Tree) (number : ℕ) (aim : Bound Key) (look : View) → IsActing old w t number aim look → IsActing new v t number aim look
 
 -- the number of a tree's pages as a function is the forest's: those of the levels from the root's down
 abbrev pub PagesLaw : Type 0
@@ -227,13 +228,13 @@ PagesLaw = (s : State) (w : Forest) → WellFormed (nodes_of s) s.roots w → ((
 
 -- right after the drop of a tree all of each chain is left
 abbrev pub LeftLaw : Type 0
-LeftLaw = (m : Moment) (w : Forest) (t : Tree) → IsMoment m w → (u : Rooted [] (Some t) (nodes_at m) m.state.roots w t None) → ((p h : ℕ) → w.home p ≡ Some (place t h) → IsStray u.after p)
-    → (h : ℕ) → IsLeft (dropped m t) u.after w t h (head (w.chain (place t h))) (w.chain (place t h))
+LeftLaw = (m : Snapshot) (w : Forest) (t : Tree) → HasForest m w → (u : Rooted [] (Some t) (nodes_at m) m.state.roots w t None) → ((p h : ℕ) → w.home p ≡ Some (place t h) → IsOrphan u.after p)
+    → (h : ℕ) → IsLeft (after_drop m t) u.after w t h (head (w.chain (place t h))) (w.chain (place t h))
 
 -- the first page that is left of a level is freed, and the rest of the level is left, from its next page on
 abbrev pub FreesLeftLaw : Type 0
-FreesLeftLaw = (m : Moment) (w was : Forest) (t : Tree) (h p : ℕ) (left : List ℕ) (n : Node) → IsMoment m w → nodes_at m p ≡ Some n → IsLeft m w was t h (Some p) left
-    → (rest : List ℕ) × (left ≡ p ∷ rest) × Steps (p ∷ []) None m w (freed m p) w × IsLeft (freed m p) w was t h n.next rest
+FreesLeftLaw = (m : Snapshot) (w was : Forest) (t : Tree) (h p : ℕ) (left : List ℕ) (n : Node) → HasForest m w → nodes_at m p ≡ Some n → IsLeft m w was t h (Some p) left
+    → (rest : List ℕ) × (left ≡ p ∷ rest) × StepsForest (p ∷ []) None m w (after_free m p) w × IsLeft (after_free m p) w was t h n.next rest
 
 -- a leaf's pairs are the part of the tree's contents that lies within its bounds
 abbrev pub RangeLaw : Type 0

@@ -1,7 +1,7 @@
 pub mod Forest
 pub mod Contents
 pub mod Action
-pub mod Moment
+pub mod Snapshot
 pub mod Crashes
 pub mod Laws
 pub mod CrashLaws

@@ -7,36 +7,36 @@ use Rattle.sled_pages.specs.declared.node.Node.{Node}
 use Rattle.sled_pages.specs.declared.node.Data.TheVariants.{Leaf}
 use Rattle.tree_laws.specs.Forest.{Tree, Forest, place, head, IsSized, contents}
 use Rattle.tree_laws.specs.Contents.{trees_of}
-use Rattle.tree_laws.specs.Moment.{Moment, moment_of, nodes_at, IsMoment}
-use Rattle.tree_laws.specs.Crashes.{IsWhole, Extends, Adds}
+use Rattle.tree_laws.specs.Snapshot.{Snapshot, snapshot_of, nodes_at, HasForest}
+use Rattle.tree_laws.specs.Crashes.{IsValid, AddsCrashStates, AddsAction}
 use Rattle.tree_laws.specs.Stages.{IsOwn}
 use Rattle.tree_laws.specs.Drops.{IsLeft}
-use Rattle.tree_laws.specs.Laws.{Steps, no_forest, planted, dropped}
+use Rattle.tree_laws.specs.Laws.{StepsForest, no_forest, after_creation, after_drop}
 
 -- the map of a tree is its contents, where the name has a root
 abbrev pub MapLaw : Type 0
-MapLaw = (m : Moment) (w : Forest) → IsMoment m w → (t : Tree) → trees_of m.state t ≡ option_map (λ _. contents (nodes_at m) w t) (m.state.roots t)
+MapLaw = (m : Snapshot) (w : Forest) → HasForest m w → (t : Tree) → trees_of m.state t ≡ option_map (λ _. contents (nodes_at m) w t) (m.state.roots t)
 
 -- where no tree's contents and no number change, the maps are the same
 abbrev pub QuietLaw : Type 0
-QuietLaw = (m : Moment) (w : Forest) (n : Moment) (v : Forest) → IsMoment m w → IsMoment n v → ((t : Tree) → n.numbers t ≡ m.numbers t)
+QuietLaw = (m : Snapshot) (w : Forest) (n : Snapshot) (v : Forest) → HasForest m w → HasForest n v → ((t : Tree) → n.numbers t ≡ m.numbers t)
     → ((t : Tree) → contents (nodes_at n) v t ≡ contents (nodes_at m) w t) → trees_of n.state ≡ trees_of m.state
 
 -- where one tree's contents change so, and no other's and no number do, its map changes so and no other does
 abbrev pub ChangedLaw : Type 0
-ChangedLaw = (m : Moment) (w : Forest) (n : Moment) (v : Forest) (t : Tree) (change : List (Key × Key) → List (Key × Key)) → IsMoment m w → IsMoment n v → ((u : Tree) → n.numbers u ≡ m.numbers u)
+ChangedLaw = (m : Snapshot) (w : Forest) (n : Snapshot) (v : Forest) (t : Tree) (change : List (Key × Key) → List (Key × Key)) → HasForest m w → HasForest n v → ((u : Tree) → n.numbers u ≡ m.numbers u)
     → contents (nodes_at n) v t ≡ change (contents (nodes_at m) w t) → ((u : Tree) → u ≢ t → contents (nodes_at n) v u ≡ contents (nodes_at m) w u)
     → (trees_of n.state t ≡ option_map change (trees_of m.state t)) × ((u : Tree) → u ≢ t → trees_of n.state u ≡ trees_of m.state u)
 
 -- the state at a moment has the shape of a forest, and its size where the forest has it
 abbrev pub WellLaw : Type 0
-WellLaw = (m : Moment) (w : Forest) → IsMoment m w → IsSized (nodes_at m) w → IsWhole m.state
+WellLaw = (m : Snapshot) (w : Forest) → HasForest m w → IsSized (nodes_at m) w → IsValid m.state
 
 -- an action outside every group that no tree's contents show adds no trees to what a crash may leave
 abbrev pub QuietCrashLaw : Type 0
-QuietCrashLaw = (act : Action) (a b : Store) (numbers : Tree → Option ℕ) (given : ℕ → Bool) (w v : Forest) → Adds act a b → (now a).in_group ≡ false → (now b).in_group ≡ false
-    → IsMoment (moment_of a numbers given) w → IsMoment (moment_of b numbers given) v → IsSized (nodes_at (moment_of b numbers given)) v
-    → ((t : Tree) → contents (nodes_at (moment_of b numbers given)) v t ≡ contents (nodes_at (moment_of a numbers given)) w t) → Extends [] a b
+QuietCrashLaw = (act : Action) (a b : Store) (numbers : Tree → Option ℕ) (given : ℕ → Bool) (w v : Forest) → AddsAction act a b → (now a).in_group ≡ false → (now b).in_group ≡ false
+    → HasForest (snapshot_of a numbers given) w → HasForest (snapshot_of b numbers given) v → IsSized (nodes_at (snapshot_of b numbers given)) v
+    → ((t : Tree) → contents (nodes_at (snapshot_of b numbers given)) v t ≡ contents (nodes_at (snapshot_of a numbers given)) w t) → AddsCrashStates [] a b
 
 -- an empty leaf with empty bounds
 pub record IsEmptyLeaf (n : Node) : Type 0 where
@@ -48,9 +48,9 @@ pub record IsEmptyLeaf (n : Node) : Type 0 where
   pub content : n.content ≡ Leaf []
 
 -- the tree t came, and is empty; every other tree is as it was
-pub record Planted (m : Moment) (w : Forest) (new : Moment) (t : Tree) (r : ℕ) : Type 0 where
+pub record Planted (m : Snapshot) (w : Forest) (new : Snapshot) (t : Tree) (r : ℕ) : Type 0 where
   pub after : Forest
-  pub steps : Steps (r ∷ []) None m w new after
+  pub steps : StepsForest (r ∷ []) None m w new after
   pub here : contents (nodes_at new) after t ≡ []
   pub others : (u : Tree) → u ≢ t → contents (nodes_at new) after u ≡ contents (nodes_at m) w u
   pub sized : IsSized (nodes_at m) w → IsSized (nodes_at new) after
@@ -59,13 +59,13 @@ pub record Planted (m : Moment) (w : Forest) (new : Moment) (t : Tree) (r : ℕ)
 
 -- a new name gets for its root an empty leaf that is the call's own, and a number that was never given
 abbrev pub PlantsLaw : Type 0
-PlantsLaw = (m : Moment) (w : Forest) (t : Tree) (r version number : ℕ) (n : Node) → IsMoment m w → m.numbers t ≡ None → m.given number ≡ false → IsOwn m w r version n → IsEmptyLeaf n
-    → Planted m w (planted m t r number) t r
+PlantsLaw = (m : Snapshot) (w : Forest) (t : Tree) (r version number : ℕ) (n : Node) → HasForest m w → m.numbers t ≡ None → m.given number ≡ false → IsOwn m w r version n → IsEmptyLeaf n
+    → Planted m w (after_creation m t r number) t r
 
 -- the tree t went; every other tree is as it was, and the chains of t are left to be freed
-pub record Dropped (m : Moment) (w : Forest) (new : Moment) (t : Tree) : Type 0 where
+pub record Dropped (m : Snapshot) (w : Forest) (new : Snapshot) (t : Tree) : Type 0 where
   pub after : Forest
-  pub steps : Steps [] (Some t) m w new after
+  pub steps : StepsForest [] (Some t) m w new after
   pub others : (u : Tree) → u ≢ t → contents (nodes_at new) after u ≡ contents (nodes_at m) w u
   pub sized : IsSized (nodes_at m) w → IsSized (nodes_at new) after
   pub map_here : trees_of new.state t ≡ None
@@ -73,8 +73,8 @@ pub record Dropped (m : Moment) (w : Forest) (new : Moment) (t : Tree) : Type 0 
   pub left : (h : ℕ) → IsLeft new after w t h (head (w.chain (place t h))) (w.chain (place t h))
 
 abbrev pub DropsLaw : Type 0
-DropsLaw = (m : Moment) (w : Forest) (t : Tree) → IsMoment m w → Dropped m w (dropped m t) t
+DropsLaw = (m : Snapshot) (w : Forest) (t : Tree) → HasForest m w → Dropped m w (after_drop m t) t
 
 -- a store with no page, no root and no number
 abbrev pub NewLaw : Type 0
-NewLaw = (m : Moment) → ((p : ℕ) → m.state.pages p ≡ None) → ((t : Tree) → m.state.roots t ≡ None) → ((t : Tree) → m.numbers t ≡ None) → IsMoment m no_forest × IsSized (nodes_at m) no_forest
+NewLaw = (m : Snapshot) → ((p : ℕ) → m.state.pages p ≡ None) → ((t : Tree) → m.state.roots t ≡ None) → ((t : Tree) → m.numbers t ≡ None) → HasForest m no_forest × IsSized (nodes_at m) no_forest

@@ -3,14 +3,14 @@ use Rattle.std.specs.Prelude.{◌≡◌, ◌≢◌, ◌⊎◌, ℕ, suc, ◌≤�
 use Rattle.std.specs.FinMap.Entries.{put}
 use Rattle.sled_pages.specs.Order.{Key, key_cmp, Below, UpTo}
 use Rattle.sled_pages.specs.In.{In}
-use Rattle.sled_pages.specs.Node.{pointers, count, Covers, applied}
+use Rattle.sled_pages.specs.Node.{pointers, count, Covers, after_link}
 use Rattle.sled_pages.specs.State.{Nodes}
 use Rattle.sled_pages.specs.declared.node.Node.{Node}
 use Rattle.sled_pages.specs.declared.node.Data.TheVariants.{Index}
 use Rattle.sled_pages.specs.declared.link.Link.TheVariants.{ParentMergeIntention, ParentMergeConfirm, ChildMergeCap}
 use Rattle.tree_laws.specs.Forest.{Tree, Forest, Place, place, WellFormed, IsSized, contents, later}
 use Rattle.tree_laws.specs.Action.{put_node, IsSplit, IsReceived}
-use Rattle.tree_laws.specs.Moment.{IsOpen, IsStray, Keeps, Grows}
+use Rattle.tree_laws.specs.Snapshot.{IsOpen, IsOrphan, KeepsNodes, GrowsByReceiving}
 
 -- an open page of the chain at x
 pub record IsOpenAt (nodes : Nodes) (w : Forest) (x : Place) (p : ℕ) (n : Node) : Type 0 where
@@ -19,19 +19,19 @@ pub record IsOpenAt (nodes : Nodes) (w : Forest) (x : Place) (p : ℕ) (n : Node
   pub is_open : IsOpen n
 
 -- A change that no tree's contents show: there is a forest after it. Where the pages are small enough, the size is kept too
-pub record Unseen (mine : List ℕ) (nodes new : Nodes) (roots : Tree → Option ℕ) (w : Forest) (few : Type 0) : Type 0 where
+pub record Unseen (mine : List ℕ) (nodes new : Nodes) (roots : Tree → Option ℕ) (w : Forest) (fits : Type 0) : Type 0 where
   pub after : Forest
   pub kept : WellFormed new roots after
   pub same : (t : Tree) → contents new after t ≡ contents nodes w t
-  pub keeps : Keeps mine None nodes new w after
-  pub sized : few → IsSized nodes w → IsSized new after
-  pub grows : few → Grows nodes new w
+  pub keeps : KeepsNodes mine None nodes new w after
+  pub sized : fits → IsSized nodes w → IsSized new after
+  pub grows : fits → GrowsByReceiving nodes new w
 
 -- An open page of a chain is replaced by its left half, whose next is the page q with the right half. The page q had no
 -- home, and then stands in the chain. The halves are no larger than the page was, so the size is kept
 abbrev pub SplitLaw : Type 0
 SplitLaw = (nodes : Nodes) (roots : Tree → Option ℕ) (w : Forest) → WellFormed nodes roots w → (x : Place) (p q : ℕ) (n left right : Node)
-    → IsOpenAt nodes w x p n → nodes q ≡ Some right → IsStray w q → IsSplit x.height n left right q
+    → IsOpenAt nodes w x p n → nodes q ≡ Some right → IsOrphan w q → IsSplit x.height n left right q
     → (u : Unseen (q ∷ []) nodes (put_node nodes p left) roots w (Unit {0})) × In q (u.after.chain x)
 
 -- A pointer to a page of the level below goes into an open index that covers where the page begins
@@ -45,14 +45,14 @@ PostLaw = (nodes : Nodes) (roots : Tree → Option ℕ) (w : Forest) → WellFor
 abbrev pub IntentionLaw : Type 0
 IntentionLaw = (nodes : Nodes) (roots : Tree → Option ℕ) (w : Forest) → WellFormed nodes roots w → (t : Tree) (h p c : ℕ) (n : Node) (k : Key)
     → IsOpenAt nodes w (place t (suc h)) p n → In (k, c) (later (pointers n.content))
-    → Unseen [] nodes (put_node nodes p (applied (ParentMergeIntention c) n)) roots w ((d : Node) → nodes c ≡ Some d → count d.content ≤ 17)
+    → Unseen [] nodes (put_node nodes p (after_link (ParentMergeIntention c) n)) roots w ((d : Node) → nodes c ≡ Some d → count d.content ≤ 17)
 
 -- An open page becomes merging, where it is the merging child of a page above it
 abbrev pub CapLaw : Type 0
 CapLaw = (nodes : Nodes) (roots : Tree → Option ℕ) (w : Forest) → WellFormed nodes roots w → (x : Place) (p : ℕ) (n : Node)
     → IsOpenAt nodes w x p n
     → (q : ℕ) (d : Node) → In q (w.chain (place x.tree (suc x.height))) → nodes q ≡ Some d → d.merging_child ≡ Some p
-    → Unseen [] nodes (put_node nodes p (applied ChildMergeCap n)) roots w (Unit {0})
+    → Unseen [] nodes (put_node nodes p (after_link ChildMergeCap n)) roots w (Unit {0})
 
 -- An open page receives the capped page c behind it. The page c leaves the chain for good, and keeps its pointer. The size is
 -- kept where the page has at most 16 entries
@@ -66,7 +66,7 @@ ReceiveLaw = (nodes : Nodes) (roots : Tree → Option ℕ) (w : Forest) → Well
 abbrev pub ConfirmLaw : Type 0
 ConfirmLaw = (nodes : Nodes) (roots : Tree → Option ℕ) (w : Forest) → WellFormed nodes roots w → (t : Tree) (h p c : ℕ) (n : Node)
     → In p (w.chain (place t (suc h))) → nodes p ≡ Some n → n.merging ≡ false → n.merging_child ≡ Some c → ¬ (In c (w.chain (place t h)))
-    → (u : Unseen [] nodes (put_node nodes p (applied ParentMergeConfirm n)) roots w (Unit {0})) × IsStray u.after c
+    → (u : Unseen [] nodes (put_node nodes p (after_link ParentMergeConfirm n)) roots w (Unit {0})) × IsOrphan u.after c
 
 -- what begins within an index's bounds, one level below, ends within them
 abbrev pub InsideLaw : Type 0

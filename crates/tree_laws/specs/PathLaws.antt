@@ -9,7 +9,7 @@ use Rattle.sled_pages.specs.State.{Nodes}
 use Rattle.sled_pages.specs.declared.node.Node.{Node}
 use Rattle.sled_pages.specs.declared.node.Data.TheVariants.{Leaf, Index}
 use Rattle.tree_laws.specs.Forest.{Tree, Forest, Place, place, WellFormed, later}
-use Rattle.tree_laws.specs.Paths.{IsPassed, CleanFrom, pages_below, IsAhead}
+use Rattle.tree_laws.specs.Paths.{NeedsNoRepair, CleanFrom, pages_below, IsAhead}
 
 -- where a pointer of a chain page leads, unless it is to the merging child, stands in the chain below, and begins at the pointer's key
 abbrev pub PointerInLaw : Type 0
@@ -24,7 +24,7 @@ NextInLaw = (nodes : Nodes) (roots : Tree → Option ℕ) (w : Forest) → WellF
 -- how many pages lie ahead of a reading walk: no more than those of its level and below, and fewer with each step
 pub record Aheads (nodes : Nodes) (w : Forest) (t : Tree) : Type 0 where
   pub begins : (h p : ℕ) → In p (w.chain (place t h)) → (n : ℕ) × IsAhead w t h p n
-  pub few : (h p n : ℕ) → IsAhead w t h p n → n ≤ pages_below w t (suc h)
+  pub fits : (h p n : ℕ) → IsAhead w t h p n → n ≤ pages_below w t (suc h)
   pub along : (h p q n : ℕ) (d : Node) → IsAhead w t h p n → nodes p ≡ Some d → d.next ≡ Some q → (k : ℕ) × (k < n) × IsAhead w t h q k
   pub down : (h p c n : ℕ) → IsAhead w t (suc h) p n → In c (w.chain (place t h)) → (k : ℕ) × (k < n) × IsAhead w t h c k
 
@@ -33,7 +33,7 @@ AheadLaw = (nodes : Nodes) (roots : Tree → Option ℕ) (w : Forest) → WellFo
 
 -- a walk that stands at the first page of a clean path passes it, goes one down the path from an index, and ends at a leaf
 pub record CleanStep (nodes : Nodes) (aim : Bound Key) (path : List ℕ) (p : ℕ) (first : Bool) (n : Node) : Type 0 where
-  pub passed : IsPassed nodes aim p first n
+  pub passed : NeedsNoRepair nodes aim p first n
   pub down : (es : List (Key × ℕ)) (c : ℕ) (b : Bool) → n.content ≡ Index es → IsPointer aim es c b → (rest : List ℕ) × (path ≡ p ∷ rest) × CleanFrom nodes aim c b rest
   pub leaf : (es : List (Key × Key)) → n.content ≡ Leaf es → path ≡ p ∷ []
 

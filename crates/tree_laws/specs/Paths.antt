@@ -9,20 +9,20 @@ use Rattle.sled_pages.specs.declared.node.Node.{Node}
 use Rattle.sled_pages.specs.declared.node.Data.TheVariants.{Leaf, Index}
 use Rattle.tree_laws.specs.Forest.{Tree, Forest, place}
 use Rattle.tree_laws.specs.Contents.{page_numbers, next_of, first_of}
-use Rattle.tree_laws.specs.Moment.{IsOpen, LiesUnder}
+use Rattle.tree_laws.specs.Snapshot.{IsOpen, LiesUnder}
 
 -- a page that a walk to its aim passes without a repair, and whether it was reached by a first pointer or is the root
-pub record IsPassed (nodes : Nodes) (aim : Bound Key) (p : ℕ) (first : Bool) (n : Node) : Type 0 where
+pub record NeedsNoRepair (nodes : Nodes) (aim : Bound Key) (p : ℕ) (first : Bool) (n : Node) : Type 0 where
   pub live : nodes p ≡ Some n
   pub under : LiesUnder aim n
   pub is_open : IsOpen n
-  pub few : count n.content ≤ 16
+  pub fits : count n.content ≤ 16
   pub many : count n.content ≤ 3 → first ≡ true
 
 -- from this page the list goes down to a leaf, by last pointers within the aim, over pages that are passed
 abbrev pub CleanFrom : Nodes → Bound Key → ℕ → Bool → List ℕ → Type 0
 CleanFrom nodes aim p first [] = ⊥
-CleanFrom nodes aim p first (q ∷ rest) = (q ≡ p) × (n : Node) × IsPassed nodes aim p first n
+CleanFrom nodes aim p first (q ∷ rest) = (q ≡ p) × (n : Node) × NeedsNoRepair nodes aim p first n
     × (((es : List (Key × Key)) × (n.content ≡ Leaf es) × (rest ≡ []))
     ⊎ ((es : List (Key × ℕ)) × (n.content ≡ Index es) × (c : ℕ) × (b : Bool) × IsPointer aim es c b × CleanFrom nodes aim c b rest))
 

@@ -46,7 +46,7 @@ pub struct Split {
 
 /// A split whose right half is a new page. The page that is split is to become the left half.
 #[derive(Drop)]
-pub struct Shorten {
+pub struct InstallLeft {
     pub page: View,
     pub posting: Posting,
     /// The left half, which goes on at the right one.
@@ -79,7 +79,7 @@ pub struct Hoist {
 
 /// A new page that is to become the root.
 #[derive(Drop)]
-pub struct Crown {
+pub struct SwapRoot {
     /// The root now.
     pub old: Pid,
     /// The new page, and its version.
@@ -89,7 +89,7 @@ pub struct Crown {
 
 /// A page that is no part of any tree, and is to be freed.
 #[derive(Drop)]
-pub struct Own {
+pub struct Orphan {
     pub pid: Pid,
     pub version: Version,
 }
@@ -157,15 +157,15 @@ pub enum Stage {
     /// It makes the right half of a split.
     Split(Split),
     /// It replaces the page that is split by its left half.
-    Shorten(Shorten),
+    InstallLeft(InstallLeft),
     /// It puts a pointer into an index.
     Post(Post),
     /// It makes a new root over two pages.
     Hoist(Hoist),
     /// It sets the new root.
-    Crown(Crown),
+    SwapRoot(SwapRoot),
     /// It frees a page of its own.
-    Free(Own),
+    Free(Orphan),
     /// It makes a page the merging child of its parent.
     Intend(Merge),
     /// It reads the merging child.

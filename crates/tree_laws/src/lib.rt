@@ -72,7 +72,7 @@
 //!
 //! - *It begins at the root*: `is_root`. *It goes down by the last pointer within the aim, to a leaf*: `CleanFrom`. So it has
 //!   a page of each level (`CleanLaw`), and a walk goes one down the list with each step (`CleanStepLaw`).
-//! - *Each page lies under the aim: where it is a key, the page covers it*: `IsPassed.under`. *None is merging or has a merging child*: `is_open`. *None should split*: an open
+//! - *Each page lies under the aim: where it is a key, the page covers it*: `NeedsNoRepair.under`. *None is merging or has a merging child*: `is_open`. *None should split*: an open
 //!   page should where it has more than 16 entries (`few`). *One that should merge is the root or was reached by a first
 //!   pointer*: an open page should where it has 3 or fewer (`many`).
 //!
@@ -81,19 +81,19 @@
 //!
 //! # Crashes
 //!
-//! - *Each state that a crash may leave is well formed*: `IsCrashWhole` says so of the shape and the size. Which
-//!   states a crash may leave is said where the pages are (`states_left`): the base after each beginning of the recent actions
+//! - *Each state that a crash may leave is well formed*: `IsCrashConsistent` says so of the shape and the size. Which
+//!   states a crash may leave is said where the pages are (`crash_states`): the base after each beginning of the recent actions
 //!   that ends outside every group, the shortest first.
-//! - *The base stays, actions are only added at the end, and are counted*: `Extends.base`, `recent` and `actions`. The count
+//! - *The base stays, actions are only added at the end, and are counted*: `AddsCrashStates.base`, `recent` and `actions`. The count
 //!   refuses what takes a root away, flushes, and puts it back and flushes again, after which all else is as it was.
 //! - *The contents after the states that a crash may leave go on by the contents after each call, in order, and by no others,
-//!   equal neighbours taken once*: `Extends.grew`, over `Matches` (`MatchesLaw`). *Those states stay well formed*: `safe`; so do they
+//!   equal neighbours taken once*: `AddsCrashStates.grew`, over `StutterEquivalent` (`MatchesLaw`). *Those states stay well formed*: `safe`; so do they
 //!   after a flush (`FlushesWholeLaw`).
 //! - *A flush alone does otherwise: the base becomes the state before it, nothing is recent, the count stays*: `Flushes`.
 //!
 //! # Calls in flight
 //!
-//! A moment is a store now, with each tree's number. Whatever an action does, `Goes` is what it gives to every other call:
+//! A moment is a store now, with each tree's number. Whatever an action does, `Guarantee` is what it gives to every other call:
 //! numbers and versions never come again, a page of a chain stands there or is merging, a merging page and another call's own
 //! page stay as they are, and a page that left its chain never comes back. What a call knows at a stage (`IsStage`) survives that
 //! (`StageStays`), whether or not its view is stale. What a walk aims at is a bound: of a call at a key the key itself. A tree that was dropped takes its number with it, and of a call whose
@@ -193,12 +193,12 @@
 //! - `HereLaw`: What a walk knows after it read an open page, by what it goes on to.
 //! - `StoodMergesLaw`: Where a page of a level was read with a merging child of its own, that merge begins.
 //! - `SplitAction`: A split begins with its right half as a new page, and changes no tree.
-//! - `ShortenAction`: The page that is split becomes its left half, which changes no tree, and its right half is to be posted or hoisted over.
-//! - `ShortenLate`: Where the page changed before, the right half is to be freed.
+//! - `InstallLeftAction`: The page that is split becomes its left half, which changes no tree, and its right half is to be posted or hoisted over.
+//! - `InstallLeftLate`: Where the page changed before, the right half is to be freed.
 //! - `PostAction`: The pointer to the right half goes into the parent, which changes no tree.
 //! - `HoistAction`: A hoist begins with the new root as a new page.
-//! - `CrownAction`: The new root becomes the root, which changes no tree.
-//! - `CrownLate`: Where the tree has another root already, the new one is to be freed.
+//! - `SwapRootAction`: The new root becomes the root, which changes no tree.
+//! - `SwapRootLate`: Where the tree has another root already, the new one is to be freed.
 //! - `FreeAction`: A page that is a call's own is freed, which changes no tree.
 //! - `IntendAction`: The parent takes its merging child, which changes no tree, and the merge begins.
 //! - `ChildSeeks`: Where the merging child was read and is merging already, the page before it is looked for.

@@ -84,8 +84,8 @@ more_below w t (suc h) = let m = more_below w t h in step (length (w.chain (plac
     step a b c e = omega arith
 
 -- a leaf's place and a walk to each leaf before it
-few : (n l b : ℕ) → suc b ≤ n → l ≤ n → l + b * n ≤ n * n
-few n l b h e = go (suc b * n) (b * n) (n * n) (suc-mul b n) (mul-le (suc b) n n n h (same n)) e
+fits : (n l b : ℕ) → suc b ≤ n → l ≤ n → l + b * n ≤ n * n
+fits n l b h e = go (suc b * n) (b * n) (n * n) (suc-mul b n) (mul-le (suc b) n n n h (same n)) e
   where
     same : (a : ℕ) → a ≤ a
     same a = omega arith
@@ -96,7 +96,7 @@ few n l b h e = go (suc b * n) (b * n) (n * n) (suc-mul b n) (mul-le (suc b) n n
 pub back_anew : (s : State) (root : ℕ) (hi : Bound Key) (v : View) (looked : ℕ) → SeeksBack s root hi v looked → SeeksBack s root hi v 0
 back_anew s root hi v looked k = record {
   read = k.read;
-  told = λ w f t is. let a = k.told w f t is in (a.0, a.1, a.2, weaker looked (length a.0 * tree_pages s t) (tree_pages s t * tree_pages s t) a.3, a.4);
+  is = λ w f t is. let a = k.is w f t is in (a.0, a.1, a.2, weaker looked (length a.0 * tree_pages s t) (tree_pages s t * tree_pages s t) a.3, a.4);
 }
   where
     weaker : (l b m : ℕ) → l + b ≤ m → 0 + b ≤ m
@@ -105,21 +105,21 @@ back_anew s root hi v looked k = record {
 pub back_on : (s : State) (root : ℕ) (hi : Bound Key) (v : View) (looked : ℕ) → SeeksBack s root hi v looked → (x : Key) → is_up_to hi x ≡ true → SeeksBack s root (Excluded x) v looked
 back_on s root hi v looked k x p = record {
   read = k.read;
-  told = λ w f t is. let a = k.told w f t is in (a.0, a.1, a.2, a.3, λ e i n u. nearer hi x e.0 p (a.4 e i n u));
+  is = λ w f t is. let a = k.is w f t is in (a.0, a.1, a.2, a.3, λ e i n u. nearer hi x e.0 p (a.4 e i n u));
 }
 
 pub back_first : (s : Store) (root : ℕ) (hi : Bound Key) (v : View) (looked : ℕ) → AreGiven s → IsLeafFor (now s) root hi 0 v looked → SeeksBack (now s) root hi v looked
 back_first s root hi v looked given leaf = record {
   read = record { live = leaf.live; below = given.numbered };
-  told = λ w f t is.
-      let k = leaf.told w f t is in
+  is = λ w f t is.
+      let k = leaf.is w f t is in
       let l = pages_law (now s) w f given.numbered t root is in
       let c = ap length k.2.is ∙ length-append k.2.before (v.pid ∷ k.2.behind) in
       let m = more_below w t l.0 in (
         k.2.before,
         k.2.behind,
         k.2.is,
-        few (tree_pages (now s) t) looked (length k.2.before) (placed _ _ _ (length k.2.behind) _ c m l.2) (short k.1 _ looked _ k.2.count k.3),
+        fits (tree_pages (now s) t) looked (length k.2.before) (placed _ _ _ (length k.2.behind) _ c m l.2) (short k.1 _ looked _ k.2.count k.3),
         λ e i n u. elim k.0.ends [ inl z ↦ absurd (n z) | inr z ↦ beyond hi v.node.hi e.0 u z ],
       );
 }
@@ -169,7 +169,7 @@ first_low nodes roots w f t p n ys e live =
     sym (r.1.lo_is ∙ ap (λ (z : Node). z.lo) (some_is r.0 n (sym r.1.live ∙ live)))
 
 pub refuses_more : (of up : ℕ → ℕ) (s : Store) (root : ℕ) (e : Error) → ((w : Forest) → WellFormed (nodes_of (now s)) (now s).roots w → (t : Tree) → (now s).roots t ≡ Some root → of (tree_pages (now s) t) ≤ up (tree_pages (now s) t)) → RefusesWalk of s root e → RefusesWalk up s root e
-refuses_more of up s root e more r = record { told = go e r.told }
+refuses_more of up s root e more r = record { is = go e r.is }
   where
     chain : (a b c : ℕ) → a ≤ b → b ≤ c → a ≤ c
     chain a b c h g = omega arith
@@ -205,7 +205,7 @@ module _ (s : State) (root : ℕ) (hi : Bound Key) (v : View) (looked : ℕ) (k 
   -- the pairs at or above the leaf's lo are without the bound, where none of its own is within
   passed : list_any (λ e. is_up_to hi e.0) (pairs v.node.content) ≡ false → (w : Forest) (f : WellFormed (nodes_of s) s.roots w) (t : Tree) (is : s.roots t ≡ Some root) (e : Key × Key) → In e (contents (nodes_of s) w t) → UpTo v.node.lo e.0 → is_up_to hi e.0 ≡ false
   passed none w f t is e i up =
-      let a = k.told w f t is in
+      let a = k.is w f t is in
       let r = range_law (nodes_of s) s.roots w f t v.pid v.node (chain_at w t v.pid a.0 a.1 a.2) (node_at s v k.read.live) in
       elim (in_join r.0 (pairs v.node.content ++ r.1) e (subst (λ l. In e l) r.2 i)) [
         | inl j ↦ absurd (below_not_upto e.0 v.node.lo (all_at (λ e. Below e.0 v.node.lo) r.0 e j r.3) up)
@@ -217,8 +217,8 @@ module _ (s : State) (root : ℕ) (hi : Bound Key) (v : View) (looked : ℕ) (k 
 
   pub back_found : (x : Key × Key) → IsLast (λ e. is_up_to hi e.0) (pairs v.node.content) x → OfContents s root (λ all. IsPredecessor hi all (Some x))
   back_found x last = record {
-    told = λ w f t is.
-        let a = k.told w f t is in
+    is = λ w f t is.
+        let a = k.is w f t is in
         let r = range_law (nodes_of s) s.roots w f t v.pid v.node (chain_at w t v.pid a.0 a.1 a.2) (node_at s v k.read.live) in record {
           before = r.0 ++ last.before;
           after = last.after ++ r.1;
@@ -231,15 +231,15 @@ module _ (s : State) (root : ℕ) (hi : Bound Key) (v : View) (looked : ℕ) (k 
 
   pub back_none : list_any (λ e. is_up_to hi e.0) (pairs v.node.content) ≡ false → v.node.lo ≡ [] → OfContents s root (λ all. IsPredecessor hi all None)
   back_none none low = record {
-    told = λ w f t is. none_of (λ e. is_up_to hi e.0) (contents (nodes_of s) w t) (λ e i. passed none w f t is e i (subst (λ z. UpTo z e.0) (sym low) (least e.0)));
+    is = λ w f t is. none_of (λ e. is_up_to hi e.0) (contents (nodes_of s) w t) (λ e i. passed none w f t is e i (subst (λ z. UpTo z e.0) (sym low) (least e.0)));
   }
 
   pub back_more : (u : View) (count : ℕ) → list_any (λ e. is_up_to hi e.0) (pairs v.node.content) ≡ false → IsLeafFor s root (Excluded v.node.lo) looked u count → SeeksBack s root hi u count
   back_more u count none leaf = record {
     read = record { live = leaf.live; below = k.read.below };
-    told = λ w f t is.
-        let a = k.told w f t is in
-        let b = leaf.told w f t is in
+    is = λ w f t is.
+        let a = k.is w f t is in
+        let b = leaf.is w f t is in
         let off : In u.pid (v.pid ∷ a.1) → ⊥ = λ i. below_not_upto u.node.lo v.node.lo (less _ b.0.begins) (from_here (nodes_of s) s.roots w f t v.pid v.node a.0 a.1 a.2 (node_at s v k.read.live) u.pid u.node i (node_at s u leaf.live)) in
         let c = shorter a.0 b.2.before v.pid u.pid a.1 b.2.behind (sym a.2 ∙ b.2.is) off in (
           b.2.before,
@@ -267,7 +267,7 @@ module _ (s : State) (root : ℕ) (hi : Bound Key) (v : View) (looked : ℕ) (k 
 
   -- a walk to the leaf before is given up
   pub back_gives_up : v.node.lo ≢ [] → (w : Forest) → WellFormed (nodes_of s) s.roots w → (t : Tree) → s.roots t ≡ Some root → tree_pages s t + looked ≤ tree_pages s t * tree_pages s t
-  back_gives_up low w f t is = let a = k.told w f t is in go a.0 a.1 a.2 a.3
+  back_gives_up low w f t is = let a = k.is w f t is in go a.0 a.1 a.2 a.3
     where
       go : (before behind : List ℕ) → w.chain (place t 0) ≡ before ++ v.pid ∷ behind → looked + length before * tree_pages s t ≤ tree_pages s t * tree_pages s t → tree_pages s t + looked ≤ tree_pages s t * tree_pages s t
       go [] behind e h = absurd (low (first_low (nodes_of s) s.roots w f t v.pid v.node behind e (node_at s v k.read.live)))
@@ -302,14 +302,14 @@ module _ (s : State) (root : ℕ) (hi : Bound Key) (v : View) (looked : ℕ) (k 
       (subst (λ z. (w : Forest) → WellFormed (nodes_of z) z.roots w → (t : Tree) → z.roots t ≡ Some root → tree_pages z t + looked ≤ tree_pages z t * tree_pages z t) at (back_gives_up (λ i. low (ap length (ap (λ (z : Node). z.lo) same ∙ i))))) r
 
   pub back_full : (walk : ℕ) → MOST_PAGES ≤ walk → walk ≤ looked → HasTooMany for_each s root
-  back_full walk full more w f t is = let a = k.told w f t is in enough walk looked (length a.0 * tree_pages s t) (tree_pages s t * tree_pages s t) full more a.3
+  back_full walk full more w f t is = let a = k.is w f t is in enough walk looked (length a.0 * tree_pages s t) (tree_pages s t * tree_pages s t) full more a.3
     where
       enough : (a l b m : ℕ) → MOST_PAGES ≤ a → a ≤ l → l + b ≤ m → MOST_PAGES ≤ m
       enough a l b m h g e = omega arith
 
 -- nothing is within a bound that is below all keys
 pub back_below : (s : State) (root : ℕ) (hi : Bound Key) → is_up_to hi [] ≡ false → OfContents s root (λ all. IsPredecessor hi all None)
-back_below s root hi off = record { told = λ w f t is. none_of (λ e. is_up_to hi e.0) (contents (nodes_of s) w t) (λ e i. beyond hi [] e.0 (least e.0) off) }
+back_below s root hi off = record { is = λ w f t is. none_of (λ e. is_up_to hi e.0) (contents (nodes_of s) w t) (λ e i. beyond hi [] e.0 (least e.0) off) }
 
 -- what is below a key that is not empty
 pub above_least : (k : Key) → (length k ≡ 0 → ⊥) → is_up_to (Excluded k) [] ≡ true

@@ -57,15 +57,15 @@ one_more f (x ∷ xs) p = length-append (f x) (flat_map f (xs ++ p ∷ [])) ∙ 
 pub count_first : (s : Store) (root : ℕ) (v : View) (looked : ℕ) → AreGiven s → IsLeafFor (now s) root (Included []) 0 v looked → Counts (now s) root v looked 0
 count_first s root v looked given leaf = record {
   read = record { live = leaf.live; below = given.numbered };
-  told = λ w f t is.
-      let k = leaf.told w f t is in
+  is = λ w f t is.
+      let k = leaf.is w f t is in
       let low = empty v.node.lo k.0.begins in
       let none = none_before (nodes_of (now s)) (now s).roots w f t v.pid v.node k.2.before k.2.behind k.2.is (node_at (now s) v leaf.live) low in
-      (k.2.before, k.2.behind, k.2.is, few k.1 (length k.2.behind) looked (tree_pages (now s) t) k.2.count k.3, sym (ap (λ z. length (flat_map (λ p. node_pairs (nodes_of (now s) p)) z)) none));
+      (k.2.before, k.2.behind, k.2.is, fits k.1 (length k.2.behind) looked (tree_pages (now s) t) k.2.count k.3, sym (ap (λ z. length (flat_map (λ p. node_pairs (nodes_of (now s) p)) z)) none));
 }
   where
-    few : (a b l n : ℕ) → a ≡ suc b + 0 → a + l ≤ n + 0 + 1 → l + b ≤ n
-    few a b l n c h = omega arith
+    fits : (a b l n : ℕ) → a ≡ suc b + 0 → a + l ≤ n + 0 + 1 → l + b ≤ n
+    fits a b l n c h = omega arith
 
     empty : (k : Key) → is_up_to (Included []) k ≡ true → k ≡ []
     empty k b = elim (upto_cases k [] (not_true _ b)) [ inl l ↦ absurd (nothing_below k l) | inr e ↦ e ]
@@ -76,8 +76,8 @@ module _ (s : State) (root : ℕ) (v : View) (looked total : ℕ) (k : Counts s 
 
   pub count_ends : (m : Node) → m ≡ v.node → m.next ≡ None → OfContents s root (λ all. more ≡ length all)
   count_ends m at last = record {
-    told = λ w f t is.
-        let a = k.told w f t is in
+    is = λ w f t is.
+        let a = k.is w f t is in
         let r = parts (nodes_of s) s.roots w f t v.pid a.0 a.1 a.2 in
         all_here a.0 a.4 ∙ ap (λ z. length (flat_map (λ p. node_pairs (nodes_of s p)) z)) (ap (λ z. a.0 ++ v.pid ∷ z) (sym (none a.1 r.3.0 (some_is r.3.0 v.node (sym r.3.1.live ∙ node_at s v k.read.live)) r.3.2)) ∙ sym a.2);
   }
@@ -90,8 +90,8 @@ module _ (s : State) (root : ℕ) (v : View) (looked total : ℕ) (k : Counts s 
   count_more m at q u next read =
       let x = viewed q (s.pages q) u read in record {
         read = record { live = ap s.pages x.0 ∙ x.1; below = k.read.below };
-        told = λ w f t is.
-            let a = k.told w f t is in
+        is = λ w f t is.
+            let a = k.is w f t is in
             let r = parts (nodes_of s) s.roots w f t v.pid a.0 a.1 a.2 in
             let b = behind a.1 r.3.0 (some_is r.3.0 v.node (sym r.3.1.live ∙ node_at s v k.read.live)) r.3.2 in
             (a.0 ++ v.pid ∷ [], b.0, a.2 ∙ ap (λ z. a.0 ++ v.pid ∷ z) (b.1 ∙ ap (λ p. p ∷ b.0) (sym x.0)) ∙ sym (append_assoc a.0 (v.pid ∷ []) (u.pid ∷ b.0)), fewer looked (length a.1) (length b.0) (tree_pages s t) a.3 (ap length b.1), all_here a.0 a.4);
@@ -107,12 +107,12 @@ module _ (s : State) (root : ℕ) (v : View) (looked total : ℕ) (k : Counts s 
 module _ (s : State) (root : ℕ) (v : View) (looked total : ℕ) (k : Counts s root v looked total) where
   pub count_gone : (m : Node) → m ≡ v.node → (q : ℕ) → m.next ≡ Some q → None ≡ view_of q (s.pages q) → HasTooMany once s root
   count_gone m at q next read w f t is =
-      let a = k.told w f t is in
+      let a = k.is w f t is in
       let d = next_in f (place t 0) v.pid q v.node (chain_at w t v.pid a.0 a.1 a.2) (node_at s v k.read.live) (ap (λ (z : Node). z.next) (sym at) ∙ next) in
       none_some (sym (ap (option_map (λ (g : Page). g.node)) (gone q (s.pages q) read)) ∙ d.2)
 
   pub count_full : MOST_PAGES ≤ looked → HasTooMany once s root
-  count_full full w f t is = let a = k.told w f t is in enough looked (length a.1) (tree_pages s t) full a.3
+  count_full full w f t is = let a = k.is w f t is in enough looked (length a.1) (tree_pages s t) full a.3
     where
       enough : (l b m : ℕ) → MOST_PAGES ≤ l → l + b ≤ m → MOST_PAGES ≤ m
       enough l b m h g = omega arith

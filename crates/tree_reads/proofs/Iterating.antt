@@ -21,28 +21,28 @@ module _ {P : Type 0} (store : P → Store) (pages : P) (root : ℕ) (all : List
     stopped a b e = ap (λ z. record { pages = pages; root = root; pairs = z; ended = true }) e ∙ ap (λ (z : Coming P). record z { ended = true }) view
 
     pub next_ended : ended ≡ true → TakesFirst store whole old None (coming lo hi ended)
-    next_ended e = record { told = (inr (ap (λ (z : Coming P). z.ended) (sym view) ∙ e), ap (coming lo hi) e ∙ stopped lo hi refl) }
+    next_ended e = record { is = (inr (ap (λ (z : Coming P). z.ended) (sym view) ∙ e), ap (coming lo hi) e ∙ stopped lo hi refl) }
 
     pub back_ended : ended ≡ true → TakesLast store whole old None (coming lo hi ended)
-    back_ended e = record { told = (inr (ap (λ (z : Coming P). z.ended) (sym view) ∙ e), ap (coming lo hi) e ∙ stopped lo hi refl) }
+    back_ended e = record { is = (inr (ap (λ (z : Coming P). z.ended) (sym view) ∙ e), ap (coming lo hi) e ∙ stopped lo hi refl) }
 
     pub next_none : (new : Bound Key) → Advances all lo hi None new → TakesFirst store whole old None (coming new hi true)
-    next_none new a = record { told = (inl (ap (λ (z : Coming P). z.pairs) (sym view) ∙ a.told.0), stopped new hi (ap (λ b. pairs_within b hi all) a.told.1)) }
+    next_none new a = record { is = (inl (ap (λ (z : Coming P). z.pairs) (sym view) ∙ a.is.0), stopped new hi (ap (λ b. pairs_within b hi all) a.is.1)) }
 
     pub back_none : (new : Bound Key) → Retreats all lo hi None new → TakesLast store whole old None (coming lo new true)
-    back_none new a = record { told = (inl (ap (λ (z : Coming P). z.pairs) (sym view) ∙ a.told.0), stopped lo new (ap (λ b. pairs_within lo b all) a.told.1)) }
+    back_none new a = record { is = (inl (ap (λ (z : Coming P). z.pairs) (sym view) ∙ a.is.0), stopped lo new (ap (λ b. pairs_within lo b all) a.is.1)) }
 
     pub next_some : ended ≡ false → (p : Key × Key) (new : Bound Key) → Advances all lo hi (Some p) new → TakesFirst store whole old (Some (Ok p)) (coming new hi ended)
-    next_some e p new a = record { told = (going e, p, refl, pairs_within new hi all, ap (λ (z : Coming P). z.pairs) (sym view) ∙ a.told, ap (λ (z : Coming P). record z { pairs = pairs_within new hi all }) view) }
+    next_some e p new a = record { is = (going e, p, refl, pairs_within new hi all, ap (λ (z : Coming P). z.pairs) (sym view) ∙ a.is, ap (λ (z : Coming P). record z { pairs = pairs_within new hi all }) view) }
 
     pub back_some : ended ≡ false → (p : Key × Key) (new : Bound Key) → Retreats all lo hi (Some p) new → TakesLast store whole old (Some (Ok p)) (coming lo new ended)
-    back_some e p new a = record { told = (going e, p, refl, pairs_within lo new all, ap (λ (z : Coming P). z.pairs) (sym view) ∙ a.told, ap (λ (z : Coming P). record z { pairs = pairs_within lo new all }) view) }
+    back_some e p new a = record { is = (going e, p, refl, pairs_within lo new all, ap (λ (z : Coming P). z.pairs) (sym view) ∙ a.is, ap (λ (z : Coming P). record z { pairs = pairs_within lo new all }) view) }
 
     pub next_err : ended ≡ false → (e : Error) (new : Bound Key) → RefusesWalk once (store pages) root e × (new ≡ lo) → TakesFirst store whole old (Some (Err e)) (coming new hi true)
-    next_err off e new r = record { told = (going off, stopped new hi (ap (λ b. pairs_within b hi all) r.1), subst (λ (z : Coming P). RefusesWalk once (store z.pages) z.root e) view r.0) }
+    next_err off e new r = record { is = (going off, stopped new hi (ap (λ b. pairs_within b hi all) r.1), subst (λ (z : Coming P). RefusesWalk once (store z.pages) z.root e) view r.0) }
 
     pub back_err : ended ≡ false → (e : Error) (new : Bound Key) → RefusesWalk for_each (store pages) root e × (new ≡ hi) → TakesLast store whole old (Some (Err e)) (coming lo new true)
-    back_err off e new r = record { told = (going off, stopped lo new (ap (λ b. pairs_within lo b all) r.1), subst (λ (z : Coming P). RefusesWalk for_each (store z.pages) z.root e) view r.0) }
+    back_err off e new r = record { is = (going off, stopped lo new (ap (λ b. pairs_within lo b all) r.1), subst (λ (z : Coming P). RefusesWalk for_each (store z.pages) z.root e) view r.0) }
 
   -- the same, by the bound that was lent
   module _ (old : Coming P) (view : coming lo hi ended ≡ old) (off : ended ≡ false) (found : Option (Key × Key)) (p : Key × Key) (is : found ≡ Some p) (from new : Bound Key) where
@@ -57,17 +57,17 @@ pub shows_first : {P A : Type 0} (store : P → Store) (shows : Key × Key → A
 shows_first store shows old new given shown e t = subst (λ z. TakesFirst store shows old z new) (sym e) (go given t)
   where
     go : (given : Option (Result (Key × Key) Error)) → TakesFirst store whole old given new → TakesFirst store shows old (shown_of shows given) new
-    go None t = record { told = t.told }
-    go (Some (Ok p)) t = record { told = (t.told.0, t.told.1, ap shows t.told.2, t.told.3, t.told.4, t.told.5) }
-    go (Some (Err e)) t = record { told = t.told }
+    go None t = record { is = t.is }
+    go (Some (Ok p)) t = record { is = (t.is.0, t.is.1, ap shows t.is.2, t.is.3, t.is.4, t.is.5) }
+    go (Some (Err e)) t = record { is = t.is }
 
 pub shows_last : {P A : Type 0} (store : P → Store) (shows : Key × Key → A) (old new : Coming P) (given : Option (Result (Key × Key) Error)) (shown : Option (Result A Error)) → shown ≡ shown_of shows given → TakesLast store whole old given new → TakesLast store shows old shown new
 shows_last store shows old new given shown e t = subst (λ z. TakesLast store shows old z new) (sym e) (go given t)
   where
     go : (given : Option (Result (Key × Key) Error)) → TakesLast store whole old given new → TakesLast store shows old (shown_of shows given) new
-    go None t = record { told = t.told }
-    go (Some (Ok p)) t = record { told = (t.told.0, t.told.1, ap shows t.told.2, t.told.3, t.told.4, t.told.5) }
-    go (Some (Err e)) t = record { told = t.told }
+    go None t = record { is = t.is }
+    go (Some (Ok p)) t = record { is = (t.is.0, t.is.1, ap shows t.is.2, t.is.3, t.is.4, t.is.5) }
+    go (Some (Err e)) t = record { is = t.is }
 
 abbrev count_of : (ended : Bool) (n : ℕ) → ℕ
 count_of ended n = cond ended 0 (n + 1)
@@ -109,17 +109,17 @@ one_more xs p = length-append xs (p ∷ []) ∙ one (length xs)
 pub first_progress : {P A : Type 0} (store : P → Store) (shows : Key × Key → A) (old new : Coming P) (given : Option (Result A Error)) → TakesFirst store shows old given new → MakesProgress (λ _. ⊤) coming_count old given new
 first_progress {P = P} store shows old new None t = record { on = λ f. tt; keeps = tt; rests = λ f. tt }
 first_progress {P = P} store shows old new (Some (Ok x)) t = record {
-  on = λ f. (tt, tt, fewer old.ended new.ended (length new.pairs) (length old.pairs) t.told.0 (ap (λ (z : Coming P). z.ended) t.told.5 ∙ t.told.0) (ap length t.told.4 ∙ ap (λ (z : Coming P). suc (length z.pairs)) (sym t.told.5)));
+  on = λ f. (tt, tt, fewer old.ended new.ended (length new.pairs) (length old.pairs) t.is.0 (ap (λ (z : Coming P). z.ended) t.is.5 ∙ t.is.0) (ap length t.is.4 ∙ ap (λ (z : Coming P). suc (length z.pairs)) (sym t.is.5)));
   keeps = tt;
   rests = λ f. tt;
 }
-first_progress {P = P} store shows old new (Some (Err e)) t = record { on = λ f. (tt, tt, over old.ended new.ended (length new.pairs) (length old.pairs) t.told.0 (ap (λ (z : Coming P). z.ended) t.told.1)); keeps = tt; rests = λ f. tt }
+first_progress {P = P} store shows old new (Some (Err e)) t = record { on = λ f. (tt, tt, over old.ended new.ended (length new.pairs) (length old.pairs) t.is.0 (ap (λ (z : Coming P). z.ended) t.is.1)); keeps = tt; rests = λ f. tt }
 
 pub last_progress : {P A : Type 0} (store : P → Store) (shows : Key × Key → A) (old new : Coming P) (given : Option (Result A Error)) → TakesLast store shows old given new → MakesProgress (λ _. ⊤) coming_count old given new
 last_progress {P = P} store shows old new None t = record { on = λ f. tt; keeps = tt; rests = λ f. tt }
 last_progress {P = P} store shows old new (Some (Ok x)) t = record {
-  on = λ f. (tt, tt, fewer old.ended new.ended (length new.pairs) (length old.pairs) t.told.0 (ap (λ (z : Coming P). z.ended) t.told.5 ∙ t.told.0) (ap length t.told.4 ∙ one_more t.told.3 t.told.1 ∙ ap (λ (z : Coming P). suc (length z.pairs)) (sym t.told.5)));
+  on = λ f. (tt, tt, fewer old.ended new.ended (length new.pairs) (length old.pairs) t.is.0 (ap (λ (z : Coming P). z.ended) t.is.5 ∙ t.is.0) (ap length t.is.4 ∙ one_more t.is.3 t.is.1 ∙ ap (λ (z : Coming P). suc (length z.pairs)) (sym t.is.5)));
   keeps = tt;
   rests = λ f. tt;
 }
-last_progress {P = P} store shows old new (Some (Err e)) t = record { on = λ f. (tt, tt, over old.ended new.ended (length new.pairs) (length old.pairs) t.told.0 (ap (λ (z : Coming P). z.ended) t.told.1)); keeps = tt; rests = λ f. tt }
+last_progress {P = P} store shows old new (Some (Err e)) t = record { on = λ f. (tt, tt, over old.ended new.ended (length new.pairs) (length old.pairs) t.is.0 (ap (λ (z : Coming P). z.ended) t.is.1)); keeps = tt; rests = λ f. tt }

@@ -277,24 +277,24 @@ module _ (s : Store) (root : ℕ) (given : AreGiven s) (is : IsRoot (now s) root
 
   -- what is so of the contents at every forest is so of them
   pub of_pairs : (so : List (Key × Key) → Type 0) → OfContents (now s) root so → so pairs
-  of_pairs so near = subst so (sym pairs_are) (near.told is.forest is.formed is.tree is.is)
+  of_pairs so near = subst so (sym pairs_are) (near.is is.forest is.formed is.tree is.is)
 
   module _ (lo hi from : Bound Key) (same : from ≡ lo) (found : Option (Key × Key)) (near : OfContents (now s) root (λ all. IsSuccessor from all found)) where
     nearest : IsSuccessor lo pairs found
     nearest = subst (λ b. IsSuccessor b pairs found) same (of_pairs (λ all. IsSuccessor from all found) near)
 
     pub advance_none : found ≡ None → Advances pairs lo hi None lo
-    advance_none none = record { told = (none_within lo hi pairs (subst (IsSuccessor lo pairs) none nearest), refl) }
+    advance_none none = record { is = (none_within lo hi pairs (subst (IsSuccessor lo pairs) none nearest), refl) }
 
     module _ (x : Key × Key) (some : found ≡ Some x) where
       first : IsFirst (λ e. is_from lo e.0) pairs x
       first = subst (IsSuccessor lo pairs) some nearest
 
       pub advance_beyond : is_up_to hi x.0 ≡ false → Advances pairs lo hi None lo
-      advance_beyond up = record { told = (beyond lo hi pairs x first sorted_pairs up, refl) }
+      advance_beyond up = record { is = (beyond lo hi pairs x first sorted_pairs up, refl) }
 
       pub advance_one : is_up_to hi x.0 ≡ true → (new : Bound Key) → new ≡ Excluded x.0 → Advances pairs lo hi (Some x) new
-      advance_one up new copy = record { told = one_within lo hi pairs x first sorted_pairs up ∙ ap (λ b. x ∷ pairs_within b hi pairs) (sym copy) }
+      advance_one up new copy = record { is = one_within lo hi pairs x first sorted_pairs up ∙ ap (λ b. x ∷ pairs_within b hi pairs) (sym copy) }
 
       pub advance_kept : (hand : Option View) → SeeksAt (now s) root from hand → (new : Bound Key) → new ≡ Excluded x.0 → SeeksAt (now s) root new hand
       advance_kept None k new copy = tt
@@ -305,17 +305,17 @@ module _ (s : Store) (root : ℕ) (given : AreGiven s) (is : IsRoot (now s) root
     nearest_back = subst (λ b. IsPredecessor b pairs found) same (of_pairs (λ all. IsPredecessor from all found) near)
 
     pub retreat_none : found ≡ None → Retreats pairs lo hi None hi
-    retreat_none none = record { told = (none_back lo hi pairs (subst (IsPredecessor hi pairs) none nearest_back), refl) }
+    retreat_none none = record { is = (none_back lo hi pairs (subst (IsPredecessor hi pairs) none nearest_back), refl) }
 
     module _ (x : Key × Key) (some : found ≡ Some x) where
       last : IsLast (λ e. is_up_to hi e.0) pairs x
       last = subst (IsPredecessor hi pairs) some nearest_back
 
       pub retreat_before : is_from lo x.0 ≡ false → Retreats pairs lo hi None hi
-      retreat_before off = record { told = (before_all lo hi pairs x last sorted_pairs off, refl) }
+      retreat_before off = record { is = (before_all lo hi pairs x last sorted_pairs off, refl) }
 
       pub retreat_one : is_from lo x.0 ≡ true → (new : Bound Key) → new ≡ Excluded x.0 → Retreats pairs lo hi (Some x) new
-      retreat_one up new copy = record { told = one_back lo hi pairs x last sorted_pairs up ∙ ap (λ b. pairs_within lo b pairs ++ x ∷ []) (sym copy) }
+      retreat_one up new copy = record { is = one_back lo hi pairs x last sorted_pairs up ∙ ap (λ b. pairs_within lo b pairs ++ x ∷ []) (sym copy) }
 
       pub retreat_kept : (hand : Option View) → SeeksBackAt (now s) root from hand → (new : Bound Key) → new ≡ Excluded x.0 → SeeksBackAt (now s) root new hand
       retreat_kept None k new copy = tt

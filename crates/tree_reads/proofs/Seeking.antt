@@ -133,7 +133,7 @@ weaker a l m h = omega arith
 pub seeks_anew : (s : State) (root : ℕ) (lo : Bound Key) (v : View) (looked : ℕ) → Seeks s root lo v looked → Seeks s root lo v 0
 seeks_anew s root lo v looked k = record {
   read = k.read;
-  told = λ w f t is. let a = k.told w f t is in (a.0, a.1, weaker a.0 looked (tree_pages s t + 1) a.2, a.3);
+  is = λ w f t is. let a = k.is w f t is in (a.0, a.1, weaker a.0 looked (tree_pages s t + 1) a.2, a.3);
 }
 
 without_from : (a l m : ℕ) → a + l ≤ m + 0 + 1 → a + l ≤ m + 1
@@ -142,8 +142,8 @@ without_from a l m h = omega arith
 pub seeks_first : (s : Store) (root : ℕ) (lo target : Bound Key) (v : View) (looked : ℕ) → AreGiven s → StartsAt lo target → IsLeafFor (now s) root target 0 v looked → Seeks (now s) root lo v looked
 seeks_first s root lo target v looked given starts leaf = record {
   read = record { live = leaf.live; below = given.numbered };
-  told = λ w f t is.
-      let k = leaf.told w f t is in
+  is = λ w f t is.
+      let k = leaf.is w f t is in
       (k.1, k.2, without_from k.1 looked (tree_pages (now s) t) k.3, λ e i b. starts.below e.0 v.node.lo k.0.begins b);
 }
 
@@ -169,15 +169,15 @@ further lo k e p q = go (key_cmp e k) refl
 pub seeks_on : (s : State) (root : ℕ) (lo : Bound Key) (v : View) (looked : ℕ) → Seeks s root lo v looked → (x : Key) → is_from lo x ≡ true → Seeks s root (Excluded x) v looked
 seeks_on s root lo v looked k x p = record {
   read = k.read;
-  told = λ w f t is. let a = k.told w f t is in (a.0, a.1, a.2, λ e i b. further lo x e.0 p (a.3 e i b));
+  is = λ w f t is. let a = k.is w f t is in (a.0, a.1, a.2, λ e i b. further lo x e.0 p (a.3 e i b));
 }
 
 module _ (s : State) (root : ℕ) (lo : Bound Key) (v : View) (looked : ℕ) (k : Seeks s root lo v looked) where
   -- found
   pub seeks_found : (x : Key × Key) → IsFirst (λ e. is_from lo e.0) (pairs v.node.content) x → OfContents s root (λ all. IsSuccessor lo all (Some x))
   seeks_found x first = record {
-    told = λ w f t is.
-        let a = k.told w f t is in
+    is = λ w f t is.
+        let a = k.is w f t is in
         let r = range_law (nodes_of s) s.roots w f t v.pid v.node (in_chain a.1) (node_at s v k.read.live) in record {
           before = r.0 ++ first.before;
           after = first.after ++ r.1;
@@ -190,8 +190,8 @@ module _ (s : State) (root : ℕ) (lo : Bound Key) (v : View) (looked : ℕ) (k 
   -- none is found here, and the leaf is the last
   pub seeks_none : list_any (λ e. is_from lo e.0) (pairs v.node.content) ≡ false → v.node.next ≡ None → OfContents s root (λ all. IsSuccessor lo all None)
   seeks_none none last = record {
-    told = λ w f t is.
-        let a = k.told w f t is in
+    is = λ w f t is.
+        let a = k.is w f t is in
         let r = range_law (nodes_of s) s.roots w f t v.pid v.node (in_chain a.1) (node_at s v k.read.live) in
         none_of (λ e. is_from lo e.0) (contents (nodes_of s) w t) (λ e i. elim (in_join r.0 (pairs v.node.content ++ r.1) e (subst (λ l. In e l) r.2 i)) [
           | inl j ↦ a.3 e i (all_at (λ e. Below e.0 v.node.lo) r.0 e j r.3)
@@ -207,8 +207,8 @@ module _ (s : State) (root : ℕ) (lo : Bound Key) (v : View) (looked : ℕ) (k 
   seeks_more q u none next read =
       let x = viewed q (s.pages q) u read in record {
         read = record { live = ap s.pages x.0 ∙ x.1; below = k.read.below };
-        told = λ w f t is.
-            let a = k.told w f t is in
+        is = λ w f t is.
+            let a = k.is w f t is in
             let r = range_law (nodes_of s) s.roots w f t v.pid v.node (in_chain a.1) (node_at s v k.read.live) in
             let d = next_in f (place t 0) v.pid q v.node (in_chain a.1) (node_at s v k.read.live) next in
             let b = ahead_next f t 0 v.pid q a.0 v.node a.1 (node_at s v k.read.live) next in
@@ -235,12 +235,12 @@ module _ (s : State) (root : ℕ) (lo : Bound Key) (v : View) (looked : ℕ) (k 
   -- the next page is gone, or too many were looked at
   pub seeks_gone : (q : ℕ) → v.node.next ≡ Some q → None ≡ view_of q (s.pages q) → HasTooMany once s root
   seeks_gone q next read w f t is =
-      let a = k.told w f t is in
+      let a = k.is w f t is in
       let d = next_in f (place t 0) v.pid q v.node (in_chain a.1) (node_at s v k.read.live) next in
       none_some (sym (ap (option_map (λ (g : Page). g.node)) (gone q (s.pages q) read)) ∙ d.2)
 
   pub seeks_full : MOST_PAGES ≤ looked → HasTooMany once s root
-  seeks_full full w f t is = let a = k.told w f t is in enough a.0 (length a.1.behind) looked (tree_pages s t) a.1.count a.2 full
+  seeks_full full w f t is = let a = k.is w f t is in enough a.0 (length a.1.behind) looked (tree_pages s t) a.1.count a.2 full
     where
       enough : (a b l m : ℕ) → a ≡ suc b + 0 → a + l ≤ m + 1 → MOST_PAGES ≤ l → MOST_PAGES ≤ m
       enough a b l m c h g = omega arith
@@ -283,7 +283,7 @@ covered key n u = (not_true _ u.begins, elim u.ends [ inl e ↦ inl e | inr o �
 -- the value in the leaf under a key is the contents'
 pub value_found : (s : State) (root : ℕ) (key : Key) (from : ℕ) (v : View) (looked : ℕ) → IsLeafFor s root (Included key) from v looked → (n : Node) → n ≡ v.node → (value : Option Key) → value ≡ value_at n.content key → OfContents s root (λ all. value ≡ find key_cmp key all)
 value_found s root key from v looked leaf n same value is = record {
-  told = λ w f t there.
-      let k = leaf.told w f t there in
+  is = λ w f t there.
+      let k = leaf.is w f t there in
       is ∙ ap (λ (z : Node). value_at z.content key) same ∙ value_is v.node.content key ∙ sym (find_law (nodes_of s) s.roots w f t v.pid v.node key (in_chain k.2) (node_at s v leaf.live) (covered key v.node k.0));
 }

@@ -15,7 +15,7 @@ use Rattle.sled_pages.specs.declared.node.Node.{Node}
 use Rattle.sled_pages.specs.declared.node.Data.{Data}
 use Rattle.sled_pages.specs.declared.node.Data.TheVariants.{Leaf, Index}
 use Rattle.tree_laws.specs.Forest.{Tree, Forest, place, WellFormed, Holds}
-use Rattle.tree_laws.specs.Paths.{IsPassed, IsAhead}
+use Rattle.tree_laws.specs.Paths.{NeedsNoRepair, IsAhead}
 use Rattle.tree_laws.proofs.Order.{upto-below, below_upto-trans, below-trans}
 use Rattle.tree_laws.proofs.Runs.{In-right}
 use Rattle.tree_laws.proofs.Replace.{some_is}
@@ -38,7 +38,7 @@ not_true true e = cc
 not_true false e = refl
 
 -- the key of a page that is passed does not lie behind it
-not_behind : (target : Bound Key) (nodes : Nodes) (key : Key) (p : ℕ) (first : Bool) (n : Node) → target ≡ Included key → IsPassed nodes (Included key) p first n → LiesBehind target n → ⊥
+not_behind : (target : Bound Key) (nodes : Nodes) (key : Key) (p : ℕ) (first : Bool) (n : Node) → target ≡ Included key → NeedsNoRepair nodes (Included key) p first n → LiesBehind target n → ⊥
 not_behind target nodes key p first n is k b = elim k.under.1 [
   | inl e ↦ b.0 e
   | inr l ↦ apart (sym b.1 ∙ ap (λ z. is_up_to z n.hi) is ∙ l)
@@ -50,7 +50,7 @@ not_behind target nodes key p first n is k b = elim k.under.1 [
 -- to the right
 pub turns_right : (target : Bound Key) (n : Node) → LiesBehind target n → Turns target n n.next
 turns_right target n b = record {
-  told = λ nodes roots w f t p ahead live s.
+  is = λ nodes roots w f t p ahead live s.
       let q = next_some f (place t s.height) p n (standing s) live b.0 in
       subst (turns_as nodes w t target p n ahead) (sym q.1) (
       let d = next_in f (place t s.height) p q.0 n (standing s) live q.1 in
@@ -84,7 +84,7 @@ untrue b told e p = apart b e (told.1 p)
 -- a leaf ends the walk
 pub turns_leaf : (target : Bound Key) (n : Node) (es : List (Key × Key)) (b : Bool) → IsTrue b ↔ LiesBehind target n → b ≡ false → n.content ≡ Leaf es → Turns target n None
 turns_leaf target n es b told off leaf = record {
-  told = λ nodes roots w f t p ahead live s. (
+  is = λ nodes roots w f t p ahead live s. (
     under target n s.node (untrue b told off) (some_is s.node n (sym s.live ∙ live)) s.begins,
     subst (λ h. In p (w.chain (place t h))) (leaf_in f t s.height p n es (standing s) live leaf) (standing s),
   );
@@ -107,7 +107,7 @@ above f t h p n es i live index = index_high h n.lo n.hi es (subst (λ d. Holds 
 -- no pointer: it cannot be
 pub turns_nowhere : (target : Bound Key) (n : Node) → IsIndex n.content → IsPointerFor target (pointers n.content) None → Turns target n None
 turns_nowhere target n index none = record {
-  told = λ nodes roots w f t p ahead live s.
+  is = λ nodes roots w f t p ahead live s.
       let es = index_of n.content index in
       let g = above f t s.height p n es.0 (standing s) live es.1 in
       let i : In p (w.chain (place t (suc g.0))) = subst (λ h. In p (w.chain (place t h))) g.1 (standing s) in
@@ -122,7 +122,7 @@ turns_nowhere target n index none = record {
 -- down by the pointer,
 pub turns_down : (target : Bound Key) (n : Node) (c : ℕ) (b : Bool) → IsIndex n.content → IsPointer target (pointers n.content) c b → (n.merging_child ≢ Some c) → Turns target n (Some c)
 turns_down target n c b index k off = record {
-  told = λ nodes roots w f t p ahead live s.
+  is = λ nodes roots w f t p ahead live s.
       let es = index_of n.content index in
       let g = above f t s.height p n es.0 (standing s) live es.1 in
       let i : In p (w.chain (place t (suc g.0))) = subst (λ h. In p (w.chain (place t h))) g.1 (standing s) in
@@ -149,7 +149,7 @@ lower Unbounded a b l u = refl
 -- or by the one before it,
 pub turns_before : (target : Bound Key) (n : Node) (c : ℕ) (first : Bool) (found : Option ℕ) → IsIndex n.content → IsPointer target (pointers n.content) c first → n.merging_child ≡ Some c → IsPointerBefore c (pointers n.content) found → Turns target n found
 turns_before target n c first found index last child before = record {
-  told = λ nodes roots w f t p ahead live s.
+  is = λ nodes roots w f t p ahead live s.
       let es = index_of n.content index in
       let g = above f t s.height p n es.0 (standing s) live es.1 in
       let i : In p (w.chain (place t (suc g.0))) = subst (λ h. In p (w.chain (place t h))) g.1 (standing s) in

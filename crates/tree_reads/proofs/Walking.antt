@@ -25,7 +25,7 @@ none_some e = cc
 -- a clean path so many are left of the path
 pub record Walks (s : State) (root : ℕ) (target : Bound Key) (from pid looked : ℕ) : Type 0 where
   pub more : from ≤ looked
-  pub told : (w : Forest) → WellFormed (nodes_of s) s.roots w → (t : Tree) → s.roots t ≡ Some root → (ahead : ℕ) × Stands (nodes_of s) w t target pid ahead × (ahead + looked ≤ tree_pages s t + from)
+  pub is : (w : Forest) → WellFormed (nodes_of s) s.roots w → (t : Tree) → s.roots t ≡ Some root → (ahead : ℕ) × Stands (nodes_of s) w t target pid ahead × (ahead + looked ≤ tree_pages s t + from)
   pub clean : (key : Key) → target ≡ Included key → (first : Bool) (path : List ℕ) → CleanFrom (nodes_of s) (Included key) root first path
       → (b : Bool) × (rest : List ℕ) × (looked + length rest ≤ from + length path) × CleanFrom (nodes_of s) (Included key) pid b rest
 
@@ -38,7 +38,7 @@ no_less a = omega arith
 pub walk_first : (s : Store) (root : ℕ) (target : Bound Key) (from : ℕ) → AreGiven s → is_up_to target [] ≡ true → Walks (now s) root target from root from
 walk_first s root target from k begins = record {
   more = no_less from;
-  told = λ w f t is.
+  is = λ w f t is.
       let r = root_in f t root is in
       let l = pages_law (now s) w f k.numbered t root is in
       let a = ahead_at f t l.0 root l.1 in (
@@ -78,10 +78,10 @@ module _ (s : State) (root : ℕ) (target : Bound Key) (from pid looked : ℕ) (
   pub walk_more : (v : View) (q : ℕ) → Some v ≡ view_of pid (s.pages pid) → Turns target v.node (Some q) → Walks s root target from q (looked + 1)
   walk_more v q read turns = record {
     more = one_more from looked k.more;
-    told = λ w f t is.
+    is = λ w f t is.
         let x = viewed pid (s.pages pid) v read in
-        let a = k.told w f t is in
-        let b = turns.told (nodes_of s) s.roots w f t pid a.0 (ap (option_map (λ (g : Page). g.node)) x.1) a.1 in
+        let a = k.is w f t is in
+        let b = turns.is (nodes_of s) s.roots w f t pid a.0 (ap (option_map (λ (g : Page). g.node)) x.1) a.1 in
         (b.0, b.2, one_less b.0 a.0 looked (tree_pages s t + from) b.1 a.2);
     clean = λ key is first path c.
         let x = viewed pid (s.pages pid) v read in
@@ -95,9 +95,9 @@ module _ (s : State) (root : ℕ) (target : Bound Key) (from pid looked : ℕ) (
       let x = viewed pid (s.pages pid) v read in record {
         live = ap s.pages x.0 ∙ x.1;
         more = above from looked count k.more next;
-        told = λ w f t is.
-            let a = k.told w f t is in
-            let b = turns.told (nodes_of s) s.roots w f t pid a.0 (ap (option_map (λ (g : Page). g.node)) x.1) a.1 in
+        is = λ w f t is.
+            let a = k.is w f t is in
+            let b = turns.is (nodes_of s) s.roots w f t pid a.0 (ap (option_map (λ (g : Page). g.node)) x.1) a.1 in
             let i = subst (λ p. In p (w.chain (place t 0))) (sym x.0) b.1 in
             let c = lower w f t v.pid a.0 (subst (λ p. Stands (nodes_of s) w t target p a.0) (sym x.0) a.1) i in
             (b.0, c.0, c.1, all_in c.0 a.0 looked count (tree_pages s t) from c.2 a.2 next);
@@ -121,7 +121,7 @@ module _ (s : State) (root : ℕ) (target : Bound Key) (from pid looked : ℕ) (
 
   pub walk_gone : None ≡ view_of pid (s.pages pid) → (of : ℕ → ℕ) → HasTooMany of s root
   walk_gone read of w f t is =
-      let a = k.told w f t is in
+      let a = k.is w f t is in
       none_some (sym (ap (option_map (λ (g : Page). g.node)) (gone pid (s.pages pid) read)) ∙ a.1.live)
 
   pub walk_lost : None ≡ view_of pid (s.pages pid) → (key : Key) → target ≡ Included key → (first : Bool) (path : List ℕ) → CleanFrom (nodes_of s) (Included key) root first path → MOST_PAGES < from + length path
@@ -132,7 +132,7 @@ module _ (s : State) (root : ℕ) (target : Bound Key) (from pid looked : ℕ) (
       go b (q ∷ rest) c = none_some (sym (ap (option_map (λ (g : Page). g.node)) (gone pid (s.pages pid) read)) ∙ c.2.live)
 
   pub walk_full : MOST_PAGES ≤ looked → HasTooMany (λ pages. pages + from) s root
-  walk_full full w f t is = let a = k.told w f t is in enough a.0 looked (tree_pages s t + from) a.2 full
+  walk_full full w f t is = let a = k.is w f t is in enough a.0 looked (tree_pages s t + from) a.2 full
     where
       enough : (a l m : ℕ) → a + l ≤ m → MOST_PAGES ≤ l → MOST_PAGES ≤ m
       enough a l m h g = omega arith

@@ -11,8 +11,8 @@ use Rattle.tree_laws.specs.Forest.{Tree, Forest, place, WellFormed, contents, no
 use Rattle.tree_laws.specs.Paths.{IsAhead, tree_pages}
 
 -- at every forest that shows the pages well formed it is so of the contents of the tree with this root
-pub record OfContents (s : State) (root : ℕ) (is : List (Key × Key) → Type 0) : Type 0 where
-  pub told : (w : Forest) → WellFormed (nodes_of s) s.roots w → (t : Tree) → s.roots t ≡ Some root → is (contents (nodes_of s) w t)
+pub record OfContents (s : State) (root : ℕ) (claim : List (Key × Key) → Type 0) : Type 0 where
+  pub is : (w : Forest) → WellFormed (nodes_of s) s.roots w → (t : Tree) → s.roots t ≡ Some root → claim (contents (nodes_of s) w t)
 
 -- no key below what begins within the target is within the lower bound
 pub record StartsAt (lo target : Bound Key) : Type 0 where
@@ -28,21 +28,21 @@ pub record IsRead (s : State) (v : View) : Type 0 where
 -- this one among them, and those ahead are no more than the tree's
 pub record Seeks (s : State) (root : ℕ) (lo : Bound Key) (v : View) (looked : ℕ) : Type 0 where
   pub read : IsRead s v
-  pub told : (w : Forest) → WellFormed (nodes_of s) s.roots w → (t : Tree) → s.roots t ≡ Some root
+  pub is : (w : Forest) → WellFormed (nodes_of s) s.roots w → (t : Tree) → s.roots t ≡ Some root
       → (ahead : ℕ) × IsAhead w t 0 v.pid ahead × (ahead + looked ≤ tree_pages s t + 1) × ((e : Key × Key) → In e (contents (nodes_of s) w t) → Below e.0 v.node.lo → is_from lo e.0 ≡ false)
 
 -- A search to the left stands at a leaf: all pairs behind the leaf are without the upper bound, and the pages looked at so far,
 -- and a walk to each leaf before this one, are no more than a walk to each page
 pub record SeeksBack (s : State) (root : ℕ) (hi : Bound Key) (v : View) (looked : ℕ) : Type 0 where
   pub read : IsRead s v
-  pub told : (w : Forest) → WellFormed (nodes_of s) s.roots w → (t : Tree) → s.roots t ≡ Some root
+  pub is : (w : Forest) → WellFormed (nodes_of s) s.roots w → (t : Tree) → s.roots t ≡ Some root
       → (before : List ℕ) × (behind : List ℕ) × (w.chain (place t 0) ≡ before ++ v.pid ∷ behind) × (looked + length before * tree_pages s t ≤ tree_pages s t * tree_pages s t)
       × ((e : Key × Key) → In e (contents (nodes_of s) w t) → v.node.hi ≢ [] → UpTo v.node.hi e.0 → is_up_to hi e.0 ≡ false)
 
 -- A count stands at a leaf: so many pairs stand before it
 pub record Counts (s : State) (root : ℕ) (v : View) (looked total : ℕ) : Type 0 where
   pub read : IsRead s v
-  pub told : (w : Forest) → WellFormed (nodes_of s) s.roots w → (t : Tree) → s.roots t ≡ Some root
+  pub is : (w : Forest) → WellFormed (nodes_of s) s.roots w → (t : Tree) → s.roots t ≡ Some root
       → (before : List ℕ) × (behind : List ℕ) × (w.chain (place t 0) ≡ before ++ v.pid ∷ behind) × (looked + length behind ≤ tree_pages s t) × (total ≡ length (flat_map (λ p. node_pairs (nodes_of s p)) before))
 
 -- the leaf at hand, if there is one

@@ -56,11 +56,11 @@ is_last all p rest = all ≡ rest ++ p ∷ []
 
 -- the first of what is to come is taken, and what is shown of it is given
 pub record TakesFirst {P A : Type 0} (store : P → Store) (shows : Key × Key → A) (old : Coming P) (given : Option (Result A Error)) (new : Coming P) : Type 0 where
-  pub told : takes store is_first shows once old given new
+  pub is : takes store is_first shows once old given new
 
 -- the last is
 pub record TakesLast {P A : Type 0} (store : P → Store) (shows : Key × Key → A) (old : Coming P) (given : Option (Result A Error)) (new : Coming P) : Type 0 where
-  pub told : takes store is_last shows for_each old given new
+  pub is : takes store is_last shows for_each old given new
 
 abbrev pub whole : Key × Key → Key × Key
 whole p = p
@@ -87,7 +87,7 @@ advances all lo hi None new = (pairs_within lo hi all ≡ []) × (new ≡ lo)
 advances all lo hi (Some p) new = (pairs_within lo hi all ≡ p ∷ pairs_within new hi all)
 
 pub record Advances (all : List (Key × Key)) (lo hi : Bound Key) (found : Option (Key × Key)) (new : Bound Key) : Type 0 where
-  pub told : advances all lo hi found new
+  pub is : advances all lo hi found new
 
 -- and from the back
 abbrev pub retreats : List (Key × Key) → Bound Key → Bound Key → Option (Key × Key) → Bound Key → Type 0
@@ -95,4 +95,4 @@ retreats all lo hi None new = (pairs_within lo hi all ≡ []) × (new ≡ hi)
 retreats all lo hi (Some p) new = (pairs_within lo hi all ≡ pairs_within lo new all ++ p ∷ [])
 
 pub record Retreats (all : List (Key × Key)) (lo hi : Bound Key) (found : Option (Key × Key)) (new : Bound Key) : Type 0 where
-  pub told : retreats all lo hi found new
+  pub is : retreats all lo hi found new

@@ -50,7 +50,7 @@ keeps_path nodes key path None = Unit {0}
 keeps_path nodes key path (Some q) = (first : Bool) × (rest : List ℕ) × (length path ≡ suc (length rest)) × CleanFrom nodes (Included key) q first rest
 
 pub record Turns (target : Bound Key) (n : Node) (to : Option ℕ) : Type 0 where
-  pub told : (nodes : Nodes) (roots : Tree → Option ℕ) (w : Forest) → WellFormed nodes roots w → (t : Tree) (p ahead : ℕ) → nodes p ≡ Some n → Stands nodes w t target p ahead
+  pub is : (nodes : Nodes) (roots : Tree → Option ℕ) (w : Forest) → WellFormed nodes roots w → (t : Tree) (p ahead : ℕ) → nodes p ≡ Some n → Stands nodes w t target p ahead
       → turns_as nodes w t target p n ahead to
   pub clean : (nodes : Nodes) (key : Key) (p : ℕ) (first : Bool) (path : List ℕ) → target ≡ Included key → nodes p ≡ Some n → CleanFrom nodes (Included key) p first path → keeps_path nodes key path to
 
@@ -60,7 +60,7 @@ pub record Turns (target : Bound Key) (n : Node) (to : Option ℕ) : Type 0 wher
 pub record IsLeafFor (s : State) (root : ℕ) (target : Bound Key) (from : ℕ) (v : View) (looked : ℕ) : Type 0 where
   pub live : s.pages v.pid ≡ Some (record { version = v.version; node = v.node })
   pub more : from < looked
-  pub told : (w : Forest) → WellFormed (nodes_of s) s.roots w → (t : Tree) → s.roots t ≡ Some root
+  pub is : (w : Forest) → WellFormed (nodes_of s) s.roots w → (t : Tree) → s.roots t ≡ Some root
       → IsUnder target v.node × (ahead : ℕ) × IsAhead w t 0 v.pid ahead × (ahead + looked ≤ tree_pages s t + from + 1)
 
 -- at every forest the limit is at most this function of the number of the tree's pages
@@ -76,7 +76,7 @@ refuses_walk_as of s root e = ⊥
 -- Refused for want of memory, for a fault where some page is not readable, or for too many pages: from left to right no page is
 -- looked at twice
 pub record RefusesWalk (of : ℕ → ℕ) (s : Store) (root : ℕ) (e : Error) : Type 0 where
-  pub told : refuses_walk_as of s root e
+  pub is : refuses_walk_as of s root e
 
 -- the tree's pages; and their square, since from right to left each leaf may be walked to from the root
 abbrev pub once : ℕ → ℕ
@@ -91,4 +91,4 @@ gives_up_as s root key from e = Unit {0}
 
 -- a walk to a key over a clean path is given up only where the path has more pages than may still be looked at
 pub record GivesUp (s : State) (root : ℕ) (target : Bound Key) (from : ℕ) (e : Error) : Type 0 where
-  pub told : (key : Key) → target ≡ Included key → gives_up_as s root key from e
+  pub is : (key : Key) → target ≡ Included key → gives_up_as s root key from e

@@ -1,6 +1,6 @@
 //! What reads ask of a store.
 ghost use Rattle.std.specs.Prelude.{◌≡◌, IfOk, IfErr};
-ghost use Rattle.sled_pages.specs.Store.{Store, now, AreGiven, RefusedRead, view_of};
+ghost use Rattle.sled_pages.specs.Store.{Store, now, AreGiven, IsReadRefused, view_of};
 
 use sled_pages::{Pages, Pid, Result, View};
 use std::alloc::Global;
@@ -13,7 +13,7 @@ pub trait Reads: Drop {
     /// The page now, or `None` where there is none. `Io` comes only where the page is not readable.
     fn page(&self, alloc: Global, pid: Pid) -> Result<Option<View>>
         ensures ok { IfOk result (λ view. view ≡ view_of pid ((now (store self.now)).pages pid)) }
-        ensures err { IfErr result (RefusedRead pid (store self.now)) };
+        ensures err { IfErr result (IsReadRefused pid (store self.now)) };
 
     /// Each page has a number and a version that were given.
     ghost given: { (s : Self) → AreGiven (store s) };

@@ -15,7 +15,7 @@ pub returns-in_default-next-clause-ok : goal.returns-in_default-next-clause-ok
 returns-in_default-next-clause-ok g c = count_ends _ _ _ _ _ c.loop-count.invariant _ c.deref.ensures _ c.in-Some.ensures _ c.deref-in-loop-count.ensures c.in_default-next.is
 
 pub returns-in-Ok-None-clause-err : goal.returns-in-Ok-None-clause-err
-returns-in-Ok-None-clause-err g c = record { told = (refl, count_gone _ _ _ _ _ c.loop-count.invariant _ c.deref-in-loop-count.ensures _ c.in-Some-next.is (sym c.in-Ok-None.field-0-is ∙ c.in-Ok-None.ensures.ok)) }
+returns-in-Ok-None-clause-err g c = record { is = (refl, count_gone _ _ _ _ _ c.loop-count.invariant _ c.deref-in-loop-count.ensures _ c.in-Some-next.is (sym c.in-Ok-None.field-0-is ∙ c.in-Ok-None.ensures.ok)) }
 
 pub loop-count-preserved : goal.loop-count-preserved
 loop-count-preserved g c = subst (λ v. Counts (now (g.R.Reads.store c.args.pages.now)) c.args.root v (c.loop-count.count + 1) c.in-Some.more) (sym c.replace-old.ensures.after)

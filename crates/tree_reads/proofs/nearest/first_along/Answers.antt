@@ -12,7 +12,7 @@ pub returns-in_default-clause-ok : goal.returns-in_default-clause-ok
 returns-in_default-clause-ok g c = ends_here _ _ _ _ _ c.loop-count.invariant _ c.deref.ensures _ c.in-Ok-None.ensures.ok c.in-Ok-None.field-0-is _ c.deref-in-loop-count.ensures c.in_default.is
 
 pub returns-in-Ok-None-page-clause-err : goal.returns-in-Ok-None-page-clause-err
-returns-in-Ok-None-page-clause-err g c = record { told = (refl, gone_here _ _ _ _ _ c.loop-count.invariant _ c.deref-in-loop-count.ensures _ c.in-Some.is (sym c.in-Ok-None-page.field-0-is ∙ c.in-Ok-None-page.ensures.ok)) }
+returns-in-Ok-None-page-clause-err g c = record { is = (refl, gone_here _ _ _ _ _ c.loop-count.invariant _ c.deref-in-loop-count.ensures _ c.in-Some.is (sym c.in-Ok-None-page.field-0-is ∙ c.in-Ok-None-page.ensures.ok)) }
 
 pub loop-count-preserved : goal.loop-count-preserved
 loop-count-preserved g c = subst (λ v. Seeks (now (g.R.Reads.store c.args.pages.now)) c.args.root (bound_of c.args.lo) v (c.loop-count.count + 1)) (sym c.replace-old.ensures.after)

@@ -8,7 +8,7 @@ pub loop-before-init : goal.loop-before-init
 loop-before-init g c = walk_first _ _ _ _ c.law_given.ensures c.requires
 
 pub returns-in-Ok-None-clause-gives_up : goal.returns-in-Ok-None-clause-gives_up
-returns-in-Ok-None-clause-gives_up g c = record { told = walk_lost _ _ _ _ _ _ c.loop-before.invariant (sym c.in-Ok-None.field-0-is ∙ c.in-Ok-None.ensures.ok) }
+returns-in-Ok-None-clause-gives_up g c = record { is = walk_lost _ _ _ _ _ _ c.loop-before.invariant (sym c.in-Ok-None.field-0-is ∙ c.in-Ok-None.ensures.ok) }
 
 pub returns-in-None-clause-ok : goal.returns-in-None-clause-ok
 returns-in-None-clause-ok g c = walk_ends _ _ _ _ _ _ c.loop-before.invariant _ _ (sym c.in-Ok-Some.field-0-is ∙ c.in-Ok-Some.ensures.ok) (subst (λ n. Turns (bound_of c.args.target) n None) c.deref.ensures c.in-None.ensures) refl

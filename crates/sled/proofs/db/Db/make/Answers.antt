@@ -6,10 +6,10 @@ pub returns-in-Err-clause-err : goal.returns-in-Err-clause-err
 returns-in-Err-clause-err g c = point_short g.P.Pages.store g.M.MergeOperator.meant _ _ _ _ c.requires c.in-Err.ensures.err
 
 pub unreachable-requires : goal.unreachable-requires
-unreachable-requires g c = end_reached g.P.Pages.store g.M.MergeOperator.meant _ _ _ _ _ c.fly_on-went.ensures c.in-Moved.is
+unreachable-requires g c = end_reached g.P.Pages.store g.M.MergeOperator.meant _ _ _ _ _ c.advance_on-went.ensures c.in-Moved.is
 
 pub returns-in-Decided-clause-ok : goal.returns-in-Decided-clause-ok
-returns-in-Decided-clause-ok g c = point_decided g.P.Pages.store g.M.MergeOperator.meant _ _ _ _ _ _ _ c.new-flight.ensures c.in-Ok.ensures.ok _ _ c.in-Decided.is c.fly_on-went.ensures
+returns-in-Decided-clause-ok g c = point_decided g.P.Pages.store g.M.MergeOperator.meant _ _ _ _ _ _ _ c.new-flight.ensures c.in-Ok.ensures.ok _ _ c.in-Decided.is c.advance_on-went.ensures
 
 pub returns-in-Refused-clause-err : goal.returns-in-Refused-clause-err
-returns-in-Refused-clause-err g c = point_refused g.P.Pages.store g.M.MergeOperator.meant _ _ _ _ _ _ _ c.new-flight.ensures c.in-Ok.ensures.ok _ _ c.in-Refused.is c.fly_on-went.ensures
+returns-in-Refused-clause-err g c = point_refused g.P.Pages.store g.M.MergeOperator.meant _ _ _ _ _ _ _ c.new-flight.ensures c.in-Ok.ensures.ok _ _ c.in-Refused.is c.advance_on-went.ensures

@@ -1,6 +1,6 @@
 use Rattle.std.proofs.Common.{◌≡◌, length, rules, ap, sym, ◌∙◌}
 use Rattle.sled_pages.specs.Slots.{places_of, given_of}
-use Rattle.sled_pages.specs.Store.{Store, flushed, now}
+use Rattle.sled_pages.specs.Store.{Store, after_flush, now}
 use Rattle.sled_pages.specs.Memory.{table_of}
 use Rattle.sled_pages.proofs.Kept.{flushes, flush_keeps, group_here}
 use Rattle.sled_pages.proofs.Back.{length_recent_log}
@@ -8,7 +8,7 @@ use Rattle.sled_pages.proofs.memory.MemPagesPages.flush.Goals as goal
 
 pub returns-clause-ok : goal.returns-clause-ok
 returns-clause-ok c = let m = c.count.new.self in
-    flushes (table_of m) m.log.items _ m.actions m.faults m.unreadable.items m.mark m.recovered (given_of m.slots) m.next_version c.forget.ensures ∙ ap flushed c.in_default.ensures.same
+    flushes (table_of m) m.log.items _ m.actions m.faults m.unreadable.items m.mark m.recovered (given_of m.slots) m.next_version c.forget.ensures ∙ ap after_flush c.in_default.ensures.same
 
 pub returns-clause-number : goal.returns-clause-number
 returns-clause-number c = let m = c.count.new.self in

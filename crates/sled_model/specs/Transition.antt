@@ -5,7 +5,7 @@ use Rattle.sled_pages.specs.Store.{Store}
 use Rattle.sled_pages.specs.declared.error.Error.{Error}
 use Rattle.sled_model.specs.Maps.{Maps, IsLeast, IsGreatest}
 use Rattle.sled_model.specs.Answer.{answer_of}
-use Rattle.sled_model.specs.State.{State, NamedTree, Flying, maps_of, begun, decided}
+use Rattle.sled_model.specs.State.{State, NamedTree, CallInFlight, maps_of, call_begun, after_decision}
 use Rattle.sled_model.specs.Refusal.{ToBegin, ToStep, ToCall, must_refuse, MayRefuse, TellsTurns, turns_limit}
 use Rattle.sled_model.specs.declared.call.Call.{Call}
 use Rattle.sled_model.specs.declared.call.Whole.{Whole}
@@ -20,39 +20,39 @@ use Rattle.sled_model.specs.declared.outcome.Outcome.{Outcome}
 use Rattle.sled_model.specs.declared.outcome.Outcome.TheVariants.{Begun, Moved, Decided, Refused, Abandoned, NoSuchSlot}
 
 -- the state of a database and the store that it stands on, at one moment, and the number that a flush would answer then
-pub record Instant : Type 0 where
+pub record Configuration : Type 0 where
   pub state : State
   pub store : Store
   pub flush_number : ℕ
 
 -- the call takes the next slot, with no turns
-pub record Begins (old : State) (tree : Tree) (call : Call) (slot : ℕ) (new : State) : Type 0 where
+pub record Begin (old : State) (tree : Tree) (call : Call) (slot : ℕ) (new : State) : Type 0 where
   pub free : must_refuse old (ToBegin tree call) ≡ None
   pub next : slot ≡ old.slots_given + 1
-  pub is : new ≡ record old { slots = put_at old.slots slot (Some (begun tree call)); slots_given = slot }
+  pub is : new ≡ record old { slots = put_at old.slots slot (Some (call_begun tree call)); slots_given = slot }
 
 -- the call in the slot has one turn more
-pub record Moves (old : State) (slot : ℕ) (new : State) : Type 0 where
-  pub flying : Flying
+pub record Move (old : State) (slot : ℕ) (new : State) : Type 0 where
+  pub flying : CallInFlight
   pub here : old.slots slot ≡ Some flying
   pub free : must_refuse old (ToStep flying) ≡ None
-  pub few : flying.turns < turns_limit
+  pub fits : flying.turns < turns_limit
   pub is : new ≡ record old { slots = put_at old.slots slot (Some (record flying { turns = flying.turns + 1 })) }
 
 -- the call in the slot replies, changes its tree's map and fills the queues by the answer on the map now, and ends
-pub record Decides (old : State) (slot : ℕ) (reply : Reply) (new : State) : Type 0 where
-  pub flying : Flying
+pub record Decide (old : State) (slot : ℕ) (reply : Reply) (new : State) : Type 0 where
+  pub flying : CallInFlight
   pub here : old.slots slot ≡ Some flying
   pub free : must_refuse old (ToStep flying) ≡ None
-  pub few : flying.turns < turns_limit
+  pub fits : flying.turns < turns_limit
   pub tree : NamedTree
   pub there : old.trees flying.tree.name ≡ Some tree
   pub replies : reply ≡ (answer_of flying.call tree.map).reply
-  pub is : new ≡ decided old slot flying.tree.name tree (answer_of flying.call tree.map)
+  pub is : new ≡ after_decision old slot flying.tree.name tree (answer_of flying.call tree.map)
 
 -- the call in the slot is refused, with its cause, and ends
-pub record RefusesStep (old : State) (a b : Store) (slot : ℕ) (e : Error) (new : State) : Type 0 where
-  pub flying : Flying
+pub record RefuseStep (old : State) (a b : Store) (slot : ℕ) (e : Error) (new : State) : Type 0 where
+  pub flying : CallInFlight
   pub here : old.slots slot ≡ Some flying
   pub may : MayRefuse old a b (ToStep flying) e
   -- without turns left it is told so, and nothing else
@@ -60,13 +60,13 @@ pub record RefusesStep (old : State) (a b : Store) (slot : ℕ) (e : Error) (new
   pub is : new ≡ record old { slots = put_at old.slots slot None }
 
 -- no call has the slot, and nothing changes
-pub record Misses (old : State) (slot : ℕ) (new : State) : Type 0 where
+pub record NoSlot (old : State) (slot : ℕ) (new : State) : Type 0 where
   pub free : old.slots slot ≡ None
   pub is : new ≡ old
 
 -- the call in the slot is given up
-pub record Abandons (old : State) (slot : ℕ) (new : State) : Type 0 where
-  pub flying : Flying
+pub record Abandon (old : State) (slot : ℕ) (new : State) : Type 0 where
+  pub flying : CallInFlight
   pub here : old.slots slot ≡ Some flying
   pub is : new ≡ record old { slots = put_at old.slots slot None }
 
@@ -85,7 +85,7 @@ kind_of (PopMax tree) = Changing
 kind_of (Clear tree) = InParts
 
 -- a whole call is decided. A flush answers the store's number
-abbrev pub WholeDecides : Instant → Whole → Reply → State → List Maps → Type 0
+abbrev pub WholeDecides : Configuration → Whole → Reply → State → List Maps → Type 0
 WholeDecides old Flush reply new maps = (must_refuse old.state (ToCall Flush) ≡ None) × (reply ≡ Number old.flush_number) × (new ≡ old.state) × (maps ≡ [])
 WholeDecides old (PopMin tree) reply new maps = Pops IsLeast old.state (PopMin tree) tree reply new maps
 WholeDecides old (PopMax tree) reply new maps = Pops IsGreatest old.state (PopMax tree) tree reply new maps
@@ -98,18 +98,18 @@ WholeRefuses old a b whole e new maps = MayRefuse old a b (ToCall whole) e × (n
 
 -- One step: what was done, how it came out, the state after it, and the maps that it added: those after each call that
 -- it decided, in order. What no case names stays as it was, and no other case exists
-abbrev pub steps_as : Instant → Step → Outcome → Instant → List Maps → Type 0
-steps_as old (step.Begin tree call) (Begun slot) new maps = Begins old.state tree call slot new.state × (maps ≡ [])
-steps_as old (step.Begin tree call) (Refused e) new maps = MayRefuse old.state old.store new.store (ToBegin tree call) e × (new.state ≡ old.state) × (maps ≡ [])
-steps_as old (step.Step slot) NoSuchSlot new maps = Misses old.state slot new.state × (maps ≡ [])
-steps_as old (step.Step slot) Moved new maps = Moves old.state slot new.state × (maps ≡ [])
-steps_as old (step.Step slot) (Decided reply) new maps = Decides old.state slot reply new.state × (maps ≡ maps_of new.state ∷ [])
-steps_as old (step.Step slot) (Refused e) new maps = RefusesStep old.state old.store new.store slot e new.state × (maps ≡ [])
-steps_as old (step.Abandon slot) NoSuchSlot new maps = Misses old.state slot new.state × (maps ≡ [])
-steps_as old (step.Abandon slot) Abandoned new maps = Abandons old.state slot new.state × (maps ≡ [])
-steps_as old (step.Whole whole) (Decided reply) new maps = WholeDecides old whole reply new.state maps
-steps_as old (step.Whole whole) (Refused e) new maps = WholeRefuses old.state old.store new.store whole e new.state maps
-steps_as old s o new maps = ⊥
+abbrev pub transition_as : Configuration → Step → Outcome → Configuration → List Maps → Type 0
+transition_as old (step.Begin tree call) (Begun slot) new maps = Begin old.state tree call slot new.state × (maps ≡ [])
+transition_as old (step.Begin tree call) (Refused e) new maps = MayRefuse old.state old.store new.store (ToBegin tree call) e × (new.state ≡ old.state) × (maps ≡ [])
+transition_as old (step.Step slot) NoSuchSlot new maps = NoSlot old.state slot new.state × (maps ≡ [])
+transition_as old (step.Step slot) Moved new maps = Move old.state slot new.state × (maps ≡ [])
+transition_as old (step.Step slot) (Decided reply) new maps = Decide old.state slot reply new.state × (maps ≡ maps_of new.state ∷ [])
+transition_as old (step.Step slot) (Refused e) new maps = RefuseStep old.state old.store new.store slot e new.state × (maps ≡ [])
+transition_as old (step.Abandon slot) NoSuchSlot new maps = NoSlot old.state slot new.state × (maps ≡ [])
+transition_as old (step.Abandon slot) Abandoned new maps = Abandon old.state slot new.state × (maps ≡ [])
+transition_as old (step.Whole whole) (Decided reply) new maps = WholeDecides old whole reply new.state maps
+transition_as old (step.Whole whole) (Refused e) new maps = WholeRefuses old.state old.store new.store whole e new.state maps
+transition_as old s o new maps = ⊥
 
-pub record Steps (old : Instant) (s : Step) (o : Outcome) (new : Instant) (maps : List Maps) : Type 0 where
-  pub told : steps_as old s o new maps
+pub record Transition (old : Configuration) (s : Step) (o : Outcome) (new : Configuration) (maps : List Maps) : Type 0 where
+  pub is : transition_as old s o new maps

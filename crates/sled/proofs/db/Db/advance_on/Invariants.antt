@@ -1,7 +1,7 @@
 use Rattle.std.proofs.Common.{◌-◌}
 use Rattle.sled_model.specs.declared.TheConstants.{MAX_LOOPS}
 use Rattle.sled.proofs.Flying.{IsFlying}
-use Rattle.sled.proofs.db.Db.fly_on.Given as goal
+use Rattle.sled.proofs.db.Db.advance_on.Given as goal
 
 abbrev pub invariant-steps : goal.invariant-steps
 invariant-steps g l = IsFlying g.P.Pages.store g.M.MergeOperator.meant l.fn.self l.fn.flight l.self l.flight

@@ -1,6 +1,6 @@
 use Rattle.sled_tree.proofs.Facts.{refused}
 use Rattle.sled_tree.proofs.Splits.{shortens}
-use Rattle.sled_tree.proofs.split.shorten.Goals as goal
+use Rattle.sled_tree.proofs.split.install_left.Goals as goal
 
 pub returns-in-Err-clause-moves : goal.returns-in-Err-clause-moves
 returns-in-Err-clause-moves g c = refused _ _ _ _ _ c.in-Err.ensures.err

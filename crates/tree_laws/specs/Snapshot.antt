@@ -14,7 +14,7 @@ use Rattle.sled_pages.specs.declared.page.View.{View}
 use Rattle.tree_laws.specs.Forest.{Tree, Forest, Place, place, WellFormed, IsNodeAt, IsSized}
 
 -- The pages and roots now, the page numbers and versions ever given, each tree's number now, and the tree numbers ever given
-pub record Moment : Type 0 where
+pub record Snapshot : Type 0 where
   pub state : State
   pub pids : ℕ → Bool
   pub versions : ℕ → Bool
@@ -22,14 +22,14 @@ pub record Moment : Type 0 where
   pub given : ℕ → Bool
 
 -- a store now, where the trees have these numbers
-abbrev pub moment_of : Store → (Tree → Option ℕ) → (ℕ → Bool) → Moment
-moment_of s numbers given = record { state = now s; pids = s.pids; versions = s.versions; numbers = numbers; given = given }
+abbrev pub snapshot_of : Store → (Tree → Option ℕ) → (ℕ → Bool) → Snapshot
+snapshot_of s numbers given = record { state = now s; pids = s.pids; versions = s.versions; numbers = numbers; given = given }
 
 -- the nodes by page number
-abbrev pub nodes_at : Moment → Nodes
+abbrev pub nodes_at : Snapshot → Nodes
 nodes_at m = nodes_of m.state
 
-pub record IsMoment (m : Moment) (w : Forest) : Type 0 where
+pub record HasForest (m : Snapshot) (w : Forest) : Type 0 where
   -- each page has a number and a version that were given, and its number fits 64 bits
   pub pids : (p : ℕ) (g : Page) → m.state.pages p ≡ Some g → m.pids p ≡ true
   pub versions : (p : ℕ) (g : Page) → m.state.pages p ≡ Some g → m.versions g.version ≡ true
@@ -43,22 +43,22 @@ pub record IsMoment (m : Moment) (w : Forest) : Type 0 where
   pub formed : WellFormed (nodes_at m) m.state.roots w
 
 -- p has no home
-abbrev pub IsStray : Forest → ℕ → Type 0
-IsStray w p = (y : Place) → w.home p ≢ Some y
+abbrev pub IsOrphan : Forest → ℕ → Type 0
+IsOrphan w p = (y : Place) → w.home p ≢ Some y
 
 -- p is live with this lo, and stands in the chain at x or is merging
-abbrev pub Stands : Nodes → Forest → Place → Key → ℕ → Type 0
-Stands nodes w x lo p = (n : Node) × (nodes p ≡ Some n) × (n.lo ≡ lo) × (In p (w.chain x) ⊎ (n.merging ≡ true))
+abbrev pub IsInChain : Nodes → Forest → Place → Key → ℕ → Type 0
+IsInChain nodes w x lo p = (n : Node) × (nodes p ≡ Some n) × (n.lo ≡ lo) × (In p (w.chain x) ⊎ (n.merging ≡ true))
 
 -- What an action keeps of the nodes and of the forest. `mine` are the acting call's own pages, which have no home and which
 -- it may bring into a tree or free; `lost` is the tree that it drops, if it drops one
-pub record Keeps (mine : List ℕ) (lost : Option Tree) (old new : Nodes) (w v : Forest) : Type 0 where
+pub record KeepsNodes (mine : List ℕ) (lost : Option Tree) (old new : Nodes) (w v : Forest) : Type 0 where
   -- a page of a chain stays live, and stands there or is merging
-  pub stood : (x : Place) (p : ℕ) (n : Node) → lost ≢ Some x.tree → In p (w.chain x) → old p ≡ Some n → Stands new v x n.lo p
+  pub stood : (x : Place) (p : ℕ) (n : Node) → lost ≢ Some x.tree → In p (w.chain x) → old p ≡ Some n → IsInChain new v x n.lo p
   -- a merging page does not change any more; it is only freed
   pub capped : (p : ℕ) (n : Node) → old p ≡ Some n → n.merging ≡ true → (new p ≡ Some n) ⊎ (new p ≡ None)
   -- a page without a home stays as it is and without a home, but for the acting call's own
-  pub stray : (p : ℕ) → IsStray w p → ¬ (In p mine) → (new p ≡ old p) × IsStray v p
+  pub stray : (p : ℕ) → IsOrphan w p → ¬ (In p mine) → (new p ≡ old p) × IsOrphan v p
   -- a merging page that left its chain never comes back
   pub left : (x : Place) (p : ℕ) (n : Node) → old p ≡ Some n → n.merging ≡ true → ¬ (In p (w.chain x)) → ¬ (In p (v.chain x))
   -- a page begins to merge only as the merging child of a page above it
@@ -69,7 +69,7 @@ pub record Keeps (mine : List ℕ) (lost : Option Tree) (old new : Nodes) (w v :
       → (In p (v.chain x) × ((m : Node) × (new p ≡ Some m) × (m.merging_child ≡ Some c))) ⊎ ((d : Node) × (old c ≡ Some d) × (d.merging ≡ true) × ((y : Place) → ¬ (In c (w.chain y))))
 
 -- what every action of a call gives to every other call in flight
-pub record Goes (mine : List ℕ) (lost : Option Tree) (old : Moment) (w : Forest) (new : Moment) (v : Forest) : Type 0 where
+pub record Guarantee (mine : List ℕ) (lost : Option Tree) (old : Snapshot) (w : Forest) (new : Snapshot) (v : Forest) : Type 0 where
   -- what was given stays given
   pub pids : (p : ℕ) → old.pids p ≡ true → new.pids p ≡ true
   pub versions : (p : ℕ) → old.versions p ≡ true → new.versions p ≡ true
@@ -82,59 +82,55 @@ pub record Goes (mine : List ℕ) (lost : Option Tree) (old : Moment) (w : Fores
   pub dropped : (t : Tree) (n : ℕ) → old.given n ≡ true → old.numbers t ≢ Some n → new.numbers t ≢ Some n
   pub loses : (t : Tree) → lost ≡ Some t → new.numbers t ≡ None
   -- a new root was a page without a home
-  pub rooted : (t : Tree) (r : ℕ) → new.state.roots t ≡ Some r → (old.state.roots t ≡ Some r) ⊎ (IsStray w r × ((n : Node) × (nodes_at old r ≡ Some n) × (n.merging ≡ false)))
+  pub rooted : (t : Tree) (r : ℕ) → new.state.roots t ≡ Some r → (old.state.roots t ≡ Some r) ⊎ (IsOrphan w r × ((n : Node) × (nodes_at old r ≡ Some n) × (n.merging ≡ false)))
   -- the pages that are another call's own are kept whole, versions included
-  pub own : (p : ℕ) → IsStray w p → ¬ (In p mine) → new.state.pages p ≡ old.state.pages p
+  pub own : (p : ℕ) → IsOrphan w p → ¬ (In p mine) → new.state.pages p ≡ old.state.pages p
   -- and so is a merging page, until it is freed
   pub frozen : (p : ℕ) (g : Page) → old.state.pages p ≡ Some g → g.node.merging ≡ true → (new.state.pages p ≡ Some g) ⊎ (new.state.pages p ≡ None)
-  pub keeps : Keeps mine lost (nodes_at old) (nodes_at new) w v
+  pub keeps : KeepsNodes mine lost (nodes_at old) (nodes_at new) w v
 
 -- a page grows past 17 entries only as it receives the page behind it
-pub record Grows (old new : Nodes) (w : Forest) : Type 0 where
+pub record GrowsByReceiving (old new : Nodes) (w : Forest) : Type 0 where
   pub grows : (x : Place) (p : ℕ) (n m : Node) → In p (w.chain x) → old p ≡ Some n → new p ≡ Some m
       → (count m.content ≤ count n.content) ⊎ ((count m.content ≤ 17) ⊎ ((c : ℕ) × (d : Node) × (n.next ≡ Some c) × (old c ≡ Some d) × (d.merging ≡ true)))
 
 -- An action of a call that owned the pages `mine` before it and owns `own` after it
-pub record Acts (mine own : List ℕ) (old : Moment) (w : Forest) (new : Moment) (v : Forest) : Type 0 where
-  pub is : IsMoment new v
-  pub goes : Goes (mine ++ own) None old w new v
+pub record KeepsForest (mine own : List ℕ) (old : Snapshot) (w : Forest) (new : Snapshot) (v : Forest) : Type 0 where
+  pub is : HasForest new v
+  pub goes : Guarantee (mine ++ own) None old w new v
   -- what it came to own was its own, or is new, or had a home until then
   pub fresh : (q : ℕ) → In q own → In q mine ⊎ ((old.pids q ≡ false) ⊎ ((x : Place) × (w.home q ≡ Some x)))
   -- no page gets too many entries
   pub sized : IsSized (nodes_at old) w → IsSized (nodes_at new) v
-  pub grows : Grows (nodes_at old) (nodes_at new) w
+  pub grows : GrowsByReceiving (nodes_at old) (nodes_at new) w
 
 -- a view of the page p at version v as the node n: it speaks of the page while the page has this version
-pub record Viewed (m : Moment) (p v : ℕ) (n : Node) : Type 0 where
+pub record IsReadAs (m : Snapshot) (p v : ℕ) (n : Node) : Type 0 where
   pub given : m.versions v ≡ true
   pub speaks : (g : Page) → m.state.pages p ≡ Some g → g.version ≡ v → g.node ≡ n
 
 -- p stood with this lo in the chain at x of the tree of this number: the tree's number is not the name's now, or the page
 -- is gone, or it is live with this lo and stands there or is merging
-pub record Stood (m : Moment) (w : Forest) (x : Place) (number : ℕ) (lo : Key) (p : ℕ) : Type 0 where
+pub record StoodInChain (m : Snapshot) (w : Forest) (x : Place) (number : ℕ) (lo : Key) (p : ℕ) : Type 0 where
   pub page : m.pids p ≡ true
   pub tree : m.given number ≡ true
-  pub now : (m.numbers x.tree ≢ Some number) ⊎ ((nodes_at m p ≡ None) ⊎ Stands (nodes_at m) w x lo p)
-
--- a page as it was read
-abbrev pub Look : Type 0
-Look = View
+  pub now : (m.numbers x.tree ≢ Some number) ⊎ ((nodes_at m p ≡ None) ⊎ IsInChain (nodes_at m) w x lo p)
 
 -- neither merging nor with a merging child
 pub record IsOpen (n : Node) : Type 0 where
-  pub awake : n.merging ≡ false
+  pub not_merging : n.merging ≡ false
   pub free : n.merging_child ≡ None
 
 -- the page has this version still
-pub record IsFresh (m : Moment) (look : Look) : Type 0 where
+pub record IsAtVersion (m : Snapshot) (look : View) : Type 0 where
   pub page : Page
   pub live : m.state.pages look.pid ≡ Some page
   pub same : page.version ≡ look.version
 
 -- an open page that was read in the chain at x
-pub record Seen (m : Moment) (w : Forest) (x : Place) (number : ℕ) (look : Look) : Type 0 where
-  pub view : Viewed m look.pid look.version look.node
-  pub stood : Stood m w x number look.node.lo look.pid
+pub record SeenOpen (m : Snapshot) (w : Forest) (x : Place) (number : ℕ) (look : View) : Type 0 where
+  pub view : IsReadAs m look.pid look.version look.node
+  pub stood : StoodInChain m w x number look.node.lo look.pid
   pub is_open : IsOpen look.node
   pub sound : IsNodeAt x.height look.node
 
@@ -143,12 +139,12 @@ abbrev pub LiesUnder : Bound Key → Node → Type 0
 LiesUnder aim n = (is_up_to aim n.lo ≡ true) × ((n.hi ≡ []) ⊎ (is_up_to aim n.hi ≡ false))
 
 -- a leaf that lies under the aim
-pub record IsActing (m : Moment) (w : Forest) (t : Tree) (number : ℕ) (aim : Bound Key) (look : Look) : Type 0 where
-  pub seen : Seen m w (place t 0) number look
+pub record IsActing (m : Snapshot) (w : Forest) (t : Tree) (number : ℕ) (aim : Bound Key) (look : View) : Type 0 where
+  pub seen : SeenOpen m w (place t 0) number look
   pub under : LiesUnder aim look.node
   pub es : List (Key × Key)
   pub content : look.node.content ≡ Leaf es
 
 -- a view that takes one entry more and still need not be split
-pub record IsFew (look : Look) : Type 0 where
-  pub few : count look.node.content ≤ 16
+pub record HasRoomForOne (look : View) : Type 0 where
+  pub fits : count look.node.content ≤ 16

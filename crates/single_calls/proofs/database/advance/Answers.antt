@@ -1,4 +1,4 @@
-use Rattle.single_calls.proofs.database.fly.Goals as goal
+use Rattle.single_calls.proofs.database.advance.Goals as goal
 
 pub returns-clause-step : goal.returns-clause-step
 returns-clause-step c = assumption

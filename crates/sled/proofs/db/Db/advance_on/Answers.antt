@@ -1,5 +1,5 @@
 use Rattle.sled.proofs.Flying.{fewer_turns, going_first, going_more, going_ends}
-use Rattle.sled.proofs.db.Db.fly_on.Goals as goal
+use Rattle.sled.proofs.db.Db.advance_on.Goals as goal
 
 pub steps-init : goal.steps-init
 steps-init g c = going_first g.P.Pages.store g.M.MergeOperator.meant c.args.self.now c.args.flight.now c.requires.known c.requires.tested
@@ -11,4 +11,4 @@ pub steps-preserved : goal.steps-preserved
 steps-preserved g c = going_more g.P.Pages.store g.M.MergeOperator.meant _ _ _ _ _ _ c.steps.invariant c.in-Moved.ensures c.audit.ensures
 
 pub returns-in_default : goal.returns-in_default
-returns-in_default g c = going_ends g.P.Pages.store g.M.MergeOperator.meant _ _ _ _ _ _ _ c.steps.invariant c.fly_tested.ensures c.in_default.not-Moved
+returns-in_default g c = going_ends g.P.Pages.store g.M.MergeOperator.meant _ _ _ _ _ _ _ c.steps.invariant c.advance_tested.ensures c.in_default.not-Moved
