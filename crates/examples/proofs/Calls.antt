@@ -6,7 +6,7 @@ use Rattle.std.specs.Str.{bytes_eq}
 use Rattle.std.specs.declared.ops.Bound.TheVariants.{Included}
 use Rattle.sled_pages.specs.Order.{Key}
 use Rattle.sled_pages.specs.Update.{put_at, put_name}
-use Rattle.sled_pages.specs.Facts.{same_name, put_here, put_elsewhere, put_name_here, put_name_elsewhere}
+use Rattle.sled_pages.specs.theory.Facts.{same_name, put_here, put_elsewhere, put_name_here, put_name_elsewhere}
 use Rattle.sled_pages.specs.State.{State as PageState}
 use Rattle.sled_pages.specs.Store.{Store, now}
 use Rattle.sled_pages.specs.Crash.{crash_states}
@@ -16,7 +16,7 @@ use Rattle.sled_model.specs.Maps.{Maps, Merge}
 use Rattle.sled_model.specs.State.{State, NamedTree, CallInFlight, call_begun}
 use Rattle.sled_model.specs.Answer.{answer_of}
 use Rattle.sled_model.specs.Transition.{Configuration, Transition, Decide}
-use Rattle.sled_model.specs.Runs.{RunsBy, NoSteps, OneMore}
+use Rattle.sled_model.specs.theory.Runs.{RunsBy, NoSteps, OneMore}
 use Rattle.sled_model.specs.declared.call.Call.{Call}
 use Rattle.sled_model.specs.declared.call.Call.TheVariants.{Get, Insert}
 use Rattle.sled_model.specs.declared.tree.Tree.{Tree}

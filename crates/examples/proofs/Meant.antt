@@ -141,10 +141,12 @@ module _ {P M : Type 0} (store : P → Store) (number : P → ℕ) (meant : M �
     plain_long tree is_end h = record { named = h.named; there = ap (λ (s : State). s.trees tree.name) (same_db a.db) ∙ h.there; pair = h.pair; ends = h.ends; long = h.long }
 
     plain_pop : (tree : Tree) (is_end : Map → Option (Key × Key) → Type 0) (of : ℕ → ℕ) (e : Error) → GivesUpPop store meant a.db tree is_end of e → GivesUpPop store (λ m. m) (plain a.db) tree is_end of e
-    plain_pop tree is_end of e h = record { is = λ turns. elim (h.is turns) [
-      | inl many ↦ inl many
-      | inr long ↦ inr (plain_long tree is_end long)
-    ] }
+    plain_pop tree is_end of e h = record {
+      is = λ turns. elim (h.is turns) [
+        | inl many ↦ inl many
+        | inr long ↦ inr (plain_long tree is_end long)
+      ];
+    }
 
     plain_gives_up : (s : Step) (o : Outcome) → gives_up_as store meant a.db s o → gives_up_as store (λ m. m) (plain a.db) s o
     plain_gives_up (step.Whole (PopMin tree)) (outcome.Refused e) h = plain_pop tree IsLeast once e h

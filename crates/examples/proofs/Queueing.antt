@@ -7,7 +7,7 @@ use Rattle.std.specs.declared.cmp.Ordering.{Ordering}
 use Rattle.std.proofs.lemmas.Cmp.{tied_itself}
 use Rattle.sled_pages.specs.Order.{Key, key_cmp, Below}
 use Rattle.sled_pages.specs.Node.{without}
-use Rattle.sled_pages.specs.Facts.{put_name_here}
+use Rattle.sled_pages.specs.theory.Facts.{put_name_here}
 use Rattle.sled_pages.specs.Store.{Store, now}
 use Rattle.sled_pages.specs.declared.error.Error.{Error}
 use Rattle.sled_model.specs.Maps.{Map, Merge, IsLeast}

@@ -1,5 +1,5 @@
 -- Keys of several parts, the bytes that spell them, and their order.
-use Rattle.std.specs.Prelude.{◌≡◌, ◌↔◌, ℕ, zero, suc, ◌^◌, ◌<◌, ◌++◌, List, [], ◌∷◌, Option, Some, None}
+use Rattle.std.specs.Prelude.{◌≡◌, ◌↔◌, ℕ, zero, suc, ◌^◌, ◌<◌, ◌++◌, List, [], ◌∷◌}
 use Rattle.std.specs.Int.{to_be_bytes, w64}
 use Rattle.std.specs.List.{flat_map}
 use Rattle.std.specs.Ordering.{nat_cmp}
@@ -20,11 +20,6 @@ spelled_byte (suc b) = suc b ∷ []
 -- the bytes of a text, and then 0, 0
 unfoldable pub spelled_text : Key → Key
 spelled_text text = flat_map spelled_byte text ++ 0 ∷ 0 ∷ []
-
--- one piece of a spelled text: a byte, or the end
-abbrev pub spelled_piece : Option ℕ → Key
-spelled_piece (Some byte) = spelled_byte byte
-spelled_piece None = 0 ∷ 0 ∷ []
 
 -- a number of 64 bits in eight bytes, the highest first
 unfoldable pub spelled_number : ℕ → Key

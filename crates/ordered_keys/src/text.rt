@@ -2,7 +2,8 @@
 ghost use Rattle.std.specs.Prelude.{◌≡◌, ◌≢◌, ℕ, ◌++◌, Option, take, length, OnOk, IfOk, IfErr, IfSome, IfNone};
 ghost use Rattle.sled_pages.specs.declared.error.Error.TheVariants.{NoMemory};
 ghost use Rattle.sled_pages.specs.Order.{Key};
-ghost use Rattle.ordered_keys.specs.Keys.{spelled_byte, spelled_piece, spelled_text};
+ghost use Rattle.ordered_keys.specs.Keys.{spelled_byte, spelled_text};
+ghost use Rattle.ordered_keys.specs.theory.Keys.{spelled_piece};
 
 use sled_pages::{IVec, Result};
 use std::alloc::Global;

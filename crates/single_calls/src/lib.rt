@@ -8,7 +8,9 @@ mod machine;
 mod pops;
 mod reads;
 
-pub use database::{check, close, decide, default_tree, export, flush, advance, advance_to_end, new_tree};
+pub use database::{
+    advance, advance_to_end, check, close, decide, default_tree, export, flush, new_tree,
+};
 pub use direct::{compare_and_swap, insert, remove};
 pub use machine::{abandon, begin, complete, finish, new_machine, run, step, turns, whole};
 pub use pops::{clear, pop_max, pop_min};

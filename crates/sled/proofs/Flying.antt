@@ -21,8 +21,10 @@ use Rattle.sled_model.specs.declared.reply.Reply.{Reply}
 use Rattle.sled_model.specs.declared.TheConstants.{MAX_LOOPS}
 use Rattle.tree_laws.specs.Forest.{Tree, Forest, contents}
 use Rattle.tree_laws.specs.Contents.{trees_of}
-use Rattle.tree_laws.specs.Crashes.{IsValid, IsCrashConsistent, AddsCrashStates, AddsAction}
-use Rattle.tree_laws.specs.Snapshot.{Snapshot, nodes_at, HasForest, KeepsForest}
+use Rattle.tree_laws.specs.Crashes.{IsValid, IsCrashConsistent, AddsCrashStates}
+use Rattle.tree_laws.specs.theory.Crashes.{AddsAction}
+use Rattle.tree_laws.specs.Snapshot.{Snapshot, nodes_at, HasForest}
+use Rattle.tree_laws.specs.theory.Snapshot.{KeepsForest}
 use Rattle.tree_laws.proofs.Crashing.{adds_extends, adds_unseen, extends_same, extends_again, whole_law}
 use Rattle.tree_laws.proofs.Reading.{one_law}
 use Rattle.sled_tree.specs.Course.{Course, course, course_of, IsAimed}
@@ -37,7 +39,8 @@ use Rattle.sled_tree.specs.Stages.{Knows}
 use Rattle.sled_tree.specs.Known.{IsKnown}
 use Rattle.sled_tree.specs.Passing.{IsOnPath, StepsOnPath}
 use Rattle.sled_tree.specs.Follows.{FollowsOn}
-use Rattle.sled_tree.specs.StageAction.{StageAction, ActsOnce, ActsAtMostOnce, KeepsContents, DecidesAs, LeaksNoPage, is_action_refused_as, FlightStep}
+use Rattle.sled_tree.specs.StageAction.{ActsOnce, ActsAtMostOnce, LeaksNoPage}
+use Rattle.sled_tree.specs.theory.StageAction.{StageAction, KeepsContents, DecidesAs, is_action_refused_as, FlightStep}
 use Rattle.sled.specs.Values.{DbValue, numbers_of, given_to, named, state_of, db_state, snapshot_of_db}
 use Rattle.sled.specs.Sound.{IsDb}
 use Rattle.sled.specs.Calls.{MustBeRefused, must_be_refused_as}
@@ -422,7 +425,7 @@ module _ {P M : Type 0} (store : P → Store) (meant : M → Merge) (old : DbVal
                 ≡ cond (bytes_eq t f.job.tree.name) (Some (record tree_now { map = answer.map })) (named (numbers_of old.trees t) (trees_of (now (store old.pages)) t) (λ n. option_map meant (find nat_cmp n old.operators)))
             go true e =
                 ap (λ b. named (numbers_of old.trees t) (cond b (Some answer.map) (trees_of (now (store old.pages)) t)) (λ n. option_map meant (find nat_cmp n old.operators))) e
-                ∙ ap (λ n. named n (Some answer.map) (λ n. option_map meant (find nat_cmp n old.operators))) (ap (numbers_of old.trees) (Rattle.sled_pages.specs.Facts.same_name t f.job.tree.name e) ∙ named_now)
+                ∙ ap (λ n. named n (Some answer.map) (λ n. option_map meant (find nat_cmp n old.operators))) (ap (numbers_of old.trees) (Rattle.sled_pages.specs.theory.Facts.same_name t f.job.tree.name e) ∙ named_now)
                 ∙ ap (λ b. cond b (Some (record tree_now { map = answer.map })) (named (numbers_of old.trees t) (trees_of (now (store old.pages)) t) (λ n. option_map meant (find nat_cmp n old.operators)))) (sym e)
             go false e =
                 ap (λ b. named (numbers_of old.trees t) (cond b (Some answer.map) (trees_of (now (store old.pages)) t)) (λ n. option_map meant (find nat_cmp n old.operators))) e

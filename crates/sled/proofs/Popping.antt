@@ -8,7 +8,7 @@ use Rattle.std.specs.declared.ops.Bound.TheVariants.{Unbounded}
 use Rattle.sled_pages.specs.Order.{Key, key_cmp}
 use Rattle.sled_pages.specs.Among.{is_from, is_up_to, IsSuccessor, IsPredecessor}
 use Rattle.sled_pages.specs.Node.{without}
-use Rattle.sled_pages.specs.Facts.{put_name_here}
+use Rattle.sled_pages.specs.theory.Facts.{put_name_here}
 use Rattle.sled_pages.specs.Update.{put_name}
 use Rattle.sled_pages.specs.Store.{Store, now}
 use Rattle.sled_pages.specs.declared.error.Error.{Error}

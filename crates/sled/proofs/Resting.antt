@@ -7,7 +7,7 @@ use Rattle.sled_pages.specs.declared.error.Error.{Error}
 use Rattle.sled_pages.specs.declared.error.Error.TheVariants as error
 use Rattle.tree_laws.specs.Crashes.{AddsCrashStates}
 use Rattle.tree_laws.proofs.Crashing.{extends_nothing, same_left}
-use Rattle.sled_tree.specs.StageAction.{is_action_refused_as}
+use Rattle.sled_tree.specs.theory.StageAction.{is_action_refused_as}
 use Rattle.sled.specs.Flush.{only_faults}
 
 -- two stores that show the same now

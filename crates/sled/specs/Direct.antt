@@ -1,7 +1,6 @@
 -- Calls that are made at once, in no slot.
-use Rattle.std.specs.Prelude.{◌≡◌, ◌≢◌, ℕ, ◌≤◌, ◌⊎◌, true, List, [], ◌∷◌, length, Option, Some, None, Result}
+use Rattle.std.specs.Prelude.{◌≡◌, ◌≢◌, ℕ, ◌≤◌, ◌⊎◌, true, List, [], ◌∷◌, length, Option, Some, None}
 use Rattle.sled_pages.specs.In.{In}
-use Rattle.sled_pages.specs.Order.{Key}
 use Rattle.std.specs.declared.ops.Bound.TheVariants.{Included}
 use Rattle.sled_pages.specs.Store.{Store, now}
 use Rattle.sled_pages.specs.declared.node.Node.{Node}
@@ -16,8 +15,6 @@ use Rattle.sled_model.specs.declared.call.Call.{Call}
 use Rattle.sled_model.specs.declared.call.Whole.{Whole}
 use Rattle.sled_model.specs.declared.tree.Tree.{Tree}
 use Rattle.sled_model.specs.declared.reply.Reply.{Reply}
-use Rattle.sled_model.specs.declared.reply.Reply.TheVariants.{Value, Swapped}
-use Rattle.sled_model.specs.declared.reply.CompareAndSwapError.{CompareAndSwapError}
 use Rattle.tree_laws.specs.Forest.{Place, Forest}
 use Rattle.tree_laws.specs.Snapshot.{Snapshot, nodes_at, HasForest}
 use Rattle.tree_laws.specs.Paths.{IsClean}
@@ -27,7 +24,6 @@ use Rattle.sled_tree.specs.Known.{IsKnown}
 use Rattle.sled_tree.specs.StageAction.{ActsOnce}
 use Rattle.sled_tree.specs.declared.flight.Aim.TheVariants.{OwnKey}
 use Rattle.sled_tree.specs.declared.flight.InFlight.{InFlight}
-use Rattle.sled_tree.specs.declared.flight.Went.{Went}
 use Rattle.sled_tree.specs.declared.flight.Went.TheVariants.{Decided, Refused}
 use Rattle.sled.specs.Values.{DbValue, db_state, state_of, configuration_of, snapshot_of_db}
 use Rattle.sled.specs.Sound.{IsDb}
@@ -65,16 +61,6 @@ pub record Conducts {P M : Type 0} (store : P → Store) (maps : List Maps) (ref
 -- a call as it begins
 abbrev pub begun_flight : Tree → Call → InFlight
 begun_flight tree call = record { job = record { tree = tree; call = call }; aim = OwnKey; stage = Root; turns = 0 }
-
--- the reply is a value, or that there is none
-pub record IsValue (reply : Reply) : Type 0 where
-  pub value : Option Key
-  pub is : reply ≡ Value value
-
--- the reply is how a swap came out
-pub record IsSwap (reply : Reply) : Type 0 where
-  pub swap : Result (Unit {0}) CompareAndSwapError
-  pub is : reply ≡ Swapped swap
 
 module _ {P M : Type 0} (store : P → Store) (meant : M → Merge) where
   -- A call on a key of a tree was decided, by the same steps as in a machine

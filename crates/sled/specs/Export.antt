@@ -11,10 +11,6 @@ refuses_read_as s NoMemory = Unit {0}
 refuses_read_as s (Io fault) = (pid : ℕ) × (s.is_readable pid ≡ false)
 refuses_read_as s e = ⊥
 
--- a read is refused for want of memory, or for a fault where some page is not readable
-pub record RefusesRead (s : Store) (e : Error) : Type 0 where
-  pub is : refuses_read_as s e
-
 -- a tree's collection: its type, its name, and its pairs
 abbrev pub collection : Maps → Key → Key × Key × Map
 collection maps name = (codes "tree", name, unwrap_or (maps name) [])

@@ -10,3 +10,4 @@ pub mod Direct
 pub mod Pops
 pub mod Flush
 pub mod Ids
+pub mod theory

@@ -1,10 +1,10 @@
 -- What opening a database does.
-use Rattle.std.specs.Prelude.{◌≡◌, ℕ, ◌+◌, ◌*◌, ◌≤◌, ◌⊎◌, true, false, List, [], ◌∷◌, length, map, Option, Some, None, is_some, if◌then◌else◌}
+use Rattle.std.specs.Prelude.{◌≡◌, ℕ, ◌+◌, ◌*◌, ◌≤◌, ◌⊎◌, true, false, List, [], ◌∷◌, length, Option, Some, None, is_some, if◌then◌else◌}
 use Rattle.std.specs.FinMap.Entries.{is_sorted}
 use Rattle.std.specs.Str.{bytes_eq}
 use Rattle.std.specs.declared.ops.Bound.TheVariants.{Included}
 use Rattle.sled_pages.specs.Order.{Key, key_cmp}
-use Rattle.sled_pages.specs.Store.{Store, now, IsRoots}
+use Rattle.sled_pages.specs.Store.{Store, now}
 use Rattle.sled_pages.specs.State.{State}
 use Rattle.sled_pages.specs.Crash.{crash_states}
 use Rattle.sled_pages.specs.Faults.{IsFault}
@@ -68,20 +68,6 @@ RefusesOpen = RefusesTree default_name
 -- the tree is one page, and nothing is to be repaired on the way to any key
 abbrev pub IsOnePage : State → Key → Type 0
 IsOnePage s name = (page : ℕ) × ((key : Key) → IsClean s name (Included key) (page ∷ []))
-
--- there is a tree of this name now, and no fault was met
-pub record HasTree (name : Key) (old new : Store) : Type 0 where
-  pub grows : GrowsByTree name old new
-  pub maps : trees_of (now new) ≡ with_tree name (trees_of (now old))
-  pub fresh : trees_of (now old) name ≡ None → IsOnePage (now new) name
-  pub faults : new.faults ≡ old.faults
-  pub again : CanBeOpened name old new
-
--- the names that have roots are numbered from 1, in their order
-pub record AreNumbered (s : State) (trees : List (Key × ℕ)) : Type 0 where
-  pub roots : List (Key × ℕ)
-  pub all : IsRoots s roots
-  pub is : trees ≡ numbered 0 (map (λ r. r.0) roots)
 
 -- The database of this name over the store
 pub record Opens {P M : Type 0} (store : P → Store) (before : Store) (called : Key) (d : DbValue P M) : Type 0 where

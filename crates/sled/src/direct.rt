@@ -7,7 +7,7 @@ ghost use Rattle.sled_pages.specs.declared.error.Error.TheVariants.{NoMemory};
 ghost use Rattle.sled_model.specs.Refusal.{must_refuse_of};
 ghost use Rattle.sled_model.specs.declared.call.Call.TheVariants as call;
 ghost use Rattle.sled_model.specs.declared.reply.Reply.TheVariants as told;
-ghost use Rattle.sled.specs.Direct.{IsValue, IsSwap};
+ghost use Rattle.sled.specs.theory.Direct.{IsValue, IsSwap};
 
 use crate::db::Db;
 use sled_model::{Call, CompareAndSwapError, MergeOperator, Reply, Tree};

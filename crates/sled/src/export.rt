@@ -7,7 +7,8 @@ ghost use Rattle.sled_pages.specs.Store.{now};
 ghost use Rattle.tree_laws.specs.Forest.{node_pairs};
 ghost use Rattle.tree_laws.specs.Contents.{first_of, next_of, first_leaf as leaf_under, along, pairs_under as pairs_of_root, page_numbers};
 ghost use Rattle.tree_laws.specs.Contents.{trees_of};
-ghost use Rattle.sled.specs.Export.{RefusesRead, RefusesExport, collection, collections};
+ghost use Rattle.sled.specs.Export.{RefusesExport, collection, collections};
+ghost use Rattle.sled.specs.theory.Export.{RefusesRead};
 
 use crate::db::Db;
 use sled_model::MergeOperator;

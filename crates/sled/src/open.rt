@@ -4,7 +4,8 @@ ghost use Rattle.sled_pages.specs.declared.error.Error.TheVariants.{NoMemory};
 ghost use Rattle.sled_pages.specs.declared.node.Data.TheVariants as kind;
 ghost use Rattle.sled_pages.specs.Store.{now};
 ghost use Rattle.tree_laws.specs.Crashes.{IsValid};
-ghost use Rattle.sled.specs.Opens.{Opens, RefusesOpen, RefusesTree, HasTree, AreNumbered, numbered};
+ghost use Rattle.sled.specs.Opens.{Opens, RefusesOpen, RefusesTree, numbered};
+ghost use Rattle.sled.specs.theory.Opens.{HasTree, AreNumbered};
 
 use crate::DEFAULT_TREE;
 use crate::db::Db;

@@ -3,3 +3,4 @@ pub mod Command
 pub mod Print
 pub mod Serve
 pub mod Session
+pub mod theory

@@ -1,5 +1,5 @@
 -- Words: how the byte strings, the numbers and the words themselves stand in a line.
-use Rattle.std.specs.Prelude.{◌≡◌, ◌≤◌, ℕ, ◌+◌, ◌-◌, ◌*◌, ◌/◌, ◌%◌, ◌^◌, ◌<◌, ◌==◌, ◌&&◌, ◌||◌, not, nat_lt, nat_le, Bool, List, [], ◌∷◌, length, decimal, Option, Some, None, IfSome, option_map, MatchOption, if◌then◌else◌}
+use Rattle.std.specs.Prelude.{◌≡◌, ◌≤◌, ℕ, ◌+◌, ◌-◌, ◌*◌, ◌/◌, ◌%◌, ◌^◌, ◌<◌, ◌==◌, ◌&&◌, ◌||◌, not, nat_lt, nat_le, Bool, List, [], ◌∷◌, length, decimal, Option, Some, None, IfSome, option_map, if◌then◌else◌}
 use Rattle.std.specs.Borrow.{Bor}
 use Rattle.std.specs.List.{flat_map, slice_split, AllByRecursion}
 use Rattle.std.specs.Str.{bytes_eq, all_ascii_digits}
@@ -57,11 +57,6 @@ bytes_of (b ∷ c ∷ d ∷ rest) =
     if b == 37 then and_then (byte_of (hex_value c) (hex_value d)) (bytes_of rest)
     else and_then (plain_byte b) (bytes_of (c ∷ d ∷ rest))
 bytes_of (b ∷ rest) = and_then (plain_byte b) (bytes_of rest)
-
--- the word begins with this byte, and the rest spells the others; or it begins with none
-abbrev pub BeginsWith : List ℕ → Option (ℕ × Bor (List ℕ)) → Type 0
-BeginsWith word first = MatchOption first (0 < length word → bytes_of word ≡ None)
-    (λ f. (bytes_of word ≡ and_then (Some f.0) (bytes_of f.1.now)) × (length f.1.now < length word))
 
 -- the byte string of a word, if it is one
 abbrev pub read_word : List ℕ → Option Key

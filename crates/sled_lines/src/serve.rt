@@ -3,7 +3,8 @@ ghost use Rattle.std.specs.Prelude.{◌≡◌, ◌≤◌, false, IfOk, IfSome};
 ghost use Rattle.sled_pages.specs.Store.{now};
 ghost use Rattle.sled_pages.specs.Memory.{store_of};
 ghost use Rattle.tree_laws.specs.Crashes.{IsValid, IsCrashConsistent};
-ghost use Rattle.sled_lines.specs.Serve.{Reads, Ends, Ran, IsStatus, bad_left};
+ghost use Rattle.sled_lines.specs.Serve.{IsStatus, bad_left};
+ghost use Rattle.sled_lines.specs.theory.Serve.{Reads, Ends, Ran};
 
 use crate::command::{Command, parse};
 use crate::input::{Stopped, read_line, without_end};

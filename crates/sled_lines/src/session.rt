@@ -11,7 +11,8 @@ ghost use Rattle.sled_machine.specs.Finish.{Completes};
 ghost use Rattle.sled_lines.specs.Print.{shown_of, outcome_line, pair_line, Prints};
 ghost use Rattle.sled_lines.specs.declared.print.Shown.{Shown};
 ghost use Rattle.sled_lines.specs.declared.session.Act.TheVariants as act;
-ghost use Rattle.sled_lines.specs.Session.{slot_at, acts_at, begins_as};
+ghost use Rattle.sled_lines.specs.Session.{slot_at, acts_at};
+ghost use Rattle.sled_lines.specs.theory.Session.{begins_as};
 
 use crate::command::Command;
 use crate::input::Stopped;

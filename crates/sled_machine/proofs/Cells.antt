@@ -3,8 +3,10 @@ use Rattle.std.proofs.Common.{◌≡◌, ℕ, zero, suc, ◌<◌, ◌≤◌, tru
 use Rattle.std.specs.List.{filter}
 use Rattle.std.proofs.lemmas.Bool.{eqb-true}
 use Rattle.sled_pages.specs.Update.{put_at}
-use Rattle.sled_machine.specs.Slots.{kept_at, RiseAbove, Rise}
-use Rattle.sled_machine.specs.Table.{is_occupied, kept_onto, kept, RiseUpTo, IsTable, HoldsAt, Empties, Puts}
+use Rattle.sled_machine.specs.Slots.{kept_at}
+use Rattle.sled_machine.specs.theory.Slots.{RiseAbove, Rise}
+use Rattle.sled_machine.specs.Table.{kept_onto, kept, RiseUpTo, IsTable}
+use Rattle.sled_machine.specs.theory.Table.{is_occupied, HoldsAt, Empties, Puts}
 use Rattle.sled_machine.proofs.Places.{stands, set_kept, set_rise, low_absent}
 
 none_some : {P A : Type 0} {a : A} → None ≡ Some a → P

@@ -3,7 +3,8 @@ use Rattle.std.proofs.Common.{◌≡◌, ◌≢◌, ℕ, zero, suc, ◌+◌, ◌
 use Rattle.std.proofs.lemmas.Bool.{eq-eqb, ne_eqb, eqb-true}
 use Rattle.std.proofs.lemmas.Option.{slice_get-get_or, slice_get_within}
 use Rattle.sled_pages.specs.Update.{put_at}
-use Rattle.sled_machine.specs.Slots.{kept_at, RiseAbove, Rise, StandsAt}
+use Rattle.sled_machine.specs.Slots.{kept_at}
+use Rattle.sled_machine.specs.theory.Slots.{RiseAbove, Rise, StandsAt}
 
 none_some : {P A : Type 0} {a : A} → None ≡ Some a → P
 none_some e = cc

@@ -8,9 +8,12 @@ use Rattle.sled_tree.specs.declared.flight.Went.{Went}
 use Rattle.sled_tree.specs.declared.flight.Went.TheVariants.{Moved, Decided, Refused}
 use Rattle.sled.specs.Values.{DbValue}
 use Rattle.sled.specs.Flights.{outcome_of}
-use Rattle.sled_machine.specs.Slots.{Rise, kept_at}
-use Rattle.sled_machine.specs.Table.{kept, HoldsAt, Empties, Puts}
-use Rattle.sled_machine.specs.StepsInSlot.{StepsInCell, StepsInSlot, flight_after}
+use Rattle.sled_machine.specs.Slots.{kept_at}
+use Rattle.sled_machine.specs.theory.Slots.{Rise}
+use Rattle.sled_machine.specs.Table.{kept}
+use Rattle.sled_machine.specs.theory.Table.{HoldsAt, Empties, Puts}
+use Rattle.sled_machine.specs.StepsInSlot.{flight_after}
+use Rattle.sled_machine.specs.theory.StepsInSlot.{StepsInCell, StepsInSlot}
 use Rattle.sled_machine.proofs.Places.{set_rise, read_at}
 use Rattle.sled_machine.proofs.Cells.{set_puts, puts_then, empties_puts, holds_kept}
 

@@ -7,3 +7,4 @@ pub mod Step
 pub mod Run
 pub mod Finish
 pub mod Sound
+pub mod theory

@@ -1,20 +1,7 @@
 -- Calls in flight by slot.
-use Rattle.std.specs.Prelude.{◌≡◌, ℕ, ◌<◌, nat_eq, List, [], ◌∷◌, Option, Some, None, slice_get, if◌then◌else◌}
+use Rattle.std.specs.Prelude.{ℕ, nat_eq, List, [], ◌∷◌, Option, Some, None, if◌then◌else◌}
 
 -- what is kept at the number
 abbrev pub kept_at : {X : Type 0} → List (ℕ × X) → ℕ → Option X
 kept_at [] n = None
 kept_at (e ∷ es) n = if nat_eq e.0 n then Some e.1 else kept_at es n
-
--- the numbers rise, from above this one on
-abbrev pub RiseAbove : {X : Type 0} → ℕ → List (ℕ × X) → Type 0
-RiseAbove n [] = Unit {0}
-RiseAbove n (e ∷ es) = (n < e.0) × RiseAbove e.0 es
-
-pub record Rise {X : Type 0} (es : List (ℕ × X)) : Type 0 where
-  pub is : RiseAbove 0 es
-
--- the number stands at the place
-pub record StandsAt {X : Type 0} (es : List (ℕ × X)) (n i : ℕ) : Type 0 where
-  pub kept : X
-  pub is : slice_get es i ≡ Some (n, kept)

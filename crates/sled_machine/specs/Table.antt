@@ -1,11 +1,5 @@
 -- Cells, each with a number, and with an item or empty.
-use Rattle.std.specs.Prelude.{◌≡◌, ℕ, ◌<◌, ◌≤◌, ◌⊎◌, Bool, List, [], ◌∷◌, Option, Some, None, is_some, slice_get, slice_set}
-use Rattle.std.specs.List.{filter}
-use Rattle.sled_pages.specs.Update.{put_at}
-use Rattle.sled_machine.specs.Slots.{kept_at}
-
-abbrev pub is_occupied : {X : Type 0} → ℕ × Option X → Bool
-is_occupied c = is_some c.1
+use Rattle.std.specs.Prelude.{ℕ, ◌<◌, ◌≤◌, List, [], ◌∷◌, Option, Some, None}
 
 -- an item before others, if there is one
 abbrev pub kept_onto : {X : Type 0} → ℕ → Option X → List (ℕ × X) → List (ℕ × X)
@@ -25,19 +19,3 @@ RiseUpTo n last (e ∷ es) = (n < e.0) × (e.0 ≤ last) × RiseUpTo e.0 last es
 -- what holds of a table between two calls
 pub record IsTable {X : Type 0} (cells : List (ℕ × X)) (last : ℕ) : Type 0 where
   pub is : RiseUpTo 0 last cells
-
--- the cell holds the item of the number
-pub record HoldsAt {X : Type 0} (cells : List (ℕ × Option X)) (n i : ℕ) : Type 0 where
-  pub item : X
-  pub is : slice_get cells i ≡ Some (n, Some item)
-
--- the item of a cell is gone, and then the empty cells may have gone
-pub record Empties {X : Type 0} (old : List (ℕ × Option X)) (i : ℕ) (new : List (ℕ × Option X)) : Type 0 where
-  pub cell : ℕ × Option X
-  pub was : slice_get old i ≡ Some cell
-  pub is : (new ≡ slice_set old i (cell.0, None)) ⊎ (new ≡ filter is_occupied (slice_set old i (cell.0, None)))
-
--- What is kept at the number is now this item, or none, and all else is as it was
-pub record Puts {X : Type 0} (old : List (ℕ × Option X)) (n : ℕ) (item : Option X) (new : List (ℕ × Option X)) : Type 0 where
-  pub kept : (q : ℕ) → kept_at (kept new) q ≡ put_at (kept_at (kept old)) n item q
-  pub table : (last : ℕ) → IsTable old last → IsTable new last

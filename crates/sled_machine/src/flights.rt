@@ -5,9 +5,9 @@ ghost use Rattle.sled.specs.Values.{snapshot_of_db};
 ghost use Rattle.sled_tree.specs.Known.{IsKnown};
 ghost use Rattle.sled.specs.Flights.{DbStepContract, DbRunsToEnd, outcome_of};
 ghost use Rattle.sled_tree.specs.declared.flight.InFlight.{InFlight};
-ghost use Rattle.sled_machine.specs.Slots.{Rise};
-ghost use Rattle.sled_machine.specs.Table.{HoldsAt};
-ghost use Rattle.sled_machine.specs.StepsInSlot.{StepsInCell, StepsInSlot};
+ghost use Rattle.sled_machine.specs.theory.Slots.{Rise};
+ghost use Rattle.sled_machine.specs.theory.Table.{HoldsAt};
+ghost use Rattle.sled_machine.specs.theory.StepsInSlot.{StepsInCell, StepsInSlot};
 
 use crate::table::Table;
 use sled::Db;

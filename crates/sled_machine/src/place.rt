@@ -1,6 +1,7 @@
 //! Calls in flight are found by slot.
 ghost use Rattle.std.specs.Prelude.{◌≡◌, IfSome, IfNone, None};
-ghost use Rattle.sled_machine.specs.Slots.{Rise, StandsAt, kept_at};
+ghost use Rattle.sled_machine.specs.Slots.{kept_at};
+ghost use Rattle.sled_machine.specs.theory.Slots.{Rise, StandsAt};
 
 // The place of a number in a list that rises: it is searched by halves.
 pub(crate) fn place<X>(list: &[(u64, X)], number: u64) -> Option<usize>

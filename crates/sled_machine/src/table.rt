@@ -3,8 +3,10 @@
 //! or so for each call that ends.
 ghost use Rattle.std.specs.Prelude.{◌≡◌, ◌<◌, ◌++◌, ◌∷◌, [], length, Some, None, IfSome, IfNone, OnOk, OnErr, IfErr};
 ghost use Rattle.sled_pages.specs.declared.error.Error.TheVariants.{NoMemory};
-ghost use Rattle.sled_machine.specs.Slots.{Rise, kept_at};
-ghost use Rattle.sled_machine.specs.Table.{kept, HoldsAt, Empties};
+ghost use Rattle.sled_machine.specs.Slots.{kept_at};
+ghost use Rattle.sled_machine.specs.theory.Slots.{Rise};
+ghost use Rattle.sled_machine.specs.Table.{kept};
+ghost use Rattle.sled_machine.specs.theory.Table.{HoldsAt, Empties};
 
 use crate::place::place;
 use sled_pages::{Error, Result};

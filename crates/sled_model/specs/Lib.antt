@@ -6,4 +6,4 @@ pub mod Queues
 pub mod Refusal
 pub mod Whole
 pub mod Transition
-pub mod Runs
+pub mod theory

@@ -10,7 +10,8 @@ use Rattle.sled_pages.specs.Order.{Key}
 use Rattle.sled_pages.specs.declared.node.Node.{Node}
 use Rattle.sled_pages.specs.Slots.{slots_of}
 use Rattle.sled_pages.specs.Table.{page_of}
-use Rattle.sled_pages.specs.Memory.{store_of, IsOther}
+use Rattle.sled_pages.specs.Memory.{store_of}
+use Rattle.sled_pages.specs.theory.Memory.{IsOther}
 use Rattle.sled_pages.proofs.Kept.{pages_here, roots_here}
 
 -- the version of a page, by its slot

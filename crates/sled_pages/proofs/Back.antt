@@ -11,10 +11,11 @@ use Rattle.sled_pages.specs.declared.memory.slots.Slot.{Slot}
 use Rattle.sled_pages.specs.declared.memory.undo.Undo.{Undo}
 use Rattle.sled_pages.specs.declared.memory.undo.Undo.TheVariants.{UndoSlot}
 use Rattle.sled_pages.specs.State.{State, Action, after_all}
-use Rattle.sled_pages.specs.Table.{Table, table, undone, undoes, base_of, recent_of, state_of, state_at, has_place, slot_given, undo_given, IsKept, TakesBack, TakenBack}
+use Rattle.sled_pages.specs.Table.{Table, undone, undoes, base_of, recent_of, state_of, has_place, slot_given, undo_given, IsKept}
+use Rattle.sled_pages.specs.theory.Table.{table, state_at, TakesBack, TakenBack}
 use Rattle.sled_pages.specs.Crash.{Crashes}
 use Rattle.sled_pages.specs.Memory.{meaning}
-use Rattle.sled_pages.specs.Replay.{replay}
+use Rattle.sled_pages.specs.theory.Replay.{replay}
 use Rattle.sled_pages.proofs.Kept.{all_front, here_put}
 
 -- as many actions as entries

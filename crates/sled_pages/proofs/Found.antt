@@ -11,7 +11,7 @@ use Rattle.std.proofs.Math.Seq.{take-suc, take-length, get_or-append_seam}
 use Rattle.std.proofs.lemmas.List.{take-append-drop}
 use Rattle.sled_pages.specs.Order.{Key}
 use Rattle.sled_pages.specs.Among.{is_up_to, IsPointer, IsBefore}
-use Rattle.sled_pages.specs.Places.{IsFirstAt, IsLastAt}
+use Rattle.sled_pages.specs.theory.Places.{IsFirstAt, IsLastAt}
 
 neither : (a b : Bool) → a ≡ false → b ≡ false → (a || b) ≡ false
 neither a b e f = rw (e, f) refl

@@ -7,11 +7,11 @@ use mathlib.Core.Bool.{true≢false}
 use Rattle.sled_pages.specs.declared.memory.MemPages.{MemPages}
 use Rattle.sled_pages.specs.declared.memory.slots.Slots.{Slots}
 use Rattle.sled_pages.specs.Slots.{slots_of, places_of, given_of}
-use Rattle.sled_pages.specs.Replay.{replay, back_name, slot_placed, placed_given}
+use Rattle.sled_pages.specs.theory.Replay.{replay, back_name, slot_placed, placed_given}
 use mathlib.Core.List.{reverse}
 use Rattle.std.specs.Option.{option_map}
 use Rattle.std.proofs.lemmas.List.Folds.{list_all-append}
-use Rattle.sled_pages.specs.Facts.{put_here, put_elsewhere, put_name_here}
+use Rattle.sled_pages.specs.theory.Facts.{put_here, put_elsewhere, put_name_here}
 use Rattle.sled_pages.proofs.Places.{one_place}
 use Rattle.std.proofs.lemmas.List.{reverse-append}
 use Rattle.std.specs.List.{list_all}

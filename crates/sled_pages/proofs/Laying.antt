@@ -13,10 +13,11 @@ use Rattle.std.proofs.lemmas.List.{reverse-append}
 use mathlib.Core.List.{reverse}
 use Rattle.sled_pages.specs.declared.node.Node.{Node}
 use Rattle.sled_pages.specs.declared.memory.slots.Slot.{Slot}
-use Rattle.sled_pages.specs.Held.{Holds}
+use Rattle.sled_pages.specs.theory.Held.{Holds}
 use Rattle.sled_pages.specs.Slots.{slot_in, given_in}
 use Rattle.sled_pages.specs.Joined.{joined}
-use Rattle.sled_pages.specs.Table.{slot_given, page_of, roots_of, table}
+use Rattle.sled_pages.specs.Table.{slot_given, page_of, roots_of}
+use Rattle.sled_pages.specs.theory.Table.{table}
 use Rattle.sled_pages.specs.Memory.{meaning}
 use Rattle.sled_pages.specs.declared.page.Page.{Page}
 use Rattle.sled_pages.specs.declared.memory.undo.Undo.{Undo}

@@ -6,8 +6,9 @@ use lib.Dec.{eqb}
 use Rattle.sled_pages.specs.Order.{Key}
 use Rattle.sled_pages.specs.Update.{put_at}
 use Rattle.sled_pages.specs.Node.{after_link}
-use Rattle.sled_pages.specs.Returning.{put_back, slot_back, Relinked}
-use Rattle.sled_pages.specs.Facts.{put_here}
+use Rattle.sled_pages.specs.Returning.{put_back, slot_back}
+use Rattle.sled_pages.specs.theory.Returning.{Relinked}
+use Rattle.sled_pages.specs.theory.Facts.{put_here}
 use Rattle.sled_pages.specs.declared.error.Error.{Error}
 use Rattle.sled_pages.specs.declared.link.Link.{Link}
 use Rattle.sled_pages.specs.declared.change.Back.{Back}

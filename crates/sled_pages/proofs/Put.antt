@@ -6,7 +6,7 @@ use Rattle.std.specs.FinMap.{put}
 use Rattle.std.specs.FinMap.Entries.{by_order}
 use Rattle.std.specs.declared.cmp.Ordering.{Ordering}
 use Rattle.std.specs.declared.cmp.Ordering.TheVariants.{Less, Equal, Greater}
-use Rattle.sled_pages.specs.Pairs.{Stands, Goes}
+use Rattle.sled_pages.specs.theory.Pairs.{Stands, Goes}
 
 module _ {K X : Type 0} (R : K → K → Ordering) where
   -- the keys before place i are below k

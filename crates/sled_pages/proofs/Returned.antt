@@ -4,7 +4,8 @@ use Rattle.std.proofs.lemmas.Bool.Decides.{nat_tests}
 use Rattle.std.proofs.lemmas.List.{length-take-le}
 use Rattle.std.proofs.lemmas.List.Elements.{filter-append}
 use Rattle.std.proofs.Math.Seq.{take-suc, take-length}
-use Rattle.sled_pages.specs.Returning.{IsOut, put_in}
+use Rattle.sled_pages.specs.Returning.{put_in}
+use Rattle.sled_pages.specs.theory.Returning.{IsOut}
 use Rattle.std.specs.List.{insert, remove}
 
 module _ {K X : Type 0} where

@@ -12,10 +12,10 @@ use Rattle.std.specs.declared.ops.Bound.{Bound}
 use Rattle.std.specs.declared.ops.Bound.TheVariants.{Included, Excluded, Unbounded}
 use Rattle.sled_pages.specs.Order.{Key, key_cmp}
 use Rattle.sled_pages.specs.Among.{is_up_to, is_from}
-use Rattle.sled_pages.specs.Pairs.{Stands, Goes}
-use Rattle.sled_pages.specs.Places.{IsFirstAt, IsLastAt}
-use Rattle.sled_pages.specs.Returning.{IsOut}
-use Rattle.sled_pages.specs.Rising.{IsHit, IsGap}
+use Rattle.sled_pages.specs.theory.Pairs.{Stands, Goes}
+use Rattle.sled_pages.specs.theory.Places.{IsFirstAt, IsLastAt}
+use Rattle.sled_pages.specs.theory.Returning.{IsOut}
+use Rattle.sled_pages.specs.theory.Rising.{IsHit, IsGap}
 use Rattle.sled_pages.proofs.Found.{none_more, none_all, first_found, last_here, last_stays, last_all}
 use Rattle.sled_pages.proofs.Put.{IsPast, stands_at, past_more, goes_before, goes_last}
 use Rattle.sled_pages.proofs.Returned.{out_more, out_here, out_all}

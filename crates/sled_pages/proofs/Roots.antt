@@ -10,7 +10,7 @@ use Rattle.std.specs.Cmp.Lexicographic.{slice_cmp, nat_list_cmp_total, texts_tie
 use Rattle.sled_pages.specs.Order.{Key, key_cmp}
 use Rattle.sled_pages.specs.Update.{put_name}
 use Rattle.sled_pages.specs.Table.{roots_of}
-use Rattle.sled_pages.specs.Facts.{same_name, name_itself}
+use Rattle.sled_pages.specs.theory.Facts.{same_name, name_itself}
 
 -- the roots with a pair put in, or without a name
 pub root_put : (name : Key) (pid : ℕ) (roots : List (Key × ℕ)) → roots_of (put (slice_cmp nat_cmp) name pid roots) ≡ put_name (roots_of roots) name (Some pid)

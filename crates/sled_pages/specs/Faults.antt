@@ -1,6 +1,5 @@
 -- Which calls are refused, and what a fault does to the count of faults.
-use Rattle.std.specs.Prelude.{◌≡◌, ℕ, ◌+◌, nat_eq, Bool, List}
-use Rattle.std.specs.List.{list_any}
+use Rattle.std.specs.Prelude.{◌≡◌, ℕ, ◌+◌}
 use Rattle.sled_pages.specs.declared.error.Error.{Error}
 use Rattle.sled_pages.specs.declared.error.Error.TheVariants.{Io, NoMemory}
 
@@ -12,7 +11,3 @@ fault_as old new _ = ⊥
 -- a fault is counted, and want of memory is not
 pub record IsFault (old new : ℕ) (e : Error) : Type 0 where
   pub is : fault_as old new e
-
--- the call of this number was named
-abbrev pub is_named : ℕ → List ℕ → Bool
-is_named call named = list_any (λ n. nat_eq n call) named

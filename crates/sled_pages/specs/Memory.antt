@@ -1,10 +1,10 @@
 -- What a store in memory means.
-use Rattle.std.specs.Prelude.{◌≡◌, ℕ, ◌+◌, ◌^◌, ◌<◌, vec_len, vec_capacity, Bool, List, Option, Some, None, true, false, not, [], length, nat_eq, nat_lt}
+use Rattle.std.specs.Prelude.{ℕ, Bool, List, None, true, false, not, [], length, nat_eq, nat_lt}
 use Rattle.std.specs.List.{list_any}
 use mathlib.Core.List.{reverse}
 use Rattle.sled_pages.specs.declared.memory.MemPages.{MemPages}
 use Rattle.sled_pages.specs.declared.memory.undo.Undo.{Undo}
-use Rattle.sled_pages.specs.Store.{Store, version_now}
+use Rattle.sled_pages.specs.Store.{Store}
 use Rattle.sled_pages.specs.Slots.{slots_of, given_of}
 use Rattle.sled_pages.specs.Table.{Table, roots_of, state_of, base_of, recent_of}
 
@@ -49,13 +49,3 @@ empty_store = record {
   pids = λ _. false;
   versions = λ _. false;
 }
-
--- there is room for one action more
-pub record HasRoom (m : MemPages) : Type 0 where
-  pub log : vec_len m.log < vec_capacity m.log
-  pub actions : m.actions + 1 < 2 ^ 64
-
--- what a page has in place of a version
-pub record IsOther (pid version : ℕ) (s : Store) (present : Option ℕ) : Type 0 where
-  pub is : present ≡ version_now s pid
-  pub other : (present ≡ Some version) → ⊥

@@ -1,13 +1,10 @@
 -- How the change of a link is taken back.
-use Rattle.std.specs.Prelude.{◌≡◌, ◌<◌, ℕ, nat_le, Bool, List, [], length, filter, Option, Some, None, slice_index_or, slice_set, if◌then◌else◌}
+use Rattle.std.specs.Prelude.{ℕ, nat_le, List, [], length, Option, Some, None, slice_index_or, slice_set, if◌then◌else◌}
 use Rattle.std.specs.List.{insert, remove}
 use Rattle.sled_pages.specs.Order.{Key}
-use Rattle.sled_pages.specs.Node.{after_link}
-use Rattle.sled_pages.specs.Update.{put_at}
 use Rattle.sled_pages.specs.declared.node.Node.{Node}
 use Rattle.sled_pages.specs.declared.node.Data.{Data}
 use Rattle.sled_pages.specs.declared.node.Data.TheVariants.{Leaf, Index}
-use Rattle.sled_pages.specs.declared.link.Link.{Link}
 use Rattle.sled_pages.specs.declared.change.Back.{Back}
 use Rattle.sled_pages.specs.declared.change.Back.TheVariants as back
 use Rattle.sled_pages.specs.declared.change.Part.{Part}
@@ -18,11 +15,6 @@ use Rattle.sled_pages.specs.declared.memory.slots.Slot.{Slot}
 abbrev pub restored : {X : Type 0} → ℕ → Option X → List (Key × X) → List (Key × X)
 restored i (Some old) es = slice_set es i ((slice_index_or es i ([], old)).0, old)
 restored i None es = remove es i
-
--- What passes not stands nowhere, or at this place alone
-abbrev pub IsOut : {X : Type 0} → (X → Bool) → List X → Option ℕ → Type 0
-IsOut keeps xs None = filter keeps xs ≡ xs
-IsOut keeps xs (Some i) = (i < length xs) × (filter keeps xs ≡ remove xs i)
 
 -- a pair put in at a place
 abbrev pub put_in : {X : Type 0} → ℕ → X → List X → List X
@@ -58,10 +50,3 @@ put_back (back.Part part) n = put_part part n
 abbrev pub slot_back : ℕ → Back → Option Slot → Option Slot
 slot_back version back None = None
 slot_back version back (Some s) = Some (record { version = version; node = put_back back s.node })
-
--- the node of a slot changed by a link, and how that is taken back
-pub record Relinked (link : Link) (pid version : ℕ) (old new : ℕ → Option Slot) (before : ℕ) (back : Back) : Type 0 where
-  pub node : Node
-  pub was : old pid ≡ Some (record { version = before; node = node })
-  pub is : new ≡ put_at old pid (Some (record { version = version; node = after_link link node }))
-  pub returns : put_back back (after_link link node) ≡ node

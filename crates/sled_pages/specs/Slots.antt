@@ -1,5 +1,5 @@
 -- Slots by number, as they lie.
-use Rattle.std.specs.Prelude.{ℕ, ◌+◌, ◌-◌, ◌^◌, ◌<◌, nat_le, nat_lt, is_some, Bool, List, length, Option, slice_get, if◌then◌else◌, vec_len, vec_capacity}
+use Rattle.std.specs.Prelude.{ℕ, ◌-◌, nat_le, nat_lt, is_some, Bool, List, length, Option, slice_get, if◌then◌else◌}
 use Rattle.std.specs.Ordering.{nat_cmp}
 use Rattle.std.specs.BTreeMap.{BTreeMap, get}
 use Rattle.sled_pages.specs.Joined.{joined}
@@ -26,11 +26,3 @@ places_of s = place_in s.last s.foreign s.own.items
 
 abbrev pub given_of : Slots → ℕ → Bool
 given_of s = given_in s.from_image s.last s.own.items
-
--- a number is left for one slot more
-abbrev pub HasNumber : Slots → Type 0
-HasNumber s = s.last + length s.own.items + 1 < 2 ^ 64
-
--- there is room for one slot more
-pub record HasSlotRoom (s : Slots) : Type 0 where
-  pub room : vec_len s.own < vec_capacity s.own

@@ -1,5 +1,5 @@
 -- A store in memory as slots by number, and what its log of undone work says: the state before it, and the actions in it.
-use Rattle.std.specs.Prelude.{◌≡◌, ℕ, ◌<◌, ◌≤◌, true, false, nat_lt, Bool, List, [], ◌∷◌, ◌++◌, length, take, Option, Some, None, option_map, if◌then◌else◌}
+use Rattle.std.specs.Prelude.{◌≡◌, ℕ, true, false, nat_lt, Bool, List, [], ◌∷◌, ◌++◌, Option, Some, None, option_map, if◌then◌else◌}
 use Rattle.std.specs.List.{list_all}
 use mathlib.Core.List.{reverse}
 use Rattle.std.specs.FinMap.Entries.{find}
@@ -10,7 +10,7 @@ use Rattle.sled_pages.specs.declared.memory.slots.Slot.{Slot}
 use Rattle.sled_pages.specs.declared.memory.undo.Undo.{Undo}
 use Rattle.sled_pages.specs.declared.memory.undo.Undo.TheVariants.{UndoSlot, UndoLink, UndoRoot, UndoGroup}
 use Rattle.sled_pages.specs.Returning.{slot_back}
-use Rattle.sled_pages.specs.State.{State, Action, PageBecomes, RootBecomes, GroupBegins, GroupEnds, after_all}
+use Rattle.sled_pages.specs.State.{State, Action, PageBecomes, RootBecomes, GroupBegins, GroupEnds}
 
 -- the page that a slot stands for
 abbrev pub page_of : Slot → Page
@@ -21,9 +21,6 @@ pub record Table : Type 0 where
   pub slots : ℕ → Option Slot
   pub roots : Key → Option ℕ
   pub in_group : Bool
-
-abbrev pub table : (ℕ → Option Slot) → (Key → Option ℕ) → Bool → Table
-table slots roots in_group = record { slots = slots; roots = roots; in_group = in_group }
 
 abbrev pub roots_of : List (Key × ℕ) → Key → Option ℕ
 roots_of roots name = find key_cmp name roots
@@ -59,10 +56,6 @@ abbrev pub recent_of : List Undo → Table → List Action
 recent_of [] t = []
 recent_of (u ∷ log) t = recent_of log (undone u t) ++ undoes u t ∷ []
 
--- the state after the first j actions of a log
-abbrev pub state_at : ℕ → List Undo → Table → State
-state_at j log t = after_all (take j (recent_of (reverse log) t)) (state_of (base_of (reverse log) t))
-
 -- a slot that is put back has a place
 abbrev pub has_place : (ℕ → Bool) → Undo → Bool
 has_place places (UndoSlot pid slot) = places pid
@@ -74,19 +67,6 @@ has_place places (UndoGroup was_open) = true
 pub record IsKept (places : ℕ → Bool) (t : Table) (log : List Undo) : Type 0 where
   pub placed : list_all (has_place places) log ≡ true
   pub sealed : (base_of (reverse log) t).in_group ≡ false
-
--- actions were taken back, none of which ends outside a group and within this number
-pub record TakesBack (keep : ℕ) (old : Table) (old_log : List Undo) (new : Table) (new_log : List Undo) : Type 0 where
-  pub base : base_of (reverse new_log) new ≡ base_of (reverse old_log) old
-  pub recent : recent_of (reverse new_log) new ≡ take (length new_log) (recent_of (reverse old_log) old)
-  pub no_longer : length new_log ≤ length old_log
-  pub most : (j : ℕ) → length new_log < j → j ≤ keep → j ≤ length old_log → (state_at j old_log old).in_group ≡ true
-
--- the same, at least down to this number, and no group is open
-pub record TakenBack (keep : ℕ) (old : Table) (old_log : List Undo) (new : Table) (new_log : List Undo) : Type 0 where
-  pub back : TakesBack keep old old_log new new_log
-  pub at_most : length new_log ≤ keep
-  pub sealed : new.in_group ≡ false
 
 -- its version is below the next one
 abbrev pub slot_given : ℕ → Option Slot → Bool

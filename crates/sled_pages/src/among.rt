@@ -3,8 +3,8 @@
 ghost use Rattle.std.specs.Prelude.{◌≡◌, ◌<◌, false, nat_eq, not, length, MatchOption, IfSome};
 ghost use Rattle.std.specs.List.{list_any};
 ghost use Rattle.sled_pages.specs.Among.{bound_of, is_up_to as within_upper, is_from as within_lower};
-ghost use Rattle.sled_pages.specs.Places.{IsFirstAt, IsLastAt};
-ghost use Rattle.sled_pages.specs.Returning.{IsOut};
+ghost use Rattle.sled_pages.specs.theory.Places.{IsFirstAt, IsLastAt};
+ghost use Rattle.sled_pages.specs.theory.Returning.{IsOut};
 
 use crate::{IVec, Pid};
 use std::ops::Bound;

@@ -5,8 +5,8 @@ ghost use Rattle.std.specs.Ordering.{nat_cmp};
 ghost use Rattle.std.specs.List.{list_any};
 ghost use Rattle.std.specs.FinMap.{is_sorted};
 ghost use Rattle.sled_pages.specs.Among.{bound_of, is_up_to as within_upper, is_from as within_lower};
-ghost use Rattle.sled_pages.specs.Places.{IsFirstAt, IsLastAt};
-ghost use Rattle.sled_pages.specs.Rising.{IsHit, IsGap};
+ghost use Rattle.sled_pages.specs.theory.Places.{IsFirstAt, IsLastAt};
+ghost use Rattle.sled_pages.specs.theory.Rising.{IsHit, IsGap};
 
 use crate::IVec;
 use crate::among::{is_from, is_up_to};

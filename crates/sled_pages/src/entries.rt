@@ -8,8 +8,9 @@ ghost use Rattle.std.specs.Cmp.Lexicographic.{slice_cmp};
 ghost use Rattle.std.specs.Ordering.{nat_cmp, eq_by_cmp};
 ghost use Rattle.sled_pages.specs.Among.{bound_of, is_up_to as within_upper, is_from as within_lower};
 ghost use Rattle.sled_pages.specs.Node.{unpointed};
-ghost use Rattle.sled_pages.specs.Places.{IsFirstAt, IsLastAt};
-ghost use Rattle.sled_pages.specs.Returning.{restored, put_in, IsOut};
+ghost use Rattle.sled_pages.specs.theory.Places.{IsFirstAt, IsLastAt};
+ghost use Rattle.sled_pages.specs.Returning.{restored, put_in};
+ghost use Rattle.sled_pages.specs.theory.Returning.{IsOut};
 
 use crate::error::Result;
 use crate::{IVec, Pid, among, ascending, pairs};

@@ -5,7 +5,8 @@ ghost use Rattle.sled_pages.specs.declared.error.Error.TheVariants.{NoMemory, Io
 ghost use Rattle.sled_pages.specs.Order.{key_cmp};
 ghost use Rattle.sled_pages.specs.Slots.{slots_of, places_of};
 ghost use Rattle.sled_pages.specs.Table.{Table, roots_of, IsKept, AreBelow};
-ghost use Rattle.sled_pages.specs.Faults.{IsFault, is_named};
+ghost use Rattle.sled_pages.specs.Faults.{IsFault};
+ghost use Rattle.sled_pages.specs.theory.Faults.{is_named};
 ghost use Rattle.std.specs.Option.{option_map};
 ghost use Rattle.sled_pages.specs.Update.{put_at, put_name};
 ghost use Rattle.sled_pages.specs.Table.{page_of, slot_given};
@@ -84,7 +85,8 @@ fn count_call(calls: &mut u64, faults: &mut u64, refused: &[u64]) -> Result<()>
 }
 
 impl MemPages {
-    ghost use Rattle.sled_pages.specs.Memory.{store_of, calls_refused, empty_store, HasRoom, IsOther};
+    ghost use Rattle.sled_pages.specs.Memory.{store_of, calls_refused, empty_store};
+    ghost use Rattle.sled_pages.specs.theory.Memory.{HasRoom, IsOther};
 
     /// An empty store. It takes no memory.
     pub fn new(alloc: Global) -> MemPages
@@ -519,7 +521,7 @@ impl Pages for MemPages {
 
     ghost sealed = { λ m. m.kept.sealed };
 
-    ghost use Rattle.sled_pages.specs.Laws.{law_given};
+    ghost use Rattle.sled_pages.specs.theory.Laws.{law_given};
 
     ghost given = { λ m. law_given m };
 }

@@ -4,8 +4,9 @@ ghost use Rattle.std.specs.Prelude.{◌≡◌, ◌≤◌, true, length, IfOk, If
 ghost use Rattle.sled_pages.specs.declared.error.Error.TheVariants.{NoMemory};
 ghost use Rattle.std.specs.FinMap.Entries.{put, find};
 ghost use Rattle.std.specs.Option.{option_copied};
-ghost use Rattle.sled_pages.specs.Pairs.{Stands, Goes};
-ghost use Rattle.sled_pages.specs.Returning.{restored, put_in, IsOut};
+ghost use Rattle.sled_pages.specs.theory.Pairs.{Stands, Goes};
+ghost use Rattle.sled_pages.specs.Returning.{restored, put_in};
+ghost use Rattle.sled_pages.specs.theory.Returning.{IsOut};
 ghost use Rattle.sled_pages.specs.Node.{unpointed};
 ghost use Rattle.std.specs.FinMap.{is_sorted};
 ghost use Rattle.std.specs.List.{insert as insert_at};

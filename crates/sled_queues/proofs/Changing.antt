@@ -6,7 +6,8 @@ use Rattle.std.proofs.lemmas.List.Folds.{list_any_more}
 use Rattle.std.proofs.Math.Seq.{take-length, take-append_seam}
 use Rattle.sled_model.specs.declared.event.Event.{Event}
 use Rattle.sled_queues.specs.Values.{WaitingValue, Waitings}
-use Rattle.sled_queues.specs.Lists.{is_in, Rise, changed_at, changed_in, has_prefix, gains, loses}
+use Rattle.sled_queues.specs.Lists.{is_in, Rise}
+use Rattle.sled_queues.specs.theory.Lists.{changed_at, changed_in, has_prefix, gains, loses}
 use Rattle.sled_queues.proofs.Rising.{unmet}
 
 one_more : {W : Type 0} (f : W → W) (b c : Bool) (o : Option W) → (c ≡ true → b ≡ false) → cond c (option_map f (cond b (option_map f o) o)) (cond b (option_map f o) o) ≡ cond (b || c) (option_map f o) o

@@ -9,7 +9,7 @@ use Rattle.sled_model.specs.Queues.{waiting_in, oldest, without_oldest}
 use Rattle.sled_model.specs.declared.event.Event.{Event}
 use Rattle.sled_queues.specs.Values.{WaitingValue}
 use Rattle.sled_queues.specs.Queues.{queue_of, prepared_in, committed_in, cancelled_in}
-use Rattle.sled_queues.specs.Lists.{has_prefix}
+use Rattle.sled_queues.specs.theory.Lists.{has_prefix}
 use Rattle.sled_queues.specs.Laws.{DeliversLaw, CancelsLaw, Turn, Comes, Takes, after_turn, after_turns, taken_at, taken_by, brought_at, brought, OrdersLaw}
 
 some_is : {A : Type 0} {a b : A} → Some a ≡ Some b → a ≡ b

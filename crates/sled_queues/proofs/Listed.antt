@@ -13,7 +13,8 @@ use Rattle.sled_model.specs.declared.event.Event.{Event}
 use Rattle.sled_queues.specs.Values.{WaitingValue, QueuesValue, Waitings, queue_at}
 use Rattle.sled_queues.specs.Queues.{queue_of, held, AreQueues, Becomes, prepared_in, prepared, committed_in, committed, cancelled_in, cancelled, taken_in, without_oldest_of}
 use Rattle.sled_queues.specs.Tells.{HasRoom, MeetsFull}
-use Rattle.sled_queues.specs.Lists.{is_in, without, Rise, AreListed, changed_at, changed_in, has_prefix, gains, tells, forgets, is_full_for}
+use Rattle.sled_queues.specs.Lists.{is_in, Rise, AreListed}
+use Rattle.sled_queues.specs.theory.Lists.{without, changed_at, changed_in, has_prefix, gains, tells, forgets, is_full_for}
 use Rattle.sled_queues.proofs.Rising.{is_out, raise, push_rises, without_rises, without_keeps, push_without}
 
 none_some : {P A : Type 0} {a : A} → None ≡ Some a → P

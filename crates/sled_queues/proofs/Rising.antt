@@ -2,7 +2,8 @@
 use Rattle.std.proofs.Common.{◌≡◌, ◌≢◌, ℕ, zero, suc, ◌+◌, ◌<◌, ◌≤◌, Bool, true, false, cond, not, nat_eq, ◌||◌, List, [], ◌∷◌, ◌++◌, take, length, get_or, sym, refl, ap, ◌∙◌, arith}
 use mathlib.Core.Bool.{true≢false}
 use Rattle.std.proofs.lemmas.Bool.{eq-eqb, ne_eqb, eqb-true}
-use Rattle.sled_queues.specs.Lists.{is_in, without, RiseUpTo, Rise}
+use Rattle.sled_queues.specs.Lists.{is_in, RiseUpTo, Rise}
+use Rattle.sled_queues.specs.theory.Lists.{without}
 
 apart : (a b : ℕ) → a < b → b ≢ a
 apart a b h e = absurd (omega arith)

@@ -3,3 +3,4 @@ pub mod Queues
 pub mod Tells
 pub mod Lists
 pub mod Laws
+pub mod theory

@@ -6,7 +6,8 @@ ghost use Rattle.std.specs.BTreeMap.{get, keys, IsOrdered};
 ghost use Rattle.sled_pages.specs.declared.error.Error.TheVariants.{NoMemory};
 ghost use Rattle.sled_pages.specs.Update.{put_at};
 ghost use Rattle.sled_queues.specs.Queues.{oldest_in, taken_in};
-ghost use Rattle.sled_queues.specs.Lists.{lists_of, without, Rise, changed_at, changed_in, gains, loses, tells, forgets, is_full_for};
+ghost use Rattle.sled_queues.specs.Lists.{lists_of, Rise};
+ghost use Rattle.sled_queues.specs.theory.Lists.{without, changed_at, changed_in, gains, loses, tells, forgets, is_full_for};
 
 use crate::waiting::Waiting;
 use sled_model::Event;

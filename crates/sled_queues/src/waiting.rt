@@ -3,7 +3,7 @@ ghost use Rattle.std.specs.Prelude.{◌≡◌, ◌++◌, ◌∷◌, [], slice_ge
 ghost use Rattle.sled_pages.specs.declared.error.Error.TheVariants.{NoMemory};
 ghost use Rattle.sled_model.specs.Refusal.{queue_limit};
 ghost use Rattle.sled_queues.specs.Queues.{held, taken_in};
-ghost use Rattle.sled_queues.specs.Lists.{has_prefix, gains, loses, tells, forgets};
+ghost use Rattle.sled_queues.specs.theory.Lists.{has_prefix, gains, loses, tells, forgets};
 
 use sled_model::{Event, QUEUE_LIMIT};
 use sled_pages::{Error, IVec, Result};

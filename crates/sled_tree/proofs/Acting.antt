@@ -13,15 +13,18 @@ use Rattle.sled_model.specs.declared.decision.Decision.{Decision}
 use Rattle.sled_model.specs.declared.decision.Effect.{Effect}
 use Rattle.sled_model.specs.declared.decision.Effect.TheVariants as effect
 use Rattle.tree_laws.specs.Forest.{Tree, Forest, contents}
-use Rattle.tree_laws.specs.Snapshot.{Snapshot, snapshot_of, nodes_at, HasForest, KeepsForest, HasRoomForOne, IsActing}
-use Rattle.tree_laws.specs.Laws.{IsNodeNow, Written, after_replacement}
+use Rattle.tree_laws.specs.Snapshot.{Snapshot, snapshot_of, nodes_at, HasForest, HasRoomForOne, IsActing}
+use Rattle.tree_laws.specs.theory.Snapshot.{KeepsForest}
+use Rattle.tree_laws.specs.theory.Laws.{IsNodeNow, Written, after_replacement}
 use Rattle.tree_laws.proofs.Known.{answers, set_written, del_written, set_few, store_replaced}
 use Rattle.sled_tree.specs.declared.act.Change.{Change}
 use Rattle.sled_tree.specs.Course.{Course}
 use Rattle.tree_laws.specs.declared.flight.Stage.TheVariants.{Act}
 use Rattle.sled_tree.specs.declared.flight.Next.TheVariants as next
-use Rattle.sled_tree.specs.Change.{IsChangeOf, link_of, decision_at}
-use Rattle.sled_tree.specs.StageAction.{StageAction, DecidesAs, LeaksNoPage}
+use Rattle.sled_tree.specs.Change.{link_of, decision_at}
+use Rattle.sled_tree.specs.theory.Change.{IsChangeOf}
+use Rattle.sled_tree.specs.StageAction.{LeaksNoPage}
+use Rattle.sled_tree.specs.theory.StageAction.{StageAction, DecidesAs}
 use Rattle.sled_tree.proofs.Basics.{none_some, some_is}
 use Rattle.sled_tree.proofs.Facts.{once_acts, leaves_replaced, rid_of_none}
 

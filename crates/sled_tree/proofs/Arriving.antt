@@ -17,7 +17,7 @@ use Rattle.sled_model.specs.declared.decision.Effect.TheVariants as effect
 use Rattle.sled_model.specs.declared.reply.Reply.{Reply}
 use Rattle.tree_laws.specs.Forest.{Tree, Forest, contents}
 use Rattle.tree_laws.specs.Snapshot.{Snapshot, snapshot_of, nodes_at, HasForest, LiesUnder}
-use Rattle.tree_laws.specs.StageLaws.{FollowsOpenPage}
+use Rattle.tree_laws.specs.theory.StageLaws.{FollowsOpenPage}
 use Rattle.tree_laws.proofs.Staged.{here_law, root_here_law, cursor_here_law}
 use Rattle.tree_laws.proofs.Merges.{stood_merges_law}
 use Rattle.tree_laws.proofs.Order.{under_covers}
@@ -32,9 +32,10 @@ use Rattle.sled_tree.specs.declared.flight.Next.TheVariants.{Go, Decided}
 use Rattle.tree_laws.specs.declared.flight.Walk.{Walk}
 use Rattle.tree_laws.specs.declared.flight.Reached.{Reached}
 use Rattle.tree_laws.specs.declared.flight.Reached.TheVariants as reached
-use Rattle.sled_tree.specs.Change.{IsLeaf, IsIndex, decision_at}
+use Rattle.sled_tree.specs.Change.{decision_at}
+use Rattle.sled_tree.specs.theory.Change.{IsLeaf, IsIndex}
 use Rattle.sled_tree.specs.Stages.{Knows, changes_at}
-use Rattle.sled_tree.specs.StageAction.{StageAction, AfterPage, IsReadPage, owned_next}
+use Rattle.sled_tree.specs.theory.StageAction.{StageAction, AfterPage, IsReadPage, owned_next}
 use Rattle.sled_tree.specs.Follows.{ResumesMerge, BeginsMerge, resumed, begun, posting_of, OrNoMemory, onward, EndsWithin}
 use Rattle.sled_tree.proofs.Facts.{same_here, rests, viewed, live_view, leaves_read}
 use Rattle.sled_tree.proofs.Basics.{none_some}

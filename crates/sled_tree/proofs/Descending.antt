@@ -13,11 +13,12 @@ use Rattle.sled_pages.specs.declared.page.View.{View}
 use Rattle.sled_model.specs.declared.decision.Effect.{Effect}
 use Rattle.sled_model.specs.declared.decision.Effect.TheVariants.{Nothing, Set, Remove}
 use Rattle.sled_model.specs.declared.reply.Reply.{Reply}
-use Rattle.sled_tree.specs.Change.{IsLeaf, IsIndex, decision_at}
-use Rattle.sled_tree.specs.Descent.{way_of, met_as, IsPlain, IsClean, Meets, Leads, Descends, Settles}
+use Rattle.sled_tree.specs.Change.{decision_at}
+use Rattle.sled_tree.specs.theory.Change.{IsLeaf, IsIndex}
+use Rattle.sled_tree.specs.theory.Descent.{way_of, met_as, IsPlain, IsClean, Meets, Leads, Descends, Settles}
 use Rattle.sled_tree.specs.Follows.{follows_here, Follows, FollowsPage, by_effect, done_at, follows_read, follows_root, follows_leaf, follows_content}
-use Rattle.sled_tree.specs.StageAction.{AfterPage}
-use Rattle.sled_tree.specs.Passing.{AdvancesFromPage}
+use Rattle.sled_tree.specs.theory.StageAction.{AfterPage}
+use Rattle.sled_tree.specs.theory.Passing.{AdvancesFromPage}
 use Rattle.sled_tree.specs.declared.descent.Descent.TheVariants as descent
 use Rattle.sled_tree.specs.declared.flight.InFlight.{InFlight}
 use Rattle.sled_tree.specs.Course.{Course, course_of}

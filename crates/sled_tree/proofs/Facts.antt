@@ -8,7 +8,7 @@ use Rattle.sled_pages.specs.In.{In}
 use Rattle.sled_pages.specs.Node.{count}
 use Rattle.sled_pages.specs.Update.{put_at}
 use Rattle.sled_pages.specs.State.{State, PageBecomes, RootBecomes}
-use Rattle.sled_pages.specs.Facts.{now_acts, now_acted, now_allocates}
+use Rattle.sled_pages.specs.theory.Facts.{now_acts, now_acted, now_allocates}
 use Rattle.sled_pages.specs.Store.{Store, now, after_action, view_of, IsRefused, IsReadRefused, Changes, ActsAt, Allocates}
 use Rattle.sled_pages.specs.declared.error.Error.{Error}
 use Rattle.sled_pages.specs.declared.error.Error.TheVariants as error
@@ -16,9 +16,10 @@ use Rattle.sled_pages.specs.declared.node.Node.{Node}
 use Rattle.sled_pages.specs.declared.page.Page.{Page}
 use Rattle.sled_pages.specs.declared.page.View.{View}
 use Rattle.tree_laws.specs.Forest.{Tree, Forest, Place, place}
-use Rattle.tree_laws.specs.Laws.{after_replacement, after_allocation, after_free, after_hoist}
-use Rattle.tree_laws.specs.Snapshot.{Snapshot, snapshot_of, nodes_at, HasForest, KeepsForest, GrowsByReceiving}
-use Rattle.tree_laws.specs.StageLaws.{StageActionLaw}
+use Rattle.tree_laws.specs.theory.Laws.{after_replacement, after_allocation, after_free, after_hoist}
+use Rattle.tree_laws.specs.Snapshot.{Snapshot, snapshot_of, nodes_at, HasForest}
+use Rattle.tree_laws.specs.theory.Snapshot.{KeepsForest, GrowsByReceiving}
+use Rattle.tree_laws.specs.theory.StageLaws.{StageActionLaw}
 use Rattle.tree_laws.proofs.Known.{goes_same, root_in}
 use Rattle.tree_laws.proofs.Replace.{same_number}
 use Rattle.tree_laws.proofs.Update.{put_here, put_there, name_here}
@@ -32,7 +33,8 @@ use Rattle.sled_tree.specs.declared.flight.InFlight.{InFlight}
 use Rattle.sled_tree.specs.declared.flight.Went.TheVariants.{Moved}
 use Rattle.tree_laws.specs.Stages.{IsStage, owned}
 use Rattle.sled_tree.specs.Stages.{Knows, changes_at}
-use Rattle.sled_tree.specs.StageAction.{StageAction, ActsOnce, KeepsContents, FlightStep, LeaksNoPage, leaks_no_page_as, is_action_refused_as}
+use Rattle.sled_tree.specs.StageAction.{ActsOnce, LeaksNoPage, leaks_no_page_as}
+use Rattle.sled_tree.specs.theory.StageAction.{StageAction, KeepsContents, FlightStep, is_action_refused_as}
 use Rattle.sled_tree.proofs.Basics.{none_some, some_is}
 
 -- a page that stays as it is does not grow

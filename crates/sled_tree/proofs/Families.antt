@@ -15,7 +15,7 @@ use Rattle.tree_laws.specs.declared.flight.Split.{Split}
 use Rattle.tree_laws.specs.declared.flight.Walk.{Walk}
 use Rattle.tree_laws.specs.declared.flight.Stage.{Stage}
 use Rattle.tree_laws.specs.declared.flight.Stage.TheVariants as stage
-use Rattle.sled_tree.specs.Stages.{IsOfMerge}
+use Rattle.sled_tree.specs.theory.Stages.{IsOfMerge}
 
 -- a stage that is none of these is of a merge
 pub of_merge : (s : Stage) → (s ≡ stage.Root → ⊥) → ((a : Walk) → s ≡ stage.Walk a → ⊥) → ((a : View) → s ≡ stage.Act a → ⊥) → ((a : Split) → s ≡ stage.Split a → ⊥) → ((a : InstallLeft) → s ≡ stage.InstallLeft a → ⊥) → ((a : Post) → s ≡ stage.Post a → ⊥) → ((a : Hoist) → s ≡ stage.Hoist a → ⊥) → ((a : SwapRoot) → s ≡ stage.SwapRoot a → ⊥) → ((a : Orphan) → s ≡ stage.Free a → ⊥) → IsOfMerge s

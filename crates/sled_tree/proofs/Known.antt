@@ -2,7 +2,8 @@
 use Rattle.std.proofs.Common.{arith, ℕ, List, [], ◌∷◌, ◌++◌, Option, sym, refl, subst, inl, inr, ◌⊎◌}
 use Rattle.sled_pages.specs.In.{In}
 use Rattle.tree_laws.specs.Forest.{Tree, Forest}
-use Rattle.tree_laws.specs.Snapshot.{Snapshot, nodes_at, HasForest, Guarantee, GrowsByReceiving, KeepsForest}
+use Rattle.tree_laws.specs.Snapshot.{Snapshot, nodes_at, HasForest}
+use Rattle.tree_laws.specs.theory.Snapshot.{Guarantee, GrowsByReceiving, KeepsForest}
 use Rattle.tree_laws.specs.Stages.{owned}
 use Rattle.sled_model.specs.declared.call.Call.{Call}
 use Rattle.sled_model.specs.declared.tree.Tree.{Tree as CallTree}

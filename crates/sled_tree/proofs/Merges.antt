@@ -13,9 +13,9 @@ use Rattle.sled_pages.specs.declared.page.Page.{Page}
 use Rattle.sled_pages.specs.declared.page.View.{View}
 use Rattle.tree_laws.specs.Forest.{Forest, place}
 use Rattle.tree_laws.specs.Snapshot.{Snapshot, snapshot_of, HasForest, HasRoomForOne, StoodInChain}
-use Rattle.tree_laws.specs.Laws.{after_replacement}
+use Rattle.tree_laws.specs.theory.Laws.{after_replacement}
 use Rattle.tree_laws.specs.Stages.{IsStage, owned}
-use Rattle.tree_laws.specs.StageLaws.{Finds}
+use Rattle.tree_laws.specs.theory.StageLaws.{Finds}
 use Rattle.tree_laws.proofs.Known.{store_replaced}
 use Rattle.tree_laws.proofs.Merges.{stood_merges_law, intend_action, cap_action, seek_law, receive_action, receive_late, confirm_action}
 use Rattle.tree_laws.proofs.Merges as law
@@ -32,7 +32,7 @@ use Rattle.tree_laws.specs.declared.flight.Stage.TheVariants as stage
 use Rattle.sled_tree.specs.declared.flight.Next.{Next}
 use Rattle.sled_tree.specs.declared.flight.Next.TheVariants as next
 use Rattle.sled_tree.specs.Stages.{Knows, changes_at}
-use Rattle.sled_tree.specs.StageAction.{StageAction, AfterChild, AfterSeek, IsUnchangedNow, owned_next}
+use Rattle.sled_tree.specs.theory.StageAction.{StageAction, AfterChild, AfterSeek, IsUnchangedNow, owned_next}
 use Rattle.sled_tree.specs.Follows.{ResumesMerge, resumed}
 use Rattle.sled_tree.proofs.Facts.{moves_on, once_acts, stays, rests, same_here, viewed, live_view, leaves_replaced, leaves_read, rid_of_none}
 use Rattle.sled_tree.proofs.Basics.{some_is}

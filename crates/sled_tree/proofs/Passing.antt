@@ -15,11 +15,13 @@ use Rattle.sled_pages.specs.declared.page.View.{View}
 use Rattle.sled_model.specs.declared.decision.Effect.TheVariants.{Nothing}
 use Rattle.tree_laws.specs.Snapshot.{LiesUnder}
 use Rattle.tree_laws.specs.Paths.{CleanFrom, NeedsNoRepair}
-use Rattle.tree_laws.specs.PathLaws.{CleanStep}
+use Rattle.tree_laws.specs.theory.PathLaws.{CleanStep}
 use Rattle.tree_laws.proofs.Looking.{clean_step_law}
-use Rattle.sled_tree.specs.Change.{IsLeaf, IsIndex, decision_at}
+use Rattle.sled_tree.specs.Change.{decision_at}
+use Rattle.sled_tree.specs.theory.Change.{IsLeaf, IsIndex}
 use Rattle.sled_tree.specs.Follows.{EndsWithin}
-use Rattle.sled_tree.specs.Passing.{IsUnchanged, IsAheadOf, IsOnPath, AdvancesOnPath, AdvancesFromPage, StepsOnPath}
+use Rattle.sled_tree.specs.Passing.{IsUnchanged, IsAheadOf, IsOnPath, StepsOnPath}
+use Rattle.sled_tree.specs.theory.Passing.{AdvancesOnPath, AdvancesFromPage}
 use Rattle.sled_tree.specs.declared.flight.InFlight.{InFlight}
 use Rattle.sled_tree.specs.Course.{Course, course_of}
 use Rattle.sled_tree.specs.declared.flight.Next.{Next}

@@ -2,7 +2,7 @@
 use Rattle.std.proofs.Common.{◌≡◌, ℕ, ◌≤◌, ◌<◌, ◌^◌, Bool, List, [], ◌∷◌, Option, Some, None, option_map, Result, Ok, Err, sym, refl, ap, ◌∙◌, subst, inl, inr}
 use Rattle.sled_pages.specs.Order.{Key}
 use Rattle.sled_pages.specs.In.{In}
-use Rattle.sled_pages.specs.Facts.{now_allocates, put_here}
+use Rattle.sled_pages.specs.theory.Facts.{now_allocates, put_here}
 use Rattle.sled_pages.specs.Halves.{left_half, right_half}
 use Rattle.sled_pages.specs.Node.{count}
 use Rattle.sled_pages.specs.Posting.{Posts, with_pointer}
@@ -13,9 +13,9 @@ use Rattle.sled_pages.specs.declared.page.Page.{Page}
 use Rattle.sled_pages.specs.declared.page.View.{View}
 use Rattle.tree_laws.specs.Forest.{Tree, Forest, Place}
 use Rattle.tree_laws.specs.Snapshot.{Snapshot, snapshot_of, HasForest}
-use Rattle.tree_laws.specs.Laws.{after_replacement, after_allocation, after_free, after_hoist}
+use Rattle.tree_laws.specs.theory.Laws.{after_replacement, after_allocation, after_free, after_hoist}
 use Rattle.tree_laws.specs.Stages.{IsOver, owned}
-use Rattle.tree_laws.specs.StageLaws.{posts_half}
+use Rattle.tree_laws.specs.theory.StageLaws.{posts_half}
 use Rattle.tree_laws.specs.declared.flight.Posting.{Posting}
 use Rattle.tree_laws.proofs.Known.{store_replaced, store_allocated, store_freed, store_hoisted}
 use Rattle.tree_laws.proofs.Splitting.{split_action, shorten_action, post_action, hoist_action, crown_action, free_action}
@@ -31,7 +31,7 @@ use Rattle.tree_laws.specs.declared.flight.Posting.TheVariants as posting
 use Rattle.tree_laws.specs.declared.flight.Stage.TheVariants as stage
 use Rattle.sled_tree.specs.declared.flight.Next.TheVariants as next
 use Rattle.sled_tree.specs.Stages.{changes_at}
-use Rattle.sled_tree.specs.StageAction.{StageAction}
+use Rattle.sled_tree.specs.theory.StageAction.{StageAction}
 use Rattle.sled_tree.proofs.Facts.{moves_on, once_made, once_acts, once_freed, once_rooted, stays, restarts, leaves_replaced, leaves_allocated, leaves_hoisted, leaves_freed, rid_of_none}
 
 -- a new page's number fits 64 bits

@@ -1,9 +1,8 @@
 -- The change that a call makes of its leaf.
-use Rattle.std.specs.Prelude.{◌≡◌, Option, Some, None}
+use Rattle.std.specs.Prelude.{Option, Some, None}
 use Rattle.sled_pages.specs.Order.{Key}
 use Rattle.sled_pages.specs.Node.{value_at}
 use Rattle.sled_pages.specs.declared.node.Data.{Data}
-use Rattle.sled_pages.specs.declared.node.Data.TheVariants.{Leaf, Index}
 use Rattle.sled_pages.specs.declared.link.Link.TheVariants.{Set, Del}
 use Rattle.sled_pages.specs.declared.link.Link.{Link}
 use Rattle.sled_model.specs.declared.call.Call.{Call}
@@ -11,16 +10,6 @@ use Rattle.sled_model.specs.declared.decision.Decision.{Decision}
 use Rattle.sled_model.specs.declared.decision.Effect.{Effect}
 use Rattle.sled_model.specs.declared.decision.Effect.TheVariants as effect
 use Rattle.sled_model.specs.Answer.{decision_of, key_of}
-use Rattle.sled_tree.specs.declared.act.Change.{Change}
-
--- what is held is a leaf, or an index
-abbrev pub IsLeaf : Data → Type 0
-IsLeaf (Leaf es) = Unit {0}
-IsLeaf (Index es) = ⊥
-
-abbrev pub IsIndex : Data → Type 0
-IsIndex (Leaf es) = ⊥
-IsIndex (Index es) = Unit {0}
 
 -- the link that has this effect at the key
 abbrev pub link_of : Effect → Key → Option Link
@@ -31,8 +20,3 @@ link_of effect.Remove k = Some (Del k)
 -- what the call comes to by the value that a leaf has at its key
 abbrev pub decision_at : Call → Data → Decision
 decision_at call content = decision_of call (value_at content (key_of call))
-
--- the change that the call makes of what a leaf holds: the link of its effect, and its reply. Without an effect there is none
-abbrev pub IsChangeOf : Call → Data → Option Change → Type 0
-IsChangeOf call content None = (decision_at call content).effect ≡ effect.Nothing
-IsChangeOf call content (Some change) = (link_of (decision_at call content).effect (key_of call) ≡ Some change.link) × (change.reply ≡ (decision_at call content).reply)

@@ -9,8 +9,6 @@ use Rattle.tree_laws.specs.Paths.{IsClean, CleanFrom}
 use Rattle.sled_tree.specs.Change.{decision_at}
 use Rattle.sled_tree.specs.Course.{Course, course_of}
 use Rattle.sled_tree.specs.declared.flight.InFlight.{InFlight}
-use Rattle.sled_tree.specs.declared.flight.Next.{Next}
-use Rattle.sled_tree.specs.declared.flight.Next.TheVariants.{Go, Decided, Refused}
 use Rattle.tree_laws.specs.declared.flight.Stage.{Stage}
 use Rattle.tree_laws.specs.declared.flight.Stage.TheVariants as stage
 use Rattle.sled_tree.specs.declared.flight.Went.{Went}
@@ -40,20 +38,6 @@ IsOnPath s j other path = ⊥
 -- a path with one page less is ahead of the call
 abbrev pub IsOneCloser : State → Course → Stage → List ℕ → Type 0
 IsOneCloser s j stage path = (rest : List ℕ) × (length path ≡ suc (length rest)) × IsOnPath s j stage rest
-
--- where the call goes on, it is one page further
-abbrev pub is_one_closer_as : State → Course → Next → List ℕ → Type 0
-is_one_closer_as s j (Go stage) path = IsOneCloser s j stage path
-is_one_closer_as s j (Decided reply) path = Unit {0}
-is_one_closer_as s j (Refused e) path = Unit {0}
-
--- an action from a stage: on a clean path it brings the call one page further, or is its last
-pub record AdvancesOnPath (j : Course) (old : State) (stage : Stage) (next : Next) (new : State) : Type 0 where
-  pub is : (path : List ℕ) → IsOnPath old j stage path → is_one_closer_as new j next path
-
--- what comes after a page of a clean path was read
-pub record AdvancesFromPage (j : Course) (view : View) (by : Reached) (next : Next) : Type 0 where
-  pub is : (s : State) (path : List ℕ) → IsUnchanged s view → IsAheadOf (nodes_of s) j.aim view.pid by path → is_one_closer_as s j next path
 
 abbrev pub steps_on_path_as : State → InFlight → Went → State → InFlight → Type 0
 steps_on_path_as old f went.Moved new g = (path : List ℕ) → IsOnPath old (course_of f) f.stage path → IsOneCloser new (course_of g) g.stage path

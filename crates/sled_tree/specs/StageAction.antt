@@ -1,29 +1,13 @@
 -- What one page action of a call in flight does.
-use Rattle.std.specs.Prelude.{◌≡◌, ◌≢◌, ℕ, ◌+◌, ◌⊎◌, Bool, true, false, List, [], ◌++◌, Option, Some, None}
+use Rattle.std.specs.Prelude.{◌≡◌, ℕ, ◌⊎◌, Bool, true, List, [], Some, None}
 use Rattle.sled_pages.specs.In.{In}
 use Rattle.sled_pages.specs.State.{State, Action}
 use Rattle.sled_pages.specs.Store.{Store, after_action, now}
 use Rattle.sled_pages.specs.declared.page.Page.{Page}
-use Rattle.sled_pages.specs.declared.page.View.{View}
-use Rattle.sled_pages.specs.declared.error.Error.{Error}
-use Rattle.sled_pages.specs.declared.error.Error.TheVariants.{Io, NoMemory}
-use Rattle.sled_model.specs.Answer.{answer_of}
-use Rattle.sled_model.specs.declared.reply.Reply.{Reply}
-use Rattle.tree_laws.specs.Forest.{Tree, Forest, Place, contents}
-use Rattle.tree_laws.specs.Snapshot.{Snapshot, snapshot_of, nodes_at, HasForest, KeepsForest}
-use Rattle.tree_laws.specs.Stages.{IsHere, owned}
-use Rattle.tree_laws.specs.declared.flight.Stage.{Stage}
-use Rattle.tree_laws.specs.declared.flight.Stage.TheVariants as stage
-use Rattle.tree_laws.specs.declared.flight.Merge.{Merge}
-use Rattle.tree_laws.specs.declared.flight.Seek.{Seek}
-use Rattle.tree_laws.specs.declared.flight.Reached.{Reached}
+use Rattle.tree_laws.specs.Forest.{Forest, Place}
+use Rattle.tree_laws.specs.Stages.{owned}
 use Rattle.sled_tree.specs.declared.flight.Next.{Next}
 use Rattle.sled_tree.specs.declared.flight.Next.TheVariants.{Go, Decided, Refused}
-use Rattle.sled_tree.specs.declared.flight.InFlight.{InFlight}
-use Rattle.sled_tree.specs.declared.flight.Went.{Went}
-use Rattle.sled_tree.specs.declared.flight.Went.TheVariants as went
-use Rattle.sled_tree.specs.Course.{Course, course_of, IsAimed}
-use Rattle.sled_tree.specs.Stages.{Knows}
 
 -- one changing action, and what it gave; nothing else of the store changes
 pub record ActsOnce (old new : Store) : Type 0 where
@@ -41,30 +25,6 @@ pub record ActsOnce (old new : Store) : Type 0 where
 abbrev pub ActsAtMostOnce : Store → Store → Type 0
 ActsAtMostOnce old new = (new ≡ old) ⊎ ActsOnce old new
 
-abbrev pub is_action_refused_as : Error → Store → Store → Type 0
-is_action_refused_as NoMemory old new = new ≡ old
-is_action_refused_as (Io fault) old new = (new ≡ record old { faults = old.faults + 1 }) ⊎ ((new ≡ old) × ((pid : ℕ) × (old.is_readable pid ≡ false)))
-is_action_refused_as _ old new = ⊥
-
--- a refusal changes nothing, but that a fault may be counted; without one some page is not readable
-abbrev pub effect_of_action : Next → Store → Store → Type 0
-effect_of_action (Go stage) old new = ActsAtMostOnce old new
-effect_of_action (Decided reply) old new = ActsAtMostOnce old new
-effect_of_action (Refused e) old new = is_action_refused_as e old new
-
--- no tree's contents change
-pub record KeepsContents (old : Snapshot) (w : Forest) (new : Snapshot) (v : Forest) : Type 0 where
-  pub same : (t : Tree) → contents (nodes_at new) v t ≡ contents (nodes_at old) w t
-
--- The call replies and changes its tree as its answer on the contents now says. Without an event nothing is touched, and with
--- one there is exactly one action
-pub record DecidesAs (j : Course) (reply : Reply) (a b : Store) (old : Snapshot) (w : Forest) (new : Snapshot) (v : Forest) : Type 0 where
-  pub replies : reply ≡ (answer_of j.call (contents (nodes_at old) w j.tree.name)).reply
-  pub here : contents (nodes_at new) v j.tree.name ≡ (answer_of j.call (contents (nodes_at old) w j.tree.name)).map
-  pub others : (t : Tree) → t ≢ j.tree.name → contents (nodes_at new) v t ≡ contents (nodes_at old) w t
-  pub quiet : (answer_of j.call (contents (nodes_at old) w j.tree.name)).event ≡ None → b ≡ a
-  pub loud : (answer_of j.call (contents (nodes_at old) w j.tree.name)).event ≢ None → ActsOnce a b
-
 -- No page is left behind: what was the call's own still is, or was freed, or stands in a tree; and a page that was made, or that
 -- its parent is to merge no more, is the call's own
 pub record LeaksNoPage (mine own : List ℕ) (old new : State) (v : Forest) : Type 0 where
@@ -77,64 +37,3 @@ abbrev pub leaks_no_page_as : Next → List ℕ → State → State → Forest �
 leaks_no_page_as (Go stage) mine old new v = LeaksNoPage mine (owned stage) old new v
 leaks_no_page_as (Decided reply) mine old new v = LeaksNoPage mine [] old new v
 leaks_no_page_as (Refused e) mine old new v = Unit {0}
-
-abbrev pub owned_next : Next → List ℕ
-owned_next (Go stage) = owned stage
-owned_next (Decided reply) = []
-owned_next (Refused e) = []
-
--- what comes of an action from the store a to the store b
-abbrev pub StageOutcome : Course → Store → Store → Snapshot → Forest → Next → Snapshot → Forest → Type 0
-StageOutcome j a b old w (Go stage) new v = Knows new v j stage × KeepsContents old w new v
-StageOutcome j a b old w (Decided reply) new v = DecidesAs j reply a b old w new v
-StageOutcome j a b old w (Refused e) new v = KeepsContents old w new v
-
--- One page action of a call whose tree is current, from a stage to what comes next.
--- At every forest that shows the pages well formed, where the stage's facts hold, there is a forest after
-pub record StageAction (j : Course) (old : Store) (stage : Stage) (next : Next) (new : Store) : Type 0 where
-  pub touches : effect_of_action next old new
-  pub is : (numbers : Tree → Option ℕ) (given : ℕ → Bool) (w : Forest)
-      → HasForest (snapshot_of old numbers given) w → numbers j.tree.name ≡ Some j.tree.number → Knows (snapshot_of old numbers given) w j stage
-      → (v : Forest) × KeepsForest (owned stage) (owned_next next) (snapshot_of old numbers given) w (snapshot_of new numbers given) v × StageOutcome j old new (snapshot_of old numbers given) w next (snapshot_of new numbers given) v × leaks_no_page_as next (owned stage) (now old) (now new) v
-
-abbrev pub flight_step_as : Store → InFlight → Went → Store → InFlight → Type 0
-flight_step_as old f went.Moved new g = (g.job ≡ f.job) × (g.aim ≡ f.aim) × (g.turns ≡ f.turns + 1) × StageAction (course_of f) old f.stage (Go g.stage) new
-flight_step_as old f (went.Decided reply) new g = StageAction (course_of f) old f.stage (Decided reply) new
-flight_step_as old f (went.Refused e) new g = StageAction (course_of f) old f.stage (Refused e) new
-
--- one step of a call in flight: its stage's page action. Where the call goes on it has one turn more
-pub record FlightStep (old : Store) (f : InFlight) (went : Went) (new : Store) (g : InFlight) : Type 0 where
-  pub is : flight_step_as old f went new g
-
--- a page that was just read, how the walk came to it, and that the call aims at its key
-abbrev pub IsReadPage : Snapshot → Forest → Course → View → Reached → Type 0
-IsReadPage m w j v by = IsHere m w j.tree.name j.tree.number j.aim v by × IsAimed j
-
--- what comes of a read, which changes nothing
-abbrev pub ReadOutcome : Course → Store → Snapshot → Forest → Next → Type 0
-ReadOutcome j s m w next = (owned_next next ≡ []) × StageOutcome j s s m w next m w
-
--- What comes after a page was read, of every store where it was read
-pub record AfterPage (j : Course) (view : View) (by : Reached) (next : Next) : Type 0 where
-  pub touches : (s : Store) → effect_of_action next s s
-  pub is : (s : Store) (numbers : Tree → Option ℕ) (given : ℕ → Bool) (w : Forest)
-      → HasForest (snapshot_of s numbers given) w → numbers j.tree.name ≡ Some j.tree.number → IsReadPage (snapshot_of s numbers given) w j view by
-      → ReadOutcome j s (snapshot_of s numbers given) w next
-
--- the page is live as it was read
-abbrev pub IsUnchangedNow : Snapshot → View → Type 0
-IsUnchangedNow m v = m.state.pages v.pid ≡ Some (record { version = v.version; node = v.node })
-
--- what comes after a merging child was read
-pub record AfterChild (j : Course) (merge : Merge) (view : View) (next : Next) : Type 0 where
-  pub touches : (s : Store) → effect_of_action next s s
-  pub is : (s : Store) (numbers : Tree → Option ℕ) (given : ℕ → Bool) (w : Forest)
-      → HasForest (snapshot_of s numbers given) w → numbers j.tree.name ≡ Some j.tree.number → view.pid ≡ merge.child → IsUnchangedNow (snapshot_of s numbers given) view → Knows (snapshot_of s numbers given) w j (stage.Child merge)
-      → ReadOutcome j s (snapshot_of s numbers given) w next
-
--- what comes after the cursor of the search for the page before a merging child was read
-pub record AfterSeek (j : Course) (seek : Seek) (view : View) (next : Next) : Type 0 where
-  pub touches : (s : Store) → effect_of_action next s s
-  pub is : (s : Store) (numbers : Tree → Option ℕ) (given : ℕ → Bool) (w : Forest)
-      → HasForest (snapshot_of s numbers given) w → numbers j.tree.name ≡ Some j.tree.number → view.pid ≡ seek.cursor → IsUnchangedNow (snapshot_of s numbers given) view → Knows (snapshot_of s numbers given) w j (stage.Seek seek)
-      → ReadOutcome j s (snapshot_of s numbers given) w next

@@ -17,13 +17,3 @@ changes_at j other = Unit {0}
 -- what a call knows at its stage; and that it aims at its key
 abbrev pub Knows : Snapshot → Forest → Course → Stage → Type 0
 Knows m w j a = IsStage m w j.tree.name j.tree.number j.aim a × changes_at j a × IsAimed j
-
--- the stage is one of a merge
-abbrev pub IsOfMerge : Stage → Type 0
-IsOfMerge (stage.Intend a) = Unit {0}
-IsOfMerge (stage.Child a) = Unit {0}
-IsOfMerge (stage.Cap a) = Unit {0}
-IsOfMerge (stage.Seek a) = Unit {0}
-IsOfMerge (stage.Receive a) = Unit {0}
-IsOfMerge (stage.Confirm a) = Unit {0}
-IsOfMerge other = ⊥

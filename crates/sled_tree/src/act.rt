@@ -2,10 +2,11 @@
 ghost use Rattle.std.specs.Prelude.{◌≡◌, IfOk, IfErr};
 ghost use Rattle.sled_pages.specs.Store.{now};
 ghost use Rattle.sled_pages.specs.declared.error.Error.TheVariants.{NoMemory};
-ghost use Rattle.sled_tree.specs.StageAction.{StageAction};
+ghost use Rattle.sled_tree.specs.theory.StageAction.{StageAction};
 ghost use Rattle.sled_tree.specs.Follows.{OrRefused, follows_act};
-ghost use Rattle.sled_tree.specs.Passing.{AdvancesOnPath};
-ghost use Rattle.sled_tree.specs.Change.{IsChangeOf, link_of};
+ghost use Rattle.sled_tree.specs.theory.Passing.{AdvancesOnPath};
+ghost use Rattle.sled_tree.specs.Change.{link_of};
+ghost use Rattle.sled_tree.specs.theory.Change.{IsChangeOf};
 ghost use Rattle.sled_tree.specs.Course.{course};
 
 use crate::flight::{Aim, Job, Next};

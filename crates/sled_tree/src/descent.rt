@@ -9,9 +9,9 @@ ghost use Rattle.sled_pages.specs.Store.{Store};
 ghost use Rattle.tree_laws.specs.Snapshot.{LiesUnder};
 ghost use Rattle.tree_laws.specs.Stages.{by_pointer as reached_by};
 ghost use Rattle.sled_pages.specs.declared.error.Error.TheVariants.{NoMemory};
-ghost use Rattle.sled_tree.specs.Change.{IsLeaf, IsIndex};
+ghost use Rattle.sled_tree.specs.theory.Change.{IsLeaf, IsIndex};
 ghost use Rattle.sled_tree.specs.Course.{aim_of, course, course_of};
-ghost use Rattle.sled_tree.specs.Descent.{way_of, IsPlain, IsClean, Meets, Leads, met_as, IsReplyAt, Descends, Settles};
+ghost use Rattle.sled_tree.specs.theory.Descent.{way_of, IsPlain, IsClean, Meets, Leads, met_as, IsReplyAt, Descends, Settles};
 ghost use Rattle.tree_laws.specs.declared.flight.Stage.{Stage};
 ghost use Rattle.tree_laws.specs.declared.flight.Stage.TheVariants as variant;
 

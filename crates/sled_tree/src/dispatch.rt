@@ -2,17 +2,18 @@
 ghost use Rattle.std.specs.Prelude.{◌<◌};
 ghost use Rattle.sled_pages.specs.Store.{now};
 ghost use Rattle.sled_tree.specs.Course.{course};
-ghost use Rattle.sled_tree.specs.StageAction.{StageAction, FlightStep};
+ghost use Rattle.sled_tree.specs.theory.StageAction.{StageAction, FlightStep};
 ghost use Rattle.sled_tree.specs.Follows.{Follows, FollowsOn};
-ghost use Rattle.sled_tree.specs.Passing.{AdvancesOnPath, StepsOnPath};
-ghost use Rattle.sled_tree.specs.Stages.{IsOfMerge};
+ghost use Rattle.sled_tree.specs.Passing.{StepsOnPath};
+ghost use Rattle.sled_tree.specs.theory.Passing.{AdvancesOnPath};
+ghost use Rattle.sled_tree.specs.theory.Stages.{IsOfMerge};
 
 use crate::act::act;
 use crate::descent::{Descent, at_leaf, descend, settle};
 use crate::flight::{Aim, InFlight, Job, Next, Went};
-use crate::hoist::{swap_root, hoist};
+use crate::hoist::{hoist, swap_root};
 use crate::merge::{cap, confirm, intend, read_child, receive, seek};
-use crate::split::{free, halve, post, install_left};
+use crate::split::{free, halve, install_left, post};
 use crate::walk::{read_cursor, read_root};
 use sled_model::MAX_LOOPS;
 use sled_pages::Pages;

@@ -3,13 +3,13 @@ ghost use Rattle.std.specs.Prelude.{◌≡◌, [], ◌∷◌, IfOk, IfErr};
 ghost use Rattle.sled_pages.specs.declared.error.Error.TheVariants.{NoMemory};
 ghost use Rattle.tree_laws.specs.Stages.{IsOver};
 ghost use Rattle.sled_tree.specs.Course.{course};
-ghost use Rattle.sled_tree.specs.StageAction.{StageAction};
+ghost use Rattle.sled_tree.specs.theory.StageAction.{StageAction};
 ghost use Rattle.sled_tree.specs.Follows.{OrRefused, Hoists, Crowns};
 
 use crate::flight::{Aim, Job, Next};
 use sled_pages::{Data, IVec, Index, Node, Pages, Pid, Result, law_given};
 use std::alloc::Global;
-use tree_laws::flight::{SwapRoot, Hoist, Orphan, Stage};
+use tree_laws::flight::{Hoist, Orphan, Stage, SwapRoot};
 
 // Two pointers: to the root now, and to the page beside it.
 fn pointers_to(alloc: Global, left: Pid, at: &IVec, right: Pid) -> Result<Index>
@@ -95,7 +95,11 @@ pub(crate) fn swap_root<P: Pages>(pages: &mut P, job: &Job, aim: &Aim, swap_root
     ensures moves { StageAction (course job.now aim.now) (P.store pages.old) (Stage.SwapRoot swap_root) result (P.store pages.new) }
     ensures follows { OrRefused (P.store pages.old) (P.store pages.new) result (Crowns job.now.tree.name (P.store pages.old) (P.store pages.new) swap_root result) }
 {
-    match pages.cas_root(job.tree.name.as_ref(), Some(swap_root.old), Some(swap_root.new)) {
+    match pages.cas_root(
+        job.tree.name.as_ref(),
+        Some(swap_root.old),
+        Some(swap_root.new),
+    ) {
         Err(e) => Next::Refused(e),
         Ok(Err(_)) => Next::Go(Stage::Free(Orphan {
             pid: swap_root.new,

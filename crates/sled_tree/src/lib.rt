@@ -18,7 +18,7 @@ mod walk;
 pub use dispatch::advance;
 pub use flight::{Aim, InFlight, Job, Next, Went};
 pub use tree_laws::flight::{
-    Cap, Confirm, SwapRoot, Hoist, Merge, Orphan, Post, Posting, Reached, Receive, Seek, InstallLeft, Split,
-    Stage, Walk,
+    Cap, Confirm, Hoist, InstallLeft, Merge, Orphan, Post, Posting, Reached, Receive, Seek, Split,
+    Stage, SwapRoot, Walk,
 };
 pub use tree_laws::half::Half;

@@ -7,9 +7,9 @@ ghost use Rattle.std.specs.Prelude.{◌≡◌, ◌≢◌, ◌↔◌, ◌⊎◌, 
 ghost use Rattle.sled_pages.specs.declared.error.Error.TheVariants.{NoMemory};
 ghost use Rattle.sled_pages.specs.Order.{UpTo};
 ghost use Rattle.sled_tree.specs.Course.{course};
-ghost use Rattle.sled_tree.specs.StageAction.{StageAction};
+ghost use Rattle.sled_tree.specs.theory.StageAction.{StageAction};
 ghost use Rattle.sled_tree.specs.Follows.{ResumesMerge, BeginsMerge, follows_child, follows_cursor, follows_search, follows_met, FollowsPage, OrRefused, follows_intend, follows_cap, follows_receive, follows_confirm};
-ghost use Rattle.sled_tree.specs.StageAction.{AfterChild, AfterSeek};
+ghost use Rattle.sled_tree.specs.theory.StageAction.{AfterChild, AfterSeek};
 ghost use Rattle.sled_tree.specs.declared.flight.Next.TheVariants.{Go};
 ghost use Rattle.tree_laws.specs.declared.flight.Stage.TheVariants as stage;
 

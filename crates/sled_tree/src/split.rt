@@ -2,13 +2,13 @@
 //!
 //! Between any two of these steps the tree is whole. A right half that nobody came to want is freed.
 ghost use Rattle.sled_tree.specs.Course.{course};
-ghost use Rattle.sled_tree.specs.StageAction.{StageAction};
+ghost use Rattle.sled_tree.specs.theory.StageAction.{StageAction};
 ghost use Rattle.sled_tree.specs.Follows.{OrRefused, follows_split, follows_shorten, follows_post, FreesOwn};
 
 use crate::flight::{Aim, Job, Next};
 use sled_pages::{Pages, law_given};
 use std::alloc::Global;
-use tree_laws::flight::{Hoist, Orphan, Post, Posting, InstallLeft, Split, Stage};
+use tree_laws::flight::{Hoist, InstallLeft, Orphan, Post, Posting, Split, Stage};
 use tree_laws::half::Half;
 
 // Makes the right half.
@@ -73,7 +73,12 @@ pub(crate) fn halve<P: Pages>(
 }
 
 // Replaces the page by its left half.
-pub(crate) fn install_left<P: Pages>(pages: &mut P, job: &Job, aim: &Aim, split: InstallLeft) -> Next
+pub(crate) fn install_left<P: Pages>(
+    pages: &mut P,
+    job: &Job,
+    aim: &Aim,
+    split: InstallLeft,
+) -> Next
     ensures moves { StageAction (course job.now aim.now) (P.store pages.old) (Stage.InstallLeft split) result (P.store pages.new) }
     ensures follows { OrRefused (P.store pages.old) (P.store pages.new) result (follows_shorten (P.store pages.old) (P.store pages.new) split result) }
 {

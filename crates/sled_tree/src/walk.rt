@@ -12,11 +12,11 @@ ghost use Rattle.tree_laws.specs.Stages.{parent_of, by_pointer as reached_by};
 ghost use Rattle.tree_laws.specs.declared.flight.Reached.{Reached};
 ghost use Rattle.tree_laws.specs.declared.flight.Reached.TheVariants as way;
 ghost use Rattle.tree_laws.specs.declared.flight.Stage.TheVariants as stage;
-ghost use Rattle.sled_tree.specs.Change.{IsLeaf, IsIndex};
+ghost use Rattle.sled_tree.specs.theory.Change.{IsLeaf, IsIndex};
 ghost use Rattle.sled_tree.specs.Course.{aim_of, course};
-ghost use Rattle.sled_tree.specs.StageAction.{StageAction, AfterPage};
+ghost use Rattle.sled_tree.specs.theory.StageAction.{StageAction, AfterPage};
 ghost use Rattle.sled_tree.specs.Follows.{follows_root, follows_walk, follows_read, follows_here, follows_content, follows_leaf, posting_of, onward, pointed, OrNoMemory, BeginsMerge, GoesDown, EndsWithin};
-ghost use Rattle.sled_tree.specs.Passing.{AdvancesOnPath, AdvancesFromPage};
+ghost use Rattle.sled_tree.specs.theory.Passing.{AdvancesOnPath, AdvancesFromPage};
 ghost use Rattle.sled_tree.specs.declared.flight.Next.TheVariants.{Go};
 
 use crate::flight::{Aim, Job, Next};

@@ -16,7 +16,7 @@ pub struct Counting<'a> {
 
 impl<'a> Pages for Counting<'a> {
     ghost use Rattle.sled_pages.specs.Memory.{store_of, flush_number_of};
-    ghost use Rattle.sled_pages.specs.Laws.{law_given};
+    ghost use Rattle.sled_pages.specs.theory.Laws.{law_given};
 
     ghost store = { λ c. store_of c.inner };
 

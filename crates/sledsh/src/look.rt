@@ -103,7 +103,10 @@ fn push_names(out: &mut Vec<u8>, names: &[IVec]) -> Result<()> {
     for name in names {
         tell(out, &[Text(b"name "), Word(name.as_ref()), Text(b"\n")])?;
     }
-    tell(out, &[Text(b"end "), Number(names.len() as u64), Text(b"\n")])
+    tell(
+        out,
+        &[Text(b"end "), Number(names.len() as u64), Text(b"\n")],
+    )
 }
 
 fn tell_names(out: &mut Vec<u8>, names: Answer<Vec<IVec>>) -> Result<()> {

@@ -41,7 +41,7 @@ pub fn open_tree<P: Pages>(pages: &mut P, name: &[u8], node: Node) -> Result<Opt
 }
 
 /// A crash may always leave the state at the last flush.
-#[tactic(auto, using(sled_pages::specs::Facts::may_leave_base))]
+#[tactic(auto, using(sled_pages::specs::theory::Facts::may_leave_base))]
 pub fn may_leave_base<P: Pages>(pages: &P)
     ensures { IsCrashState (P.store pages.now) (P.store pages.now).base }
 {

@@ -10,7 +10,7 @@ use Rattle.sled_pages.specs.declared.node.Node.{Node}
 use Rattle.sled_pages.specs.declared.node.Data.{Data}
 use Rattle.sled_pages.specs.declared.node.Data.TheVariants.{Leaf, Index}
 use Rattle.tree_laws.specs.Forest.{place, Holds, later}
-use Rattle.tree_laws.specs.StageLaws.{BeforeChildLaw, LeadsDownLaw}
+use Rattle.tree_laws.specs.theory.StageLaws.{BeforeChildLaw, LeadsDownLaw}
 use Rattle.tree_laws.proofs.Order.{below_irrefl}
 use Rattle.tree_laws.proofs.Replace.{some_is}
 use Rattle.tree_laws.proofs.Cover.{holds_at, later_in, later_above}

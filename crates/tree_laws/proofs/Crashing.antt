@@ -6,10 +6,11 @@ use Rattle.std.proofs.lemmas.List.{map-append}
 use Rattle.sled_pages.specs.Store.{Store, now, after_action, after_flush, Allocates}
 use Rattle.sled_pages.specs.declared.node.Node.{Node}
 use Rattle.sled_pages.specs.Crash.{left_from, crash_states}
-use Rattle.sled_pages.specs.Facts.{after_last}
+use Rattle.sled_pages.specs.theory.Facts.{after_last}
 use Rattle.tree_laws.specs.Contents.{trees_of}
-use Rattle.tree_laws.specs.Crashes.{IsValid, Stutters, StutterEquivalent, Trees, AddsCrashStates, Flushes, AddsAction}
-use Rattle.tree_laws.specs.CrashLaws.{ExtendsLaw, RestsLaw, DecidesLaw, UnseenLaw, InsideGroupLaw, AgainLaw, WholeLaw, FlushesWholeLaw}
+use Rattle.tree_laws.specs.Crashes.{IsValid, Stutters, StutterEquivalent, Trees, AddsCrashStates, Flushes}
+use Rattle.tree_laws.specs.theory.Crashes.{AddsAction}
+use Rattle.tree_laws.specs.theory.CrashLaws.{ExtendsLaw, RestsLaw, DecidesLaw, UnseenLaw, InsideGroupLaw, AgainLaw, WholeLaw, FlushesWholeLaw}
 use Rattle.tree_laws.proofs.Runs.{In_cases, In-right}
 
 -- the lists that are equal but for repeats

@@ -13,10 +13,10 @@ use Rattle.sled_pages.specs.declared.node.Data.TheVariants.{Leaf, Index}
 use Rattle.sled_pages.specs.declared.node.Data.{Data}
 use Rattle.sled_pages.specs.declared.link.Link.TheVariants.{ParentMergeIntention, ParentMergeConfirm}
 use Rattle.sled_pages.specs.declared.node.Node.{Node}
-use Rattle.tree_laws.specs.Action.{put_node}
+use Rattle.tree_laws.specs.theory.Action.{put_node}
 use Rattle.tree_laws.specs.Forest.{first_key, first_child, later, Holds, IsNodeAt, Forest, Place, place, IsPointer, WellFormed, Tree}
 use Rattle.tree_laws.specs.Snapshot.{IsOrphan}
-use Rattle.tree_laws.specs.PageLaws.{Unseen, CapLaw, IntentionLaw, ConfirmLaw}
+use Rattle.tree_laws.specs.theory.PageLaws.{Unseen, CapLaw, IntentionLaw, ConfirmLaw}
 use Rattle.tree_laws.proofs.Order.{below_irrefl}
 use Rattle.tree_laws.proofs.Update.{put_here, put_there}
 use Rattle.tree_laws.proofs.Replace.{same_number, some_is, false_true}

@@ -12,9 +12,9 @@ use Rattle.sled_pages.specs.declared.node.Data.TheVariants.{Leaf, Index}
 use Rattle.sled_pages.specs.declared.node.Node.{Node}
 use Rattle.sled_pages.specs.declared.page.Page.{Page}
 use Rattle.tree_laws.specs.Forest.{Tree, Forest, Place, place, head, first_child, Holds, Run, WellFormed, contents, node_pairs}
-use Rattle.tree_laws.specs.Drops.{Different}
+use Rattle.tree_laws.specs.theory.Drops.{Different}
 use Rattle.tree_laws.specs.Contents.{page_numbers, next_of, first_of, along, first_leaf, pairs_under}
-use Rattle.tree_laws.specs.Laws.{ContentsLaw}
+use Rattle.tree_laws.specs.theory.Laws.{ContentsLaw}
 use Rattle.tree_laws.proofs.Order.{below_irrefl}
 use Rattle.tree_laws.proofs.Replace.{some_is, pairs_of, behind_first, head_in}
 use Rattle.tree_laws.proofs.Cover.{chain_run}

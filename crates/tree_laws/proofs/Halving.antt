@@ -10,14 +10,14 @@ use Rattle.sled_pages.specs.Node.{Within, pointers, count}
 use Rattle.sled_pages.specs.Halves.{first_half, second_half, first_half_of, second_half_of, first_key_of, left_half, right_half, appended, after_receiving}
 use Rattle.sled_pages.specs.Halves as halves
 use Rattle.sled_pages.specs.Posting as posting
-use Rattle.tree_laws.specs.StageLaws.{HalvedLaw, JoinedLaw, BeforeLaw}
+use Rattle.tree_laws.specs.theory.StageLaws.{HalvedLaw, JoinedLaw, BeforeLaw}
 use Rattle.sled_pages.specs.Among.{IsBefore}
 use Rattle.sled_pages.specs.declared.node.Node.{Node}
 use Rattle.sled_pages.specs.declared.node.Data.{Data}
 use Rattle.sled_pages.specs.declared.node.Data.TheVariants.{Leaf, Index}
 use Rattle.tree_laws.specs.Forest.{Holds, IsNodeAt, first_key}
 use Rattle.tree_laws.specs.Action.{AreHalvesOf, IsSplit}
-use Rattle.tree_laws.specs.StageLaws.{IsHalved, IsJoined}
+use Rattle.tree_laws.specs.theory.StageLaws.{IsHalved, IsJoined}
 use Rattle.tree_laws.specs.Snapshot.{IsOpen}
 use Rattle.tree_laws.proofs.Order.{upto-refl, upto-below, upto-trans, below-trans, upto_below-trans}
 use Rattle.tree_laws.proofs.Pairs.{each_weaker, each_append, under}

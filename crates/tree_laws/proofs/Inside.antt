@@ -6,7 +6,7 @@ use Rattle.sled_pages.specs.Order.{Below}
 use Rattle.sled_pages.specs.State.{Nodes}
 use Rattle.sled_pages.specs.declared.node.Node.{Node}
 use Rattle.tree_laws.specs.Forest.{Forest, Place, place, Run, WellFormed, head, Tree}
-use Rattle.tree_laws.specs.PageLaws.{InsideLaw, ReachedLaw}
+use Rattle.tree_laws.specs.theory.PageLaws.{InsideLaw, ReachedLaw}
 use Rattle.tree_laws.proofs.Order.{upto-refl, upto-below, upto_cases, upto-trans, below_irrefl, below-trans, below_upto-trans}
 use Rattle.tree_laws.proofs.Pairs.{under}
 use Rattle.tree_laws.proofs.Runs.{In_split, In-right, run_parts}

@@ -9,16 +9,17 @@ use Rattle.sled_pages.specs.Node.{pairs, count, Covers, with_pair, value_at, wit
 use Rattle.sled_pages.specs.State.{State, Nodes, Action, PageBecomes, RootBecomes, nodes_of, after}
 use Rattle.sled_pages.specs.Update.{put_at, put_name}
 use Rattle.sled_pages.specs.Store.{Store, now, after_action, ActsAt, Allocates, AreGiven}
-use Rattle.sled_pages.specs.Facts.{now_acted}
+use Rattle.sled_pages.specs.theory.Facts.{now_acted}
 use Rattle.sled_pages.specs.declared.node.Node.{Node}
 use Rattle.sled_pages.specs.declared.node.Data.{Data}
 use Rattle.sled_pages.specs.declared.node.Data.TheVariants.{Leaf, Index}
 use Rattle.sled_pages.specs.declared.page.Page.{Page}
 use Rattle.tree_laws.specs.Forest.{Tree, Forest, Place, place, head, Holds, IsNodeAt, Run, WellFormed, IsSized, contents}
 use Rattle.sled_pages.specs.declared.page.View.{View}
-use Rattle.tree_laws.specs.Snapshot.{Snapshot, snapshot_of, nodes_at, HasForest, Guarantee, IsReadAs, StoodInChain, IsOpen, IsAtVersion, HasRoomForOne, SeenOpen, LiesUnder, IsActing, GrowsByReceiving}
-use Rattle.tree_laws.specs.Action.{put_node}
-use Rattle.tree_laws.specs.Laws.{WriteLaw, EraseLaw, AnswerLaw, ActingLaw, IsAt, IsNodeNow, Changed, Written, StepsForest, after_replacement, after_allocation, after_free, after_creation, after_hoist, after_drop}
+use Rattle.tree_laws.specs.Snapshot.{Snapshot, snapshot_of, nodes_at, HasForest, IsReadAs, StoodInChain, IsOpen, IsAtVersion, HasRoomForOne, SeenOpen, LiesUnder, IsActing}
+use Rattle.tree_laws.specs.theory.Snapshot.{Guarantee, GrowsByReceiving}
+use Rattle.tree_laws.specs.theory.Action.{put_node}
+use Rattle.tree_laws.specs.theory.Laws.{WriteLaw, EraseLaw, AnswerLaw, ActingLaw, IsAt, IsNodeNow, Changed, Written, StepsForest, after_replacement, after_allocation, after_free, after_creation, after_hoist, after_drop}
 use Rattle.tree_laws.proofs.Order.{under_covers}
 use Rattle.tree_laws.proofs.Replace.{some_is, head_in}
 use Rattle.tree_laws.proofs.Cover.{holds_at}

@@ -10,10 +10,10 @@ use Rattle.sled_pages.specs.State.{Nodes}
 use Rattle.sled_pages.specs.declared.node.Data.{Data}
 use Rattle.sled_pages.specs.declared.node.Data.TheVariants.{Leaf, Index}
 use Rattle.sled_pages.specs.declared.node.Node.{Node}
-use Rattle.tree_laws.specs.Action.{put_node}
+use Rattle.tree_laws.specs.theory.Action.{put_node}
 use Rattle.tree_laws.specs.Forest.{IsSized, first_child, later, Holds, IsNodeAt, Forest, Place, place, IsPointer, WellFormed, contents, node_pairs, Tree}
-use Rattle.tree_laws.specs.Snapshot.{GrowsByReceiving, KeepsNodes}
-use Rattle.tree_laws.specs.Laws.{IsAt, Changed, SetLaw, DelLaw}
+use Rattle.tree_laws.specs.theory.Snapshot.{GrowsByReceiving, KeepsNodes}
+use Rattle.tree_laws.specs.theory.Laws.{IsAt, Changed, SetLaw, DelLaw}
 use Rattle.tree_laws.proofs.Order.{key_total, below_upto-trans}
 use Rattle.tree_laws.proofs.Pairs.{each_weaker, put-middle, without-middle}
 use Rattle.tree_laws.proofs.Runs.{In_split}

@@ -6,8 +6,8 @@ use Rattle.sled_pages.specs.State.{Nodes}
 use Rattle.sled_pages.specs.declared.node.Node.{Node}
 use Rattle.tree_laws.specs.Forest.{Tree, Forest, Place, place, head, Run}
 use Rattle.tree_laws.specs.Snapshot.{Snapshot, nodes_at, IsOrphan}
-use Rattle.tree_laws.specs.Drops.{Leads, Different, IsLeft}
-use Rattle.tree_laws.specs.Laws.{StepsForest, LeftLaw, FreesLeftLaw, after_free}
+use Rattle.tree_laws.specs.theory.Drops.{Leads, Different, IsLeft}
+use Rattle.tree_laws.specs.theory.Laws.{StepsForest, LeftLaw, FreesLeftLaw, after_free}
 use Rattle.tree_laws.proofs.Update.{put_there}
 use Rattle.tree_laws.proofs.Replace.{some_is}
 use Rattle.tree_laws.proofs.Fuel.{run_different}

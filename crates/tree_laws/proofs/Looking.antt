@@ -14,8 +14,8 @@ use Rattle.sled_pages.specs.declared.page.Page.{Page}
 use Rattle.tree_laws.specs.Forest.{Tree, Forest, Place, place, head, first_child, Holds, Run, WellFormed, later}
 use Rattle.tree_laws.specs.Contents.{page_numbers, next_of, first_of}
 use Rattle.tree_laws.specs.Paths.{NeedsNoRepair, CleanFrom, length_along, pages_under, pages_below, IsAhead}
-use Rattle.tree_laws.specs.PathLaws.{PointerInLaw, NextInLaw, AheadLaw, CleanStepLaw, LastPointerLaw}
-use Rattle.tree_laws.specs.Laws.{PagesLaw, CleanLaw}
+use Rattle.tree_laws.specs.theory.PathLaws.{PointerInLaw, NextInLaw, AheadLaw, CleanStepLaw, LastPointerLaw}
+use Rattle.tree_laws.specs.theory.Laws.{PagesLaw, CleanLaw}
 use Rattle.tree_laws.proofs.Runs.{In_split, In-right, run_parts}
 use Rattle.tree_laws.proofs.Replace.{some_is, head_in}
 use Rattle.tree_laws.proofs.Cover.{chain_run}

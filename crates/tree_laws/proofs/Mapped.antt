@@ -4,8 +4,8 @@ use Rattle.sled_pages.specs.declared.node.Data.TheVariants.{Leaf}
 use Rattle.tree_laws.specs.Forest.{Tree, Forest, place, head, contents}
 use Rattle.tree_laws.specs.Contents.{trees_of}
 use Rattle.tree_laws.specs.Snapshot.{Snapshot, snapshot_of, nodes_at, HasForest}
-use Rattle.tree_laws.specs.Laws.{no_forest, IsAlone, after_creation, after_drop}
-use Rattle.tree_laws.specs.MapLaws.{MapLaw, QuietLaw, ChangedLaw, QuietCrashLaw, WellLaw, PlantsLaw, DropsLaw, NewLaw}
+use Rattle.tree_laws.specs.theory.Laws.{no_forest, IsAlone, after_creation, after_drop}
+use Rattle.tree_laws.specs.theory.MapLaws.{MapLaw, QuietLaw, ChangedLaw, QuietCrashLaw, WellLaw, PlantsLaw, DropsLaw, NewLaw}
 use Rattle.tree_laws.proofs.Update.{name_here, name_there}
 use Rattle.tree_laws.proofs.Roots.{plant_law, drop_law}
 use Rattle.tree_laws.proofs.States.{planted_law, dropped_law}

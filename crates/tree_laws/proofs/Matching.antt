@@ -2,7 +2,7 @@
 use Rattle.std.proofs.Common.{◌≡◌, ℕ, Bool, true, false, cond, nat_eq, List, [], ◌∷◌, sym, refl, ap, ◌∙◌, subst, inl, inr, arith}
 use Rattle.std.proofs.lemmas.Bool.Decides.{nat_tests}
 use Rattle.tree_laws.specs.Crashes.{Stutters}
-use Rattle.tree_laws.specs.CrashLaws.{ahead, once_each, MatchesLaw}
+use Rattle.tree_laws.specs.theory.CrashLaws.{ahead, once_each, MatchesLaw}
 
 same_is : (x y : ℕ) → nat_eq x y ≡ true → x ≡ y
 same_is x y e = grind (arith, nat_tests)

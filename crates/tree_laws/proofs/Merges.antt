@@ -12,10 +12,11 @@ use Rattle.sled_pages.specs.declared.link.Link.TheVariants.{ParentMergeIntention
 use Rattle.sled_pages.specs.declared.page.Page.{Page}
 use Rattle.tree_laws.specs.Forest.{Tree, Forest, Place, place, Holds}
 use Rattle.sled_pages.specs.declared.page.View.{View}
-use Rattle.tree_laws.specs.Snapshot.{Snapshot, HasForest, nodes_at, KeepsForest, StoodInChain, IsOpen, IsAtVersion, HasRoomForOne, SeenOpen}
-use Rattle.tree_laws.specs.Laws.{IsNodeNow, after_replacement}
+use Rattle.tree_laws.specs.Snapshot.{Snapshot, HasForest, nodes_at, StoodInChain, IsOpen, IsAtVersion, HasRoomForOne, SeenOpen}
+use Rattle.tree_laws.specs.theory.Snapshot.{KeepsForest}
+use Rattle.tree_laws.specs.theory.Laws.{IsNodeNow, after_replacement}
 use Rattle.tree_laws.specs.Stages.{IsFrozen, IsReadingChild, IsMerging, child_of}
-use Rattle.tree_laws.specs.StageLaws.{StoodMergesLaw, StageActionLaw, IntendAction, ChildSeeks, ChildCaps, CapAction, Finds, SeekLaw, ReceiveAction, ReceiveLate, ConfirmAction}
+use Rattle.tree_laws.specs.theory.StageLaws.{StoodMergesLaw, StageActionLaw, IntendAction, ChildSeeks, ChildCaps, CapAction, Finds, SeekLaw, ReceiveAction, ReceiveLate, ConfirmAction}
 use Rattle.tree_laws.specs.declared.flight.Merge.{Merge}
 use Rattle.tree_laws.specs.declared.flight.Seek.{Seek}
 use Rattle.tree_laws.specs.declared.flight.Stage.TheVariants as stage

@@ -7,7 +7,8 @@ use Rattle.sled_pages.specs.State.{Nodes}
 use Rattle.sled_pages.specs.declared.node.Node.{Node}
 use Rattle.tree_laws.specs.Forest.{IsSized, Forest, Place, place, IsHomed, IsPointer, WellFormed, contents, node_pairs, head, Tree}
 use Rattle.tree_laws.proofs.Cover.{child_below}
-use Rattle.tree_laws.specs.Snapshot.{GrowsByReceiving, KeepsNodes, IsOrphan}
+use Rattle.tree_laws.specs.Snapshot.{IsOrphan}
+use Rattle.tree_laws.specs.theory.Snapshot.{GrowsByReceiving, KeepsNodes}
 use Rattle.tree_laws.proofs.Runs.{run_frame}
 
 no_wake : {P : Type 0} (b : Bool) → b ≡ false → b ≡ true → P

@@ -15,7 +15,7 @@ use Rattle.sled_pages.specs.declared.node.Node.{Node}
 use Rattle.sled_pages.specs.declared.node.Data.TheVariants.{Leaf}
 use Rattle.sled_pages.specs.declared.page.Page.{Page}
 use Rattle.tree_laws.specs.Forest.{Tree, Forest, Place, place, head, first_child, later, Run, IsNodeAt, IsPointer, contents}
-use Rattle.tree_laws.specs.Images.{image, Accepts, selves, key, leaf, capped, merging, one_tree, root, left, right, over, first_only, both, all_in_one, fresh, not_hoisted, not_posted, intended, child_capped, child_received, confirmed, unnamed, AcceptedImages}
+use Rattle.tree_laws.specs.theory.Images.{image, Accepts, selves, key, leaf, capped, merging, one_tree, root, left, right, over, first_only, both, all_in_one, fresh, not_hoisted, not_posted, intended, child_capped, child_received, confirmed, unnamed, AcceptedImages}
 use Rattle.tree_laws.specs.Paths.{tree_pages, pages_below}
 use Rattle.tree_laws.proofs.Fuel.{contents_law}
 use Rattle.tree_laws.proofs.Looking.{pages_law}

@@ -7,9 +7,9 @@ use Rattle.sled_pages.specs.Order.{Key, key_cmp, Below}
 use Rattle.sled_pages.specs.State.{Nodes}
 use Rattle.sled_pages.specs.declared.node.Data.TheVariants.{Index}
 use Rattle.sled_pages.specs.declared.node.Node.{Node}
-use Rattle.tree_laws.specs.Action.{put_node}
+use Rattle.tree_laws.specs.theory.Action.{put_node}
 use Rattle.tree_laws.specs.Forest.{IsNodeAt, later, first_key, first_child, Holds, Forest, Place, place, IsPointer, WellFormed, node_pairs, Tree}
-use Rattle.tree_laws.specs.PageLaws.{IsOpenAt, Unseen, PostLaw}
+use Rattle.tree_laws.specs.theory.PageLaws.{IsOpenAt, Unseen, PostLaw}
 use Rattle.tree_laws.proofs.Order.{key_total, key_same}
 use Rattle.tree_laws.proofs.Pairs.{above}
 use Rattle.tree_laws.proofs.Update.{put_here}

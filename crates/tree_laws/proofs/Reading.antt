@@ -11,7 +11,7 @@ use Rattle.sled_pages.specs.declared.node.Data.{Data}
 use Rattle.sled_pages.specs.declared.node.Data.TheVariants.{Leaf, Index}
 use Rattle.sled_pages.specs.declared.node.Node.{Node}
 use Rattle.tree_laws.specs.Forest.{first_child, Holds, Forest, Place, place, Run, WellFormed, node_pairs, head, Tree}
-use Rattle.tree_laws.specs.Laws.{RangeLaw, FindLaw, SortedLaw, OneLaw}
+use Rattle.tree_laws.specs.theory.Laws.{RangeLaw, FindLaw, SortedLaw, OneLaw}
 use Rattle.tree_laws.proofs.Order.{below_upto-trans}
 use Rattle.tree_laws.proofs.Pairs.{not_below_empty, leaf_within, above, each_weaker, pairs_before, pairs_above, pairs_from, Leaves}
 use Rattle.tree_laws.proofs.Runs.{rises_on, In_split, In-left, In-right, run_parts}

@@ -5,9 +5,9 @@ use Rattle.sled_pages.specs.Node.{pairs, pointers, count}
 use Rattle.sled_pages.specs.Order.{Key, Below}
 use Rattle.sled_pages.specs.State.{Nodes}
 use Rattle.sled_pages.specs.declared.node.Node.{Node}
-use Rattle.tree_laws.specs.Action.{put_node, IsReceived}
+use Rattle.tree_laws.specs.theory.Action.{put_node, IsReceived}
 use Rattle.tree_laws.specs.Forest.{IsSized, Forest, Place, place, Run, IsPointer, WellFormed, node_pairs, head, Tree}
-use Rattle.tree_laws.specs.PageLaws.{IsOpenAt, Unseen, ReceiveLaw}
+use Rattle.tree_laws.specs.theory.PageLaws.{IsOpenAt, Unseen, ReceiveLaw}
 use Rattle.tree_laws.proofs.Order.{below-trans, below_irrefl}
 use Rattle.tree_laws.proofs.Runs.{In_split, In-right, In_cases, run_parts, run_to, rises_on}
 use Rattle.tree_laws.proofs.Update.{put_here, put_there, put_chain, chain_here, chain_there}

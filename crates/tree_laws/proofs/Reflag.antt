@@ -6,7 +6,7 @@ use Rattle.sled_pages.specs.Order.{Key, Below}
 use Rattle.sled_pages.specs.State.{Nodes}
 use Rattle.sled_pages.specs.declared.node.Node.{Node}
 use Rattle.tree_laws.specs.Forest.{first_child, later, IsNodeAt, Forest, Place, place, Run, IsHomed, IsPointer, WellFormed, IsSized, contents, node_pairs, head, Tree}
-use Rattle.tree_laws.specs.Snapshot.{KeepsNodes, GrowsByReceiving}
+use Rattle.tree_laws.specs.theory.Snapshot.{KeepsNodes, GrowsByReceiving}
 use Rattle.tree_laws.proofs.Replace.{same_number, some_is, false_true, pairs_of}
 use Rattle.tree_laws.proofs.Cover.{later_in, one_parent, child_below}
 

@@ -9,12 +9,14 @@ use Rattle.sled_pages.specs.Update.{put_at, put_name}
 use Rattle.sled_pages.specs.declared.link.Link.TheVariants.{Set}
 use Rattle.sled_pages.specs.declared.node.Node.{Node}
 use Rattle.sled_pages.specs.declared.page.Page.{Page}
-use Rattle.tree_laws.specs.Action.{put_node, IsReceived, IsSplit}
-use Rattle.tree_laws.specs.FalseLaws.{SetOfMany, ReceiveOfAny, SplitToAny, ReplaceOfStray, FalseLaws}
+use Rattle.tree_laws.specs.Action.{IsSplit}
+use Rattle.tree_laws.specs.theory.Action.{put_node, IsReceived}
+use Rattle.tree_laws.specs.theory.FalseLaws.{SetOfMany, ReceiveOfAny, SplitToAny, ReplaceOfStray, FalseLaws}
 use Rattle.tree_laws.specs.Forest.{Forest, Place, place, IsNodeAt, WellFormed}
-use Rattle.tree_laws.specs.Images.{Pages, image, selves, key, leaf, merging, one_tree, other_tree, root, left, right, over, both, all_in_one, intended}
-use Rattle.tree_laws.specs.Laws.{no_forest}
-use Rattle.tree_laws.specs.Snapshot.{Snapshot, HasForest, KeepsNodes}
+use Rattle.tree_laws.specs.theory.Images.{Pages, image, selves, key, leaf, merging, one_tree, other_tree, root, left, right, over, both, all_in_one, intended}
+use Rattle.tree_laws.specs.theory.Laws.{no_forest}
+use Rattle.tree_laws.specs.Snapshot.{Snapshot, HasForest}
+use Rattle.tree_laws.specs.theory.Snapshot.{KeepsNodes}
 use Rattle.tree_laws.proofs.Accepted.{forest_of, IsForest, formed, sized}
 use Rattle.tree_laws.proofs.Faulty.{run_on, run_at, homed_is, index_first}
 use Rattle.tree_laws.proofs.Pictures.{leaf_stands, open_home, index_stands, pointer_open, rooted, alone, left_sound, whole_sound, both_sound, left_below, intended_forest, eight, two_few}

@@ -9,7 +9,8 @@ use Rattle.sled_pages.specs.Order.{Key, Below}
 use Rattle.sled_pages.specs.State.{Nodes}
 use Rattle.sled_pages.specs.declared.node.Node.{Node}
 use Rattle.tree_laws.specs.Forest.{Holds, first_child, later, IsNodeAt, Forest, Place, place, Run, IsHomed, IsPointer, WellFormed, contents, node_pairs, head, Tree}
-use Rattle.tree_laws.specs.Snapshot.{KeepsNodes, IsInChain}
+use Rattle.tree_laws.specs.Snapshot.{IsInChain}
+use Rattle.tree_laws.specs.theory.Snapshot.{KeepsNodes}
 use Rattle.tree_laws.proofs.Order.{below_irrefl, below_upto-trans}
 use Rattle.tree_laws.proofs.Pairs.{pairs_before, pairs_above, Leaves}
 use Rattle.std.specs.List.{AllByRecursion}

@@ -11,7 +11,7 @@ use Rattle.sled_pages.specs.declared.node.Data.TheVariants.{Leaf, Index}
 use Rattle.sled_pages.specs.declared.node.Node.{Node}
 use Rattle.tree_laws.specs.Forest.{first_child, later, Holds, IsNodeAt, Forest, Place, place, Run, IsHomed, IsPointer, WellFormed, contents, node_pairs, head, Tree}
 use Rattle.tree_laws.specs.Snapshot.{IsOrphan}
-use Rattle.tree_laws.specs.Laws.{Rooted, HoistLaw, PlantLaw, DropLaw}
+use Rattle.tree_laws.specs.theory.Laws.{Rooted, HoistLaw, PlantLaw, DropLaw}
 use Rattle.tree_laws.proofs.Order.{upto-refl, upto-below}
 use Rattle.tree_laws.proofs.Update.{put_here, put_there, name_here, name_there, put_chain, chain_here, chain_there}
 use Rattle.tree_laws.proofs.Replace.{same_number, same_tree, same_place, some_is, false_true, head_in, pairs_of}

@@ -5,7 +5,7 @@ use Rattle.sled_pages.specs.Node.{count}
 use Rattle.sled_pages.specs.State.{Nodes}
 use Rattle.sled_pages.specs.declared.node.Node.{Node}
 use Rattle.tree_laws.specs.Forest.{Tree, Forest, Place, place, WellFormed, IsSized}
-use Rattle.tree_laws.specs.Snapshot.{GrowsByReceiving}
+use Rattle.tree_laws.specs.theory.Snapshot.{GrowsByReceiving}
 use Rattle.tree_laws.proofs.Replace.{same_number, some_is, Replaces, p_home, chained_before}
 use Rattle.tree_laws.proofs.Cover.{child_below}
 use Rattle.tree_laws.proofs.Basics.{none_some}

@@ -8,9 +8,10 @@ use Rattle.sled_pages.specs.Update.{put_at}
 use Rattle.sled_pages.specs.declared.node.Data.{Data}
 use Rattle.sled_pages.specs.declared.node.Data.TheVariants.{Leaf, Index}
 use Rattle.sled_pages.specs.declared.node.Node.{Node}
-use Rattle.tree_laws.specs.Action.{put_node, AreHalvesOf, IsSplit}
+use Rattle.tree_laws.specs.Action.{AreHalvesOf, IsSplit}
+use Rattle.tree_laws.specs.theory.Action.{put_node}
 use Rattle.tree_laws.specs.Forest.{first_child, Holds, Forest, Place, place, Run, IsPointer, WellFormed, node_pairs, Tree}
-use Rattle.tree_laws.specs.PageLaws.{IsOpenAt, Unseen, SplitLaw}
+use Rattle.tree_laws.specs.theory.PageLaws.{IsOpenAt, Unseen, SplitLaw}
 use Rattle.tree_laws.proofs.Pairs.{not_below_empty}
 use Rattle.tree_laws.proofs.Runs.{In_split, In-left, In-right}
 use Rattle.tree_laws.proofs.Update.{put_here, put_there, put_chain, chain_here, chain_there}

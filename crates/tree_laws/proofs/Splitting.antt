@@ -11,13 +11,14 @@ use Rattle.sled_pages.specs.declared.node.Node.{Node}
 use Rattle.sled_pages.specs.declared.node.Data.TheVariants.{Index}
 use Rattle.sled_pages.specs.declared.page.Page.{Page}
 use Rattle.tree_laws.specs.Forest.{Tree, Forest, Place, place, IsSized, contents}
-use Rattle.tree_laws.specs.Action.{put_node}
+use Rattle.tree_laws.specs.theory.Action.{put_node}
 use Rattle.sled_pages.specs.declared.page.View.{View}
-use Rattle.tree_laws.specs.Snapshot.{Snapshot, HasForest, nodes_at, Guarantee, GrowsByReceiving, KeepsForest, StoodInChain, IsAtVersion, HasRoomForOne, SeenOpen}
-use Rattle.tree_laws.specs.Laws.{IsNodeNow, IsAlone, after_replacement, after_allocation, after_free, after_hoist}
-use Rattle.tree_laws.specs.PageLaws.{IsOpenAt, Unseen}
+use Rattle.tree_laws.specs.Snapshot.{Snapshot, HasForest, nodes_at, StoodInChain, IsAtVersion, HasRoomForOne, SeenOpen}
+use Rattle.tree_laws.specs.theory.Snapshot.{Guarantee, GrowsByReceiving, KeepsForest}
+use Rattle.tree_laws.specs.theory.Laws.{IsNodeNow, IsAlone, after_replacement, after_allocation, after_free, after_hoist}
+use Rattle.tree_laws.specs.theory.PageLaws.{IsOpenAt, Unseen}
 use Rattle.tree_laws.specs.Stages.{IsPlace, IsOwn, IsStage, IsPosting, IsHoisting, IsReplacing}
-use Rattle.tree_laws.specs.StageLaws.{StageActionLaw, SplitAction, posts_half, InstallLeftAction, PostAction, HoistAction, SwapRootAction, FreeAction}
+use Rattle.tree_laws.specs.theory.StageLaws.{StageActionLaw, SplitAction, posts_half, InstallLeftAction, PostAction, HoistAction, SwapRootAction, FreeAction}
 use Rattle.tree_laws.specs.declared.flight.Posting.{Posting}
 use Rattle.tree_laws.specs.declared.flight.Posting.TheVariants as posting
 use Rattle.tree_laws.specs.declared.flight.InstallLeft.{InstallLeft}

@@ -3,8 +3,9 @@ use Rattle.std.proofs.Common.{◌≡◌, ◌≢◌, ℕ, true, false, List, Opti
 use Rattle.sled_pages.specs.declared.node.Node.{Node}
 use Rattle.sled_pages.specs.declared.page.Page.{Page}
 use Rattle.tree_laws.specs.Forest.{Tree, Forest}
-use Rattle.tree_laws.specs.Snapshot.{Snapshot, Guarantee}
-use Rattle.tree_laws.specs.Laws.{ViewLaw, StoodLaw, NowLaw}
+use Rattle.tree_laws.specs.Snapshot.{Snapshot}
+use Rattle.tree_laws.specs.theory.Snapshot.{Guarantee}
+use Rattle.tree_laws.specs.theory.Laws.{ViewLaw, StoodLaw, NowLaw}
 use Rattle.tree_laws.proofs.Replace.{same_number}
 
 pub view_law : ViewLaw

@@ -7,7 +7,7 @@ use Rattle.sled_pages.specs.declared.node.Node.{Node}
 use Rattle.tree_laws.specs.Forest.{Tree, Forest}
 use Rattle.tree_laws.specs.Snapshot.{Snapshot, HasForest}
 use Rattle.tree_laws.specs.Stages.{IsOwn, IsStage, owned}
-use Rattle.tree_laws.specs.StageLaws.{ApartLaw, HereLaw, RootHereLaw, CursorHereLaw, InstallLeftLate, SwapRootLate, CapLate}
+use Rattle.tree_laws.specs.theory.StageLaws.{ApartLaw, HereLaw, RootHereLaw, CursorHereLaw, InstallLeftLate, SwapRootLate, CapLate}
 use Rattle.tree_laws.specs.declared.flight.Stage.{Stage}
 use Rattle.tree_laws.specs.declared.flight.Stage.TheVariants as stage
 use Rattle.tree_laws.proofs.Walks as walks

@@ -5,10 +5,11 @@ use Rattle.sled_pages.specs.State.{Nodes, State, RootBecomes, nodes_of, after}
 use Rattle.sled_pages.specs.Update.{put_at, put_name}
 use Rattle.sled_pages.specs.declared.node.Node.{Node}
 use Rattle.sled_pages.specs.declared.page.Page.{Page}
-use Rattle.tree_laws.specs.Action.{put_node}
+use Rattle.tree_laws.specs.theory.Action.{put_node}
 use Rattle.tree_laws.specs.Forest.{Tree, Forest, Place, WellFormed, IsSized, contents}
-use Rattle.tree_laws.specs.Snapshot.{Snapshot, HasForest, nodes_at, IsOrphan, KeepsNodes, GrowsByReceiving}
-use Rattle.tree_laws.specs.Laws.{ReplaceLaw, AllocateLaw, FreeLaw, PlantedLaw, HoistedLaw, DroppedLaw, Rooted, StepsForest, after_replacement, after_free, after_creation, after_hoist, after_drop}
+use Rattle.tree_laws.specs.Snapshot.{Snapshot, HasForest, nodes_at, IsOrphan}
+use Rattle.tree_laws.specs.theory.Snapshot.{KeepsNodes, GrowsByReceiving}
+use Rattle.tree_laws.specs.theory.Laws.{ReplaceLaw, AllocateLaw, FreeLaw, PlantedLaw, HoistedLaw, DroppedLaw, Rooted, StepsForest, after_replacement, after_free, after_creation, after_hoist, after_drop}
 use Rattle.tree_laws.proofs.Update.{put_here, put_there, name_here, name_there}
 use Rattle.tree_laws.proofs.Outside.{outside_kept, outside_contents, outside_keeps, outside_sized, outside_grows}
 use Rattle.tree_laws.proofs.Replace.{same_number, same_tree, some_is}

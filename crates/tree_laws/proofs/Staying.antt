@@ -9,9 +9,10 @@ use Rattle.sled_pages.specs.declared.node.Node.{Node}
 use Rattle.sled_pages.specs.declared.page.Page.{Page}
 use Rattle.tree_laws.specs.Forest.{Tree, Forest, Place, place, head, WellFormed}
 use Rattle.sled_pages.specs.declared.page.View.{View}
-use Rattle.tree_laws.specs.Snapshot.{Snapshot, HasForest, nodes_at, Guarantee, GrowsByReceiving, IsReadAs, StoodInChain, IsAtVersion}
+use Rattle.tree_laws.specs.Snapshot.{Snapshot, HasForest, nodes_at, IsReadAs, StoodInChain, IsAtVersion}
+use Rattle.tree_laws.specs.theory.Snapshot.{Guarantee, GrowsByReceiving}
 use Rattle.tree_laws.specs.Stages.{IsParent, IsBelowParent, IsReached, IsWalking, IsPlace, IsSplitting, IsOwn, IsReplacing, IsUnder, IsPosting, IsHoisting, IsSwapping, IsFreeing, IsIntending, IsFrozen, IsChild, IsWanted, IsMerger, IsMerging, IsReadingChild, child_of, IsCapping, IsSeeking, IsReceiving, IsOut, IsConfirming}
-use Rattle.tree_laws.specs.StageLaws.{StageStays}
+use Rattle.tree_laws.specs.theory.StageLaws.{StageStays}
 use Rattle.tree_laws.specs.declared.flight.Reached.{Reached}
 use Rattle.tree_laws.specs.declared.flight.Reached.TheVariants as reached
 use Rattle.tree_laws.specs.declared.flight.Walk.{Walk}

@@ -14,7 +14,8 @@ use Rattle.sled_pages.specs.declared.page.Page.{Page}
 use Rattle.tree_laws.specs.Forest.{Tree, Forest, Place, place, Run, Holds, WellFormed, contents, head, later}
 use Rattle.sled_pages.specs.declared.page.View.{View}
 use Rattle.tree_laws.specs.Snapshot.{Snapshot, HasForest, nodes_at, StoodInChain, IsOpen, HasRoomForOne, IsAtVersion, SeenOpen, LiesUnder, IsActing}
-use Rattle.tree_laws.specs.Stages.{parent_of, by_pointer, IsParent, IsBelowParent, IsReached, IsWalking, IsHere, IsPlace, IsSplitting, IsPosting, IsHoisting, IsUnder, IsIntending, IsMerging}
+use Rattle.tree_laws.specs.Stages.{parent_of, by_pointer, IsParent, IsBelowParent, IsReached, IsWalking, IsPlace, IsSplitting, IsPosting, IsHoisting, IsUnder, IsIntending, IsMerging}
+use Rattle.tree_laws.specs.theory.Stages.{IsHere}
 use Rattle.tree_laws.specs.declared.flight.Reached.{Reached}
 use Rattle.tree_laws.specs.declared.flight.Reached.TheVariants as reached
 use Rattle.tree_laws.specs.declared.flight.Walk.{Walk}

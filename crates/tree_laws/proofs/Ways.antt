@@ -7,9 +7,9 @@ use Rattle.sled_pages.specs.Order.{Key, key_cmp}
 use Rattle.sled_pages.specs.State.{State, Nodes, nodes_of}
 use Rattle.sled_pages.specs.declared.node.Node.{Node}
 use Rattle.tree_laws.specs.Forest.{Tree}
-use Rattle.tree_laws.specs.Images.{Pages, Unclean, image, selves, key, leaf, capped, merging, one_tree, root, left, right, over, first_only, both, not_hoisted, not_posted, intended, unnamed, too_many_in_the_root, CleanPaths}
+use Rattle.tree_laws.specs.theory.Images.{Pages, Unclean, image, selves, key, leaf, capped, merging, one_tree, root, left, right, over, first_only, both, not_hoisted, not_posted, intended, unnamed, too_many_in_the_root, CleanPaths}
 use Rattle.tree_laws.specs.Paths.{NeedsNoRepair, CleanFrom, IsClean}
-use Rattle.tree_laws.specs.PathLaws.{CleanStep}
+use Rattle.tree_laws.specs.theory.PathLaws.{CleanStep}
 use Rattle.tree_laws.proofs.Looking.{clean_step_law}
 use Rattle.tree_laws.proofs.Order.{covers_under, under_covers}
 use Rattle.tree_laws.proofs.Replace.{some_is}

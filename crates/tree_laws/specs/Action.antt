@@ -2,16 +2,10 @@
 use Rattle.std.specs.Prelude.{◌≡◌, ℕ, false, ◌++◌, Some, None}
 use Rattle.sled_pages.specs.Order.{Below}
 use Rattle.sled_pages.specs.Node.{Within}
-use Rattle.sled_pages.specs.State.{Nodes}
-use Rattle.sled_pages.specs.Update.{put_at}
 use Rattle.sled_pages.specs.declared.node.Node.{Node}
 use Rattle.sled_pages.specs.declared.node.Data.{Data}
 use Rattle.sled_pages.specs.declared.node.Data.TheVariants.{Leaf, Index}
 use Rattle.tree_laws.specs.Forest.{IsNodeAt}
-
--- the page p is n, the others as before
-abbrev pub put_node : Nodes → ℕ → Node → Nodes
-put_node nodes p n = put_at nodes p (Some n)
 
 -- two halves of the same kind
 abbrev pub AreHalvesOf : Data → Data → Data → Type 0
@@ -35,13 +29,3 @@ pub record IsSplit (h : ℕ) (n : Node) (left right : Node) (q : ℕ) : Type 0 w
   pub apart : Below n.lo right.lo
   pub within : Within n.lo n.hi right.lo
   pub calm : (left.merging ≡ false) × (left.merging_child ≡ None) × (right.merging ≡ false) × (right.merging_child ≡ None)
-
--- n takes the entries, the end and the next page of c
-pub record IsReceived (h : ℕ) (n c both : Node) : Type 0 where
-  pub sound : IsNodeAt h both
-  pub halves : AreHalvesOf both.content n.content c.content
-  pub lo : both.lo ≡ n.lo
-  pub hi : both.hi ≡ c.hi
-  pub next : both.next ≡ c.next
-  pub merging : both.merging ≡ n.merging
-  pub merging_child : both.merging_child ≡ n.merging_child

@@ -50,9 +50,3 @@ pub record Flushes (a b : Store) : Type 0 where
   pub base : b.base ≡ now a
   pub recent : b.recent ≡ []
   pub actions : b.actions ≡ a.actions
-
--- this action was added; the page numbers and versions given, the faults and the mark may have changed too
-pub record AddsAction (act : Action) (a b : Store) : Type 0 where
-  pub base : b.base ≡ a.base
-  pub recent : b.recent ≡ a.recent ++ act ∷ []
-  pub actions : b.actions ≡ a.actions + 1

@@ -3,14 +3,6 @@ pub mod Contents
 pub mod Action
 pub mod Snapshot
 pub mod Crashes
-pub mod Laws
-pub mod CrashLaws
-pub mod PageLaws
 pub mod Stages
 pub mod Paths
-pub mod Drops
-pub mod StageLaws
-pub mod MapLaws
-pub mod PathLaws
-pub mod Images
-pub mod FalseLaws
+pub mod theory

@@ -70,14 +70,6 @@ pub record IsWalking (m : Snapshot) (w : Forest) (t : Tree) (number : ℕ) (aim 
   pub stood : StoodInChain m w (place t height) number lo a.cursor
   pub is_reached : IsReached m w t number height aim a.reached lo a.cursor
 
--- a page as it was just read: it is live at the version that was read, and stood on its level
-pub record IsHere (m : Snapshot) (w : Forest) (t : Tree) (number : ℕ) (aim : Bound Key) (look : View) (by : Reached) : Type 0 where
-  pub height : ℕ
-  pub live : m.state.pages look.pid ≡ Some (record { version = look.version; node = look.node })
-  pub named : m.numbers t ≡ Some number
-  pub stood : StoodInChain m w (place t height) number look.node.lo look.pid
-  pub is_reached : IsReached m w t number height aim by look.node.lo look.pid
-
 -- where the right half of a split is posted: at a parent, which takes one pointer more and below which the page lies, at the root, where
 -- the page is the first of its level, or, of a split that serves a merge, nowhere
 abbrev pub IsPlace : Snapshot → Forest → Tree → ℕ → ℕ → View → Posting → Type 0

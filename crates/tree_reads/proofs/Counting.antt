@@ -18,7 +18,8 @@ use Rattle.tree_laws.proofs.Replace.{some_is}
 use Rattle.tree_laws.proofs.Runs.{In-right, run_parts, run_to}
 use Rattle.tree_laws.proofs.Looking.{next_in}
 use Rattle.tree_reads.specs.Walk.{IsLeafFor, HasTooMany, once}
-use Rattle.tree_reads.specs.Leaves.{OfContents, Counts}
+use Rattle.tree_reads.specs.Leaves.{OfContents}
+use Rattle.tree_reads.specs.theory.Leaves.{Counts}
 use Rattle.tree_reads.specs.declared.TheConstants.{MOST_PAGES}
 use Rattle.tree_reads.proofs.Walking.{viewed, gone}
 use Rattle.tree_reads.proofs.Seeking.{node_at, nothing_below, not_true}

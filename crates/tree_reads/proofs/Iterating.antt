@@ -7,7 +7,8 @@ use Rattle.sled_pages.specs.Order.{Key}
 use Rattle.sled_pages.specs.Store.{Store}
 use Rattle.sled_pages.specs.declared.error.Error.{Error}
 use Rattle.tree_reads.specs.Walk.{RefusesWalk, once, for_each}
-use Rattle.tree_reads.specs.Ranges.{pairs_within, Coming, TakesFirst, TakesLast, Advances, Retreats, whole, shown_of, coming_count}
+use Rattle.tree_reads.specs.Ranges.{pairs_within, Coming, TakesFirst, TakesLast, whole, coming_count}
+use Rattle.tree_reads.specs.theory.Ranges.{Advances, Retreats, shown_of}
 
 module _ {P : Type 0} (store : P → Store) (pages : P) (root : ℕ) (all : List (Key × Key)) (lo hi : Bound Key) (ended : Bool) where
   abbrev pub coming : Bound Key → Bound Key → Bool → Coming P

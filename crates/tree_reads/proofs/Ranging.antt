@@ -19,7 +19,8 @@ use Rattle.tree_laws.proofs.Order.{key_total, below_irrefl, below_upto-trans, up
 use Rattle.tree_laws.proofs.Fuel.{contents_law}
 use Rattle.tree_laws.proofs.Reading.{sorted_law}
 use Rattle.tree_reads.specs.Leaves.{OfContents, SeeksAt, SeeksBackAt}
-use Rattle.tree_reads.specs.Ranges.{pairs_within, is_reversed, IsRoot, Advances, Retreats}
+use Rattle.tree_reads.specs.Ranges.{pairs_within, is_reversed, IsRoot}
+use Rattle.tree_reads.specs.theory.Ranges.{Advances, Retreats}
 use Rattle.tree_reads.proofs.Turning.{lower}
 use Rattle.tree_reads.proofs.Seeking.{none_at, all_at, in_join, higher, above, under, nothing_below, seeks_on}
 use Rattle.tree_reads.proofs.Backing.{back_on}

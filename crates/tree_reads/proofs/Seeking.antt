@@ -25,7 +25,8 @@ use Rattle.tree_laws.proofs.Runs.{In-right}
 use Rattle.tree_laws.proofs.Looking.{next_in, next_some, ahead_next}
 use Rattle.tree_laws.proofs.Reading.{range_law, find_law}
 use Rattle.tree_reads.specs.Walk.{IsUnder, IsLeafFor, HasTooMany, once}
-use Rattle.tree_reads.specs.Leaves.{OfContents, StartsAt, Seeks}
+use Rattle.tree_reads.specs.Leaves.{OfContents, Seeks}
+use Rattle.tree_reads.specs.theory.Leaves.{StartsAt}
 use Rattle.tree_reads.specs.declared.TheConstants.{MOST_PAGES}
 use Rattle.tree_reads.proofs.Walking.{viewed, gone}
 

@@ -24,7 +24,8 @@ use Rattle.tree_laws.proofs.Known.{leaf_in, index_high, sound_at}
 use Rattle.tree_laws.proofs.Looking.{next_in, next_some, ahead_next, ahead_down, pointer_in, last_in, clean_page, clean_down}
 use Rattle.tree_laws.proofs.Halving.{before_law}
 use Rattle.tree_laws.proofs.Before.{before_child_law, leads_down_law}
-use Rattle.tree_reads.specs.Walk.{IsIndex, LiesBehind, IsUnder, Stands, turns_as, Turns}
+use Rattle.tree_reads.specs.Walk.{IsUnder}
+use Rattle.tree_reads.specs.theory.Walk.{IsIndex, LiesBehind, Stands, turns_as, Turns}
 
 none_some : {P X : Type 0} {x : X} → None ≡ Some x → P
 none_some e = cc

@@ -15,7 +15,8 @@ use Rattle.tree_laws.proofs.Known.{root_in}
 use Rattle.tree_laws.proofs.Runs.{In-right}
 use Rattle.tree_laws.proofs.Looking.{ahead_at, ahead_few, pages_law}
 use Rattle.tree_laws.proofs.Replace.{some_is}
-use Rattle.tree_reads.specs.Walk.{Stands, Turns, IsLeafFor, HasTooMany}
+use Rattle.tree_reads.specs.Walk.{IsLeafFor, HasTooMany}
+use Rattle.tree_reads.specs.theory.Walk.{Stands, Turns}
 use Rattle.tree_reads.specs.declared.TheConstants.{MOST_PAGES}
 
 none_some : {P X : Type 0} {x : X} → None ≡ Some x → P

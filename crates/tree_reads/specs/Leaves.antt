@@ -1,5 +1,5 @@
 -- Searches along the leaves of a tree, and the leaves at which they stand.
-use Rattle.std.specs.Prelude.{◌≡◌, ◌≢◌, ℕ, ◌+◌, ◌*◌, ◌<◌, ◌≤◌, ◌^◌, true, false, List, [], ◌∷◌, ◌++◌, length, flat_map, Option, Some, None}
+use Rattle.std.specs.Prelude.{◌≡◌, ◌≢◌, ℕ, ◌+◌, ◌*◌, ◌<◌, ◌≤◌, ◌^◌, false, List, [], ◌∷◌, ◌++◌, length, Option, Some, None}
 use Rattle.std.specs.declared.ops.Bound.{Bound}
 use Rattle.sled_pages.specs.Order.{Key, Below, UpTo}
 use Rattle.sled_pages.specs.In.{In}
@@ -7,17 +7,12 @@ use Rattle.sled_pages.specs.Among.{is_up_to, is_from}
 use Rattle.sled_pages.specs.State.{State, nodes_of}
 use Rattle.sled_pages.specs.declared.page.Page.{Page}
 use Rattle.sled_pages.specs.declared.page.View.{View}
-use Rattle.tree_laws.specs.Forest.{Tree, Forest, place, WellFormed, contents, node_pairs}
+use Rattle.tree_laws.specs.Forest.{Tree, Forest, place, WellFormed, contents}
 use Rattle.tree_laws.specs.Paths.{IsAhead, tree_pages}
 
 -- at every forest that shows the pages well formed it is so of the contents of the tree with this root
 pub record OfContents (s : State) (root : ℕ) (claim : List (Key × Key) → Type 0) : Type 0 where
   pub is : (w : Forest) → WellFormed (nodes_of s) s.roots w → (t : Tree) → s.roots t ≡ Some root → claim (contents (nodes_of s) w t)
-
--- no key below what begins within the target is within the lower bound
-pub record StartsAt (lo target : Bound Key) : Type 0 where
-  pub all : is_up_to target [] ≡ true
-  pub below : (k m : Key) → is_up_to target m ≡ true → Below k m → is_from lo k ≡ false
 
 -- the page is live as it was read, and page numbers fit 64 bits
 pub record IsRead (s : State) (v : View) : Type 0 where
@@ -38,12 +33,6 @@ pub record SeeksBack (s : State) (root : ℕ) (hi : Bound Key) (v : View) (looke
   pub is : (w : Forest) → WellFormed (nodes_of s) s.roots w → (t : Tree) → s.roots t ≡ Some root
       → (before : List ℕ) × (behind : List ℕ) × (w.chain (place t 0) ≡ before ++ v.pid ∷ behind) × (looked + length before * tree_pages s t ≤ tree_pages s t * tree_pages s t)
       × ((e : Key × Key) → In e (contents (nodes_of s) w t) → v.node.hi ≢ [] → UpTo v.node.hi e.0 → is_up_to hi e.0 ≡ false)
-
--- A count stands at a leaf: so many pairs stand before it
-pub record Counts (s : State) (root : ℕ) (v : View) (looked total : ℕ) : Type 0 where
-  pub read : IsRead s v
-  pub is : (w : Forest) → WellFormed (nodes_of s) s.roots w → (t : Tree) → s.roots t ≡ Some root
-      → (before : List ℕ) × (behind : List ℕ) × (w.chain (place t 0) ≡ before ++ v.pid ∷ behind) × (looked + length behind ≤ tree_pages s t) × (total ≡ length (flat_map (λ p. node_pairs (nodes_of s p)) before))
 
 -- the leaf at hand, if there is one
 abbrev pub SeeksAt : State → ℕ → Bound Key → Option View → Type 0

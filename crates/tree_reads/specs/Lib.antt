@@ -2,3 +2,4 @@ pub mod Walk
 pub mod Leaves
 pub mod Ranges
 pub mod Prefixes
+pub mod theory

@@ -1,58 +1,24 @@
 -- Reading walks, which repair nothing.
-use Rattle.std.specs.Prelude.{◌≡◌, ◌≢◌, ℕ, suc, ◌+◌, ◌*◌, ◌<◌, ◌≤◌, ◌⊎◌, Bool, true, false, List, [], length, Option, Some, None}
+use Rattle.std.specs.Prelude.{◌≡◌, ℕ, ◌+◌, ◌*◌, ◌<◌, ◌≤◌, ◌⊎◌, Bool, true, false, List, [], length, Some}
 use Rattle.std.specs.declared.ops.Bound.{Bound}
 use Rattle.std.specs.declared.ops.Bound.TheVariants.{Included}
 use Rattle.sled_pages.specs.Order.{Key}
-use Rattle.sled_pages.specs.In.{In}
 use Rattle.sled_pages.specs.Among.{is_up_to}
-use Rattle.sled_pages.specs.State.{State, Nodes, nodes_of}
+use Rattle.sled_pages.specs.State.{State, nodes_of}
 use Rattle.sled_pages.specs.Store.{Store, now}
 use Rattle.sled_pages.specs.declared.node.Node.{Node}
-use Rattle.sled_pages.specs.declared.node.Data.{Data}
-use Rattle.sled_pages.specs.declared.node.Data.TheVariants.{Leaf, Index}
 use Rattle.sled_pages.specs.declared.page.View.{View}
 use Rattle.sled_pages.specs.declared.error.Error.{Error}
 use Rattle.sled_pages.specs.declared.error.Error.TheVariants.{NoMemory, Io, ReportableBug}
 use Rattle.sled_pages.specs.declared.texts.TheConstants.{WALK_PASSED_TURNS}
-use Rattle.tree_laws.specs.Forest.{Tree, Forest, place, WellFormed}
+use Rattle.tree_laws.specs.Forest.{Tree, Forest, WellFormed}
 use Rattle.tree_laws.specs.Paths.{CleanFrom, IsAhead, tree_pages}
 use Rattle.tree_reads.specs.declared.TheConstants.{MOST_PAGES}
-
-abbrev pub IsIndex : Data → Type 0
-IsIndex (Leaf es) = ⊥
-IsIndex (Index es) = Unit {0}
-
--- the bound lies behind the page
-abbrev pub LiesBehind : Bound Key → Node → Type 0
-LiesBehind target n = (n.hi ≢ []) × (is_up_to target n.hi ≡ true)
 
 -- the page begins within the bound and does not end within it
 pub record IsUnder (target : Bound Key) (n : Node) : Type 0 where
   pub begins : is_up_to target n.lo ≡ true
   pub ends : (n.hi ≡ []) ⊎ (is_up_to target n.hi ≡ false)
-
--- A walk to the target stands at a page of the tree that begins within it, with so many pages ahead
-pub record Stands (nodes : Nodes) (w : Forest) (t : Tree) (target : Bound Key) (p ahead : ℕ) : Type 0 where
-  pub height : ℕ
-  pub node : Node
-  pub live : nodes p ≡ Some node
-  pub begins : is_up_to target node.lo ≡ true
-  pub is : IsAhead w t height p ahead
-
--- it ends at the leaf, or goes on with fewer pages ahead
-abbrev pub turns_as : Nodes → Forest → Tree → Bound Key → ℕ → Node → ℕ → Option ℕ → Type 0
-turns_as nodes w t target p n ahead None = IsUnder target n × In p (w.chain (place t 0))
-turns_as nodes w t target p n ahead (Some q) = (k : ℕ) × (k < ahead) × Stands nodes w t target q k
-
--- along a clean path it goes to the next page of the path
-abbrev pub keeps_path : Nodes → Key → List ℕ → Option ℕ → Type 0
-keeps_path nodes key path None = Unit {0}
-keeps_path nodes key path (Some q) = (first : Bool) × (rest : List ℕ) × (length path ≡ suc (length rest)) × CleanFrom nodes (Included key) q first rest
-
-pub record Turns (target : Bound Key) (n : Node) (to : Option ℕ) : Type 0 where
-  pub is : (nodes : Nodes) (roots : Tree → Option ℕ) (w : Forest) → WellFormed nodes roots w → (t : Tree) (p ahead : ℕ) → nodes p ≡ Some n → Stands nodes w t target p ahead
-      → turns_as nodes w t target p n ahead to
-  pub clean : (nodes : Nodes) (key : Key) (p : ℕ) (first : Bool) (path : List ℕ) → target ≡ Included key → nodes p ≡ Some n → CleanFrom nodes (Included key) p first path → keeps_path nodes key path to
 
 -- The page is live as it was read, and at every forest that shows the pages well formed it is the tree's leaf under the target.
 -- Before the walk `from` pages were looked at and after it `looked`, the leaf one of them, and all these and those still

@@ -9,7 +9,8 @@ ghost use Rattle.sled_pages.specs.declared.error.Error.TheVariants.{NoMemory};
 ghost use Rattle.tree_laws.specs.Contents.{pairs_under};
 ghost use Rattle.tree_reads.specs.Walk.{RefusesWalk, once, for_each};
 ghost use Rattle.tree_reads.specs.Leaves.{SeeksAt, SeeksBackAt};
-ghost use Rattle.tree_reads.specs.Ranges.{pairs_within, is_reversed as ends_before, IsRoot, Advances, Retreats, TakesFirst, TakesLast, whole, key_alone, value_alone, shown_of, coming_count};
+ghost use Rattle.tree_reads.specs.Ranges.{pairs_within, is_reversed as ends_before, IsRoot, TakesFirst, TakesLast, whole, key_alone, value_alone, coming_count};
+ghost use Rattle.tree_reads.specs.theory.Ranges.{Advances, Retreats, shown_of};
 
 use crate::nearest::{first_at, last_at};
 use crate::reads::{Reads, law_given};

@@ -6,7 +6,8 @@ ghost use Rattle.sled_pages.specs.Order.{key_cmp};
 ghost use Rattle.sled_pages.specs.Store.{now};
 ghost use Rattle.std.specs.declared.ops.Bound.TheVariants.{Included};
 ghost use Rattle.tree_reads.specs.Walk.{RefusesWalk, GivesUp, once, for_each};
-ghost use Rattle.tree_reads.specs.Leaves.{StartsAt, OfContents, Seeks, SeeksBack, SeeksAt, SeeksBackAt};
+ghost use Rattle.tree_reads.specs.Leaves.{OfContents, Seeks, SeeksBack, SeeksAt, SeeksBackAt};
+ghost use Rattle.tree_reads.specs.theory.Leaves.{StartsAt};
 
 use crate::MOST_PAGES;
 use crate::reads::{Reads, law_given};

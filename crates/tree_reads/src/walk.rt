@@ -2,7 +2,8 @@
 ghost use Rattle.std.specs.Prelude.{◌≡◌, ◌≢◌, ◌↔◌, ◌+◌, IsTrue, true, Some, [], IfOk, IfErr};
 ghost use Rattle.sled_pages.specs.Among.{bound_of, is_up_to as within_upper, is_from as within_lower};
 ghost use Rattle.sled_pages.specs.Store.{now};
-ghost use Rattle.tree_reads.specs.Walk.{IsIndex, LiesBehind, Turns, IsLeafFor, RefusesWalk, GivesUp};
+ghost use Rattle.tree_reads.specs.Walk.{IsLeafFor, RefusesWalk, GivesUp};
+ghost use Rattle.tree_reads.specs.theory.Walk.{IsIndex, LiesBehind, Turns};
 
 use crate::MOST_PAGES;
 use crate::reads::{Reads, law_given};

@@ -5,7 +5,8 @@ ghost use Rattle.sled_pages.specs.declared.error.Error.TheVariants.{NoMemory};
 ghost use Rattle.sled_pages.specs.Order.{Key, key_cmp};
 ghost use Rattle.sled_pages.specs.Update.{put_name};
 ghost use Rattle.sled_pages.specs.Slots.{slots_of, places_of, given_of};
-ghost use Rattle.sled_pages.specs.Table.{roots_of, undone, has_place, slot_given, undo_given, IsKept, AreBelow, TakenBack, table};
+ghost use Rattle.sled_pages.specs.Table.{roots_of, undone, has_place, slot_given, undo_given, IsKept, AreBelow};
+ghost use Rattle.sled_pages.specs.theory.Table.{TakenBack, table};
 ghost use Rattle.sled_pages.specs.Image.{root_in};
 ghost use Rattle.std.specs.List.{list_all};
 

@@ -4,8 +4,9 @@ ghost use Rattle.std.specs.Option.{option_copied};
 ghost use Rattle.std.specs.Vec.{vec_len, vec_capacity};
 ghost use Rattle.sled_pages.specs.declared.error.Error.TheVariants.{NoMemory};
 ghost use Rattle.sled_pages.specs.Update.{put_at};
-ghost use Rattle.sled_pages.specs.Known.{IsKnown};
-ghost use Rattle.sled_pages.specs.Returning.{Relinked, slot_back};
+ghost use Rattle.sled_pages.specs.theory.Known.{IsKnown};
+ghost use Rattle.sled_pages.specs.Returning.{slot_back};
+ghost use Rattle.sled_pages.specs.theory.Returning.{Relinked};
 
 use crate::change::Back;
 use crate::error::{Error, Result};
@@ -45,9 +46,10 @@ pub fn reserve_one<T>(list: &mut Vec<T>) -> Result<()>
 }
 
 impl Slots {
-    ghost use Rattle.sled_pages.specs.Laid.{IsLaid};
-    ghost use Rattle.sled_pages.specs.Held.{Holds};
-    ghost use Rattle.sled_pages.specs.Slots.{slots_of, places_of, given_of, HasNumber, HasSlotRoom};
+    ghost use Rattle.sled_pages.specs.theory.Laid.{IsLaid};
+    ghost use Rattle.sled_pages.specs.theory.Held.{Holds};
+    ghost use Rattle.sled_pages.specs.Slots.{slots_of, places_of, given_of};
+    ghost use Rattle.sled_pages.specs.theory.Slots.{HasNumber, HasSlotRoom};
 
     /// No slots.
     pub fn new(alloc: Global) -> Slots

@@ -1,7 +1,7 @@
 use Rattle.std.proofs.Common.{◌≡◌, false, take, MatchOption}
 use Rattle.std.specs.List.{list_any}
 use Rattle.sled_pages.specs.Among.{bound_of, is_up_to}
-use Rattle.sled_pages.specs.Places.{IsLastAt}
+use Rattle.sled_pages.specs.theory.Places.{IsLastAt}
 use Rattle.sled_pages.proofs.among.last_place.Given as goal
 
 abbrev pub invariant-loop-i : goal.invariant-loop-i

@@ -1,5 +1,5 @@
 use Rattle.std.proofs.Common.{not, nat_eq, take}
-use Rattle.sled_pages.specs.Returning.{IsOut}
+use Rattle.sled_pages.specs.theory.Returning.{IsOut}
 use Rattle.sled_pages.proofs.among.pointer_alone.Given as goal
 
 abbrev pub invariant-loop-i : goal.invariant-loop-i

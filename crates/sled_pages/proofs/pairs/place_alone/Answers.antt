@@ -1,7 +1,7 @@
 use Rattle.std.proofs.Common.{subst}
 use Rattle.std.specs.Cmp.Lexicographic.{slice_cmp}
 use Rattle.std.specs.Ordering.{nat_cmp}
-use Rattle.sled_pages.specs.Rising.{IsHit, IsGap}
+use Rattle.sled_pages.specs.theory.Rising.{IsHit, IsGap}
 use Rattle.sled_pages.proofs.Rising.{hit_out, gap_out}
 use Rattle.sled_pages.proofs.pairs.place_alone.Goals as goal
 

@@ -1,7 +1,7 @@
 use Rattle.std.proofs.Common.{not, take}
 use Rattle.std.specs.Cmp.Lexicographic.{slice_cmp}
 use Rattle.std.specs.Ordering.{nat_cmp, eq_by_cmp}
-use Rattle.sled_pages.specs.Returning.{IsOut}
+use Rattle.sled_pages.specs.theory.Returning.{IsOut}
 use Rattle.sled_pages.proofs.pairs.place_alone.Given as goal
 
 abbrev pub invariant-loop-i : goal.invariant-loop-i

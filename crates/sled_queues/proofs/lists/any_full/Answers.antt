@@ -2,7 +2,7 @@ use Rattle.std.proofs.Common.{sym, ◌∙◌, ap, ◌||◌, get_or}
 use Rattle.std.specs.Ordering.{nat_cmp}
 use Rattle.std.specs.BTreeMap.{get}
 use Rattle.std.proofs.lemmas.List.Folds.{list_any_at, list_any_more}
-use Rattle.sled_queues.specs.Lists.{is_full_for}
+use Rattle.sled_queues.specs.theory.Lists.{is_full_for}
 use Rattle.sled_queues.proofs.lists.any_full.Goals as goal
 
 pub returns-then-is_full : goal.returns-then-is_full

@@ -1,5 +1,5 @@
 use Rattle.std.proofs.Common.{arith}
-use Rattle.sled_queues.specs.Lists.{forgets}
+use Rattle.sled_queues.specs.theory.Lists.{forgets}
 use Rattle.sled_queues.proofs.Changing.{changes_more, changes_all}
 use Rattle.sled_queues.proofs.lists.cancel_all.Goals as goal
 

@@ -3,7 +3,7 @@ use Rattle.std.specs.Cmp.{nat_cmp_total}
 use Rattle.std.specs.List.Sorted.{IsStrictlySortedBy}
 use Rattle.std.specs.Ordering.{nat_cmp}
 use Rattle.std.proofs.lemmas.Map.Lookups.{btree_map_from_get, exact_unsigned}
-use Rattle.sled_queues.specs.Lists.{gains}
+use Rattle.sled_queues.specs.theory.Lists.{gains}
 use Rattle.sled_queues.proofs.Rising.{take_rises}
 use Rattle.sled_queues.proofs.Changing.{changes_more, changes_all, goes_back}
 use Rattle.sled_queues.proofs.lists.prepare_all.Goals as goal

@@ -1,7 +1,7 @@
 use Rattle.std.proofs.Common.{◌≡◌, ℕ, take}
 use Rattle.std.specs.Ordering.{nat_cmp}
 use Rattle.std.specs.BTreeMap.{get, keys}
-use Rattle.sled_queues.specs.Lists.{changed_in, gains}
+use Rattle.sled_queues.specs.theory.Lists.{changed_in, gains}
 use Rattle.sled_queues.proofs.lists.prepare_all.Given as goal
 
 abbrev pub invariant-loop-i : goal.invariant-loop-i

@@ -1,5 +1,5 @@
 use Rattle.std.proofs.Common.{arith, ◌∙◌}
-use Rattle.sled_queues.specs.Lists.{loses}
+use Rattle.sled_queues.specs.theory.Lists.{loses}
 use Rattle.sled_queues.proofs.Changing.{changes_more, changes_all}
 use Rattle.sled_queues.proofs.lists.take_back_all.Goals as goal
 

@@ -1,5 +1,5 @@
 use Rattle.std.proofs.Common.{subst}
-use Rattle.sled_tree.specs.Descent.{IsReplyAt}
+use Rattle.sled_tree.specs.theory.Descent.{IsReplyAt}
 use Rattle.sled_tree.proofs.Descending.{comes_to_act, comes_to_reply, comes_to_nothing}
 use Rattle.sled_tree.proofs.descent.at_leaf.Goals as goal
 

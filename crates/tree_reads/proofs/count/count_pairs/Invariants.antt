@@ -1,5 +1,5 @@
 use Rattle.sled_pages.specs.Store.{now}
-use Rattle.tree_reads.specs.Leaves.{Counts}
+use Rattle.tree_reads.specs.theory.Leaves.{Counts}
 use Rattle.tree_reads.proofs.count.count_pairs.Given as goal
 
 abbrev pub invariant-loop-count : goal.invariant-loop-count

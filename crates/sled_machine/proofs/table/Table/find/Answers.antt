@@ -1,6 +1,7 @@
 use Rattle.std.proofs.Common.{subst, ap, sym, ◌∙◌, arith}
 use Rattle.std.proofs.lemmas.Option.{slice_get_within}
-use Rattle.sled_machine.specs.Slots.{StandsAt, kept_at}
+use Rattle.sled_machine.specs.Slots.{kept_at}
+use Rattle.sled_machine.specs.theory.Slots.{StandsAt}
 use Rattle.sled_machine.proofs.Places.{at_index}
 use Rattle.sled_machine.proofs.Cells.{no_cell_missing, held_some, held_none}
 use Rattle.sled_machine.proofs.table.Table.find.Goals as goal

@@ -1,7 +1,7 @@
 use Rattle.std.proofs.Common.{◌∙◌, ap, inl, inr, rules, slice_set}
 use Rattle.std.specs.List.{filter}
 use Rattle.std.proofs.lemmas.Fn.{filter_same}
-use Rattle.sled_machine.specs.Table.{is_occupied}
+use Rattle.sled_machine.specs.theory.Table.{is_occupied}
 use Rattle.sled_machine.proofs.Places.{read_at}
 use Rattle.sled_machine.proofs.table.Table.remove.Goals as goal
 

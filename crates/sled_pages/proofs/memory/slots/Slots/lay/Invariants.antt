@@ -1,4 +1,4 @@
-use Rattle.sled_pages.specs.Held.{Holds}
+use Rattle.sled_pages.specs.theory.Held.{Holds}
 use Rattle.sled_pages.proofs.memory.slots.Slots.lay.Given as goal
 
 abbrev pub invariant-loop-pid : goal.invariant-loop-pid

@@ -17,10 +17,11 @@ use Rattle.sled_pages.specs.declared.page.Page.{Page}
 use Rattle.tree_laws.specs.Forest.{Tree, Forest, Place, place, head, WellFormed, IsSized, contents}
 use Rattle.tree_laws.specs.Contents.{trees_of}
 use Rattle.tree_laws.specs.Paths.{tree_pages, pages_below, IsClean}
-use Rattle.tree_laws.specs.Drops.{IsLeft}
-use Rattle.tree_laws.specs.Action.{put_node}
+use Rattle.tree_laws.specs.theory.Drops.{IsLeft}
+use Rattle.tree_laws.specs.theory.Action.{put_node}
 use Rattle.sled_pages.specs.declared.page.View.{View}
-use Rattle.tree_laws.specs.Snapshot.{Snapshot, HasForest, nodes_at, IsOrphan, KeepsNodes, Guarantee, GrowsByReceiving, IsReadAs, StoodInChain, IsActing}
+use Rattle.tree_laws.specs.Snapshot.{Snapshot, HasForest, nodes_at, IsOrphan, IsReadAs, StoodInChain, IsActing}
+use Rattle.tree_laws.specs.theory.Snapshot.{KeepsNodes, Guarantee, GrowsByReceiving}
 
 -- a page of the chain at x that is not merging
 pub record IsAt (nodes : Nodes) (w : Forest) (x : Place) (p : ℕ) (n : Node) : Type 0 where

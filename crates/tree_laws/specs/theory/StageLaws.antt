@@ -14,11 +14,14 @@ use Rattle.sled_pages.specs.declared.node.Node.{Node}
 use Rattle.sled_pages.specs.declared.node.Data.TheVariants.{Leaf, Index}
 use Rattle.sled_pages.specs.declared.link.Link.TheVariants.{ParentMergeIntention, ParentMergeConfirm, ChildMergeCap}
 use Rattle.tree_laws.specs.Forest.{Tree, Forest, Place, place, IsNodeAt, WellFormed, contents, later}
-use Rattle.tree_laws.specs.Action.{IsSplit, IsReceived}
+use Rattle.tree_laws.specs.Action.{IsSplit}
+use Rattle.tree_laws.specs.theory.Action.{IsReceived}
 use Rattle.sled_pages.specs.declared.page.View.{View}
-use Rattle.tree_laws.specs.Snapshot.{Snapshot, HasForest, nodes_at, StoodInChain, Guarantee, GrowsByReceiving, KeepsForest, IsOpen, HasRoomForOne, LiesUnder, IsActing}
-use Rattle.tree_laws.specs.Laws.{IsNodeNow, after_replacement, after_allocation, after_free, after_hoist}
-use Rattle.tree_laws.specs.Stages.{parent_of, by_pointer, IsWalking, IsHere, IsSplitting, IsPosting, IsHoisting, IsOver, IsIntending, IsReadingChild, IsStage, owned}
+use Rattle.tree_laws.specs.Snapshot.{Snapshot, HasForest, nodes_at, StoodInChain, IsOpen, HasRoomForOne, LiesUnder, IsActing}
+use Rattle.tree_laws.specs.theory.Snapshot.{Guarantee, GrowsByReceiving, KeepsForest}
+use Rattle.tree_laws.specs.theory.Laws.{IsNodeNow, after_replacement, after_allocation, after_free, after_hoist}
+use Rattle.tree_laws.specs.Stages.{parent_of, by_pointer, IsWalking, IsSplitting, IsPosting, IsHoisting, IsOver, IsIntending, IsReadingChild, IsStage, owned}
+use Rattle.tree_laws.specs.theory.Stages.{IsHere}
 use Rattle.tree_laws.specs.declared.flight.Reached.{Reached}
 use Rattle.tree_laws.specs.declared.flight.Reached.TheVariants as reached
 use Rattle.tree_laws.specs.declared.flight.Posting.{Posting}

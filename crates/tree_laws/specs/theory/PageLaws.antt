@@ -9,8 +9,10 @@ use Rattle.sled_pages.specs.declared.node.Node.{Node}
 use Rattle.sled_pages.specs.declared.node.Data.TheVariants.{Index}
 use Rattle.sled_pages.specs.declared.link.Link.TheVariants.{ParentMergeIntention, ParentMergeConfirm, ChildMergeCap}
 use Rattle.tree_laws.specs.Forest.{Tree, Forest, Place, place, WellFormed, IsSized, contents, later}
-use Rattle.tree_laws.specs.Action.{put_node, IsSplit, IsReceived}
-use Rattle.tree_laws.specs.Snapshot.{IsOpen, IsOrphan, KeepsNodes, GrowsByReceiving}
+use Rattle.tree_laws.specs.Action.{IsSplit}
+use Rattle.tree_laws.specs.theory.Action.{put_node, IsReceived}
+use Rattle.tree_laws.specs.Snapshot.{IsOpen, IsOrphan}
+use Rattle.tree_laws.specs.theory.Snapshot.{KeepsNodes, GrowsByReceiving}
 
 -- an open page of the chain at x
 pub record IsOpenAt (nodes : Nodes) (w : Forest) (x : Place) (p : ℕ) (n : Node) : Type 0 where

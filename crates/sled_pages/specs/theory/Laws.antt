@@ -4,7 +4,7 @@ use mathlib.Core.List.{reverse}
 use Rattle.sled_pages.specs.declared.memory.MemPages.{MemPages}
 use Rattle.sled_pages.specs.Store.{AreGiven}
 use Rattle.sled_pages.specs.Memory.{table_of, store_of}
-use Rattle.sled_pages.specs.Replay.{page_placed, placed_given, version_below, place_fits}
+use Rattle.sled_pages.specs.theory.Replay.{page_placed, placed_given, version_below, place_fits}
 
 -- each page has a number and a version that were given
 pub law_given : (m : MemPages) → AreGiven (store_of m)

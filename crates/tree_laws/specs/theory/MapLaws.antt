@@ -8,10 +8,11 @@ use Rattle.sled_pages.specs.declared.node.Data.TheVariants.{Leaf}
 use Rattle.tree_laws.specs.Forest.{Tree, Forest, place, head, IsSized, contents}
 use Rattle.tree_laws.specs.Contents.{trees_of}
 use Rattle.tree_laws.specs.Snapshot.{Snapshot, snapshot_of, nodes_at, HasForest}
-use Rattle.tree_laws.specs.Crashes.{IsValid, AddsCrashStates, AddsAction}
+use Rattle.tree_laws.specs.Crashes.{IsValid, AddsCrashStates}
+use Rattle.tree_laws.specs.theory.Crashes.{AddsAction}
 use Rattle.tree_laws.specs.Stages.{IsOwn}
-use Rattle.tree_laws.specs.Drops.{IsLeft}
-use Rattle.tree_laws.specs.Laws.{StepsForest, no_forest, after_creation, after_drop}
+use Rattle.tree_laws.specs.theory.Drops.{IsLeft}
+use Rattle.tree_laws.specs.theory.Laws.{StepsForest, no_forest, after_creation, after_drop}
 
 -- the map of a tree is its contents, where the name has a root
 abbrev pub MapLaw : Type 0

@@ -8,11 +8,13 @@ use Rattle.sled_pages.specs.declared.page.View.{View}
 use Rattle.sled_model.specs.declared.call.Call.{Call}
 use Rattle.sled_model.specs.declared.decision.Effect.TheVariants.{Nothing}
 use Rattle.sled_model.specs.declared.reply.Reply.{Reply}
-use Rattle.sled_tree.specs.Change.{IsLeaf, decision_at}
+use Rattle.sled_tree.specs.Change.{decision_at}
+use Rattle.sled_tree.specs.theory.Change.{IsLeaf}
 use Rattle.sled_tree.specs.Course.{Course}
 use Rattle.sled_tree.specs.Follows.{Follows, FollowsOn, follows_read}
-use Rattle.sled_tree.specs.StageAction.{StageAction, AfterPage, FlightStep}
-use Rattle.sled_tree.specs.Passing.{AdvancesOnPath, AdvancesFromPage, StepsOnPath}
+use Rattle.sled_tree.specs.theory.StageAction.{StageAction, AfterPage, FlightStep}
+use Rattle.sled_tree.specs.Passing.{StepsOnPath}
+use Rattle.sled_tree.specs.theory.Passing.{AdvancesOnPath, AdvancesFromPage}
 use Rattle.sled_tree.specs.declared.descent.Descent.{Descent}
 use Rattle.sled_tree.specs.declared.descent.Descent.TheVariants as descent
 use Rattle.sled_tree.specs.declared.flight.InFlight.{InFlight}

@@ -3,7 +3,8 @@ use Rattle.std.specs.Prelude.{◌≡◌, ℕ, nat_eq, true, false, List, [], ◌
 use Rattle.sled_pages.specs.State.{Action}
 use Rattle.sled_pages.specs.Store.{Store, now}
 use Rattle.tree_laws.specs.Contents.{trees_of}
-use Rattle.tree_laws.specs.Crashes.{IsValid, IsCrashConsistent, Trees, StutterEquivalent, AddsCrashStates, Flushes, AddsAction}
+use Rattle.tree_laws.specs.Crashes.{IsValid, IsCrashConsistent, Trees, StutterEquivalent, AddsCrashStates, Flushes}
+use Rattle.tree_laws.specs.theory.Crashes.{AddsAction}
 
 -- growths follow one another, and their trees stand one behind the other
 abbrev pub ExtendsLaw : Type 0

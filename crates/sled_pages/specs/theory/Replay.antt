@@ -18,10 +18,10 @@ use Rattle.sled_pages.specs.declared.memory.undo.Undo.TheVariants.{UndoSlot, Und
 use Rattle.sled_pages.specs.State.{GroupBegins, GroupEnds, after, after_all}
 use Rattle.sled_pages.specs.Joined.{joined}
 use Rattle.sled_pages.specs.Slots.{slot_in, place_in, given_in}
-use Rattle.sled_pages.specs.Known.{IsKnown}
+use Rattle.sled_pages.specs.theory.Known.{IsKnown}
 use Rattle.sled_pages.specs.Table.{Table, page_of, pages_of, state_of, undone, undoes, base_of, recent_of, slot_given}
 use Rattle.sled_pages.specs.Returning.{slot_back}
-use Rattle.sled_pages.specs.Facts.{after_last, same_name}
+use Rattle.sled_pages.specs.theory.Facts.{after_last, same_name}
 
 -- a value put over, and then the old one put back
 back_page : (pid : ℕ) (slot : Option Slot) (slots : ℕ → Option Slot) → put_at (pages_of (put_at slots pid slot)) pid (pages_of slots pid) ≡ pages_of slots

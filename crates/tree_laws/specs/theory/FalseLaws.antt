@@ -9,10 +9,12 @@ use Rattle.sled_pages.specs.declared.node.Node.{Node}
 use Rattle.sled_pages.specs.declared.link.Link.TheVariants.{Set}
 use Rattle.sled_pages.specs.declared.page.Page.{Page}
 use Rattle.tree_laws.specs.Forest.{Tree, Forest, Place, place, WellFormed}
-use Rattle.tree_laws.specs.Action.{put_node, IsSplit, IsReceived}
-use Rattle.tree_laws.specs.Snapshot.{Snapshot, HasForest, nodes_at, IsOrphan, KeepsNodes}
-use Rattle.tree_laws.specs.Laws.{IsAt, Changed, StepsForest, after_replacement}
-use Rattle.tree_laws.specs.PageLaws.{IsOpenAt, Unseen}
+use Rattle.tree_laws.specs.Action.{IsSplit}
+use Rattle.tree_laws.specs.theory.Action.{put_node, IsReceived}
+use Rattle.tree_laws.specs.Snapshot.{Snapshot, HasForest, nodes_at, IsOrphan}
+use Rattle.tree_laws.specs.theory.Snapshot.{KeepsNodes}
+use Rattle.tree_laws.specs.theory.Laws.{IsAt, Changed, StepsForest, after_replacement}
+use Rattle.tree_laws.specs.theory.PageLaws.{IsOpenAt, Unseen}
 
 -- a `Set` that may make any page hold 33 entries, a merging child too
 abbrev pub SetOfMany : Type 0

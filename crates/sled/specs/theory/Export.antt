@@ -1,0 +1,8 @@
+-- Of Export, for proofs. What an export gives.
+use Rattle.sled_pages.specs.Store.{Store}
+use Rattle.sled_pages.specs.declared.error.Error.{Error}
+use Rattle.sled.specs.Export.{refuses_read_as}
+
+-- a read is refused for want of memory, or for a fault where some page is not readable
+pub record RefusesRead (s : Store) (e : Error) : Type 0 where
+  pub is : refuses_read_as s e

@@ -1,0 +1,3 @@
+pub mod Slots
+pub mod Table
+pub mod StepsInSlot

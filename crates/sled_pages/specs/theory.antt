@@ -1,0 +1,14 @@
+pub mod Pairs
+pub mod Facts
+pub mod Slots
+pub mod Returning
+pub mod Table
+pub mod Replay
+pub mod Memory
+pub mod Faults
+pub mod Laws
+pub mod Places
+pub mod Laid
+pub mod Known
+pub mod Held
+pub mod Rising

@@ -1,0 +1,42 @@
+-- Of Lists, for proofs. The subscribers of each tree, in lists, and what becomes of the queues of a list.
+use Rattle.std.specs.Prelude.{ℕ, ◌-◌, nat_eq, nat_le, ◌&&◌, not, Bool, false, List, [], ◌∷◌, ◌++◌, take, length, Option, Some, None, option_map, if◌then◌else◌}
+use Rattle.std.specs.List.{starts_with, filter}
+use Rattle.sled_model.specs.Event.{key_of_event}
+use Rattle.sled_model.specs.Refusal.{queue_limit}
+use Rattle.sled_model.specs.declared.event.Event.{Event}
+use Rattle.sled_queues.specs.Values.{WaitingValue, Waitings}
+use Rattle.sled_queues.specs.Queues.{held}
+use Rattle.sled_queues.specs.Lists.{is_in}
+
+-- the list without the number
+abbrev pub without : ℕ → List ℕ → List ℕ
+without n ns = filter (λ m. not (nat_eq m n)) ns
+
+-- the queue of a number is changed, if there is one; and those of all numbers in a list
+abbrev pub changed_at : (WaitingValue → WaitingValue) → ℕ → Waitings → Waitings
+changed_at f k queues n = if nat_eq n k then option_map f (queues n) else queues n
+
+abbrev pub changed_in : (WaitingValue → WaitingValue) → List ℕ → Waitings → Waitings
+changed_in f ns queues n = if is_in n ns then option_map f (queues n) else queues n
+
+-- the event has the prefix that the queue's subscriber watches
+abbrev pub has_prefix : Event → WaitingValue → Bool
+has_prefix e w = starts_with nat_eq (key_of_event e) w.prefix
+
+-- the event is prepared where it has the prefix, or the last one that was prepared goes again
+abbrev pub gains : Event → WaitingValue → WaitingValue
+gains e w = if has_prefix e w then (record w { coming = w.coming ++ e ∷ [] }) else w
+
+abbrev pub loses : Event → WaitingValue → WaitingValue
+loses e w = if has_prefix e w then (record w { coming = take (length w.coming - 1) w.coming }) else w
+
+abbrev pub tells : WaitingValue → WaitingValue
+tells w = record w { events = w.events ++ w.coming; coming = [] }
+
+abbrev pub forgets : WaitingValue → WaitingValue
+forgets w = record w { coming = [] }
+
+-- the queue is full, and the event has its prefix
+abbrev pub is_full_for : Event → Option WaitingValue → Bool
+is_full_for e None = false
+is_full_for e (Some w) = has_prefix e w && nat_le queue_limit (held w)

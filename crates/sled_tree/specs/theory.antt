@@ -1,0 +1,5 @@
+pub mod Change
+pub mod Stages
+pub mod StageAction
+pub mod Passing
+pub mod Descent

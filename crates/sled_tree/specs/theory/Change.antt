@@ -1,0 +1,23 @@
+-- Of Change, for proofs. The change that a call makes of its leaf.
+use Rattle.std.specs.Prelude.{◌≡◌, Option, Some, None}
+use Rattle.sled_pages.specs.declared.node.Data.{Data}
+use Rattle.sled_pages.specs.declared.node.Data.TheVariants.{Leaf, Index}
+use Rattle.sled_model.specs.declared.call.Call.{Call}
+use Rattle.sled_model.specs.declared.decision.Effect.TheVariants as effect
+use Rattle.sled_model.specs.Answer.{key_of}
+use Rattle.sled_tree.specs.declared.act.Change.{Change}
+use Rattle.sled_tree.specs.Change.{link_of, decision_at}
+
+-- what is held is a leaf, or an index
+abbrev pub IsLeaf : Data → Type 0
+IsLeaf (Leaf es) = Unit {0}
+IsLeaf (Index es) = ⊥
+
+abbrev pub IsIndex : Data → Type 0
+IsIndex (Leaf es) = ⊥
+IsIndex (Index es) = Unit {0}
+
+-- the change that the call makes of what a leaf holds: the link of its effect, and its reply. Without an effect there is none
+abbrev pub IsChangeOf : Call → Data → Option Change → Type 0
+IsChangeOf call content None = (decision_at call content).effect ≡ effect.Nothing
+IsChangeOf call content (Some change) = (link_of (decision_at call content).effect (key_of call) ≡ Some change.link) × (change.reply ≡ (decision_at call content).reply)

@@ -1,0 +1,13 @@
+-- Of Stages, for proofs. What a call in flight knows of the pages, by its stage.
+use Rattle.tree_laws.specs.declared.flight.Stage.{Stage}
+use Rattle.tree_laws.specs.declared.flight.Stage.TheVariants as stage
+
+-- the stage is one of a merge
+abbrev pub IsOfMerge : Stage → Type 0
+IsOfMerge (stage.Intend a) = Unit {0}
+IsOfMerge (stage.Child a) = Unit {0}
+IsOfMerge (stage.Cap a) = Unit {0}
+IsOfMerge (stage.Seek a) = Unit {0}
+IsOfMerge (stage.Receive a) = Unit {0}
+IsOfMerge (stage.Confirm a) = Unit {0}
+IsOfMerge other = ⊥

@@ -1,0 +1,13 @@
+pub mod Action
+pub mod Snapshot
+pub mod Crashes
+pub mod Laws
+pub mod CrashLaws
+pub mod PageLaws
+pub mod Stages
+pub mod Drops
+pub mod StageLaws
+pub mod MapLaws
+pub mod PathLaws
+pub mod Images
+pub mod FalseLaws
