@@ -1,4 +1,4 @@
--- Steps of the call in a cell of the table.
+-- What a slot keeps after a step of its call.
 use Rattle.std.specs.Prelude.{Option, Some, None}
 use Rattle.sled_tree.specs.declared.flight.InFlight.{InFlight}
 use Rattle.sled_tree.specs.declared.flight.Went.{Went}

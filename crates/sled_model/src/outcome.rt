@@ -30,7 +30,7 @@ pub enum Step {
     Whole(Whole),
 }
 
-/// How a step came out. `Decided`, `IsRefused` and `Abandoned` end the slot.
+/// How a step came out. `Decided`, `Refused` and `Abandoned` end the slot.
 #[derive(Drop)]
 pub enum Outcome {
     /// The call took this slot.

@@ -1,6 +1,6 @@
 //! The theory of the tree: what is well formed, what a tree's contents are, and what page actions keep of both.
 //!
-//! Nothing is done here. A law is a type in `specs/` that speaks of the definitions there, and a lemma of `proofs/` of that type
+//! Nothing is done here. A law is a type in `specs/theory/` that speaks of definitions, and a lemma of `proofs/` of that type
 //! proves it; a crate above cites the lemma. The stages of a call in flight are values (`flight`), so that what a call knows at
 //! a stage can be said of the stage itself.
 //!
@@ -38,7 +38,7 @@
 //! - *All pages of a level are leaves or all are indexes, and those of the last level leaves*: the height of a place fixes the
 //!   kind (`Holds`).
 //! - *Entries ascend within the bounds; an index has a pointer, and its first key is its `lo`*: `Holds`. *At most 33 entries*:
-//!   `IsSized.few`.
+//!   `IsSized.fits`.
 //! - *A merging page is the merging child of whoever points to it*: `IsPointer.merged`. *It has such a parent in the chain above*:
 //!   `IsHomed.parent`. So no root is merging, and no page beside a root.
 //! - *No page both is merging and has a merging child*: `IsHomed.calm`.
@@ -73,7 +73,7 @@
 //! - *It begins at the root*: `is_root`. *It goes down by the last pointer within the aim, to a leaf*: `CleanFrom`. So it has
 //!   a page of each level (`CleanLaw`), and a walk goes one down the list with each step (`CleanStepLaw`).
 //! - *Each page lies under the aim: where it is a key, the page covers it*: `NeedsNoRepair.under`. *None is merging or has a merging child*: `is_open`. *None should split*: an open
-//!   page should where it has more than 16 entries (`few`). *One that should merge is the root or was reached by a first
+//!   page should where it has more than 16 entries (`fits`). *One that should merge is the root or was reached by a first
 //!   pointer*: an open page should where it has 3 or fewer (`many`).
 //!
 //! `CleanPaths` has a path for each of these lines that breaks it. A reading walk looks at each page of a tree at most once
@@ -93,7 +93,7 @@
 //!
 //! # Calls in flight
 //!
-//! A moment is a store now, with each tree's number. Whatever an action does, `Guarantee` is what it gives to every other call:
+//! A `Snapshot` is a store now, with each tree's number. Whatever an action does, `Guarantee` is what it gives to every other call:
 //! numbers and versions never come again, a page of a chain stands there or is merging, a merging page and another call's own
 //! page stay as they are, and a page that left its chain never comes back. What a call knows at a stage (`IsStage`) survives that
 //! (`StageStays`), whether or not its view is stale. What a walk aims at is a bound: of a call at a key the key itself. A tree that was dropped takes its number with it, and of a call whose

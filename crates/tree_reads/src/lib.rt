@@ -1,7 +1,7 @@
 //! Reads of a tree that repair nothing, by the number of its root, over any store of pages.
 //!
 //! A walk goes from the root to the leaf under its target: right along `next`, and down by pointers, but never by that to a
-//! merging child, whose pairs the page before it leads to (`specs/Walk`). Searches go on from leaf to leaf (`specs/AreCrashMaps`).
+//! merging child, whose pairs the page before it leads to (`specs/Walk`). Searches go on from leaf to leaf (`specs/Leaves`).
 //! What is found is told of the contents at every forest that shows the pages well formed. An iterator is its two bounds: the
 //! pairs still to come are a function of the pages and the bounds (`specs/Ranges`), and no list is kept. The keys that begin with a
 //! prefix are a range too (`specs/Prefixes`).
