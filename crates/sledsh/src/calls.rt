@@ -245,7 +245,7 @@ fn perform(session: &mut Session<Counting<'_>>, steps: &[Step], out: &mut Vec<u8
     let outcomes = answered(session.perform(steps))?;
     let mut told = Ok(());
     for outcome in outcomes.as_slice() {
-        is = told.and(tell_outcome(out, outcome));
+        told = told.and(tell_outcome(out, outcome));
     }
     drop(outcomes);
     told

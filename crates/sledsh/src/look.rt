@@ -173,7 +173,7 @@ fn tell_pairs(out: &mut Vec<u8>, mut pairs: Iter<'_, Counting<'_>>, from: Side) 
         };
         match item {
             Some(Ok(pair)) => {
-                is = told
+                told = told
                     .and(tell(out, &[Text(b"at ")]))
                     .and(tell_pair(out, pair));
             },
