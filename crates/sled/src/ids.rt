@@ -45,7 +45,7 @@ impl<P: Pages, M: MergeOperator> Db<P, M> {
     ghost use Rattle.sled.specs.Ids.{GivesId, RefusesId};
 
     /// The next id: one above the greatest that was given, from 1 on, and above all that were given before a crash. While ids
-    /// are set aside it asks for no memory and nothing of the store but whether it is open. Else 4096 are set aside first, or
+    /// are set aside it asks for no memory, and of the store for its mark and whether it is open. Else 4096 are set aside first, or
     /// as many as are left. Refused with `Closed`; and where none is set aside with `Unsupported` after the greatest `u64`,
     /// and as the store refuses.
     pub fn generate_id(&mut self) -> Result<u64>
