@@ -34,7 +34,7 @@ module _ (old new : Store) (e : Error) (has : HasDefault old) (r : RefusesOpen o
   none_planted = cond-true _ _ _ (is_some_map _ ((now old).roots default_name) (subst (λ k. is_some ((now old).roots k) ≡ true) default_is has))
 
   few : new.actions ≤ old.actions
-  few = omega (arith, r.again.few, ap length none_planted)
+  few = omega (arith, r.again.fits, ap length none_planted)
 
   by_growth : GrowsAtMost default_name old new → IsCrashConsistent new
   by_growth (inl x) = idle_safe _ old new x.0 few safe
