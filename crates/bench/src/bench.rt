@@ -4,7 +4,7 @@ use sled::{Db, Iter};
 use sled_lines::input::Stopped;
 use sled_machine::Machine;
 use sled_model::{Call, MergeOperator, Outcome, Reply, Slot, Tree, Whole};
-use sled_pages::MemPages;
+use sled_pages::{IVec, MemPages};
 use std::ops::Bound;
 
 type Result<T> = std::result::Result<T, Stopped>;
@@ -330,16 +330,40 @@ fn made<M: MergeOperator>(db: &mut Db<MemPages, M>, tree: &Tree, call: &Call) ->
     }
 }
 
-// Takes so many pairs at most: how many there were, and a checksum of them.
-fn taken(pairs: Iter<'_, MemPages>, most: usize) -> Result<(u64, u64)> {
+// What stands for a pair in a checksum.
+fn digest_of_pair(pair: (IVec, IVec)) -> u64 {
+    let (key, value) = pair;
+    let key = Some(key);
+    let value = Some(value);
+    let sum = digest(&key).wrapping_add(digest(&value));
+    drop(key);
+    drop(value);
+    sum
+}
+
+// Takes so many pairs at most from the front: how many there were, and a checksum of them.
+fn take_from(pairs: &mut Iter<'_, MemPages>, most: usize) -> Result<(u64, u64)> {
     let mut count = 0u64;
     let mut sum = 0u64;
-    for pair in pairs.take(most) {
-        let (key, value) = pair?;
+    for _ in 0..most {
+        let Some(pair) = pairs.next() else {
+            break;
+        };
+        match pair {
+            Ok(pair) => sum = sum.rotate_left(1) ^ digest_of_pair(pair),
+            Err(e) => return Err(Stopped::from(e)),
+        }
         count = count.wrapping_add(1);
-        sum = sum.rotate_left(1) ^ digest(&Some(key)).wrapping_add(digest(&Some(value)));
     }
     Ok((count, sum))
+}
+
+// The same, and lets the iterator go.
+fn taken(pairs: Iter<'_, MemPages>, most: usize) -> Result<(u64, u64)> {
+    let mut pairs = pairs;
+    let told = take_from(&mut pairs, most);
+    drop(pairs);
+    told
 }
 
 // What stands for an answer in a checksum.
