@@ -10,8 +10,9 @@ def numbered(number):
 
 
 def short(number):
-    """A key of two letters, which stands where the number stands; shorter in a file than the two bytes of the number."""
-    return chr(48 + number // 64) + chr(48 + number % 64)
+    """A key of two plain bytes, which stands where the number stands; the second is no digit. It is shorter in a file than the two
+    bytes of the number."""
+    return chr(48 + number // 64) + chr(58 + number % 64)
 
 
 def dumps(s, keys, end):
