@@ -2,7 +2,7 @@
 use crate::line::{Line, Word, named};
 use crate::text::Text;
 use sled_model::{Call, CompareAndSwapError, Event, Tree, Whole};
-use sled_pages::{Error, Fault, IVec, Result};
+use sled_pages::{Error, Fault, IVec, Result, texts};
 
 /// What the values of a line are.
 #[derive(Clone, Copy)]
@@ -110,6 +110,30 @@ impl Sample for CompareAndSwapError {
     }
 }
 
+// The texts that refusals tell, which are numbered from here on.
+const FIRST_TEXT: u64 = 10;
+
+const TEXTS: [&str; 12] = [
+    texts::HANDLE_OF_ANOTHER_DATABASE,
+    texts::TREES_OF_SEVERAL_DATABASES,
+    texts::NO_MERGE_OPERATOR,
+    texts::CORE_STRUCTURES,
+    texts::OVERWRITES_DATA,
+    texts::UNKNOWN_COLLECTION_TYPE,
+    texts::IDS_USED_UP,
+    texts::NO_ID_SET_ASIDE,
+    texts::NO_TREE_AT_THIS_POSITION,
+    texts::NUMBERS_USED_UP,
+    texts::WALK_PASSED_TURNS,
+    texts::TRANSACTION_PASSED_ATTEMPTS,
+];
+
+// The text of a number.
+fn text_of(number: u64) -> Option<&'static str> {
+    let place = usize::try_from(number.checked_sub(FIRST_TEXT)?).ok()?;
+    TEXTS.get(place).copied()
+}
+
 // The error of a number. The first one has a name.
 fn error_of(number: u64) -> Option<Error> {
     match number {
@@ -120,7 +144,7 @@ fn error_of(number: u64) -> Option<Error> {
         6 => Some(Error::NoMemory),
         7 => Some(Error::FullQueue),
         8 => Some(Error::Closed),
-        _ => None,
+        _ => text_of(number).map(Error::Unsupported),
     }
 }
 
