@@ -8,7 +8,7 @@ use Rattle.std.proofs.lemmas.Cmp.{tied_itself}
 use Rattle.sled_pages.specs.Order.{Key, key_cmp, Below}
 use Rattle.sled_pages.specs.Node.{without}
 use Rattle.sled_pages.specs.theory.Facts.{put_name_here}
-use Rattle.sled_pages.specs.Store.{Store, now}
+use Rattle.sled_pages.specs.Store.{Store}
 use Rattle.sled_pages.specs.declared.error.Error.{Error}
 use Rattle.sled_model.specs.Maps.{Map, Merge, IsLeast}
 use Rattle.sled_model.specs.Answer.{answer_of, decision_of, map_after}
@@ -21,16 +21,11 @@ use Rattle.sled_model.specs.declared.decision.Effect.TheVariants as effect
 use Rattle.sled_model.specs.declared.reply.Reply.{Reply}
 use Rattle.sled_model.specs.declared.reply.Reply.TheVariants.{Pair}
 use Rattle.sled_model.specs.declared.tree.Tree.{Tree}
-use Rattle.tree_laws.specs.Forest.{contents}
-use Rattle.tree_laws.specs.Contents.{trees_of}
-use Rattle.tree_laws.specs.Snapshot.{nodes_at}
 use Rattle.tree_laws.proofs.Order.{key_total}
 use Rattle.tree_laws.proofs.Pairs.{above, without_above}
-use Rattle.tree_laws.proofs.Reading.{sorted_law}
-use Rattle.sled.specs.Values.{DbValue, db_state, numbers_of, given_to, snapshot_of_db}
-use Rattle.sled.specs.Sound.{IsDb}
+use Rattle.sled.specs.Values.{DbValue, db_state}
+use Rattle.sled.specs.Sound.{MapsAscend}
 use Rattle.sled.specs.Direct.{PointDecided, PointRefused, WholeDecided, WholeRefused}
-use Rattle.sled.proofs.Trees.{trees_at, maps_are}
 use Rattle.examples.specs.Queue.{jobs_of, waiting, Adds, Takes, takes_as}
 
 none_some : {P X : Type 0} {x : X} → None ≡ Some x → P
@@ -86,14 +81,6 @@ module _ {P M : Type 0} (store : P → Store) (meant : M → Merge) (old : DbVal
   decided_waits : (s : State) (named : NamedTree) (call : Call) → jobs_of (maps_of (after_decision_on s queue.name named (answer_of call named.map)) queue.name) ≡ (answer_of call named.map).map
   decided_waits s named call = ap (λ o. jobs_of (option_map (λ (t : NamedTree). t.map) o)) (put_name_here s.trees queue.name (Some (record named { map = (answer_of call named.map).map })))
 
-  -- a map's keys rise
-  rises : IsDb store old → (named : NamedTree) → (db_state store meant old).trees queue.name ≡ Some named → T (is_sorted key_cmp named.map)
-  rises db named there = go (numbers_of old.trees queue.name) (sym (ap (option_map (λ (t : NamedTree). t.map)) there) ∙ ap (λ m. m queue.name) (maps_are store meant old db.forest db.is) ∙ trees_at (store old.pages) (numbers_of old.trees) (given_to old.trees_given) db.forest db.is queue.name)
-    where
-      go : (n : Option ℕ) → Some named.map ≡ option_map (λ _. contents (nodes_at (snapshot_of_db store old)) db.forest queue.name) n → T (is_sorted key_cmp named.map)
-      go None e = none_some (sym e)
-      go (Some n) e = subst (λ m. T (is_sorted key_cmp m)) (sym (some_is e)) (sorted_law (nodes_at (snapshot_of_db store old)) (now (store old.pages)).roots db.forest db.is.formed queue.name)
-
   pub added : (new : DbValue P M) (ticket job : Key) (reply : Reply) → PointDecided store meant old queue (Insert ticket job) reply new → Adds (waiting store meant old queue) ticket job (waiting store meant new queue)
   added new ticket job reply p =
       let d = p.decides in
@@ -125,10 +112,10 @@ module _ {P M : Type 0} (store : P → Store) (meant : M → Merge) (old : DbVal
   pair_is : {a b : Option (Key × Key)} → Pair a ≡ Pair b → a ≡ b
   pair_is e = cc
 
-  pub taken : (new : DbValue P M) (found : Option (Key × Key)) → IsDb store old → WholeDecided store meant old (PopMin queue) (Pair found) new → Takes (waiting store meant old queue) found (waiting store meant new queue)
-  taken new found db w =
+  pub taken : (new : DbValue P M) (found : Option (Key × Key)) → MapsAscend (maps_of (db_state store meant old)) → WholeDecided store meant old (PopMin queue) (Pair found) new → Takes (waiting store meant old queue) found (waiting store meant new queue)
+  taken new found ascend w =
       let p = w.decides (λ n. None) 0 0 in record {
-        is = subst (λ z. takes_as (waiting store meant old queue) z (waiting store meant new queue)) (sym (pair_is p.replies)) (taken_as (db_state store meant new) p.named p.found p.there p.ends (rises db p.named p.there) p.is);
+        is = subst (λ z. takes_as (waiting store meant old queue) z (waiting store meant new queue)) (sym (pair_is p.replies)) (taken_as (db_state store meant new) p.named p.found p.there p.ends (subst T (sym (ascend.is queue.name p.named.map (ap (option_map (λ (t : NamedTree). t.map)) p.there))) tt) p.is);
       }
 
   pub not_taken : (new : DbValue P M) (e : Error) → WholeRefused store meant old (PopMin queue) e new → waiting store meant new queue ≡ waiting store meant old queue

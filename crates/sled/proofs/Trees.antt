@@ -1,9 +1,10 @@
 -- The trees of a database's state are the contents of its pages.
-use Rattle.std.proofs.Common.{◌≡◌, ◌≢◌, ℕ, Bool, true, false, cond, [], ◌∷◌, Option, Some, None, option_map, sym, refl, ap, ◌∙◌}
+use Rattle.std.proofs.Common.{◌≡◌, ◌≢◌, ℕ, Bool, true, false, cond, T, [], ◌∷◌, Option, Some, None, option_map, sym, refl, ap, ◌∙◌}
 use Rattle.std.proofs.Math.Path.{fun_ext}
 use Rattle.std.proofs.lemmas.Bool.{eqb-true}
+use Rattle.std.specs.FinMap.Entries.{is_sorted}
 use Rattle.std.specs.Str.{bytes_eq}
-use Rattle.sled_pages.specs.Order.{Key}
+use Rattle.sled_pages.specs.Order.{Key, key_cmp}
 use Rattle.sled_pages.specs.Update.{put_name}
 use Rattle.sled_pages.specs.theory.Facts.{same_name, put_name_here, put_name_elsewhere}
 use Rattle.sled_pages.specs.State.{nodes_of}
@@ -16,7 +17,9 @@ use Rattle.tree_laws.specs.Forest.{Forest, contents}
 use Rattle.tree_laws.specs.Contents.{trees_of}
 use Rattle.tree_laws.specs.Snapshot.{snapshot_of, HasForest}
 use Rattle.tree_laws.proofs.Fuel.{contents_law}
+use Rattle.tree_laws.proofs.Reading.{sorted_law}
 use Rattle.sled.specs.Values.{DbValue, numbers_of, given_to, named, db_state, snapshot_of_db}
+use Rattle.sled.specs.Sound.{IsDb, MapsAscend}
 
 none_some : {P X : Type 0} {x : X} → None ≡ Some x → P
 none_some e = cc
@@ -69,6 +72,19 @@ module _ {P M : Type 0} (store : P → Store) (meant : M → Merge) where
       go merge c None m e = sym e
       go merge c (Some n) None e = none_some e
       go merge c (Some n) (Some m) e = refl
+
+-- the maps rise by key
+module _ {P M : Type 0} (store : P → Store) (meant : M → Merge) where
+  pub maps_ascend : (d : DbValue P M) → IsDb store d → MapsAscend (maps_of (db_state store meant d))
+  maps_ascend d db = record { is = λ t map e. go t map (numbers_of d.trees t) (sym (trees_at (store d.pages) (numbers_of d.trees) (given_to d.trees_given) db.forest db.is t) ∙ sym (ap (λ maps. maps t) (maps_are store meant d db.forest db.is)) ∙ e) }
+    where
+      holds : (b : Bool) → T b → b ≡ true
+      holds true t = refl
+      holds false t = absurd t
+
+      go : (t : Key) (map : Map) (n : Option ℕ) → option_map (λ _. contents (nodes_of (now (store d.pages))) db.forest t) n ≡ Some map → is_sorted key_cmp map ≡ true
+      go t map None e = none_some e
+      go t map (Some n) e = ap (is_sorted key_cmp) (sym (some_is e)) ∙ holds (is_sorted key_cmp (contents (nodes_of (now (store d.pages))) db.forest t)) (sorted_law (nodes_of (now (store d.pages))) (now (store d.pages)).roots db.forest db.is.formed t)
 
 -- a tree that passes the tests is current
 first_none : {a b : Option MustRefuse} → first_of a b ≡ None → (a ≡ None) × (b ≡ None)

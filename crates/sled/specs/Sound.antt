@@ -1,8 +1,9 @@
 -- What holds of a database between two calls.
 use Rattle.std.specs.Prelude.{◌≡◌, ◌≤◌, ℕ, true, [], Some}
 use Rattle.std.specs.FinMap.Entries.{is_sorted}
-use Rattle.sled_pages.specs.Order.{key_cmp}
+use Rattle.sled_pages.specs.Order.{Key, key_cmp}
 use Rattle.sled_pages.specs.Store.{Store}
+use Rattle.sled_model.specs.Maps.{Map, Maps}
 use Rattle.tree_laws.specs.Forest.{Forest, IsSized}
 use Rattle.tree_laws.specs.Crashes.{IsCrashConsistent}
 use Rattle.tree_laws.specs.Snapshot.{HasForest, nodes_at}
@@ -22,3 +23,7 @@ pub record IsDb {P M : Type 0} (store : P → Store) (d : DbValue P M) : Type 0 
   pub unwatched : d.queues ≡ []
   -- the ids that were given were set aside
   pub ids : d.greatest_id ≤ (store d.pages).mark
+
+-- the pairs of each map rise by key, and no key is in it twice
+pub record MapsAscend (maps : Maps) : Type 0 where
+  pub is : (name : Key) (map : Map) → maps name ≡ Some map → is_sorted key_cmp map ≡ true

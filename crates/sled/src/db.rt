@@ -58,17 +58,19 @@ impl<P: Pages, M> Model for Db<P, M> {
 }
 
 impl<P: Pages, M: MergeOperator> Db<P, M> {
-    ghost use Rattle.sled.specs.Sound.{IsDb};
+    ghost use Rattle.sled_model.specs.State.{maps_of};
+    ghost use Rattle.sled.specs.Sound.{IsDb, MapsAscend};
     ghost use Rattle.sled.specs.Values.{db_state, snapshot_of_db, default_name};
     ghost use Rattle.sled_tree.specs.Known.{IsKnown};
     ghost use Rattle.sled_tree.specs.Passing.{StepsOnPath};
     ghost use Rattle.sled.specs.Flights.{DbStep, DbSound, DbActs, DbFollows, DbLeaksNoPage, DbKnows, KeepsTreePages, DbStepContract, DbRunsToEnd};
     ghost use Rattle.sled.specs.Flush.{FlushesDb, RefusesFlush};
 
-    /// What holds of every database: its pages are well formed now and in every state that a crash may leave, and its trees
-    /// are those that the pages have roots for. It does nothing.
+    /// What holds of every database: its pages are well formed now and in every state that a crash may leave, its trees are
+    /// those that the pages have roots for, and the pairs of each of its maps rise by key. It does nothing.
     pub fn audit(&self)
-        ensures { IsDb P.store self.now }
+        ensures sound { IsDb P.store self.now }
+        ensures ascend { MapsAscend (maps_of (db_state P.store M.meant self.now)) }
     {
         let _ = &self.pages;
     }

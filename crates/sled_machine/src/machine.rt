@@ -41,7 +41,8 @@ impl<P: Pages, M> Model for Machine<P, M> {
 }
 
 impl<P: Pages, M: MergeOperator> Machine<P, M> {
-    ghost use Rattle.sled.specs.Sound.{IsDb};
+    ghost use Rattle.sled_model.specs.State.{maps_of};
+    ghost use Rattle.sled.specs.Sound.{IsDb, MapsAscend};
     ghost use Rattle.sled_machine.specs.Values.{slots_of};
     ghost use Rattle.sled.specs.Values.{db_state};
     ghost use Rattle.sled_machine.specs.Step.{MachineStep, MachineSound, MachineActs, MachineFollows, MachinePasses, MachineSlots, MachineKeepsTreePages, MachineLeaksNoPage, MachineStepContract};
@@ -77,9 +78,11 @@ impl<P: Pages, M: MergeOperator> Machine<P, M> {
         db
     }
 
-    /// What holds of every machine: that its database is as it should be. It does nothing.
+    /// What holds of every machine: that its database is as it should be, and the pairs of each of its maps rise by key. It
+    /// does nothing.
     pub fn audit(&self)
-        ensures { IsDb P.store self.now.db }
+        ensures sound { IsDb P.store self.now.db }
+        ensures ascend { MapsAscend (maps_of (db_state P.store M.meant self.now.db)) }
     {
         self.db.audit();
     }

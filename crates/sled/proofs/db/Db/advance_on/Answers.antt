@@ -8,7 +8,7 @@ pub steps-smaller : goal.steps-smaller
 steps-smaller g c = fewer_turns g.P.Pages.store g.M.MergeOperator.meant _ _ _ _ c.in-Moved.ensures
 
 pub steps-preserved : goal.steps-preserved
-steps-preserved g c = going_more g.P.Pages.store g.M.MergeOperator.meant _ _ _ _ _ _ c.steps.invariant c.in-Moved.ensures c.audit.ensures
+steps-preserved g c = going_more g.P.Pages.store g.M.MergeOperator.meant _ _ _ _ _ _ c.steps.invariant c.in-Moved.ensures c.audit.ensures.sound
 
 pub returns-in_default : goal.returns-in_default
 returns-in_default g c = going_ends g.P.Pages.store g.M.MergeOperator.meant _ _ _ _ _ _ _ c.steps.invariant c.advance_tested.ensures c.in_default.not-Moved

@@ -8,16 +8,16 @@ pub returns-in-Ok-None-clause-ok : goal.returns-in-Ok-None-clause-ok
 returns-in-Ok-None-clause-ok g c = clearing_ends g.P.Pages.store g.M.MergeOperator.meant _ _ c.parts.self c.parts.invariant _ c.in-Ok-None.field-0-is c.in-Ok-None.ensures.ok
 
 pub returns-in-Err-clause-err : goal.returns-in-Err-clause-err
-returns-in-Err-clause-err g c = clearing_unread g.P.Pages.store g.M.MergeOperator.meant _ _ c.parts.self c.parts.invariant c.audit.ensures _ c.in-Err.ensures.err
+returns-in-Err-clause-err g c = clearing_unread g.P.Pages.store g.M.MergeOperator.meant _ _ c.parts.self c.parts.invariant c.audit.ensures.sound _ c.in-Err.ensures.err
 
 pub parts-smaller : goal.parts-smaller
 parts-smaller g c = clearing_smaller g.P.Pages.store g.M.MergeOperator.meant c.args.self.now c.args.tree.now c.parts.self c.parts.invariant _ _ c.in-Ok-Some.field-0-is c.in-Ok-Some.ensures.ok _ _ c.in-Ok.ensures.ok
 
 pub parts-preserved : goal.parts-preserved
-parts-preserved g c = clearing_more g.P.Pages.store g.M.MergeOperator.meant c.args.self.now c.args.tree.now c.parts.self c.parts.invariant _ _ c.in-Ok-Some.field-0-is c.in-Ok-Some.ensures.ok _ _ c.in-Ok.ensures.ok c.audit.ensures
+parts-preserved g c = clearing_more g.P.Pages.store g.M.MergeOperator.meant c.args.self.now c.args.tree.now c.parts.self c.parts.invariant _ _ c.in-Ok-Some.field-0-is c.in-Ok-Some.ensures.ok _ _ c.in-Ok.ensures.ok c.audit.ensures.sound
 
 pub returns-in-Err-point-clause-err : goal.returns-in-Err-point-clause-err
-returns-in-Err-point-clause-err g c = clearing_untaken g.P.Pages.store g.M.MergeOperator.meant c.args.self.now c.args.tree.now c.parts.self c.parts.invariant _ _ c.in-Ok-Some.field-0-is c.in-Ok-Some.ensures.ok c.audit.ensures _ _ c.in-Err-point.ensures.err
+returns-in-Err-point-clause-err g c = clearing_untaken g.P.Pages.store g.M.MergeOperator.meant c.args.self.now c.args.tree.now c.parts.self c.parts.invariant _ _ c.in-Ok-Some.field-0-is c.in-Ok-Some.ensures.ok c.audit.ensures.sound _ _ c.in-Err-point.ensures.err
 
 pub returns-in-Ok-None-clause-steps : goal.returns-in-Ok-None-clause-steps
 returns-in-Ok-None-clause-steps g c = c.parts.invariant.clears

@@ -12,7 +12,7 @@ pub returns-in-Ok-Some-clause-gives_up : goal.returns-in-Ok-Some-clause-gives_up
 returns-in-Ok-Some-clause-gives_up g c = max_gives_up_later g.P.Pages.store g.M.MergeOperator.meant _ _ c.pop_pair.new.self _ _ c.in-Ok-Some.field-0-is c.pop_pair.result c.in-Ok-Some.ensures.ok c.pop_pair.ensures.err
 
 pub returns-in-Ok-None-clause-ok : goal.returns-in-Ok-None-clause-ok
-returns-in-Ok-None-clause-ok g c = max_none g.P.Pages.store g.M.MergeOperator.meant _ _ c.audit.ensures _ c.in-Ok-None.field-0-is c.in-Ok-None.ensures.ok
+returns-in-Ok-None-clause-ok g c = max_none g.P.Pages.store g.M.MergeOperator.meant _ _ c.audit.ensures.sound _ c.in-Ok-None.field-0-is c.in-Ok-None.ensures.ok
 
 pub returns-in-Err-clause-err : goal.returns-in-Err-clause-err
 returns-in-Err-clause-err g c = max_unread g.P.Pages.store g.M.MergeOperator.meant _ _ _ c.in-Err.ensures.err
