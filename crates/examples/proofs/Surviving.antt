@@ -18,7 +18,8 @@ use Rattle.sled_machine.specs.CrashMaps.{AreCrashMaps}
 use Rattle.sled_machine.specs.Run.{MachineRun, MachineSteps}
 use Rattle.sled_machine.specs.Values.{MachineValue}
 use Rattle.examples.specs.Survive.{machine_over, Survives}
-use Rattle.examples.proofs.Meant.{plain, plain_machine, plain_run, plain_all, plain_opens}
+use Rattle.examples.proofs.Plain.{plain, plain_opens}
+use Rattle.examples.proofs.Meant.{plain_machine, plain_run, plain_all}
 
 -- an element of a list is one of the list once repetitions are taken out
 once_has : {X : Type 0} (once xs : List X) (y : X) → Stutters once xs → In y xs → In y once
@@ -61,16 +62,16 @@ module _ {M : Type 0} (meant : M → Merge) (before : Store) (name : Key) where
       let base : now (store_of left) ≡ (store_of left).base = ap now crash.is ∙ sym (ap (λ (s : Store). s.base) crash.is) in
       let one : In (trees_of (store_of left).base) k.last = matches_has (map trees_of (crash_states (store_of last.db.pages))) k.last (trees_of (store_of left).base) k.leaves.is (map_has trees_of (crash_states (store_of last.db.pages)) (store_of left).base here) in
       record {
-        first = plain store_of flush_number_of meant first;
-        opens = plain_opens store_of flush_number_of meant before name first o;
+        first = plain store_of meant first;
+        opens = plain_opens store_of meant before name first o;
         last = plain_machine store_of flush_number_of meant last;
         runs = record { last = k.last; run = plain_run store_of flush_number_of meant (machine_over first) last (trees_of (now (store_of first.pages)) ∷ []) steps outcomes k.last k.run; leaves = k.leaves };
         each = plain_all store_of flush_number_of meant (machine_over first) last steps outcomes (subst (λ (m : MachineValue MemPages M). MachineSteps store_of flush_number_of meant m steps outcomes last) over each);
         left = store_of left;
         crashes = subst (λ (q : MemPages). Crashes keep (store_of q) (store_of left)) p crash;
         one = subst (λ (z : PageState). In (trees_of z) k.last) (sym base) one;
-        again = plain store_of flush_number_of meant again;
-        reopens = plain_opens store_of flush_number_of meant (store_of left) name again reopens;
+        again = plain store_of meant again;
+        reopens = plain_opens store_of meant (store_of left) name again reopens;
         is = ap store_of out;
         maps = ap (λ (q : MemPages). trees_of (now (store_of q))) out ∙ reopens.maps;
       }

@@ -508,8 +508,8 @@ module _ {P M : Type 0} (store : P → Store) (meant : M → Merge) (old : DbVal
     pub clearing_unread : IsDb store mid → (e : Error) → RefusesReading store meant mid tree once e → WholeRefused store meant old (Clear tree) e mid
     clearing_unread db e r = clearing_stops db e mid (min_unread store meant mid tree e r)
 
-    pub clearing_unread_steps : (e : Error) → ClearRefusedBySteps store meant old tree e mid
-    clearing_unread_steps e = record { mid = mid; clears = k.clears; refused = record { is = inl refl } }
+    pub clearing_unread_steps : (e : Error) → RefusesReading store meant mid tree once e → ClearRefusedBySteps store meant old tree e mid
+    clearing_unread_steps e r = record { mid = mid; clears = k.clears; refused = record { is = inl refl }; gives_up = min_gives_up store meant mid tree e r }
 
     module _ (pair : Key × Key) (read : Option (Key × Key)) (e : read ≡ Some pair) (r : ReadsMap store meant mid tree (λ map. IsSuccessor Unbounded map read)) where
       pub clearing_untaken : IsDb store mid → (x : Error) (new : DbValue P M) → PointRefused store meant mid tree (Remove pair.0) x new → WholeRefused store meant old (Clear tree) x new
@@ -519,7 +519,12 @@ module _ {P M : Type 0} (store : P → Store) (meant : M → Merge) (old : DbVal
       at = let l = at_least store meant mid tree read (Some pair) e r in record { named = l.named; there = l.there; ends = l.is }
 
       pub clearing_untaken_steps : (x : Error) (new : DbValue P M) → PointRefused store meant mid tree (Remove pair.0) x new → ClearRefusedBySteps store meant old tree x new
-      clearing_untaken_steps x new p = record { mid = mid; clears = k.clears; refused = record { is = inr (pair, at, record { is = inl p }) } }
+      clearing_untaken_steps x new p = record {
+        mid = mid;
+        clears = k.clears;
+        refused = record { is = inr (pair, at, record { is = inl p }) };
+        gives_up = gives_up_untaken store meant mid tree IsLeast (PopMin tree) (min_is tree) pair (at_least store meant mid tree read (Some pair) e r) once x new (record { is = inl p });
+      }
 
       -- a part is done
       module _ (reply : Reply) (new : DbValue P M) (p : PointDecided store meant mid tree (Remove pair.0) reply new) where

@@ -12,6 +12,7 @@ use Rattle.sled_model.specs.declared.call.Call.TheVariants.{Remove}
 use Rattle.sled_model.specs.declared.reply.Reply.{Reply}
 use Rattle.sled_model.specs.declared.tree.Tree.{Tree}
 use Rattle.tree_laws.specs.Paths.{IsClean, tree_pages}
+use Rattle.tree_reads.specs.Walk.{once}
 use Rattle.tree_reads.specs.declared.TheConstants.{MOST_PAGES}
 use Rattle.sled.specs.Values.{DbValue, db_state}
 use Rattle.sled.specs.Direct.{PointDecided, PointRefused}
@@ -60,8 +61,9 @@ pub data ClearsBySteps {P M : Type 0} (store : P → Store) (meant : M → Merge
   ClearsMore : {old mid new : DbValue P M} {pair : Key × Key} {reply : Reply}
       → ClearsBySteps store meant tree old mid → IsAtEnd store meant mid tree IsLeast pair → PointDecided store meant mid tree (Remove pair.0) reply new → ClearsBySteps store meant tree old new
 
--- A clear removed some so, and the next removal was refused
+-- A clear removed some so, and the next removal was refused; because turns were used up only where a pop there may be told so
 pub record ClearRefusedBySteps {P M : Type 0} (store : P → Store) (meant : M → Merge) (old : DbValue P M) (tree : Tree) (e : Error) (new : DbValue P M) : Type 0 where
   pub mid : DbValue P M
   pub clears : ClearsBySteps store meant tree old mid
   pub refused : PopRefusedBySteps store meant mid tree IsLeast e new
+  pub gives_up : GivesUpPop store meant mid tree IsLeast once e

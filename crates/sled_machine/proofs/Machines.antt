@@ -120,6 +120,7 @@ module _ {P M : Type 0} (store : P → Store) (number : P → ℕ) (meant : M �
     leaves = record { is = λ w is. subst (λ o. LeaksNoPage (owned_by o) (owned_by o) (now (store v.db.pages)) (now (store v.db.pages)) w) (sym e) (leaves_same_pages [] [] (now (store v.db.pages)) w (λ q i. i)) };
     gives_up = record { is = tt };
     tested = record { is = tt };
+    way = record { is = tt };
   }
 
   pub missing_abandon : (slot : ℕ) → kept_at v.flights slot ≡ None → MachineStepContract store number meant v (step.Abandon slot) outcome.NoSuchSlot v
@@ -134,6 +135,7 @@ module _ {P M : Type 0} (store : P → Store) (number : P → ℕ) (meant : M �
     leaves = record { is = tt };
     gives_up = record { is = tt };
     tested = record { is = tt };
+    way = record { is = tt };
   }
 
   -- a call is given up
@@ -152,6 +154,7 @@ module _ {P M : Type 0} (store : P → Store) (number : P → ℕ) (meant : M �
       leaves = record { is = tt };
       gives_up = record { is = tt };
       tested = record { is = tt };
+      way = record { is = tt };
     }
 
     pub abandoned_machine : IsMachine (snapshot_of_db store v.db) gs v.slots_given
@@ -197,6 +200,7 @@ module _ {P M : Type 0} (store : P → Store) (number : P → ℕ) (meant : M �
       leaves = record { is = leaves };
       gives_up = record { is = tt };
       tested = record { is = tt };
+      way = record { is = tt };
     }
       where
         here : slots_of v.flights slot ≡ Some (call_in_flight_of f)
@@ -283,6 +287,7 @@ module _ {P M : Type 0} (store : P → Store) (number : P → ℕ) (meant : M �
     leaves = record { is = tt };
     gives_up = record { is = tt };
     tested = record { is = tt };
+    way = record { is = tt };
   }
 
   pub begin_untested : (tree : Tree) (call : Call) (e : Error) → MustBeRefused (must_refuse_of (db_state store meant v.db) (tree ∷ [])) e → MachineStepContract store number meant v (step.Begin tree call) (outcome.Refused e) v
@@ -330,6 +335,7 @@ module _ {P M : Type 0} (store : P → Store) (number : P → ℕ) (meant : M �
         leaves = record { is = tt };
         gives_up = record { is = tt };
         tested = record { is = tt };
+        way = record { is = tt };
       }
 
       pub begun_machine : IsMachine (snapshot_of_db store v.db) gs slot
@@ -376,6 +382,7 @@ module _ {P M : Type 0} (store : P → Store) (number : P → ℕ) (meant : M �
     leaves = record { is = tt };
     gives_up = record { is = tt };
     tested = record { is = tt };
+    way = record { is = tt };
   }
 
   pub flushed_machine : (db : DbValue P M) (n : ℕ) → FlushesDb store number meant v.db n db → IsMachine (snapshot_of_db store db) v.flights v.slots_given
@@ -397,6 +404,7 @@ module _ {P M : Type 0} (store : P → Store) (number : P → ℕ) (meant : M �
     leaves = record { is = tt };
     gives_up = record { is = tt };
     tested = record { is = tt };
+    way = record { is = tt };
   }
 
   pub refused_machine : (db : DbValue P M) (e : Error) → RefusesFlush store meant v.db db e → IsMachine (snapshot_of_db store db) v.flights v.slots_given

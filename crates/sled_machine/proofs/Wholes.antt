@@ -14,7 +14,7 @@ use Rattle.sled.specs.Values.{DbValue, snapshot_of_db}
 use Rattle.sled.specs.Direct.{effects_until, KeepsOrFreesTreePages, Conducts, WholeDecided, WholeRefused}
 use Rattle.sled_machine.specs.CrashMaps.{AreCrashMaps, crash_maps_after_whole}
 use Rattle.sled_machine.specs.Sound.{IsMachine}
-use Rattle.sled_machine.specs.Step.{MachineStepContract, effect_of_whole, whole_keeps_tree_pages, whole_gives_up, whole_tested}
+use Rattle.sled_machine.specs.Step.{MachineStepContract, effect_of_whole, whole_keeps_tree_pages, whole_gives_up, whole_tested, way_of_whole}
 use Rattle.sled_machine.specs.Values.{MachineValue, slots_of, configuration_of}
 use Rattle.sled_machine.proofs.Runs.{extended}
 
@@ -56,8 +56,8 @@ tested_other Changing off T t = t
 tested_other InParts off T t = t
 
 module _ {P M : Type 0} (store : P → Store) (number : P → ℕ) (meant : M → Merge) (v : MachineValue P M) (w : Whole) (off : IsOther (kind_of w)) (db : DbValue P M) where
-  decided : (reply : Reply) → WholeDecided store meant v.db w reply db → MachineStepContract store number meant v (step.Whole w) (outcome.Decided reply) (record v { db = db })
-  decided reply d = record {
+  decided : (reply : Reply) → WholeDecided store meant v.db w reply db → way_of_whole store meant v.db w (outcome.Decided reply) db → MachineStepContract store number meant v (step.Whole w) (outcome.Decided reply) (record v { db = db })
+  decided reply d way = record {
     step = record {
       maps = d.maps;
       step = record { is = d.decides (slots_of v.flights) v.slots_given (number v.db.pages) };
@@ -72,10 +72,11 @@ module _ {P M : Type 0} (store : P → Store) (number : P → ℕ) (meant : M �
     leaves = record { is = tt };
     gives_up = record { is = tt };
     tested = record { is = tt };
+    way = record { is = way };
   }
 
-  refused : (e : Error) → WholeRefused store meant v.db w e db → whole_gives_up store meant v.db w e → MachineStepContract store number meant v (step.Whole w) (outcome.Refused e) (record v { db = db })
-  refused e d up = record {
+  refused : (e : Error) → WholeRefused store meant v.db w e db → whole_gives_up store meant v.db w e → way_of_whole store meant v.db w (outcome.Refused e) db → MachineStepContract store number meant v (step.Whole w) (outcome.Refused e) (record v { db = db })
+  refused e d up way = record {
     step = record {
       maps = d.maps;
       step = record { is = d.refuses (slots_of v.flights) v.slots_given };
@@ -90,6 +91,7 @@ module _ {P M : Type 0} (store : P → Store) (number : P → ℕ) (meant : M �
     leaves = record { is = tt };
     gives_up = record { is = up };
     tested = record { is = tested_other (kind_of w) off _ (λ must. ap (λ (z : DbValue P M). record v { db = z }) (d.tested must)) };
+    way = record { is = way };
   }
 
 -- the same, where a method knows the machine by its fields
@@ -98,11 +100,11 @@ module _ {P M : Type 0} (store : P → Store) (number : P → ℕ) (meant : M �
   conducted : (maps : List Maps) (refused : Option Error) → Conducts store maps refused inside.db db → IsMachine (snapshot_of_db store db) inside.flights inside.slots_given
   conducted maps refused c = record { given = im.given; known = λ i f there. c.others f (im.known i f there); apart = im.apart }
 
-  pub whole_decided : (reply : Reply) → WholeDecided store meant inside.db w reply db → MachineStepContract store number meant old (step.Whole w) (outcome.Decided reply) (record inside { db = db })
-  whole_decided reply d = subst (λ z. MachineStepContract store number meant z (step.Whole w) (outcome.Decided reply) (record inside { db = db })) e (decided store number meant inside w off db reply d)
+  pub whole_decided : (reply : Reply) → WholeDecided store meant inside.db w reply db → way_of_whole store meant inside.db w (outcome.Decided reply) db → MachineStepContract store number meant old (step.Whole w) (outcome.Decided reply) (record inside { db = db })
+  whole_decided reply d way = subst (λ z. MachineStepContract store number meant z (step.Whole w) (outcome.Decided reply) (record inside { db = db })) e (decided store number meant inside w off db reply d way)
 
-  pub whole_refused : (r : Error) → WholeRefused store meant inside.db w r db → whole_gives_up store meant inside.db w r → MachineStepContract store number meant old (step.Whole w) (outcome.Refused r) (record inside { db = db })
-  whole_refused r d up = subst (λ z. MachineStepContract store number meant z (step.Whole w) (outcome.Refused r) (record inside { db = db })) e (refused store number meant inside w off db r d up)
+  pub whole_refused : (r : Error) → WholeRefused store meant inside.db w r db → whole_gives_up store meant inside.db w r → way_of_whole store meant inside.db w (outcome.Refused r) db → MachineStepContract store number meant old (step.Whole w) (outcome.Refused r) (record inside { db = db })
+  whole_refused r d up way = subst (λ z. MachineStepContract store number meant z (step.Whole w) (outcome.Refused r) (record inside { db = db })) e (refused store number meant inside w off db r d up way)
 
   pub decided_machine : (reply : Reply) → WholeDecided store meant inside.db w reply db → IsMachine (snapshot_of_db store db) inside.flights inside.slots_given
   decided_machine reply d = conducted d.maps None d.conducts

@@ -1,14 +1,17 @@
 -- One step of the machine.
 use Rattle.std.specs.Prelude.{◌≡◌, ◌≢◌, ℕ, suc, ◌<◌, List, [], ◌∷◌, length, Option, Some, None}
 use Rattle.sled_pages.specs.Store.{Store, now, after_flush}
-use Rattle.sled_model.specs.Maps.{Maps, Merge, IsLeast, IsGreatest}
+use Rattle.sled_pages.specs.Order.{Key}
+use Rattle.sled_model.specs.Maps.{Map, Maps, Merge, IsLeast, IsGreatest}
 use Rattle.sled_model.specs.Answer.{answer_of}
 use Rattle.sled_model.specs.Refusal.{ToCall, must_refuse, must_refuse_of, turns_limit}
 use Rattle.sled_model.specs.State.{State, NamedTree, CallInFlight, maps_of}
 use Rattle.sled_model.specs.Transition.{Transition, Kind, Flushing, kind_of}
 use Rattle.sled_pages.specs.declared.error.Error.{Error}
 use Rattle.sled_model.specs.declared.call.Whole.{Whole}
-use Rattle.sled_model.specs.declared.call.Whole.TheVariants.{PopMin, PopMax}
+use Rattle.sled_model.specs.declared.call.Whole.TheVariants.{PopMin, PopMax, Clear}
+use Rattle.sled_model.specs.declared.reply.Reply.TheVariants.{Pair}
+use Rattle.sled_model.specs.declared.tree.Tree.{Tree}
 use Rattle.sled_model.specs.declared.outcome.Step.{Step}
 use Rattle.sled_model.specs.declared.outcome.Step.TheVariants as step
 use Rattle.sled_model.specs.declared.outcome.Outcome.{Outcome}
@@ -31,7 +34,7 @@ use Rattle.sled.specs.Values.{DbValue, db_state, snapshot_of_db}
 use Rattle.sled.specs.Flights.{IsStepRefused, KeepsTreePages, outcome_of}
 use Rattle.sled.specs.Flush.{only_faults}
 use Rattle.sled.specs.Direct.{effects_until, KeepsOrFreesTreePages}
-use Rattle.sled.specs.Pops.{GivesUpPop}
+use Rattle.sled.specs.Pops.{GivesUpPop, PopsBySteps, PopRefusedBySteps, ClearsBySteps, ClearRefusedBySteps}
 use Rattle.sled_machine.specs.CrashMaps.{AreCrashMaps, crash_maps_after}
 use Rattle.sled_machine.specs.StepsInSlot.{flight_after}
 use Rattle.sled_machine.specs.Slots.{kept_at}
@@ -188,6 +191,30 @@ tested_as store meant old s o new = Unit {0}
 pub record MachineTested {P M : Type 0} (store : P → Store) (meant : M → Merge) (old : MachineValue P M) (s : Step) (o : Outcome) (new : MachineValue P M) : Type 0 where
   pub is : tested_as store meant old s o new
 
+-- The way in which a pop and a clear come to what they answer: the steps of each removal, one after the other, and no others
+abbrev pub pops_as : {P M : Type 0} → (P → Store) → (M → Merge) → DbValue P M → Tree → (Map → Option (Key × Key) → Type 0) → Outcome → DbValue P M → Type 0
+pops_as store meant old tree is_end (Decided reply) new = (found : Option (Key × Key)) × (reply ≡ Pair found) × PopsBySteps store meant old tree is_end found new
+pops_as store meant old tree is_end (Refused e) new = PopRefusedBySteps store meant old tree is_end e new
+pops_as store meant old tree is_end o new = Unit {0}
+
+abbrev pub clears_as : {P M : Type 0} → (P → Store) → (M → Merge) → DbValue P M → Tree → Outcome → DbValue P M → Type 0
+clears_as store meant old tree (Decided reply) new = ClearsBySteps store meant tree old new
+clears_as store meant old tree (Refused e) new = ClearRefusedBySteps store meant old tree e new
+clears_as store meant old tree o new = Unit {0}
+
+abbrev pub way_of_whole : {P M : Type 0} → (P → Store) → (M → Merge) → DbValue P M → Whole → Outcome → DbValue P M → Type 0
+way_of_whole store meant old (PopMin tree) o new = pops_as store meant old tree IsLeast o new
+way_of_whole store meant old (PopMax tree) o new = pops_as store meant old tree IsGreatest o new
+way_of_whole store meant old (Clear tree) o new = clears_as store meant old tree o new
+way_of_whole store meant old whole o new = Unit {0}
+
+abbrev pub way_as : {P M : Type 0} → (P → Store) → (M → Merge) → DbValue P M → Step → Outcome → DbValue P M → Type 0
+way_as store meant old (step.Whole whole) o new = way_of_whole store meant old whole o new
+way_as store meant old s o new = Unit {0}
+
+pub record MachineWay {P M : Type 0} (store : P → Store) (meant : M → Merge) (old : MachineValue P M) (s : Step) (o : Outcome) (new : MachineValue P M) : Type 0 where
+  pub is : way_as store meant old.db s o new.db
+
 -- All that is said of one step
 pub record MachineStepContract {P M : Type 0} (store : P → Store) (flush_number : P → ℕ) (meant : M → Merge) (old : MachineValue P M) (s : Step) (o : Outcome) (new : MachineValue P M) : Type 0 where
   pub step : MachineStep store flush_number meant old s o new
@@ -200,3 +227,4 @@ pub record MachineStepContract {P M : Type 0} (store : P → Store) (flush_numbe
   pub leaves : MachineLeaksNoPage store old s o new
   pub gives_up : MachineGivesUp store meant old s o
   pub tested : MachineTested store meant old s o new
+  pub way : MachineWay store meant old s o new

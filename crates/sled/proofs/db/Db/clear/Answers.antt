@@ -23,7 +23,7 @@ pub returns-in-Ok-None-clause-steps : goal.returns-in-Ok-None-clause-steps
 returns-in-Ok-None-clause-steps g c = c.parts.invariant.clears
 
 pub returns-in-Err-clause-refused : goal.returns-in-Err-clause-refused
-returns-in-Err-clause-refused g c = clearing_unread_steps g.P.Pages.store g.M.MergeOperator.meant _ _ c.parts.self c.parts.invariant _
+returns-in-Err-clause-refused g c = clearing_unread_steps g.P.Pages.store g.M.MergeOperator.meant _ _ c.parts.self c.parts.invariant _ c.in-Err.ensures.err
 
 pub returns-in-Err-point-clause-refused : goal.returns-in-Err-point-clause-refused
 returns-in-Err-point-clause-refused g c = clearing_untaken_steps g.P.Pages.store g.M.MergeOperator.meant c.args.self.now c.args.tree.now c.parts.self c.parts.invariant _ _ c.in-Ok-Some.field-0-is c.in-Ok-Some.ensures.ok _ _ c.in-Err-point.ensures.err

@@ -1,0 +1,213 @@
+-- Databases with the meanings of their operators in place of the operators: they stand for the same states, and make the same steps.
+use Rattle.std.proofs.Common.{◌≡◌, ◌≢◌, ℕ, zero, suc, cond, List, [], ◌∷◌, Option, Some, None, option_map, true, false, sym, refl, ap, ◌∙◌, subst, inl, inr}
+use Rattle.std.specs.FinMap.Entries.{find}
+use Rattle.std.specs.Ordering.{nat_cmp, eq_by_cmp}
+use Rattle.sled_pages.specs.Order.{Key}
+use Rattle.sled_pages.specs.Store.{Store, now}
+use Rattle.sled_pages.specs.Update.{put_at}
+use Rattle.sled_pages.specs.declared.error.Error.{Error}
+use Rattle.sled_model.specs.Maps.{Map, Maps, Merge, IsLeast}
+use Rattle.sled_model.specs.State.{State, CallInFlight, maps_of}
+use Rattle.sled_model.specs.Refusal.{must_refuse_of}
+use Rattle.sled_model.specs.Transition.{Configuration, Transition}
+use Rattle.sled_model.specs.Whole.{DecidesPoint, RefusesPoint}
+use Rattle.sled_model.specs.declared.call.Call.{Call}
+use Rattle.sled_model.specs.declared.call.Call.TheVariants.{Remove}
+use Rattle.sled_model.specs.declared.event.Event.{Event}
+use Rattle.sled_model.specs.declared.outcome.Step.TheVariants as step
+use Rattle.sled_model.specs.declared.reply.Reply.{Reply}
+use Rattle.sled_model.specs.declared.tree.Tree.{Tree}
+use Rattle.tree_laws.specs.Contents.{trees_of}
+use Rattle.tree_laws.specs.Crashes.{AddsCrashStates}
+use Rattle.tree_reads.specs.Walk.{once}
+use Rattle.sled_tree.specs.declared.flight.InFlight.{InFlight}
+use Rattle.sled_tree.specs.declared.flight.Went.{Went}
+use Rattle.sled_tree.specs.declared.flight.Went.TheVariants.{Moved}
+use Rattle.sled.specs.Direct.{Conducts, PointDecided, PointRefused}
+use Rattle.sled.specs.Flights.{BringsEvent, DbStepContract, DbSteps, Ends, GoesOn, DbRunsToEnd, outcome_of, slot_after, maps_added}
+use Rattle.sled.specs.Opens.{Opens}
+use Rattle.sled.specs.Pops.{TakesOut, RefusesToTake, IsAtEnd, PopsBySteps, PopRefusedBySteps, IsLongWay, GivesUpPop, ClearsBySteps, ClearsNone, ClearsMore, ClearRefusedBySteps}
+use Rattle.sled.specs.Sound.{IsDb}
+use Rattle.sled.specs.Values.{DbValue, named, numbers_of, db_state, configuration_of}
+
+module _ {P M : Type 0} (store : P → Store) (meant : M → Merge) where
+  -- the operators by what they mean
+  abbrev pub meanings : List (ℕ × M) → List (ℕ × Merge)
+  meanings [] = []
+  meanings (o ∷ os) = (o.0, meant o.1) ∷ meanings os
+
+  abbrev pub plain : DbValue P M → DbValue P Merge
+  plain d = record { pages = d.pages; name = d.name; trees = d.trees; operators = meanings d.operators; queues = d.queues; trees_given = d.trees_given; subscribers_given = d.subscribers_given; greatest_id = d.greatest_id }
+
+  found : (os : List (ℕ × M)) (n : ℕ) → option_map (λ (m : Merge). m) (find nat_cmp n (meanings os)) ≡ option_map meant (find nat_cmp n os)
+  found [] n = refl
+  found (o ∷ os) n = elim (eq_by_cmp nat_cmp n o.0) as (λ b. option_map (λ (m : Merge). m) (cond b (Some (meant o.1)) (find nat_cmp n (meanings os))) ≡ option_map meant (cond b (Some o.1) (find nat_cmp n os))) [
+    | true ↦ refl
+    | false ↦ found os n
+  ]
+
+  pub same_configuration : (d : DbValue P M) (slots : ℕ → Option CallInFlight) (given number : ℕ) → configuration_of store (λ o. o) (plain d) slots given number ≡ configuration_of store meant d slots given number
+  same_configuration d slots given number i = record {
+    state = record {
+      name = d.name;
+      trees = λ t. named (numbers_of d.trees t) (trees_of (now (store d.pages)) t) (λ n. found d.operators n i);
+      queues = λ n. find nat_cmp n d.queues;
+      slots = slots;
+      is_open = Rattle.std.proofs.Common.not (now (store d.pages)).in_group;
+      greatest_id = d.greatest_id;
+      mark = (store d.pages).mark;
+      trees_given = d.trees_given;
+      slots_given = given;
+      subscribers_given = d.subscribers_given;
+    };
+    store = store d.pages;
+    flush_number = number;
+  }
+
+  pub same_db : (d : DbValue P M) → db_state store (λ o. o) (plain d) ≡ db_state store meant d
+  same_db d = ap (λ (i : Configuration). i.state) (same_configuration d (λ n. None) 0 0)
+
+  pub same_tests : (d : DbValue P M) (trees : List Tree) → must_refuse_of (db_state store (λ o. o) (plain d)) trees ≡ must_refuse_of (db_state store meant d) trees
+  same_tests d trees = ap (λ (s : State). must_refuse_of s trees) (same_db d)
+
+  same_tree : (d : DbValue P M) (name : Key) → (db_state store (λ o. o) (plain d)).trees name ≡ (db_state store meant d).trees name
+  same_tree d name = ap (λ (s : State). s.trees name) (same_db d)
+
+  -- what holds of a database holds of it whatever its operators are
+  pub plain_sound : (d : DbValue P M) → IsDb store d → IsDb store (plain d)
+  plain_sound d s = record { forest = s.forest; is = s.is; sized = s.sized; safe = s.safe; ascends = s.ascends; default = s.default; unwatched = s.unwatched; ids = s.ids }
+
+  pub meant_sound : (d : DbValue P M) → IsDb store (plain d) → IsDb store d
+  meant_sound d s = record { forest = s.forest; is = s.is; sized = s.sized; safe = s.safe; ascends = s.ascends; default = s.default; unwatched = s.unwatched; ids = s.ids }
+
+  -- ---- the steps of a call
+
+  plain_brings : (d : DbValue P M) (f : InFlight) (went : Went) (event : Option Event) → BringsEvent store (λ m. m) (plain d) f went event → BringsEvent store meant d f went event
+  plain_brings d f went event b = record { reply = b.reply; decided = b.decided; tree = b.tree; there = sym (same_tree d f.job.tree.name) ∙ b.there; is = b.is }
+
+  plain_step : (old new : DbValue P M) (f g : InFlight) (went : Went) → DbStepContract store meant old f went new g → DbStepContract store (λ m. m) (plain old) f went (plain new) g
+  plain_step old new f g went r = record {
+    step = record {
+      steps = λ slots given slot before after here.
+          subst (λ (x : Configuration). Transition x (step.Step slot) (outcome_of went) (configuration_of store (λ m. m) (plain new) (put_at slots slot (slot_after went g)) given after) (maps_added went (maps_of (db_state store (λ m. m) (plain new))))) (sym (same_configuration old slots given before))
+          (subst (λ (y : Configuration). Transition (configuration_of store meant old slots given before) (step.Step slot) (outcome_of went) y (maps_added went (maps_of (db_state store (λ m. m) (plain new))))) (sym (same_configuration new (put_at slots slot (slot_after went g)) given after))
+          (subst (λ (s : State). Transition (configuration_of store meant old slots given before) (step.Step slot) (outcome_of went) (configuration_of store meant new (put_at slots slot (slot_after went g)) given after) (maps_added went (maps_of s))) (sym (same_db new)) (r.step.steps slots given slot before after here)));
+      extends = subst (λ (s : State). AddsCrashStates (maps_added went (maps_of s)) (store old.pages) (store new.pages)) (sym (same_db new)) r.step.extends;
+      same = ap plain r.step.same;
+    };
+    sound = record { keeps = λ d. plain_sound new (r.sound.keeps (meant_sound old d)) };
+    does = record { does = r.does.does; quiet = λ b. r.does.quiet (plain_brings old f went None b); loud = λ event b. r.does.loud event (plain_brings old f went (Some event) b) };
+    follows = λ must fits. r.follows (sym (same_tests old (f.job.tree ∷ [])) ∙ must) fits;
+    passes = r.passes;
+    loses = r.loses;
+    leaves = r.leaves;
+    knows = record { goes_on = r.knows.goes_on; others = r.knows.others };
+  }
+
+  plain_steps : (n : ℕ) (old new : DbValue P M) (f g : InFlight) (went : Went) → DbSteps store meant n old f went new g → DbSteps store (λ m. m) n (plain old) f went (plain new) g
+  plain_steps zero old new f g went (Ends flies off) = Ends (plain_step old new f g went flies) off
+  plain_steps (suc n) old new f g went (GoesOn {mid = mid} {h = h} flies db rest) = GoesOn (plain_step old mid f h Moved flies) (plain_sound mid db) (plain_steps n mid new h g went rest)
+
+  plain_runs : (old new : DbValue P M) (f g : InFlight) (went : Went) → DbRunsToEnd store meant old f went new g → DbRunsToEnd store (λ m. m) (plain old) f went (plain new) g
+  plain_runs old new f g went r = record { moves = r.moves; flies = plain_steps r.moves old new f g went r.flies; passes = r.passes }
+
+  -- ---- calls that are made at once
+
+  module _ (old new : DbValue P M) where
+    plain_conducts : (maps : List Maps) (refused : Option Error) → Conducts store maps refused old new → Conducts store maps refused (plain old) (plain new)
+    plain_conducts maps refused c = record { acts = c.acts; extends = c.extends; others = c.others; loses = c.loses; sound = λ d. plain_sound new (c.sound (meant_sound old d)); same = ap plain c.same }
+
+    plain_decided : (tree : Tree) (call : Call) (reply : Reply) → PointDecided store meant old tree call reply new → PointDecided store (λ m. m) (plain old) tree call reply (plain new)
+    plain_decided tree call reply p = record {
+      decides = subst (λ (s : State). DecidesPoint s tree call reply (db_state store (λ m. m) (plain new))) (sym (same_db old)) (subst (λ (s : State). DecidesPoint (db_state store meant old) tree call reply s) (sym (same_db new)) p.decides);
+      conducts = subst (λ (s : State). Conducts store (maps_of s ∷ []) None (plain old) (plain new)) (sym (same_db new)) (plain_conducts (maps_of (db_state store meant new) ∷ []) None p.conducts);
+      last = p.last;
+      steps = plain_runs old new _ p.last _ p.steps;
+    }
+
+    plain_refused : (tree : Tree) (call : Call) (e : Error) → PointRefused store meant old tree call e new → PointRefused store (λ m. m) (plain old) tree call e (plain new)
+    plain_refused tree call e p = record {
+      refuses = subst (λ (s : State). RefusesPoint s (store old.pages) (store new.pages) tree call e (db_state store (λ m. m) (plain new))) (sym (same_db old)) (subst (λ (s : State). RefusesPoint (db_state store meant old) (store old.pages) (store new.pages) tree call e s) (sym (same_db new)) p.refuses);
+      conducts = plain_conducts [] (Some e) p.conducts;
+      steps = elim p.steps [
+        | inl same ↦ inl (ap plain same)
+        | inr run ↦ inr (run.0, plain_runs old new _ run.0 _ run.1)
+      ];
+      turns = p.turns;
+    }
+
+    plain_taken : (tree : Tree) (pair : Key × Key) (found : Option (Key × Key)) → TakesOut store meant old tree pair found new → TakesOut store (λ m. m) (plain old) tree pair found (plain new)
+    plain_taken tree pair found t = record { answers = t.answers; reply = t.reply; decided = plain_decided tree (Remove pair.0) t.reply t.decided }
+
+    plain_untaken : (tree : Tree) (pair : Key × Key) (e : Error) → RefusesToTake store meant old tree pair e new → RefusesToTake store (λ m. m) (plain old) tree pair e (plain new)
+    plain_untaken tree pair e t = record {
+      is = elim t.is [
+        | inl p ↦ inl (plain_refused tree (Remove pair.0) e p)
+        | inr m ↦ inr (m.0, ap plain m.1)
+      ];
+    }
+
+  -- ---- pops and clears
+
+  module _ (d : DbValue P M) (tree : Tree) (is_end : Map → Option (Key × Key) → Type 0) where
+    plain_end : (pair : Key × Key) → IsAtEnd store meant d tree is_end pair → IsAtEnd store (λ m. m) (plain d) tree is_end pair
+    plain_end pair a = record { named = a.named; there = same_tree d tree.name ∙ a.there; ends = a.ends }
+
+    plain_long : IsLongWay store meant d tree is_end → IsLongWay store (λ m. m) (plain d) tree is_end
+    plain_long h = record { named = h.named; there = same_tree d tree.name ∙ h.there; pair = h.pair; ends = h.ends; long = h.long }
+
+    pub plain_gives_up : (of : ℕ → ℕ) (e : Error) → GivesUpPop store meant d tree is_end of e → GivesUpPop store (λ m. m) (plain d) tree is_end of e
+    plain_gives_up of e h = record {
+      is = λ turns. elim (h.is turns) [
+        | inl many ↦ inl many
+        | inr long ↦ inr (plain_long long)
+      ];
+    }
+
+    pub plain_pops : (found : Option (Key × Key)) (new : DbValue P M) → PopsBySteps store meant d tree is_end found new → PopsBySteps store (λ m. m) (plain d) tree is_end found (plain new)
+    plain_pops found new h = record {
+      is = elim h.is [
+        | inl none ↦ inl (none.0, ap plain none.1)
+        | inr one ↦ inr (one.0, plain_end one.0 one.1, plain_taken d new tree one.0 found one.2)
+      ];
+    }
+
+    pub plain_stops : (e : Error) (new : DbValue P M) → PopRefusedBySteps store meant d tree is_end e new → PopRefusedBySteps store (λ m. m) (plain d) tree is_end e (plain new)
+    plain_stops e new h = record {
+      is = elim h.is [
+        | inl same ↦ inl (ap plain same)
+        | inr one ↦ inr (one.0, plain_end one.0 one.1, plain_untaken d new tree one.0 e one.2)
+      ];
+    }
+
+  pub plain_clears : (tree : Tree) {old new : DbValue P M} → ClearsBySteps store meant tree old new → ClearsBySteps store (λ m. m) tree (plain old) (plain new)
+  plain_clears tree ClearsNone = ClearsNone
+  plain_clears tree (ClearsMore {mid = mid} {new = new} {pair = pair} {reply = reply} clears at point) = ClearsMore (plain_clears tree clears) (plain_end mid tree IsLeast pair at) (plain_decided mid new tree (Remove pair.0) reply point)
+
+  pub plain_clear_stops : (tree : Tree) (old : DbValue P M) (e : Error) (new : DbValue P M) → ClearRefusedBySteps store meant old tree e new → ClearRefusedBySteps store (λ m. m) (plain old) tree e (plain new)
+  plain_clear_stops tree old e new h = record { mid = plain h.mid; clears = plain_clears tree h.clears; refused = plain_stops h.mid tree IsLeast e new h.refused; gives_up = plain_gives_up h.mid tree IsLeast once e h.gives_up }
+
+  pub plain_opens : (before : Store) (called : Key) (d : DbValue P M) → Opens store before called d → Opens store before called (plain d)
+  plain_opens before called d o = record {
+    middle = o.middle;
+    grows = o.grows;
+    flushes = o.flushes;
+    left = o.left;
+    maps = o.maps;
+    fresh = o.fresh;
+    names = o.names;
+    numbers = o.numbers;
+    ascends = o.ascends;
+    each = o.each;
+    given = o.given;
+    ids = o.ids;
+    operators = ap meanings o.operators;
+    queues = o.queues;
+    subscribers = o.subscribers;
+    no_group = o.no_group;
+    name = o.name;
+    mark = o.mark;
+    recovered = o.recovered;
+    readable = o.readable;
+    faults = o.faults;
+  }
