@@ -67,13 +67,13 @@ pub fn insert_then_get_in_new(
     let tree = match machine.db().default_tree() {
         Ok(tree) => tree,
         Err(e) => {
-            drop(machine);
+            drop(machine.into_db().into_pages());
             return Err(e);
         }
     };
     let got = insert_then_get(&mut machine, &tree, key, value);
     drop(tree);
-    drop(machine);
+    drop(machine.into_db().into_pages());
     got
 }
 
@@ -149,7 +149,7 @@ pub fn get_in_new(alloc: Global, name: &[u8], key: &IVec) -> Result<Outcome>
         }
     };
     let got = get_in_default(&mut machine, key);
-    drop(machine);
+    drop(machine.into_db().into_pages());
     got
 }
 
@@ -197,7 +197,7 @@ pub fn reopen_then_get<P: Pages, M: MergeOperator>(
     };
     let mut machine = Machine::new(db);
     let got = get_in_default(&mut machine, key);
-    drop(machine);
+    drop(machine.into_db().into_pages());
     got
 }
 

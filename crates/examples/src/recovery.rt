@@ -37,7 +37,7 @@ pub fn survive(
     let outcomes = match machine.run(steps) {
         Ok(outcomes) => outcomes,
         Err(e) => {
-            drop(machine);
+            drop(machine.into_db().into_pages());
             return Err(e);
         }
     };

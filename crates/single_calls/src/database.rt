@@ -28,7 +28,7 @@ pub fn new_tree(alloc: Global, name: &[u8]) -> Result<Tree>
     match Db::open(alloc, empty_pages(alloc), name) {
         Ok(db) => {
             let tree = db.default_tree();
-            drop(db);
+            drop(db.into_pages());
             tree
         }
         Err((pages, e)) => {
@@ -44,7 +44,7 @@ pub fn close<P: Pages, M: MergeOperator>(machine: Machine<P, M>) -> Result<P>
 {
     let mut db = machine.into_db();
     if let Err(e) = db.flush() {
-        drop(db);
+        drop(db.into_pages());
         return Err(e);
     }
     Ok(db.into_pages())

@@ -152,13 +152,13 @@ fn live<R: BufRead, W: Write>(
         }
     };
     if let Err(stopped) = tell_recovered(&session, output, &mut buffers.out) {
-        drop(session);
+        drop(session.into_db().into_pages());
         return Err(stopped);
     }
     match lines(alloc, &mut session, input, output, buffers) {
         Ok(end) => Ok((end, session.into_db().into_pages())),
         Err(stopped) => {
-            drop(session);
+            drop(session.into_db().into_pages());
             Err(stopped)
         }
     }

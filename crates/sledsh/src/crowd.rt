@@ -121,7 +121,6 @@ fn are_pairs(trees: &[Collection], pairs: &[(IVec, IVec)]) -> bool {
 }
 
 // The machine and its tree.
-#[derive(Drop)]
 struct Side {
     machine: Machine<MemPages>,
     tree: Tree,
@@ -136,17 +135,17 @@ impl Side {
             }),
             Err(error) => {
                 drop(error);
-                drop(db);
+                drop(db.into_pages());
                 Err(Stopped)
             }
         }
     }
 
-    // What a crash leaves that keeps so many actions.
-    fn crash(self, alloc: Global, keep: u64) -> Result<Kept, Stopped> {
+    // The database. The calls in flight are given up.
+    fn into_db(self) -> Db<MemPages> {
         let Side { machine, tree } = self;
         drop(tree);
-        Kept::of(machine.into_db()).crash(alloc, keep)
+        machine.into_db()
     }
 
     fn begin(&mut self, call: Call) -> Outcome {
@@ -436,9 +435,9 @@ impl Crowd {
 fn live_over(crowd: &mut Crowd, db: Db<MemPages>, place: u64) -> Result<Option<Kept>, Stopped> {
     let mut side = Side::over(db)?;
     match crowd.live(&mut side, place) {
-        Some(keep) => Ok(Some(side.crash(crowd.alloc, keep)?)),
+        Some(keep) => Ok(Some(Kept::of(side.into_db()).crash(crowd.alloc, keep)?)),
         None => {
-            drop(side);
+            drop(side.into_db().into_pages());
             Ok(None)
         }
     }

@@ -397,6 +397,11 @@ const FORMS: [Form; 65] = [
     ("quit", "", Verb::Quit, "ends"),
 ];
 
+// The commands. This function alone names the list: it is made anew in each that does, which takes the check as long as ten others.
+fn forms() -> &'static [Form] {
+    &FORMS
+}
+
 const NO_NUMBER: &str = "is no number: decimal digits without leading zeros";
 
 const NO_BYTES: &str =
@@ -661,7 +666,7 @@ pub fn read(
     numbers: &mut Vec<u64>,
     why: &mut Vec<u8>,
 ) -> Result<Option<Command>> {
-    let verb = match find(&FORMS, line) {
+    let verb = match find(forms(), line) {
         Ok(found) => {
             check(alloc, found, why)?;
             read_numbers(found.words, numbers)?;
@@ -680,7 +685,7 @@ pub fn read(
 
 /// Adds a line for each command.
 pub fn push_help(out: &mut Vec<u8>) -> std::result::Result<(), Stopped> {
-    for form in &FORMS {
+    for form in forms() {
         let (own, takes, _, does) = *form;
         let space = if takes.is_empty() { "" } else { " " };
         tell(

@@ -34,7 +34,6 @@ fn opening(last: Verb) -> &'static [u8] {
 }
 
 // The store: opened, or the pages that a refused opening gave back.
-#[derive(Drop)]
 enum State<'a> {
     Open(Session<Counting<'a>>),
     Shut(Kept),
@@ -234,7 +233,7 @@ impl<'a> Shell<'a> {
             ),
         };
         let shut = std::mem::replace(state, next);
-        drop(shut);
+        drop(shut.into_kept());
         told
     }
 
@@ -346,7 +345,7 @@ impl<'a> Shell<'a> {
         match self.lines(&mut state, input, output) {
             Ok(verb) => Ok((state.into_kept(), verb)),
             Err(stopped) => {
-                drop(state);
+                drop(state.into_kept());
                 Err(stopped)
             }
         }
@@ -377,7 +376,7 @@ impl<'a> Shell<'a> {
         output: &mut W,
     ) -> Result<(Kept, Verb), Stopped> {
         if tell(&mut self.out, &[Text(opening(self.last))]).is_err() {
-            drop(db);
+            drop(db.into_pages());
             return Err(Stopped);
         }
         match Session::over(self.alloc, db) {
