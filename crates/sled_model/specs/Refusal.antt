@@ -11,6 +11,7 @@ use Rattle.sled_model.specs.Answer.{answer_of}
 use Rattle.sled_model.specs.State.{State, NamedTree, CallInFlight, Queue, matches}
 use Rattle.sled_model.specs.declared.call.Call.{Call}
 use Rattle.sled_model.specs.declared.call.Call.TheVariants.{Get, Insert, Remove, CompareAndSwap}
+use Rattle.sled_model.specs.declared.call.Call.TheVariants as call
 use Rattle.sled_model.specs.declared.call.Whole.{Whole}
 use Rattle.sled_model.specs.declared.call.Whole.TheVariants.{Flush, PopMin, PopMax, Clear}
 use Rattle.sled_model.specs.declared.event.Event.{Event}
@@ -63,12 +64,13 @@ dropped_test s (t ∷ ts) = if is_number t.number (s.trees t.name) then dropped_
 abbrev pub must_refuse_of : State → List Tree → Option MustRefuse
 must_refuse_of s trees = first_of (if s.is_open then None else Some IsClosed) (first_of (foreign_test s.name trees) (dropped_test s trees))
 
--- which calls need the merge operator of their tree: none of those that there are yet
+-- which calls need the merge operator of their tree
 abbrev pub needs_operator : Call → Bool
 needs_operator (Get k) = false
 needs_operator (Insert k v) = false
 needs_operator (Remove k) = false
 needs_operator (CompareAndSwap k old new) = false
+needs_operator (call.Merge k bytes) = true
 
 abbrev pub has_operator : Option NamedTree → Bool
 has_operator None = false
@@ -106,7 +108,7 @@ pub record MeetsFullQueue (s : State) (t : Tree) (call : Call) : Type 0 where
   pub tree : NamedTree
   pub there : s.trees t.name ≡ Some tree
   pub event : Event
-  pub brings : (answer_of call tree.map).event ≡ Some event
+  pub brings : (answer_of tree.merge call tree.map).event ≡ Some event
   pub subscriber : ℕ
   pub queue : Queue
   pub waits : s.queues subscriber ≡ Some queue

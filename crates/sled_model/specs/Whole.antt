@@ -20,8 +20,8 @@ pub record DecidesPoint (old : State) (tree : Tree) (call : Call) (reply : Reply
   pub free : must_refuse old (ToPoint tree call) ≡ None
   pub named : NamedTree
   pub there : old.trees tree.name ≡ Some named
-  pub replies : reply ≡ (answer_of call named.map).reply
-  pub is : new ≡ after_decision_on old tree.name named (answer_of call named.map)
+  pub replies : reply ≡ (answer_of named.merge call named.map).reply
+  pub is : new ≡ after_decision_on old tree.name named (answer_of named.merge call named.map)
 
 -- it is refused, with its cause, and nothing changes
 pub record RefusesPoint (old : State) (a b : Store) (tree : Tree) (call : Call) (e : Error) (new : State) : Type 0 where
@@ -31,7 +31,7 @@ pub record RefusesPoint (old : State) (a b : Store) (tree : Tree) (call : Call) 
 -- the state after this pair of the tree was taken out, if there is one
 abbrev pub after_pop : State → Key → NamedTree → Option (Key × Key) → State
 after_pop s name t None = s
-after_pop s name t (Some pair) = after_decision_on s name t (answer_of (Remove pair.0) t.map)
+after_pop s name t (Some pair) = after_decision_on s name t (answer_of t.merge (Remove pair.0) t.map)
 
 -- a pop takes out the pair at one end, with its event, and replies with it
 pub record Pops (is_end : Map → Option (Key × Key) → Type 0) (old : State) (whole : Whole) (tree : Tree) (reply : Reply) (new : State) (maps : List Maps) : Type 0 where
@@ -48,8 +48,8 @@ pub record Pops (is_end : Map → Option (Key × Key) → Type 0) (old : State) 
 pub data RemovesLeast (tree : Tree) : State → ℕ → State → List Maps → Type 0 where
   RemovesNone : {s : State} → RemovesLeast tree s zero s []
   RemovesOne : {a b : State} {n : ℕ} {maps : List Maps} (named : NamedTree) (pair : Key × Key) (rest : Map) → a.trees tree.name ≡ Some named → named.map ≡ pair ∷ rest
-      → RemovesLeast tree (after_decision_on a tree.name named (answer_of (Remove pair.0) named.map)) n b maps
-      → RemovesLeast tree a (suc n) b (maps_of (after_decision_on a tree.name named (answer_of (Remove pair.0) named.map)) ∷ maps)
+      → RemovesLeast tree (after_decision_on a tree.name named (answer_of named.merge (Remove pair.0) named.map)) n b maps
+      → RemovesLeast tree a (suc n) b (maps_of (after_decision_on a tree.name named (answer_of named.merge (Remove pair.0) named.map)) ∷ maps)
 
 -- a clear removes all keys of a tree, from the least up
 pub record Clears (old : State) (tree : Tree) (new : State) (maps : List Maps) : Type 0 where
