@@ -72,14 +72,15 @@ reply_of_read (Remove k) value = if is_some value then None else (Some (Value va
 reply_of_read (CompareAndSwap k old new) value = reply_of_swap value old new
 reply_of_read (call.Merge k bytes) value = None
 
--- what a read tells holds by whatever operator: with a reply the call has no effect and replies so, and without one it has an effect
-abbrev pub read_decides_as : Option Merge → Call → Option Key → Option Reply → Type 0
-read_decides_as merge c value (Some reply) = decision_of merge c value ≡ record { effect = effect.Nothing; reply = reply }
-read_decides_as merge c value None = (decision_of merge c value).effect ≢ effect.Nothing
+-- with a reply there is no effect, and without one there is an effect
+abbrev pub read_decides_as : Decision → Option Reply → Type 0
+read_decides_as decision (Some reply) = decision ≡ record { effect = effect.Nothing; reply = reply }
+read_decides_as decision None = decision.effect ≢ effect.Nothing
 
+-- the reply is as the read tells it, and the call comes to it by whatever operator
 pub record ReadDecides (c : Call) (value : Option Key) (reply : Option Reply) : Type 0 where
   pub is : reply ≡ reply_of_read c value
-  pub decides : (merge : Option Merge) → read_decides_as merge c value reply
+  pub decides : (merge : Option Merge) → read_decides_as (decision_of merge c value) reply
 
 -- the map after the effect at the key
 abbrev pub map_after : Effect → Key → Map → Map

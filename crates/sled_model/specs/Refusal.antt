@@ -17,18 +17,21 @@ use Rattle.sled_model.specs.declared.call.Whole.TheVariants.{Flush, PopMin, PopM
 use Rattle.sled_model.specs.declared.event.Event.{Event}
 use Rattle.sled_model.specs.declared.tree.Tree.{Tree}
 
--- what was asked of the database: to begin a call, to go on with the call in a slot, to make a call at once, or a whole call
+-- what was asked of the database: to begin a call, to go on with the call in a slot, to make a call at once, a whole call, or to set
+-- the merge operator of a tree
 pub data Asked : Type 0 where
   ToBegin : (tree : Tree) (call : Call) → Asked
   ToStep : (flying : CallInFlight) → Asked
   ToPoint : (tree : Tree) (call : Call) → Asked
   ToCall : (whole : Whole) → Asked
+  ToSetOperator : (tree : Tree) → Asked
 
 -- the trees that it is asked of
 abbrev pub trees_asked : Asked → List Tree
 trees_asked (ToBegin tree call) = tree ∷ []
 trees_asked (ToStep flying) = flying.tree ∷ []
 trees_asked (ToPoint tree call) = tree ∷ []
+trees_asked (ToSetOperator tree) = tree ∷ []
 trees_asked (ToCall Flush) = []
 trees_asked (ToCall (PopMin tree)) = tree ∷ []
 trees_asked (ToCall (PopMax tree)) = tree ∷ []
@@ -82,6 +85,7 @@ operator_test s (ToBegin tree call) = if needs_operator call && not (has_operato
 operator_test s (ToStep f) = if needs_operator f.call && not (has_operator (s.trees f.tree.name)) then (Some HasNoOperator) else None
 operator_test s (ToPoint tree call) = if needs_operator call && not (has_operator (s.trees tree.name)) then (Some HasNoOperator) else None
 operator_test s (ToCall whole) = None
+operator_test s (ToSetOperator tree) = None
 
 abbrev pub must_refuse : State → Asked → Option MustRefuse
 must_refuse s asked = first_of (must_refuse_of s (trees_asked asked)) (operator_test s asked)

@@ -2,11 +2,12 @@
 use Rattle.std.specs.Prelude.{◌≡◌, ℕ, zero, suc, ◌⊎◌, List, [], ◌∷◌, Option, Some, None}
 use Rattle.sled_pages.specs.Order.{Key}
 use Rattle.sled_pages.specs.Store.{Store}
+use Rattle.sled_pages.specs.Update.{put_name}
 use Rattle.sled_pages.specs.declared.error.Error.{Error}
-use Rattle.sled_model.specs.Maps.{Map, Maps}
+use Rattle.sled_model.specs.Maps.{Map, Maps, Merge}
 use Rattle.sled_model.specs.Answer.{answer_of}
 use Rattle.sled_model.specs.State.{State, NamedTree, maps_of, after_decision_on}
-use Rattle.sled_model.specs.Refusal.{ToPoint, ToCall, must_refuse, MayRefuse}
+use Rattle.sled_model.specs.Refusal.{ToPoint, ToCall, ToSetOperator, must_refuse, MayRefuse}
 use Rattle.sled_model.specs.declared.call.Call.{Call}
 use Rattle.sled_model.specs.declared.call.Call.TheVariants.{Remove}
 use Rattle.sled_model.specs.declared.call.Whole.{Whole}
@@ -27,6 +28,13 @@ pub record DecidesPoint (old : State) (tree : Tree) (call : Call) (reply : Reply
 pub record RefusesPoint (old : State) (a b : Store) (tree : Tree) (call : Call) (e : Error) (new : State) : Type 0 where
   pub may : MayRefuse old a b (ToPoint tree call) e
   pub is : new ≡ old
+
+-- A tree has this operator from now on, and all else is as it was
+pub record SetsOperator (old : State) (tree : Tree) (merge : Merge) (new : State) : Type 0 where
+  pub free : must_refuse old (ToSetOperator tree) ≡ None
+  pub named : NamedTree
+  pub there : old.trees tree.name ≡ Some named
+  pub is : new ≡ record old { trees = put_name old.trees tree.name (Some (record named { merge = Some merge })) }
 
 -- the state after this pair of the tree was taken out, if there is one
 abbrev pub after_pop : State → Key → NamedTree → Option (Key × Key) → State

@@ -2,6 +2,7 @@
 ghost use Rattle.std.specs.Prelude.{◌≡◌, IfOk, IfErr};
 ghost use Rattle.sled_pages.specs.declared.error.Error.TheVariants.{NoMemory};
 ghost use Rattle.sled_model.specs.Answer.{key_of};
+ghost use Rattle.sled_model.specs.Refusal.{needs_operator};
 ghost use Rattle.sled_model.specs.declared.call.Call.TheVariants.{Insert, CompareAndSwap, Merge};
 
 use crate::reply::clone_value;
@@ -48,6 +49,13 @@ impl Call {
             Call::CompareAndSwap(key, _, _) => key,
             Call::Merge(key, _) => key,
         }
+    }
+
+    /// Whether the call needs the merge operator of its tree.
+    pub fn needs_operator(&self) -> bool
+        ensures { result ≡ needs_operator self.now }
+    {
+        matches!(self, Call::Merge(_, _))
     }
 
     /// The same call. Refused with `NoMemory` alone.
