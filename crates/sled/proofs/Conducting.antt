@@ -347,9 +347,6 @@ module _ {P M : Type 0} (store : P → Store) (meant : M → Merge) (old : DbVal
   pub tree_untested : MustBeRefused (must_refuse_of (db_state store meant old) (tree ∷ [])) e → PointRefused store meant old tree call e old
   tree_untested tested = point_untested (fails_first store meant old tree e tested call)
 
-  pub plain_short : needs_operator call ≡ false → must_refuse_of (db_state store meant old) (tree ∷ []) ≡ None → e ≡ error.NoMemory → PointRefused store meant old tree call e old
-  plain_short plain must = point_short (passes_plain store meant old tree must call plain)
-
   -- for want of memory
   pub point_short : must_refuse (db_state store meant old) (ToPoint tree call) ≡ None → e ≡ error.NoMemory → PointRefused store meant old tree call e old
   point_short must short = subst (λ z. PointRefused store meant old tree call z old) (sym short) (record {
@@ -358,6 +355,9 @@ module _ {P M : Type 0} (store : P → Store) (meant : M → Merge) (old : DbVal
     steps = inl refl;
     turns = λ tells path clean. absurd tells;
   })
+
+  pub plain_short : needs_operator call ≡ false → must_refuse_of (db_state store meant old) (tree ∷ []) ≡ None → e ≡ error.NoMemory → PointRefused store meant old tree call e old
+  plain_short plain must = point_short (passes_plain store meant old tree must call plain)
 
   -- a call that begins knows nothing of the pages
   pub point_known : (copy : Tree) (f : InFlight) → f ≡ begun_flight copy call → IsKnown (snapshot_of_db store old) f

@@ -1,5 +1,5 @@
 -- Merge operators of trees.
-use Rattle.std.proofs.Common.{◌≡◌, ◌≢◌, ℕ, suc, ◌≤◌, ◌<◌, Bool, true, false, not, cond, List, [], ◌∷◌, ◌++◌, length, take, drop, Option, Some, None, is_some, option_map, sym, refl, ap, ◌∙◌, subst}
+use Rattle.std.proofs.Common.{◌≡◌, ◌≢◌, ℕ, suc, ◌≤◌, ◌<◌, Bool, true, false, not, cond, List, [], ◌∷◌, ◌++◌, length, take, drop, Option, Some, None, is_some, option_map, slice_set, Result, Ok, Err, OnOk, sym, refl, ap, ◌∙◌, subst, arith}
 use Rattle.std.specs.declared.cmp.Ordering.{Ordering}
 use Rattle.std.specs.declared.cmp.Ordering.TheVariants.{Less, Equal, Greater}
 use Rattle.std.specs.Ordering.{nat_cmp, eq_by_cmp, is_eq}
@@ -22,11 +22,14 @@ use Rattle.sled_model.specs.declared.call.Call.{Call}
 use Rattle.sled_model.specs.declared.tree.Tree.{Tree}
 use Rattle.tree_laws.specs.Contents.{trees_of}
 use Rattle.tree_laws.specs.Snapshot.{HasForest}
+use Rattle.sled_tree.specs.declared.flight.InFlight.{InFlight}
+use Rattle.sled_tree.specs.declared.flight.Went.{Went}
+use Rattle.sled_tree.specs.theory.StageAction.{FlightStepBy, Only}
 use Rattle.sled.specs.Values.{DbValue, numbers_of, named, state_of, db_state, snapshot_of_db}
 use Rattle.sled.specs.Sound.{IsDb}
 use Rattle.sled.specs.Calls.{MustBeRefused, must_be_refused_as}
 use Rattle.sled.specs.Operators.{OperatorSet, OperatorNotSet}
-use Rattle.sled.specs.theory.Operators.{with_operator}
+use Rattle.sled.specs.theory.Operators.{with_operator, place}
 use Rattle.sled.proofs.Testing.{first_alone, must_plain, must_operated, must_unoperated, must_first}
 use Rattle.sled.proofs.Trees.{current}
 
@@ -51,21 +54,61 @@ other k n off = go (eq_by_cmp nat_cmp k n) refl
     go false e = e
 
 module _ {M : Type 0} (n : ℕ) (operator : M) where
+  -- the one at the place goes, or the operator comes at the end
+  pub set_in : (es : List (ℕ × M)) → place n es < length es → slice_set es (place n es) (n, operator) ≡ with_operator n operator es
+  set_in [] h = absurd (omega arith)
+  set_in (e ∷ es) h = go (eq_by_cmp nat_cmp n e.0) (set_in es) h
+    where
+      less : (a b : ℕ) → suc a < suc b → a < b
+      less a b h = omega arith
+
+      go : (b : Bool) → (place n es < length es → slice_set es (place n es) (n, operator) ≡ with_operator n operator es) → cond b 0 (suc (place n es)) < suc (length es) → slice_set (e ∷ es) (cond b 0 (suc (place n es))) (n, operator) ≡ cond b ((n, operator) ∷ es) (e ∷ with_operator n operator es)
+      go true rest h = refl
+      go false rest h = ap (λ z. e ∷ z) (rest (less (place n es) (length es) h))
+
+  pub set_out : (es : List (ℕ × M)) → length es ≤ place n es → es ++ (n, operator) ∷ [] ≡ with_operator n operator es
+  set_out [] h = refl
+  set_out (e ∷ es) h = go (eq_by_cmp nat_cmp n e.0) (set_out es) h
+    where
+      less : (a b : ℕ) → suc a ≤ suc b → a ≤ b
+      less a b h = omega arith
+
+      none : {X : Type 0} (a : ℕ) → suc a ≤ 0 → X
+      none a h = absurd (omega arith)
+
+      go : (b : Bool) → (length es ≤ place n es → es ++ (n, operator) ∷ [] ≡ with_operator n operator es) → suc (length es) ≤ cond b 0 (suc (place n es)) → (e ∷ es) ++ (n, operator) ∷ [] ≡ cond b ((n, operator) ∷ es) (e ∷ with_operator n operator es)
+      go true rest h = none (length es) h
+      go false rest h = ap (λ z. e ∷ z) (rest (less (length es) (place n es) h))
+
   find_set : (es : List (ℕ × M)) → find nat_cmp n (with_operator n operator es) ≡ Some operator
   find_set [] = ap (λ b. cond b (Some operator) None) (itself n)
-  find_set (e ∷ es) = go (eq_by_cmp nat_cmp n e.0) refl
+  find_set (e ∷ es) = go (eq_by_cmp nat_cmp n e.0) (find_set es) refl
     where
-      go : (b : Bool) → eq_by_cmp nat_cmp n e.0 ≡ b → find nat_cmp n (cond b ((n, operator) ∷ es) (e ∷ with_operator n operator es)) ≡ Some operator
-      go true t = ap (λ b. cond b (Some operator) (find nat_cmp n es)) (itself n)
-      go false t = ap (λ b. cond b (Some e.1) (find nat_cmp n (with_operator n operator es))) t ∙ find_set es
+      go : (b : Bool) → find nat_cmp n (with_operator n operator es) ≡ Some operator → eq_by_cmp nat_cmp n e.0 ≡ b → find nat_cmp n (cond b ((n, operator) ∷ es) (e ∷ with_operator n operator es)) ≡ Some operator
+      go true rest t = ap (λ b. cond b (Some operator) (find nat_cmp n es)) (itself n)
+      go false rest t = ap (λ b. cond b (Some e.1) (find nat_cmp n (with_operator n operator es))) t ∙ rest
 
   find_other : (k : ℕ) → k ≢ n → (es : List (ℕ × M)) → find nat_cmp k (with_operator n operator es) ≡ find nat_cmp k es
   find_other k off [] = ap (λ b. cond b (Some operator) None) (other k n off)
-  find_other k off (e ∷ es) = go (eq_by_cmp nat_cmp n e.0) refl
+  find_other k off (e ∷ es) = go (eq_by_cmp nat_cmp n e.0) (find_other k off es) refl
     where
-      go : (b : Bool) → eq_by_cmp nat_cmp n e.0 ≡ b → find nat_cmp k (cond b ((n, operator) ∷ es) (e ∷ with_operator n operator es)) ≡ cond (eq_by_cmp nat_cmp k e.0) (Some e.1) (find nat_cmp k es)
-      go true t = ap (λ b. cond b (Some operator) (find nat_cmp k es)) (other k n off) ∙ sym (ap (λ b. cond b (Some e.1) (find nat_cmp k es)) (other k e.0 (λ s. off (s ∙ sym (one_number n e.0 t)))))
-      go false t = ap (λ z. cond (eq_by_cmp nat_cmp k e.0) (Some e.1) z) (find_other k off es)
+      go : (b : Bool) → find nat_cmp k (with_operator n operator es) ≡ find nat_cmp k es → eq_by_cmp nat_cmp n e.0 ≡ b → find nat_cmp k (cond b ((n, operator) ∷ es) (e ∷ with_operator n operator es)) ≡ cond (eq_by_cmp nat_cmp k e.0) (Some e.1) (find nat_cmp k es)
+      go true rest t = ap (λ b. cond b (Some operator) (find nat_cmp k es)) (other k n off) ∙ sym (ap (λ b. cond b (Some e.1) (find nat_cmp k es)) (other k e.0 (λ s. off (s ∙ sym (one_number n e.0 t)))))
+      go false rest t = ap (λ z. cond (eq_by_cmp nat_cmp k e.0) (Some e.1) z) rest
+
+pub replaced_in : {M : Type 0} (n : ℕ) (operator : M) (es : List (ℕ × M)) (i : ℕ) (x : ℕ × M) → i ≡ place n es → x ≡ (n, operator) → i < length es → slice_set es i x ≡ with_operator n operator es
+replaced_in n operator es i x at is h = ap (λ z. slice_set es z x) at ∙ ap (λ z. slice_set es (place n es) z) is ∙ set_in n operator es (subst (λ z. z < length es) at h)
+
+pub pushed_out : {M : Type 0} (n : ℕ) (operator : M) (es : List (ℕ × M)) (i : ℕ) (new : List (ℕ × M)) → i ≡ place n es → new ≡ es ++ (n, operator) ∷ [] → length es ≤ i → new ≡ with_operator n operator es
+pushed_out n operator es i new at is h = is ∙ set_out n operator es (subst (λ z. length es ≤ z) at h)
+
+-- the meaning of an operator that was found
+pub mapped : {A B C : Type 0} (f : B → C) (g : A → B) (o : Option A) → option_map (λ x. f (g x)) o ≡ option_map f (option_map g o)
+mapped f g None = refl
+mapped f g (Some x) = refl
+
+pub by_operator : {x y : Option Merge} {a b : Store} {f g : InFlight} {went : Went} → x ≡ y → FlightStepBy (Only x) a f went b g → FlightStepBy (Only y) a f went b g
+by_operator {a = a} {b = b} {f = f} {g = g} {went = went} e s = subst (λ z. FlightStepBy (Only z) a f went b g) e s
 
 -- ---- the tree that passed the tests
 
@@ -74,12 +117,12 @@ module _ {P M : Type 0} (store : P → Store) (meant : M → Merge) (old : DbVal
   found = option_map meant (find nat_cmp tree.number old.operators)
 
   -- it is there, with its operator
-  record IsThere : Type 0 where
-    number : numbers_of old.trees tree.name ≡ Some tree.number
-    map : Map
-    contents : trees_of (now (store old.pages)) tree.name ≡ Some map
+  pub record IsThere : Type 0 where
+    pub number : numbers_of old.trees tree.name ≡ Some tree.number
+    pub map : Map
+    pub contents : trees_of (now (store old.pages)) tree.name ≡ Some map
 
-  is_there : IsThere
+  pub is_there : IsThere
   is_there = go (numbers_of old.trees tree.name) (trees_of (now (store old.pages)) tree.name) refl refl (current (db_state store meant old) tree must)
     where
       apart : {X : Type 0} → false ≡ true → X
@@ -177,3 +220,11 @@ module _ {P M : Type 0} (store : P → Store) (meant : M → Merge) (old : DbVal
 
   pub set_db : IsDb store after
   set_db = record { forest = db.forest; is = db.is; sized = db.sized; safe = db.safe; ascends = db.ascends; default = db.default; unwatched = db.unwatched; ids = db.ids }
+
+-- the same, where a method knows the database by its fields
+pub set_told : {P M E : Type 0} (store : P → Store) (meant : M → Merge) (inside old : DbValue P M) (e : inside ≡ old) (db : IsDb store inside) (tree : Tree) (operator : M) (r : Result (Unit {0}) E) (operators : List (ℕ × M))
+    → must_refuse_of (db_state store meant old) (tree ∷ []) ≡ None → OnOk r (operators ≡ with_operator tree.number operator inside.operators) → OnOk r (OperatorSet store meant old tree (meant operator) (record inside { operators = operators }))
+set_told store meant inside old e db tree operator (Ok done) operators must is =
+    subst (λ z. OperatorSet store meant z tree (meant operator) (record inside { operators = operators })) e
+    (subst (λ z. OperatorSet store meant inside tree (meant operator) (record inside { operators = z })) (sym is) (set_now store meant inside db tree (subst (λ z. must_refuse_of (db_state store meant z) (tree ∷ []) ≡ None) (sym e) must) operator))
+set_told store meant inside old e db tree operator (Err x) operators must is = tt

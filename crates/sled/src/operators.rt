@@ -1,10 +1,10 @@
 //! The merge operators of the trees, in a list with the number of the tree beside each. It is as long as there are trees that have one.
-ghost use Rattle.std.specs.Prelude.{◌≡◌, IfOk, IfErr, OnOk};
+ghost use Rattle.std.specs.Prelude.{◌≡◌, IfErr, OnOk, OnErr};
 ghost use Rattle.std.specs.FinMap.Entries.{find};
 ghost use Rattle.std.specs.Ordering.{nat_cmp};
 ghost use Rattle.std.specs.Option.{option_copied};
 ghost use Rattle.sled_pages.specs.declared.error.Error.TheVariants.{NoMemory};
-ghost use Rattle.sled.specs.theory.Operators.{with_operator, IsPlaceOf};
+ghost use Rattle.sled.specs.theory.Operators.{with_operator, place};
 
 use crate::db::Db;
 use sled_model::{MergeOperator, Tree};
@@ -24,7 +24,7 @@ pub(crate) fn operator_of<M>(operators: &[(u64, M)], number: u64) -> Option<&M>
 
 // The place of the tree of this number in the list; where it has none, the list's end.
 fn place_of<M>(operators: &[(u64, M)], number: u64) -> usize
-    ensures { IsPlaceOf number result operators.now }
+    ensures { result ≡ place number operators.now }
 {
     for i in 0..operators.len() {
         if number.cmp(&operators[i].0).is_eq() {

@@ -1,5 +1,5 @@
 -- Of Operators, for proofs. The list of the merge operators.
-use Rattle.std.specs.Prelude.{◌≡◌, ℕ, suc, ◌≤◌, List, [], ◌∷◌, ◌++◌, length, take, drop, if◌then◌else◌}
+use Rattle.std.specs.Prelude.{ℕ, suc, List, [], ◌∷◌, if◌then◌else◌}
 use Rattle.std.specs.Ordering.{nat_cmp, eq_by_cmp}
 
 -- the list in which the tree of this number has the operator: in the place of the one that it has, or at the end
@@ -8,6 +8,6 @@ with_operator number operator [] = (number, operator) ∷ []
 with_operator number operator (e ∷ es) = if eq_by_cmp nat_cmp number e.0 then ((number, operator) ∷ es) else (e ∷ with_operator number operator es)
 
 -- the place of the tree of this number, or the end
-pub record IsPlaceOf {M : Type 0} (number place : ℕ) (es : List (ℕ × M)) : Type 0 where
-  pub fits : place ≤ length es
-  pub is : (operator : M) → with_operator number operator es ≡ take place es ++ (number, operator) ∷ drop (suc place) es
+abbrev pub place : {M : Type 0} → ℕ → List (ℕ × M) → ℕ
+place number [] = 0
+place number (e ∷ es) = if eq_by_cmp nat_cmp number e.0 then 0 else (suc (place number es))
