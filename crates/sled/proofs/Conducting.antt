@@ -1,5 +1,5 @@
 -- Calls that are made at once, in no slot.
-use Rattle.std.proofs.Common.{◌≡◌, ◌≢◌, ℕ, zero, suc, ◌+◌, ◌<◌, ◌≤◌, ◌⊎◌, Bool, true, false, List, [], ◌∷◌, ◌++◌, length, Option, Some, None, option_map, sym, refl, ap, ◌∙◌, subst, inl, inr, arith}
+use Rattle.std.proofs.Common.{◌≡◌, ℕ, zero, suc, ◌+◌, ◌<◌, ◌⊎◌, Bool, true, false, List, [], ◌∷◌, ◌++◌, length, Option, Some, None, option_map, sym, refl, ap, ◌∙◌, subst, inl, inr, arith}
 use Rattle.std.proofs.lemmas.Bool.{cases_lt}
 use Rattle.sled_pages.specs.In.{In}
 use Rattle.sled_pages.specs.State.{nodes_of}
@@ -10,7 +10,7 @@ use Rattle.sled_pages.specs.declared.error.Error.{Error}
 use Rattle.sled_pages.specs.declared.error.Error.TheVariants as error
 use Rattle.sled_model.specs.Maps.{Maps, Merge}
 use Rattle.sled_model.specs.State.{State, CallInFlight, maps_of}
-use Rattle.sled_model.specs.Refusal.{MustRefuse, IsClosed, IsForeign, IsDropped, HasNoOperator, ToStep, ToPoint, must_refuse, must_refuse_of, needs_operator, MayRefuse, MeetsFullQueue, TellsTurns, cause_of, may_refuse_as, turns_limit}
+use Rattle.sled_model.specs.Refusal.{MustRefuse, IsClosed, IsForeign, IsDropped, HasNoOperator, ToStep, ToPoint, must_refuse, must_refuse_of, needs_operator, MayRefuse, TellsTurns, cause_of, may_refuse_as, turns_limit}
 use Rattle.sled_model.specs.Transition.{Decide, RefuseStep}
 use Rattle.sled_model.specs.Whole.{DecidesPoint, RefusesPoint}
 use Rattle.sled_model.specs.declared.call.Call.{Call}
@@ -18,11 +18,10 @@ use Rattle.sled_model.specs.declared.reply.Reply.{Reply}
 use Rattle.sled_model.specs.declared.tree.Tree.{Tree}
 use Rattle.tree_laws.specs.Forest.{Place, Forest}
 use Rattle.tree_laws.specs.Snapshot.{Snapshot, nodes_at, HasForest}
-use Rattle.tree_laws.specs.Paths.{IsClean}
 use Rattle.tree_laws.specs.Crashes.{AddsCrashStates}
 use Rattle.tree_laws.proofs.Crashing.{extends_same, extends_then}
 use Rattle.sled_tree.specs.Known.{IsKnown, AreApart}
-use Rattle.sled_tree.specs.StageAction.{ActsOnce, ActsAtMostOnce}
+use Rattle.sled_tree.specs.StageAction.{ActsAtMostOnce}
 use Rattle.sled_tree.specs.declared.flight.InFlight.{InFlight}
 use Rattle.sled_tree.specs.declared.flight.Job.{Job}
 use Rattle.sled_tree.specs.declared.flight.Went.{Went}

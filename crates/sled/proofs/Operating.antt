@@ -1,11 +1,10 @@
 -- Merge operators of trees.
-use Rattle.std.proofs.Common.{◌≡◌, ◌≢◌, ℕ, suc, ◌≤◌, ◌<◌, Bool, true, false, not, cond, List, [], ◌∷◌, ◌++◌, length, take, drop, Option, Some, None, is_some, option_map, slice_set, Result, Ok, Err, OnOk, sym, refl, ap, ◌∙◌, subst, arith}
+use Rattle.std.proofs.Common.{◌≡◌, ◌≢◌, ℕ, suc, ◌≤◌, ◌<◌, Bool, true, false, cond, List, [], ◌∷◌, ◌++◌, length, Option, Some, None, is_some, option_map, slice_set, Result, Ok, Err, OnOk, sym, refl, ap, ◌∙◌, subst, arith}
 use Rattle.std.specs.declared.cmp.Ordering.{Ordering}
 use Rattle.std.specs.declared.cmp.Ordering.TheVariants.{Less, Equal, Greater}
 use Rattle.std.specs.Ordering.{nat_cmp, eq_by_cmp, is_eq}
 use Rattle.std.specs.FinMap.{nat_cmp-IsAntisymmetric}
 use Rattle.std.specs.FinMap.Entries.{find}
-use Rattle.std.specs.Option.{option_copied}
 use Rattle.std.specs.Str.{bytes_eq}
 use Rattle.std.proofs.lemmas.Cmp.{nat_cmp_total, tied_itself}
 use Rattle.std.proofs.lemmas.Bool.{eqb-true}
@@ -16,19 +15,18 @@ use Rattle.sled_pages.specs.Store.{Store, now}
 use Rattle.sled_pages.specs.declared.error.Error.{Error}
 use Rattle.sled_pages.specs.declared.error.Error.TheVariants as error
 use Rattle.sled_model.specs.Maps.{Map, Merge}
-use Rattle.sled_model.specs.State.{State, NamedTree, CallInFlight}
-use Rattle.sled_model.specs.Refusal.{MustRefuse, HasNoOperator, first_of, is_number, must_refuse, must_refuse_of, may_refuse_as, needs_operator, has_operator, ToPoint, ToSetOperator}
+use Rattle.sled_model.specs.State.{NamedTree}
+use Rattle.sled_model.specs.Refusal.{MustRefuse, HasNoOperator, is_number, must_refuse, must_refuse_of, may_refuse_as, needs_operator, has_operator, ToPoint, ToSetOperator}
 use Rattle.sled_model.specs.declared.call.Call.{Call}
 use Rattle.sled_model.specs.declared.tree.Tree.{Tree}
 use Rattle.tree_laws.specs.Contents.{trees_of}
-use Rattle.tree_laws.specs.Snapshot.{HasForest}
 use Rattle.sled_tree.specs.declared.flight.InFlight.{InFlight}
 use Rattle.sled_tree.specs.declared.flight.Went.{Went}
 use Rattle.sled_tree.specs.theory.StageAction.{FlightStepBy, Only}
-use Rattle.sled.specs.Values.{DbValue, numbers_of, named, state_of, db_state, snapshot_of_db}
+use Rattle.sled.specs.Values.{DbValue, numbers_of, named, state_of, db_state}
 use Rattle.sled.specs.Sound.{IsDb}
 use Rattle.sled.specs.Calls.{MustBeRefused, must_be_refused_as}
-use Rattle.sled.specs.Operators.{OperatorSet, OperatorNotSet}
+use Rattle.sled.specs.Operators.{OperatorSet, OperatorNotSet, without_operators}
 use Rattle.sled.specs.theory.Operators.{with_operator, place}
 use Rattle.sled.proofs.Testing.{first_alone, must_plain, must_operated, must_unoperated, must_first}
 use Rattle.sled.proofs.Trees.{current}
@@ -228,3 +226,7 @@ set_told store meant inside old e db tree operator (Ok done) operators must is =
     subst (λ z. OperatorSet store meant z tree (meant operator) (record inside { operators = operators })) e
     (subst (λ z. OperatorSet store meant inside tree (meant operator) (record inside { operators = z })) (sym is) (set_now store meant inside db tree (subst (λ z. must_refuse_of (db_state store meant z) (tree ∷ []) ≡ None) (sym e) must) operator))
 set_told store meant inside old e db tree operator (Err x) operators must is = tt
+
+-- what holds of a database holds of it without its operators
+pub bare_db : {P M N : Type 0} (store : P → Store) (d : DbValue P M) → IsDb store d → IsDb store (without_operators {N = N} d)
+bare_db store d s = record { forest = s.forest; is = s.is; sized = s.sized; safe = s.safe; ascends = s.ascends; default = s.default; unwatched = s.unwatched; ids = s.ids }

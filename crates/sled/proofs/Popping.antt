@@ -1,5 +1,5 @@
 -- Calls that take out the pair at an end of a tree, and clears.
-use Rattle.std.proofs.Common.{◌≡◌, ◌≢◌, ℕ, zero, suc, ◌+◌, ◌<◌, ◌≤◌, ◌⊎◌, Bool, true, false, not, cond, List, [], ◌∷◌, ◌++◌, append-nil, length, Option, Some, None, is_some, Result, Ok, Err, IfOk, IfErr, sym, refl, ap, ◌∙◌, subst, inl, inr, arith}
+use Rattle.std.proofs.Common.{◌≡◌, ◌≢◌, ℕ, zero, suc, ◌<◌, ◌≤◌, ◌⊎◌, Bool, true, false, not, cond, List, [], ◌∷◌, ◌++◌, append-nil, length, Option, Some, None, is_some, Result, Ok, Err, IfOk, IfErr, sym, refl, ap, ◌∙◌, subst, inl, inr, arith}
 use Rattle.std.proofs.lemmas.Cmp.{tied_itself}
 use Rattle.std.specs.List.{filter, list_any}
 use Rattle.std.specs.FinMap.Entries.{find}
@@ -9,17 +9,16 @@ use Rattle.sled_pages.specs.Order.{Key, key_cmp}
 use Rattle.sled_pages.specs.Among.{is_from, is_up_to, IsSuccessor, IsPredecessor}
 use Rattle.sled_pages.specs.Node.{without}
 use Rattle.sled_pages.specs.theory.Facts.{put_name_here}
-use Rattle.sled_pages.specs.Update.{put_name}
 use Rattle.sled_pages.specs.Store.{Store, now}
 use Rattle.sled_pages.specs.declared.error.Error.{Error}
 use Rattle.sled_pages.specs.declared.error.Error.TheVariants as error
 use Rattle.sled_pages.specs.declared.texts.TheConstants.{WALK_PASSED_TURNS}
 use Rattle.sled_model.specs.Maps.{Map, Maps, Merge, IsLeast, IsGreatest}
-use Rattle.sled_model.specs.Answer.{Answer, answer_of, map_after}
+use Rattle.sled_model.specs.Answer.{answer_of, map_after}
 use Rattle.sled_model.specs.State.{State, NamedTree, CallInFlight, maps_of, after_decision_on}
-use Rattle.sled_model.specs.Refusal.{MustRefuse, IsClosed, IsForeign, IsDropped, HasNoOperator, first_of, must_refuse, must_refuse_of, MayRefuse, MeetsFullQueue, EndMeetsFullQueue, TellsTurns, ToPoint, ToCall, cause_of, may_refuse_as, tells, turns_limit}
+use Rattle.sled_model.specs.Refusal.{MustRefuse, IsClosed, IsForeign, IsDropped, HasNoOperator, first_of, must_refuse, must_refuse_of, MayRefuse, EndMeetsFullQueue, TellsTurns, ToPoint, ToCall, cause_of, may_refuse_as}
 use Rattle.sled_model.specs.Transition.{Configuration, WholeDecides, WholeRefuses}
-use Rattle.sled_model.specs.Whole.{Pops, after_pop, RemovesLeast, RemovesNone, RemovesOne, Clears, StopsClearing}
+use Rattle.sled_model.specs.Whole.{Pops, RemovesLeast, RemovesNone, RemovesOne}
 use Rattle.sled_model.specs.declared.call.Call.TheVariants.{Remove}
 use Rattle.sled_model.specs.declared.call.Whole.{Whole}
 use Rattle.sled_model.specs.declared.call.Whole.TheVariants.{PopMin, PopMax, Clear}
@@ -37,7 +36,7 @@ use Rattle.sled.specs.Sound.{IsDb}
 use Rattle.sled.specs.Flights.{IsStepRefused}
 use Rattle.sled.specs.Reads.{ReadsMap, RefusesReading, refuses_reading_as, stops_reading}
 use Rattle.sled.specs.Direct.{ActsOften, NoAction, OneAction, Conducts, PointDecided, PointRefused, WholeDecided, WholeRefused}
-use Rattle.sled.specs.Pops.{TakesOut, RefusesToTake, IsAtEnd, PopsBySteps, PopRefusedBySteps, IsLongWay, GivesUpPop, ClearsBySteps, ClearsNone, ClearsMore, ClearRefusedBySteps}
+use Rattle.sled.specs.Pops.{TakesOut, RefusesToTake, IsAtEnd, PopsBySteps, PopRefusedBySteps, GivesUpPop, ClearsBySteps, ClearsNone, ClearsMore, ClearRefusedBySteps}
 use Rattle.sled.proofs.Conducting.{conducts_then, conducts_none, conducts_refused}
 use Rattle.sled.proofs.Testing.{tested_calm}
 use Rattle.sled.proofs.Trees.{maps_are}

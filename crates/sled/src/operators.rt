@@ -51,7 +51,32 @@ fn set_operator<M: Drop>(operators: &mut Vec<(u64, M)>, number: u64, operator: M
 }
 
 impl<P: Pages, M: MergeOperator> Db<P, M> {
-    ghost use Rattle.sled.specs.Operators.{OperatorSet, OperatorNotSet};
+    ghost use Rattle.sled.specs.Operators.{OperatorSet, OperatorNotSet, without_operators};
+
+    /// The same database for merge operators of another type. Those that it has are let go.
+    pub fn with_operators<N: MergeOperator>(self) -> Db<P, N>
+        ensures { result ≡ without_operators self }
+    {
+        let Db {
+            alloc,
+            pages,
+            name,
+            trees,
+            operators,
+            trees_given,
+            greatest_id,
+        } = self;
+        drop(operators);
+        Db {
+            alloc,
+            pages,
+            name,
+            trees,
+            operators: Vec::new(alloc),
+            trees_given,
+            greatest_id,
+        }
+    }
 
     /// Gives a tree a merge operator, in place of the one that it has. A merge is decided by the operator that its tree has at the
     /// step that decides it. A call that is refused lets the operator go.

@@ -30,7 +30,6 @@ use Rattle.sled_tree.proofs.Known.{known_new}
 use Rattle.tree_laws.specs.declared.flight.Stage.TheVariants.{Root}
 use Rattle.sled_tree.specs.declared.flight.Went.{Went}
 use Rattle.sled_tree.specs.declared.flight.Went.TheVariants.{Moved, Decided, Refused}
-use Rattle.sled.specs.Sound.{IsDb}
 use Rattle.sled.specs.Values.{DbValue, state_of, db_state, configuration_of as instant_of_db, snapshot_of_db}
 use Rattle.sled.specs.Calls.{MustBeRefused, must_be_refused_as}
 use Rattle.sled_tree.specs.Known.{IsKnown, AreApart}

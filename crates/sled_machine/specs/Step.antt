@@ -1,5 +1,5 @@
 -- One step of the machine.
-use Rattle.std.specs.Prelude.{◌≡◌, ◌≢◌, ℕ, suc, ◌<◌, List, [], ◌∷◌, length, Option, Some, None}
+use Rattle.std.specs.Prelude.{◌≡◌, ◌≢◌, ℕ, suc, ◌<◌, List, [], length, Option, Some, None}
 use Rattle.sled_pages.specs.Store.{Store, now, after_flush}
 use Rattle.sled_model.specs.Maps.{Maps, Merge, IsLeast, IsGreatest}
 use Rattle.sled_model.specs.Answer.{answer_of}

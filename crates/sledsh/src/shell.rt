@@ -423,7 +423,7 @@ impl<'a> Shell<'a> {
             reads: self.reads,
         };
         match Db::open(self.alloc, counting, DATABASE) {
-            Ok(db) => self.live_over(db, input, output),
+            Ok(db) => self.live_over(db.with_operators(), input, output),
             Err((counting, error)) => {
                 self.live_shut(Kept::refused(counting.inner, crashes), error, input, output)
             }
