@@ -4,7 +4,7 @@ use Rattle.sled_pages.specs.Order.{Key}
 use Rattle.sled_pages.specs.Store.{Store}
 use Rattle.sled_model.specs.Maps.{Map, Maps, Merge, IsLeast, IsGreatest}
 use Rattle.sled_model.specs.State.{State, maps_of}
-use Rattle.sled_model.specs.Refusal.{Asked, ToCall, must_refuse}
+use Rattle.sled_model.specs.Refusal.{Asked, ToCall, ToStep, must_refuse}
 use Rattle.sled_model.specs.Transition.{Configuration, Transition}
 use Rattle.sled_model.specs.declared.call.Whole.TheVariants.{Flush, PopMin, PopMax, Clear}
 use Rattle.sled_model.specs.declared.outcome.Step.{Step}
@@ -13,6 +13,7 @@ use Rattle.sled_model.specs.declared.outcome.Outcome.{Outcome}
 use Rattle.sled_model.specs.declared.outcome.Outcome.TheVariants as outcome
 use Rattle.sled_model.specs.declared.tree.Tree.{Tree}
 use Rattle.tree_reads.specs.Walk.{once, for_each}
+use Rattle.sled.specs.Flights.{call_in_flight_of}
 use Rattle.sled.specs.Values.{db_state}
 use Rattle.sled_machine.specs.CrashMaps.{AreCrashMaps, crash_maps_after}
 use Rattle.sled_machine.specs.Run.{RunsWithCrashMaps, KeepsAll, KeepsMore, MachineSteps, NoCalls, OneCall}
@@ -48,7 +49,7 @@ module _ {P M : Type 0} (store : P → Store) (number : P → ℕ) (meant : M �
 
   module _ (a b : MachineValue P M) where
     plain_follows : (s : Step) (o : Outcome) → follows_stage_as store meant a s o b → follows_stage_as store (λ m. m) (plain_machine a) s o (plain_machine b)
-    plain_follows (step.Step slot) o h = λ f there must fits. let k = h f there (sym (same_tests store meant a.db (f.job.tree ∷ [])) ∙ must) fits in record { went = k.went; next = k.next; outcome = k.outcome; there = k.there; follows = k.follows }
+    plain_follows (step.Step slot) o h = λ f there must fits. let k = h f there (sym (same_tests store meant a.db (ToStep (call_in_flight_of f))) ∙ must) fits in record { went = k.went; next = k.next; outcome = k.outcome; there = k.there; follows = k.follows }
     plain_follows (step.Begin tree call) o h = h
     plain_follows (step.Abandon slot) o h = h
     plain_follows (step.Whole whole) o h = h

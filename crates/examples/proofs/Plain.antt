@@ -8,7 +8,7 @@ use Rattle.sled_pages.specs.Update.{put_at}
 use Rattle.sled_pages.specs.declared.error.Error.{Error}
 use Rattle.sled_model.specs.Maps.{Map, Maps, Merge, IsLeast}
 use Rattle.sled_model.specs.State.{State, CallInFlight, maps_of}
-use Rattle.sled_model.specs.Refusal.{must_refuse_of}
+use Rattle.sled_model.specs.Refusal.{Asked, ToStep, must_refuse}
 use Rattle.sled_model.specs.Transition.{Configuration, Transition}
 use Rattle.sled_model.specs.Whole.{DecidesPoint, RefusesPoint}
 use Rattle.sled_model.specs.declared.call.Call.{Call}
@@ -24,7 +24,7 @@ use Rattle.sled_tree.specs.declared.flight.InFlight.{InFlight}
 use Rattle.sled_tree.specs.declared.flight.Went.{Went}
 use Rattle.sled_tree.specs.declared.flight.Went.TheVariants.{Moved}
 use Rattle.sled.specs.Direct.{Conducts, PointDecided, PointRefused}
-use Rattle.sled.specs.Flights.{BringsEvent, DbStepContract, DbSteps, Ends, GoesOn, DbRunsToEnd, outcome_of, slot_after, maps_added}
+use Rattle.sled.specs.Flights.{call_in_flight_of, BringsEvent, DbStepContract, DbSteps, Ends, GoesOn, DbRunsToEnd, outcome_of, slot_after, maps_added}
 use Rattle.sled.specs.Opens.{Opens}
 use Rattle.sled.specs.Pops.{TakesOut, RefusesToTake, IsAtEnd, PopsBySteps, PopRefusedBySteps, IsLongWay, GivesUpPop, ClearsBySteps, ClearsNone, ClearsMore, ClearRefusedBySteps}
 use Rattle.sled.specs.Sound.{IsDb}
@@ -67,8 +67,8 @@ module _ {P M : Type 0} (store : P → Store) (meant : M → Merge) where
   pub same_db : (d : DbValue P M) → db_state store (λ o. o) (plain d) ≡ db_state store meant d
   same_db d = ap (λ (i : Configuration). i.state) (same_configuration d (λ n. None) 0 0)
 
-  pub same_tests : (d : DbValue P M) (trees : List Tree) → must_refuse_of (db_state store (λ o. o) (plain d)) trees ≡ must_refuse_of (db_state store meant d) trees
-  same_tests d trees = ap (λ (s : State). must_refuse_of s trees) (same_db d)
+  pub same_tests : (d : DbValue P M) (asked : Asked) → must_refuse (db_state store (λ o. o) (plain d)) asked ≡ must_refuse (db_state store meant d) asked
+  same_tests d asked = ap (λ (s : State). must_refuse s asked) (same_db d)
 
   same_tree : (d : DbValue P M) (name : Key) → (db_state store (λ o. o) (plain d)).trees name ≡ (db_state store meant d).trees name
   same_tree d name = ap (λ (s : State). s.trees name) (same_db d)
@@ -97,7 +97,7 @@ module _ {P M : Type 0} (store : P → Store) (meant : M → Merge) where
     };
     sound = record { keeps = λ d. plain_sound new (r.sound.keeps (meant_sound old d)) };
     does = record { does = r.does.does; quiet = λ b. r.does.quiet (plain_brings old f went None b); loud = λ event b. r.does.loud event (plain_brings old f went (Some event) b) };
-    follows = λ must fits. r.follows (sym (same_tests old (f.job.tree ∷ [])) ∙ must) fits;
+    follows = λ must fits. r.follows (sym (same_tests old (ToStep (call_in_flight_of f))) ∙ must) fits;
     passes = r.passes;
     loses = r.loses;
     leaves = r.leaves;
