@@ -23,7 +23,7 @@ use Rattle.tree_laws.specs.Contents.{trees_of}
 use Rattle.sled_tree.specs.declared.flight.InFlight.{InFlight}
 use Rattle.sled_tree.specs.declared.flight.Went.{Went}
 use Rattle.sled_tree.specs.theory.StageAction.{FlightStepBy, Only}
-use Rattle.sled.specs.Values.{DbValue, numbers_of, named, state_of, db_state}
+use Rattle.sled.specs.Values.{DbValue, numbers_of, given_to, named, state_of, db_state}
 use Rattle.sled.specs.Sound.{IsDb}
 use Rattle.sled.specs.Calls.{MustBeRefused, must_be_refused_as}
 use Rattle.sled.specs.Operators.{OperatorSet, OperatorNotSet, without_operators}
@@ -216,8 +216,21 @@ module _ {P M : Type 0} (store : P → Store) (meant : M → Merge) (old : DbVal
     same = refl;
   }
 
+  -- its number was given
+  number_within : tree.number ≤ old.trees_given
+  number_within = within tree.number old.trees_given (db.is.given tree.name tree.number (is_there store meant old tree must).number)
+    where
+      within : (n last : ℕ) → given_to last n ≡ true → n ≤ last
+      within n last e = grind (arith, nat_tests)
+
+  set_ungiven : (n : ℕ) → old.trees_given < n → find nat_cmp n after.operators ≡ None
+  set_ungiven n above = find_other tree.number operator n (λ e. beyond n above (sym e) number_within) old.operators ∙ db.ungiven n above
+    where
+      beyond : (n : ℕ) → old.trees_given < n → tree.number ≡ n → tree.number ≤ old.trees_given → ⊥
+      beyond n above e within = omega arith
+
   pub set_db : IsDb store after
-  set_db = record { forest = db.forest; is = db.is; sized = db.sized; safe = db.safe; ascends = db.ascends; default = db.default; unwatched = db.unwatched; ids = db.ids }
+  set_db = record { forest = db.forest; is = db.is; sized = db.sized; safe = db.safe; ascends = db.ascends; default = db.default; ungiven = set_ungiven; unwatched = db.unwatched; ids = db.ids }
 
 -- the same, where a method knows the database by its fields
 pub set_told : {P M E : Type 0} (store : P → Store) (meant : M → Merge) (inside old : DbValue P M) (e : inside ≡ old) (db : IsDb store inside) (tree : Tree) (operator : M) (r : Result (Unit {0}) E) (operators : List (ℕ × M))
@@ -229,4 +242,4 @@ set_told store meant inside old e db tree operator (Err x) operators must is = t
 
 -- what holds of a database holds of it without its operators
 pub bare_db : {P M N : Type 0} (store : P → Store) (d : DbValue P M) → IsDb store d → IsDb store (without_operators {N = N} d)
-bare_db store d s = record { forest = s.forest; is = s.is; sized = s.sized; safe = s.safe; ascends = s.ascends; default = s.default; unwatched = s.unwatched; ids = s.ids }
+bare_db store d s = record { forest = s.forest; is = s.is; sized = s.sized; safe = s.safe; ascends = s.ascends; default = s.default; ungiven = λ n above. refl; unwatched = s.unwatched; ids = s.ids }

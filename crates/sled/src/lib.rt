@@ -17,6 +17,7 @@ mod names;
 mod open;
 mod operators;
 mod read;
+mod tree_list;
 mod whole;
 
 pub use db::Db;
