@@ -1,5 +1,5 @@
 -- What adding a job and taking one out do to the jobs that wait.
-use Rattle.std.proofs.Common.{◌≡◌, ℕ, Bool, true, false, not, cond, ◌&&◌, T, List, [], ◌∷◌, ◌++◌, Option, Some, None, option_map, is_some, Less, Equal, Greater, is_eq, sym, refl, ap, ◌∙◌, subst}
+use Rattle.std.proofs.Common.{◌≡◌, ℕ, Bool, true, false, not, cond, ◌&&◌, T, [], ◌∷◌, ◌++◌, Option, Some, None, option_map, is_some, Less, Equal, Greater, is_eq, sym, refl, ap, ◌∙◌, subst}
 use Rattle.std.specs.FinMap.Entries.{find, put, by_order, is_sorted, below_all}
 use Rattle.std.specs.List.{AllByRecursion}
 use Rattle.std.specs.Ordering.{is_lt, eq_by_cmp}

@@ -1,12 +1,14 @@
 -- No id comes twice: over the steps of a machine, and after a crash.
-use Rattle.std.proofs.Common.{◌≡◌, ℕ, zero, suc, ◌+◌, ◌<◌, ◌≤◌, List, [], ◌∷◌, ◌++◌, Option, Some, None, sym, refl, ap, subst, ◌∙◌, inl, inr, arith}
+use Rattle.std.proofs.Common.{◌≡◌, ℕ, zero, suc, ◌+◌, ◌≤◌, List, [], ◌∷◌, ◌++◌, Option, Some, None, refl, ap, ◌∙◌, arith}
 use Rattle.sled_pages.specs.Order.{Key}
 use Rattle.sled_pages.specs.Store.{Store}
 use Rattle.sled_pages.specs.Crash.{Crashes}
 use Rattle.sled_model.specs.Maps.{Maps, Merge}
-use Rattle.sled_model.specs.State.{State, NamedTree}
+use Rattle.sled_model.specs.Answer.{answer_of}
+use Rattle.sled_model.specs.State.{State, NamedTree, after_decision_on}
 use Rattle.sled_model.specs.Transition.{Configuration, transition_as}
 use Rattle.sled_model.specs.Whole.{after_pop, RemovesLeast, RemovesNone, RemovesOne, state_opened}
+use Rattle.sled_model.specs.declared.call.Call.TheVariants.{Remove}
 use Rattle.sled_model.specs.declared.call.Whole.{Whole}
 use Rattle.sled_model.specs.declared.call.Whole.TheVariants.{Flush, PopMin, PopMax, Clear, OpenTree, GenerateId}
 use Rattle.sled_model.specs.declared.outcome.Step.{Step}
@@ -36,7 +38,7 @@ popped s name t (Some pair) = refl
 
 removed : (tree : Tree) (a b : State) (n : ℕ) (maps : List Maps) → RemovesLeast tree a n b maps → b.greatest_id ≡ a.greatest_id
 removed tree a b zero [] RemovesNone = refl
-removed tree a b (suc n) (m ∷ maps) (RemovesOne named pair rest there is more) = removed tree _ b n maps more
+removed tree a b (suc n) (m ∷ maps) (RemovesOne named pair rest there is more) = removed tree (after_decision_on a tree.name named (answer_of (Remove pair.0) named.map)) b n maps more
 removed tree a b zero (m ∷ maps) run = elim run [ ]
 removed tree a b (suc n) [] run = elim run [ ]
 
@@ -57,7 +59,7 @@ one_given low high (told.Pair p) r h = omega arith
 one_given low high (told.Tree t) r h = omega arith
 
 whole_rises : (a b : Configuration) (w : Whole) (o : Outcome) (maps : List Maps) → transition_as a (step.Whole w) o b maps → RiseBetween a.state.greatest_id (id_of (step.Whole w) o) b.state.greatest_id
-whole_rises a b Flush (outcome.Decided reply) maps t = stays a.state b.state t.2.0
+whole_rises a b Flush (outcome.Decided reply) maps t = stays a.state b.state t.2
 whole_rises a b (PopMin tree) (outcome.Decided reply) maps t = at_most _ _ (ap (λ (s : State). s.greatest_id) t.is ∙ popped a.state tree.name t.named t.found)
 whole_rises a b (PopMax tree) (outcome.Decided reply) maps t = at_most _ _ (ap (λ (s : State). s.greatest_id) t.is ∙ popped a.state tree.name t.named t.found)
 whole_rises a b (Clear tree) (outcome.Decided reply) maps t = at_most _ _ (removed tree a.state b.state t.1.parts maps t.1.removes)
@@ -77,7 +79,7 @@ whole_rises a b w outcome.NoSuchSlot maps t = absurd t
 step_rises : (a b : Configuration) (s : Step) (o : Outcome) (maps : List Maps) → transition_as a s o b maps → RiseBetween a.state.greatest_id (id_of s o) b.state.greatest_id
 step_rises a b (step.Whole w) o maps t = whole_rises a b w o maps t
 step_rises a b (step.Begin tree call) (outcome.Begun slot) maps t = at_most _ _ (ap (λ (s : State). s.greatest_id) t.0.is)
-step_rises a b (step.Begin tree call) (outcome.Refused e) maps t = stays a.state b.state t.1.0
+step_rises a b (step.Begin tree call) (outcome.Refused e) maps t = stays a.state b.state t.1
 step_rises a b (step.Begin tree call) outcome.Moved maps t = absurd t
 step_rises a b (step.Begin tree call) (outcome.Decided reply) maps t = absurd t
 step_rises a b (step.Begin tree call) outcome.Abandoned maps t = absurd t
