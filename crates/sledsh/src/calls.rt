@@ -242,7 +242,11 @@ fn read_steps(
 }
 
 // Does steps, and adds how each of them came out.
-fn perform(session: &mut Session<Counting<'_>, Operator>, steps: &[Step], out: &mut Vec<u8>) -> Result<()> {
+fn perform(
+    session: &mut Session<Counting<'_>, Operator>,
+    steps: &[Step],
+    out: &mut Vec<u8>,
+) -> Result<()> {
     let outcomes = answered(session.perform(steps))?;
     let mut told = Ok(());
     for outcome in outcomes.as_slice() {

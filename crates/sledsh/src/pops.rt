@@ -15,7 +15,11 @@ pub enum Pop {
 }
 
 /// Makes the call in one step of the machine, and adds the line of its outcome.
-pub fn tell_pop(session: &mut Session<Counting<'_>, Operator>, pop: Pop, out: &mut Vec<u8>) -> Result<()> {
+pub fn tell_pop(
+    session: &mut Session<Counting<'_>, Operator>,
+    pop: Pop,
+    out: &mut Vec<u8>,
+) -> Result<()> {
     let tree = match session.tree().clone() {
         Ok(tree) => tree,
         Err(error) => return tell_refused(out, error),

@@ -200,7 +200,11 @@ impl<'a> Shell<'a> {
     }
 
     // Answers a read, with the words behind its own.
-    fn look(&mut self, session: &Session<Counting<'a>, Operator>, which: Look) -> Result<(), Stopped> {
+    fn look(
+        &mut self,
+        session: &Session<Counting<'a>, Operator>,
+        which: Look,
+    ) -> Result<(), Stopped> {
         let text = first_word(without_end(self.line.as_slice())).1;
         let (first, more) = first_word(text.unwrap_or(b""));
         let words = (first, more.unwrap_or(b""));
