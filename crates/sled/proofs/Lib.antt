@@ -12,3 +12,5 @@ pub mod Scanning
 pub mod Popping
 pub mod Naming
 pub mod Numbering
+pub mod Dropping
+pub mod Removing

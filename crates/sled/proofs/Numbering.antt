@@ -93,7 +93,7 @@ module _ {P M : Type 0} (store : P → Store) (meant : M → Merge) (old : DbVal
       at_most x y l = omega arith
 
   -- refused by the store, or for want of ids
-  leaves_rests : (q : P) → Rests (store old.pages) (store q) → LeavesAll store old (record old { pages = q })
+  pub leaves_rests : (q : P) → Rests (store old.pages) (store q) → LeavesAll store old (record old { pages = q })
   leaves_rests q r = record {
     extends = rests_extends r;
     left = rests_left r;
