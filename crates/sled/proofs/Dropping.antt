@@ -1,26 +1,24 @@
 -- Dropping a tree: its root goes, and then its pages do, one after the other.
-use Rattle.std.proofs.Common.{◌≡◌, ◌≢◌, ℕ, zero, suc, ◌+◌, ◌<◌, ◌≤◌, le_of_eq, Bool, true, false, not, cond, filter, nat_eq, List, [], ◌∷◌, ◌++◌, length, get_or, map, Option, Some, None, option_map, Result, Ok, sym, refl, ap, ◌∙◌, subst, inl, inr, ◌⊎◌, append_assoc, append-nil, arith}
+use Rattle.std.proofs.Common.{◌≡◌, ℕ, zero, suc, ◌+◌, ◌<◌, Bool, true, false, cond, nat_eq, List, [], ◌∷◌, length, get_or, Option, Some, None, option_map, Result, Ok, sym, refl, ap, ◌∙◌, subst, inl, inr, ◌⊎◌, arith}
 use Rattle.sled_pages.specs.In.{In}
 use Rattle.sled_pages.specs.Order.{Key}
-use Rattle.sled_pages.specs.Node.{pointers, count}
-use Rattle.sled_pages.specs.Update.{put_at, put_name}
-use Rattle.sled_pages.specs.State.{State, Action, Nodes, nodes_of, RootBecomes, PageBecomes, after}
+use Rattle.sled_pages.specs.Node.{pointers}
+use Rattle.sled_pages.specs.State.{State, Nodes, nodes_of, RootBecomes, PageBecomes}
 use Rattle.sled_pages.specs.Store.{Store, now, after_action, SwapsRoot}
-use Rattle.sled_pages.specs.theory.Facts.{now_acted, put_here, put_elsewhere}
+use Rattle.sled_pages.specs.theory.Facts.{now_acted, put_elsewhere}
 use Rattle.sled_pages.specs.declared.node.Node.{Node}
 use Rattle.sled_pages.specs.declared.node.Data.{Data}
 use Rattle.sled_pages.specs.declared.node.Data.TheVariants as kind
 use Rattle.sled_pages.specs.declared.page.Page.{Page}
 use Rattle.tree_laws.specs.Forest.{Tree, Forest, Place, place, head, first_child, WellFormed, IsSized, Holds, contents}
-use Rattle.tree_laws.specs.Contents.{trees_of, first_of, page_numbers}
-use Rattle.tree_laws.specs.Crashes.{IsValid, IsCrashConsistent, AddsCrashStates}
+use Rattle.tree_laws.specs.Contents.{first_of, page_numbers}
+use Rattle.tree_laws.specs.Crashes.{AddsCrashStates}
 use Rattle.tree_laws.specs.Snapshot.{Snapshot, snapshot_of, nodes_at, HasForest, IsOrphan}
 use Rattle.tree_laws.specs.Stages.{owned}
 use Rattle.tree_laws.specs.theory.Snapshot.{Guarantee, GrowsByReceiving}
-use Rattle.tree_laws.specs.theory.Laws.{after_free, after_drop}
-use Rattle.tree_laws.specs.theory.MapLaws.{Dropped}
-use Rattle.tree_laws.proofs.Crashing.{adds_acted, adds_extends, extends_nothing, extends_same, extends_then}
-use Rattle.tree_laws.proofs.Mapped.{drops_law, quiet_crash_law, well_law}
+use Rattle.tree_laws.specs.theory.Laws.{after_free}
+use Rattle.tree_laws.proofs.Crashing.{adds_acted, extends_nothing, extends_same, extends_then}
+use Rattle.tree_laws.proofs.Mapped.{quiet_crash_law}
 use Rattle.tree_laws.proofs.States.{free_law}
 use Rattle.tree_laws.proofs.Reading.{one_law}
 use Rattle.tree_laws.proofs.Staged.{apart_law}
@@ -30,7 +28,7 @@ use Rattle.sled_tree.specs.Stages.{Knows}
 use Rattle.sled_tree.specs.Known.{IsKnown}
 use Rattle.sled_tree.specs.declared.flight.InFlight.{InFlight}
 use Rattle.sled_tree.proofs.Known.{stage_kept}
-use Rattle.sled.specs.Flights.{PagesLast, StaysInChain, KeepsTreePages}
+use Rattle.sled.specs.Flights.{PagesLast}
 use Rattle.sled.specs.theory.Drops.{first_pages_down, CountsFaults, FreesPage, FreesPages, FreesNone, FreesOne, Counts, KeepsOrFrees, FreesFrom, DropsRoot}
 
 none_some : {P X : Type 0} {x : X} → None ≡ Some x → P
@@ -84,7 +82,7 @@ first_in s w f t root e firsts is p i = let k = top_head f t root e in begins_le
 
 pub frees_then : {was : Forest} {t : Tree} {a b c : Store} → FreesPages was t a b → FreesPages was t b c → FreesPages was t a c
 frees_then FreesNone more = more
-frees_then (FreesOne p h i rest) more = FreesOne p h i (frees_then rest more)
+frees_then (FreesOne p h page i live rest) more = FreesOne p h page i live (frees_then rest more)
 frees_then (Counts rest) more = Counts (frees_then rest more)
 
 -- where nothing was freed
@@ -116,7 +114,7 @@ keeps_free {nodes} p a k = record { is = λ q h i. go q (gone_nodes p a q) (k.is
 
 pub keeps_frees : {nodes : Nodes} {was : Forest} {t : Tree} {a b : Store} → FreesPages was t a b → KeepsOrFrees nodes was t a → KeepsOrFrees nodes was t b
 keeps_frees FreesNone k = k
-keeps_frees {a = a} (FreesOne p h i rest) k = keeps_frees rest (keeps_free p a k)
+keeps_frees {a = a} (FreesOne p h page i live rest) k = keeps_frees rest (keeps_free p a k)
 keeps_frees (Counts rest) k = keeps_frees rest (record { is = k.is })
 
 -- A walk along a level: what it freed, and where it goes on
@@ -136,9 +134,8 @@ along_more first cursor pid next a b c so at page = record { is = λ nodes roots
         → FreesPages was t a c × ((p : ℕ) → next ≡ Some p → In p (was.chain (place t h)))
     go nodes roots was f t k h i (freed, stands) (inl (page, live, leads, is)) =
         let here : In pid (was.chain (place t h)) = stands pid at in
-        let node : nodes_of (now b) pid ≡ Some page.node = ap (option_map (λ (g : Page). g.node)) live in
-        (
-          frees_then freed (FreesOne pid h here (subst (λ (z : Store). FreesPages was t (after_action (PageBecomes pid None) b) z) (sym is) FreesNone)),
+        let node : nodes_of (now b) pid ≡ Some page.node = ap (option_map (λ (g : Page). g.node)) live in (
+          frees_then freed (FreesOne pid h page here live (subst (λ (z : Store). FreesPages was t (after_action (PageBecomes pid None) b) z) (sym is) FreesNone)),
           λ p e. elim ((keeps_frees freed k).is pid h here) [
             | inl same ↦ ((next_in_law nodes roots was f (place t h) pid page.node here (sym same ∙ node)).0 p (sym leads ∙ e)).1
             | inr none ↦ none_some (sym none ∙ node)
@@ -162,18 +159,22 @@ pub from_none : (firsts : List ℕ) (a : Store) → FreesFrom firsts a a
 from_none firsts a = record { is = λ nodes roots was f t k all. FreesNone }
 
 pub from_more : (firsts : List ℕ) (first : ℕ) (a b c : Store) → In first firsts → FreesFrom firsts a b → FreesFrom (first ∷ []) b c → FreesFrom firsts a c
-from_more firsts first a b c i so level = record { is = λ nodes roots was f t k all.
-    let freed = so.is nodes roots was f t k all in
-    frees_then freed (level.is nodes roots was f t (keeps_frees freed k) (λ p j. elim j [ inl e ↦ subst (λ z. (h : ℕ) × In z (was.chain (place t h))) (sym e) (all first i) | inr none ↦ absurd none ])) }
+from_more firsts first a b c i so level = record {
+  is = λ nodes roots was f t k all.
+      let freed = so.is nodes roots was f t k all in
+      frees_then freed (level.is nodes roots was f t (keeps_frees freed k) (λ p j. elim j [ inl e ↦ subst (λ z. (h : ℕ) × In z (was.chain (place t h))) (sym e) (all first i) | inr none ↦ absurd none ]));
+}
 
 -- the root goes, and then the pages of the levels that it leads to
 pub root_dropped : (name : Key) (root : ℕ) (firsts : List ℕ) (a mid b : Store) {answer : Result (Unit {0}) (Option ℕ)} (done : Unit {0}) → (now a).roots name ≡ Some root → firsts ≡ first_pages_down page_numbers (nodes_of (now a)) (Some root)
     → SwapsRoot name (Some root) None a mid answer → answer ≡ Ok done → FreesFrom firsts mid b → DropsRoot name a b
 root_dropped name root firsts a mid b done named is swaps ok frees =
     let gone : mid ≡ after_action (RootBecomes name None) a = (subst (λ z. SwapsRoot name (Some root) None a mid z) ok swaps).is.1 in
-    record { is = λ was f. subst (λ (s : Store). FreesPages was name s b) gone (frees.is (nodes_of (now a)) (now a).roots was f name
-        (record { is = λ p h i. inl (ap (λ (s : Store). nodes_of (now s) p) gone ∙ ap (λ (s : State). nodes_of s p) (now_acted (RootBecomes name None) a)) })
-        (first_in (now a) was f name root named firsts is)) }
+    record {
+      is = λ was f. subst (λ (s : Store). FreesPages was name s b) gone (frees.is (nodes_of (now a)) (now a).roots was f name
+          (record { is = λ p h i. inl (ap (λ (s : Store). nodes_of (now s) p) gone ∙ ap (λ (s : State). nodes_of s p) (now_acted (RootBecomes name None) a)) })
+          (first_in (now a) was f name root named firsts is));
+    }
 
 -- ---- what that leaves of all else
 
@@ -313,7 +314,7 @@ module _ (numbers : Tree → Option ℕ) (given : ℕ → Bool) (was w : Forest)
 
   pub leaves_all : {a b : Store} → FreesPages was t a b → HasForest (at a) w → IsSized (nodes_at (at a)) w → (now a).in_group ≡ false → Leaves a b
   leaves_all {a} FreesNone is sized out = leaves_same a is sized out
-  leaves_all {a} (FreesOne p h i rest) is sized out =
+  leaves_all {a} (FreesOne p h page i live rest) is sized out =
       let one = leaves_one a p h i is sized out in
       leaves_then is one (leaves_all rest one.is one.sized one.no_group)
   leaves_all {a} (Counts rest) is sized out =

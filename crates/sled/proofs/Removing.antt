@@ -1,29 +1,31 @@
 -- A tree that is dropped, as the database's.
-use Rattle.std.proofs.Common.{◌≡◌, ◌≢◌, ℕ, suc, ◌+◌, ◌≤◌, le_of_eq, Bool, true, false, not, cond, filter, nat_eq, List, [], ◌∷◌, ◌++◌, length, map, Option, Some, None, option_map, sym, refl, ap, ◌∙◌, subst, inl, inr, ◌⊎◌, append_assoc, append-nil, arith}
+use Rattle.std.proofs.Common.{◌≡◌, ◌≢◌, ℕ, suc, ◌+◌, ◌≤◌, le_of_eq, Bool, true, false, not, cond, filter, nat_eq, List, [], ◌∷◌, ◌++◌, length, map, Option, Some, None, option_map, sym, refl, ap, ◌∙◌, subst, inl, inr, append_assoc, append-nil, arith}
 use Rattle.std.proofs.Math.Path.{fun_ext}
 use Rattle.std.proofs.lemmas.Bool.{ne_eqb}
 use Rattle.std.specs.FinMap.{nat_cmp-IsAntisymmetric}
 use Rattle.std.specs.FinMap.Entries.{find, find-where_key, is_sorted}
+use Rattle.std.specs.List.{AllByRecursion, IsDistinct}
 use Rattle.std.specs.Ordering.{nat_cmp, eq_by_cmp}
 use Rattle.std.specs.Str.{bytes_eq}
 use Rattle.sled_pages.specs.In.{In}
 use Rattle.sled_pages.specs.Order.{Key, key_cmp}
 use Rattle.sled_pages.specs.Node.{without, count}
 use Rattle.sled_pages.specs.Update.{put_name}
-use Rattle.sled_pages.specs.State.{State, Action, nodes_of, RootBecomes, PageBecomes}
+use Rattle.sled_pages.specs.State.{State, nodes_of, RootBecomes, PageBecomes}
 use Rattle.sled_pages.specs.Store.{Store, now, after_action}
-use Rattle.sled_pages.specs.theory.Facts.{now_acted, same_name, name_itself, put_name_here, put_name_elsewhere}
+use Rattle.sled_pages.specs.theory.Facts.{now_acted, put_here, put_elsewhere, same_name, name_itself, put_name_elsewhere}
 use Rattle.sled_pages.proofs.Roots.{root_out, out_ascends}
 use Rattle.sled_pages.specs.declared.node.Node.{Node}
+use Rattle.sled_pages.specs.declared.page.Page.{Page}
 use Rattle.sled_pages.specs.declared.error.Error.{Error}
 use Rattle.sled_pages.specs.declared.error.Error.TheVariants as error
 use Rattle.sled_model.specs.Maps.{Map, Maps, Merge}
-use Rattle.sled_model.specs.State.{NamedTree, CallInFlight, maps_of}
+use Rattle.sled_model.specs.State.{CallInFlight, maps_of}
 use Rattle.sled_model.specs.Refusal.{must_refuse_of, first_of, IsClosed}
 use Rattle.tree_laws.specs.Forest.{Tree, Forest, Place, place, IsSized, contents}
 use Rattle.tree_laws.specs.Contents.{trees_of}
 use Rattle.tree_laws.specs.Crashes.{AddsCrashStates}
-use Rattle.tree_laws.specs.Snapshot.{Snapshot, snapshot_of, nodes_at, HasForest, IsOrphan}
+use Rattle.tree_laws.specs.Snapshot.{Snapshot, snapshot_of, nodes_at, HasForest}
 use Rattle.tree_laws.specs.theory.Snapshot.{Guarantee, GrowsByReceiving}
 use Rattle.tree_laws.specs.theory.Laws.{after_drop}
 use Rattle.tree_laws.specs.theory.MapLaws.{Dropped}
@@ -37,14 +39,13 @@ use Rattle.sled.specs.declared.TheConstants.{DEFAULT_TREE}
 use Rattle.sled.specs.Values.{DbValue, default_name, numbers_of, given_to, named, state_of, db_state, snapshot_of_db}
 use Rattle.sled.specs.Sound.{IsDb}
 use Rattle.sled.specs.Flights.{PagesLast, StaysInChain, KeepsTreePages}
-use Rattle.sled.specs.Ids.{LeavesAll}
-use Rattle.sled.specs.Drops.{RemovesTree, DropsNamed, DropsTree, MightDrop, refuses_drop_as, RefusesDrop}
+use Rattle.sled.specs.Drops.{RemovesTree, DropsTree, MightDrop, refuses_drop_as, RefusesDrop}
 use Rattle.sled.specs.theory.Drops.{FreesPages, FreesNone, FreesOne, Counts, DropsRoot}
 use Rattle.sled.proofs.Dropping.{known_on, off_chains, lasts_goes, lasts_then, number_given, Leaves, leaves_all}
 use Rattle.sled.proofs.Flushing.{same_state}
 use Rattle.sled.proofs.Opening.{default_is}
 use Rattle.sled.proofs.Numbering.{leaves_rests}
-use Rattle.sled.proofs.Resting.{Rests, rests_same, rests_refused, rests_now}
+use Rattle.sled.proofs.Resting.{rests_same, rests_refused, rests_now}
 use Rattle.sled.proofs.Trees.{trees_at, trees_same, maps_are}
 
 none_some : {P X : Type 0} {x : X} → None ≡ Some x → P
@@ -61,6 +62,8 @@ false_true e = cc
 pub record Freed (was : Forest) (t : Tree) (a b : Store) : Type 0 where
   pub freed : List ℕ
   pub each : (p : ℕ) → In p freed → (h : ℕ) × In p (was.chain (place t h))
+  pub there : (p : ℕ) → In p freed → (page : Page) × ((now a).pages p ≡ Some page)
+  pub once : IsDistinct nat_eq freed
   pub faults : ℕ
   pub counts : a.faults ≤ faults
   pub is : b ≡ record a { recent = a.recent ++ map (λ p. PageBecomes p None) freed; actions = a.actions + length freed; faults = faults }
@@ -74,17 +77,36 @@ one_more x n = omega arith
 less_one : (x y : ℕ) → x + 1 ≤ y → x ≤ y
 less_one x y l = omega arith
 
+-- a page that is freed is not there then, and any other is as it was
+gone_here : (p : ℕ) (a : Store) → (now (after_action (PageBecomes p None) a)).pages p ≡ None
+gone_here p a = ap (λ (s : State). s.pages p) (now_acted (PageBecomes p None) a) ∙ put_here (now a).pages p None
+
+off_freed : (p : ℕ) (a : Store) (q : ℕ) (page : Page) → (now (after_action (PageBecomes p None) a)).pages q ≡ Some page → q ≢ p
+off_freed p a q page live e = none_some (sym (ap (now (after_action (PageBecomes p None) a)).pages e ∙ gone_here p a) ∙ live)
+
+was_there : (p : ℕ) (a : Store) (q : ℕ) (page : Page) → (now (after_action (PageBecomes p None) a)).pages q ≡ Some page → (now a).pages q ≡ Some page
+was_there p a q page live = sym (ap (λ (s : State). s.pages q) (now_acted (PageBecomes p None) a) ∙ put_elsewhere (now a).pages p q None (off_freed p a q page live)) ∙ live
+
+all_off : (p : ℕ) (xs : List ℕ) → ((y : ℕ) → In y xs → y ≢ p) → AllByRecursion (λ y. nat_eq p y ≡ false) xs
+all_off p [] off = tt
+all_off p (y ∷ ys) off = (ne_eqb p y (λ e. off y (inl refl) (sym e)), all_off p ys (λ z i. off z (inr i)))
+
 freed_of : {was : Forest} {t : Tree} {a b : Store} → FreesPages was t a b → Freed was t a b
+unfolding IsDistinct
 freed_of {a = a} FreesNone = record {
   freed = [];
   each = λ p i. absurd i;
+  there = λ p i. absurd i;
+  once = tt;
   faults = a.faults;
   counts = le_of_eq refl;
   is = λ i. record a { recent = sym (append-nil a.recent) i; actions = no_more a.actions i };
 }
-freed_of {was} {t} {a = a} (FreesOne p h chained rest) = let r = freed_of rest in record {
+freed_of {was} {t} {a = a} (FreesOne p h page chained live rest) = let r = freed_of rest in record {
   freed = p ∷ r.freed;
   each = λ q i. elim i [ inl e ↦ (h, subst (λ z. In z (was.chain (place t h))) (sym e) chained) | inr j ↦ r.each q j ];
+  there = λ q i. elim i [ inl e ↦ (page, ap (now a).pages e ∙ live) | inr j ↦ let l = r.there q j in (l.0, was_there p a q l.0 l.1) ];
+  once = (all_off p r.freed (λ q j. let l = r.there q j in off_freed p a q l.0 l.1), r.once);
   faults = r.faults;
   counts = r.counts;
   is = r.is ∙ (λ i. record a { recent = append_assoc a.recent (PageBecomes p None ∷ []) (map (λ z. PageBecomes z None) r.freed) i; actions = one_more a.actions (length r.freed) i; faults = r.faults });
@@ -92,6 +114,8 @@ freed_of {was} {t} {a = a} (FreesOne p h chained rest) = let r = freed_of rest i
 freed_of {a = a} (Counts rest) = let r = freed_of rest in record {
   freed = r.freed;
   each = r.each;
+  there = r.there;
+  once = r.once;
   faults = r.faults;
   counts = less_one a.faults r.faults r.counts;
   is = r.is;
@@ -271,6 +295,7 @@ module _ {P M : Type 0} (store : P → Store) (meant : M → Merge) (old : DbVal
           let r = freed_of (drops.is w db.is.formed) in record {
             freed = r.freed;
             each = λ u was p i. subst (λ (f : Forest). (h : ℕ) × In p (f.chain (place name h))) (one_law (nodes_at m) m.state.roots w u db.is.formed was.formed) (r.each p i);
+            once = r.once;
             faults = r.faults;
             counts = r.counts;
             is = r.is ∙ (λ i. record (store old.pages) { recent = append_assoc (store old.pages).recent (RootBecomes name None ∷ []) (map (λ z. PageBecomes z None) r.freed) i; actions = one_more (store old.pages).actions (length r.freed) i; faults = r.faults });

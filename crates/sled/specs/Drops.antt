@@ -1,5 +1,6 @@
 -- Dropping a tree.
 use Rattle.std.specs.Prelude.{◌≡◌, ◌≢◌, ℕ, suc, ◌+◌, ◌≤◌, ◌⊎◌, Bool, true, false, not, nat_eq, filter, List, [], ◌∷◌, ◌++◌, length, map, Option, Some, None}
+use Rattle.std.specs.List.{IsDistinct}
 use Rattle.sled_pages.specs.In.{In}
 use Rattle.sled_pages.specs.Order.{Key}
 use Rattle.sled_pages.specs.Update.{put_name}
@@ -22,11 +23,12 @@ use Rattle.sled.specs.Sound.{IsDb}
 use Rattle.sled.specs.Flights.{KeepsTreePages}
 use Rattle.sled.specs.Ids.{LeavesAll}
 
--- The root of the name goes, and then these pages do, one after the other, each of which stood in a chain of the tree; and faults may
--- be counted. Nothing else of the store changes
+-- The root of the name goes, which decides, and then these pages do, each once, each of which stood in a chain of the tree; and faults
+-- may be counted. Nothing else of the store changes. Which pages those are is the store's affair: a refusal there is not told
 pub record RemovesTree (name : Key) (m : Snapshot) (old new : Store) : Type 0 where
   pub freed : List ℕ
   pub each : (w : Forest) → HasForest m w → (p : ℕ) → In p freed → (h : ℕ) × In p (w.chain (place name h))
+  pub once : IsDistinct nat_eq freed
   pub faults : ℕ
   pub counts : old.faults ≤ faults
   pub is : new ≡ record old { recent = old.recent ++ RootBecomes name None ∷ map (λ p. PageBecomes p None) freed; actions = old.actions + suc (length freed); faults = faults }

@@ -30,7 +30,7 @@ pub record FreesPage (pid : ℕ) (old : Store) (next : Option ℕ) (new : Store)
 -- pages that stood in the tree's chains go, one after the other, and faults are counted
 pub data FreesPages (was : Forest) (t : Tree) : Store → Store → Type 0 where
   FreesNone : {a : Store} → FreesPages was t a a
-  FreesOne : {a b : Store} (p h : ℕ) → In p (was.chain (place t h)) → FreesPages was t (after_action (PageBecomes p None) a) b → FreesPages was t a b
+  FreesOne : {a b : Store} (p h : ℕ) (page : Page) → In p (was.chain (place t h)) → (now a).pages p ≡ Some page → FreesPages was t (after_action (PageBecomes p None) a) b → FreesPages was t a b
   Counts : {a b : Store} → FreesPages was t (record a { faults = a.faults + 1 }) b → FreesPages was t a b
 
 -- each page of the tree's chains is as it was, or is gone
