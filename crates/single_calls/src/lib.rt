@@ -9,7 +9,7 @@ mod pops;
 mod reads;
 
 pub use database::{
-    advance, advance_to_end, check, close, decide, default_tree, export, flush, new_tree,
+    advance, advance_to_end, check, close, decide, default_tree, drop_tree, export, flush, new_tree,
 };
 pub use direct::{compare_and_swap, insert, remove};
 pub use machine::{abandon, begin, complete, finish, new_machine, run, step, turns, whole};
