@@ -24,7 +24,7 @@ use Rattle.sled.specs.Flights.{KeepsTreePages}
 use Rattle.sled.specs.Ids.{LeavesAll}
 
 -- The root of the name goes, which decides, and then these pages do, each once, each of which stood in a chain of the tree; and faults
--- may be counted. Nothing else of the store changes. Which pages those are is the store's affair: a refusal there is not told
+-- may be counted. Nothing else of the store changes. How many pages those are is not said, since a refusal there is not told
 pub record RemovesTree (name : Key) (m : Snapshot) (old new : Store) : Type 0 where
   pub freed : List ℕ
   pub each : (w : Forest) → HasForest m w → (p : ℕ) → In p freed → (h : ℕ) × In p (w.chain (place name h))
