@@ -1,5 +1,5 @@
 //! Calls of a database.
-ghost use Rattle.std.specs.Prelude.{◌≡◌, IfOk, IfErr, OnOk, None, [], ◌∷◌, map, false};
+ghost use Rattle.std.specs.Prelude.{◌≡◌, ◌≢◌, IfOk, IfErr, OnOk, None, [], ◌∷◌, map, false, true};
 ghost use Rattle.std.specs.Option.{option_map};
 ghost use Rattle.sled_pages.specs.Store.{now};
 ghost use Rattle.sled_model.specs.Answer.{ReadDecides, decision_of};
@@ -8,6 +8,7 @@ ghost use Rattle.sled_model.specs.Refusal.{must_refuse_of};
 ghost use Rattle.tree_laws.specs.Contents.{trees_of};
 ghost use Rattle.tree_laws.specs.Crashes.{Flushes, IsValid};
 ghost use Rattle.sled.specs.Calls.{IsHandle, MustBeRefused};
+ghost use Rattle.sled.specs.Drops.{DropsTree};
 ghost use Rattle.sled.specs.Export.{collections};
 ghost use Rattle.sled_tree.specs.Known.{IsKnown};
 ghost use Rattle.sled_tree.specs.Passing.{StepsOnPath};
@@ -79,6 +80,14 @@ pub fn export<P: Pages, M: MergeOperator>(db: &Db<P, M>) -> Result<Vec<Collectio
     ensures { IfOk result (λ all. map (λ c. (c.0.items, c.1.items, c.2.items)) all.items ≡ collections (trees_of (now (P.store db.now.pages))) db.now.trees) }
 {
     db.export()
+}
+
+/// Drops the tree that a `Tree` value names. Where there was one, every value of that name is refused from then on.
+pub fn drop_tree<P: Pages, M: MergeOperator>(db: &mut Db<P, M>, tree: &Tree) -> Result<bool>
+    ensures drops { IfOk result (λ dropped. DropsTree P.store M.meant db.old tree.now.name dropped db.new) }
+    ensures refused { IfOk result (λ dropped. dropped ≡ true → must_refuse_of (db_state P.store M.meant db.new) (tree.now ∷ []) ≢ None) }
+{
+    db.drop_tree(tree.name.as_ref())
 }
 
 /// One step of a call in flight, without a machine.

@@ -14,3 +14,5 @@ pub mod Popping
 pub mod Naming
 pub mod Numbering
 pub mod Planting
+pub mod Dropping
+pub mod Removing

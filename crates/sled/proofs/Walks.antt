@@ -1,9 +1,10 @@
 -- Walks over pages that are no longer than there are page numbers.
-use Rattle.std.proofs.Common.{◌≡◌, ℕ, zero, suc, ◌+◌, ◌<◌, ◌≤◌, List, [], ◌++◌, Option, Some, None, refl, sym, ap, ◌∙◌, arith, append_assoc, append-nil}
+use Rattle.std.proofs.Common.{◌≡◌, ℕ, zero, suc, ◌+◌, ◌<◌, ◌≤◌, List, [], ◌∷◌, ◌++◌, Option, Some, None, refl, sym, ap, ◌∙◌, arith, append_assoc, append-nil}
 use Rattle.sled_pages.specs.Order.{Key}
 use Rattle.sled_pages.specs.State.{Nodes}
 use Rattle.tree_laws.specs.Forest.{node_pairs}
 use Rattle.tree_laws.specs.Contents.{first_of, next_of, first_leaf, along, page_numbers}
+use Rattle.sled.specs.theory.Drops.{first_pages_down}
 
 -- so many steps are left
 pub record Left (done left : ℕ) : Type 0 where
@@ -87,3 +88,38 @@ pub along_last : (nodes : Nodes) (first : ℕ) (all got more : List (Key × Key)
     → got ≡ node_pairs (nodes pid) → more ≡ all ++ got → more ≡ along page_numbers nodes (Some first)
 along_last nodes first all got more cursor pid done h g d c e m =
     m ∙ ap (λ r. all ++ r) (e ∙ sym (append-nil (node_pairs (nodes pid)))) ∙ ap (λ n. all ++ along n nodes (Some pid)) (sym (last_one done d.left h g d.counts)) ∙ ap (λ r. all ++ along d.left nodes r) (sym c) ∙ d.is
+
+-- a walk down from a root has noted the first page of each level that it came through, and goes on at the cursor
+pub record HasNoted (nodes : Nodes) (root : ℕ) (firsts : List ℕ) (cursor : Option ℕ) (done : ℕ) : Type 0 where
+  pub left : ℕ
+  pub counts : Left done left
+  pub is : firsts ++ first_pages_down left nodes cursor ≡ first_pages_down page_numbers nodes (Some root)
+
+pub noted_first : (nodes : Nodes) (root : ℕ) (firsts : List ℕ) → firsts ≡ [] → HasNoted nodes root firsts (Some root) 0
+noted_first nodes root firsts e = record { left = page_numbers; counts = at_first; is = ap (λ r. r ++ first_pages_down page_numbers nodes (Some root)) e }
+
+no_level : (n : ℕ) (nodes : Nodes) → first_pages_down n nodes None ≡ []
+no_level zero nodes = refl
+no_level (suc n) nodes = refl
+
+pub noted_ends : (nodes : Nodes) (root : ℕ) (firsts : List ℕ) (cursor : Option ℕ) (done : ℕ) → HasNoted nodes root firsts cursor done → cursor ≡ None → firsts ≡ first_pages_down page_numbers nodes (Some root)
+noted_ends nodes root firsts cursor done d c = sym (append-nil firsts) ∙ ap (λ r. firsts ++ r) (sym (no_level d.left nodes)) ∙ ap (λ r. firsts ++ first_pages_down d.left nodes r) (sym c) ∙ d.is
+
+pub noted_more : (nodes : Nodes) (root : ℕ) (firsts more : List ℕ) (cursor : Option ℕ) (pid done : ℕ) (next : Option ℕ) → done < 18446744073709551615 → HasNoted nodes root firsts cursor done → cursor ≡ Some pid
+    → next ≡ first_of (nodes pid) → more ≡ firsts ++ pid ∷ [] → HasNoted nodes root more next (done + 1)
+noted_more nodes root firsts more cursor pid done next h d c e m =
+    let k = one_more done d.left h d.counts in record {
+      left = k.0;
+      counts = k.2;
+      is = ap (λ r. r ++ first_pages_down k.0 nodes next) m
+          ∙ append_assoc firsts (pid ∷ []) (first_pages_down k.0 nodes next)
+          ∙ ap (λ r. firsts ++ (pid ∷ first_pages_down k.0 nodes r)) e
+          ∙ ap (λ n. firsts ++ first_pages_down n nodes (Some pid)) (sym k.1)
+          ∙ ap (λ r. firsts ++ first_pages_down d.left nodes r) (sym c)
+          ∙ d.is;
+    }
+
+pub noted_last : (nodes : Nodes) (root : ℕ) (firsts more : List ℕ) (cursor : Option ℕ) (pid done : ℕ) → 18446744073709551615 ≤ done → done ≤ 18446744073709551615 → HasNoted nodes root firsts cursor done → cursor ≡ Some pid
+    → more ≡ firsts ++ pid ∷ [] → more ≡ first_pages_down page_numbers nodes (Some root)
+noted_last nodes root firsts more cursor pid done h g d c m =
+    m ∙ ap (λ n. firsts ++ first_pages_down n nodes (Some pid)) (sym (last_one done d.left h g d.counts)) ∙ ap (λ r. firsts ++ first_pages_down d.left nodes r) (sym c) ∙ d.is

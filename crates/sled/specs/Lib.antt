@@ -11,4 +11,5 @@ pub mod Pops
 pub mod Flush
 pub mod Ids
 pub mod Operators
+pub mod Drops
 pub mod theory

@@ -2,3 +2,4 @@ pub mod Opens
 pub mod Export
 pub mod Direct
 pub mod Operators
+pub mod Drops

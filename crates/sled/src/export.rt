@@ -35,7 +35,7 @@ fn first_pointer(alloc: Global, node: &Node) -> Result<Option<Pid>>
 }
 
 // The page under the first pointer of a page, if there is the page and a pointer.
-fn first_child<P: Pages>(alloc: Global, pages: &P, pid: Pid) -> Result<Option<Pid>>
+pub(crate) fn first_child<P: Pages>(alloc: Global, pages: &P, pid: Pid) -> Result<Option<Pid>>
     ensures ok { IfOk result (λ child. child ≡ first_of (nodes_of (now (P.store pages.now)) pid)) }
     ensures err { IfErr result (RefusesRead (P.store pages.now)) }
 {

@@ -10,6 +10,7 @@
 
 mod db;
 mod direct;
+mod drop;
 mod export;
 mod ids;
 mod memory;

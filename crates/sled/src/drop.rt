@@ -1,0 +1,154 @@
+//! Dropping a tree.
+//!
+//! The removal of the tree's root decides: from then on no walk finds the tree, and no call in flight on it goes on, since its
+//! number is gone. Its pages are freed after that. A refusal there leaves pages that no tree has, and so do a page that
+//! was received by the one before it, and the pages that calls in flight made for themselves: those are not looked for.
+ghost use Rattle.std.specs.Prelude.{◌≡◌, not, nat_eq, filter, IfOk, IfErr, OnOk, Some, None, [], ◌∷◌};
+ghost use Rattle.sled_pages.specs.Node.{without};
+ghost use Rattle.sled_pages.specs.State.{nodes_of};
+ghost use Rattle.sled_pages.specs.Store.{now};
+ghost use Rattle.tree_laws.specs.Contents.{page_numbers};
+ghost use Rattle.sled_tree.specs.theory.StageAction.{is_action_refused_as};
+ghost use Rattle.sled.specs.theory.Drops.{first_pages_down, FreesPage, FreesFrom, DropsRoot};
+ghost use Rattle.sled.specs.theory.Export.{RefusesRead};
+
+use crate::DEFAULT_TREE;
+use crate::db::Db;
+use crate::export::first_child;
+use crate::tree_list::number_of;
+use sled_model::MergeOperator;
+use sled_pages::texts::CORE_STRUCTURES;
+use sled_pages::{Error, IVec, Pages, Pid, Result};
+use std::alloc::Global;
+
+// The first page of each level of a tree, from its root down.
+fn first_pages<P: Pages>(alloc: Global, pages: &P, root: Pid) -> Result<Vec<Pid>>
+    ensures ok { IfOk result (λ firsts. firsts.items ≡ first_pages_down page_numbers (nodes_of (now (P.store pages.now))) (Some root)) }
+    ensures err { IfErr result (RefusesRead (P.store pages.now)) }
+{
+    let mut firsts = Vec::new(alloc);
+    let mut cursor = Some(root);
+    for level in 0..u64::MAX {
+        let Some(pid) = cursor else {
+            return Ok(firsts);
+        };
+        firsts.push(pid)?;
+        cursor = first_child(alloc, pages, pid)?;
+    }
+    match cursor {
+        None => Ok(firsts),
+        Some(pid) => {
+            firsts.push(pid)?;
+            Ok(firsts)
+        }
+    }
+}
+
+// Frees a page, and answers the one behind it; `None` too where it is not there, or a refusal keeps it.
+fn free_page<P: Pages>(alloc: Global, pages: &mut P, pid: Pid) -> Option<Pid>
+    ensures { FreesPage pid (P.store pages.old) result (P.store pages.new) }
+{
+    let Ok(Some(view)) = pages.read(alloc, pid) else {
+        return None;
+    };
+    let next = view.node.next;
+    let version = view.version;
+    drop(view);
+    match pages.free(pid, version) {
+        Ok(Ok(())) => next,
+        _ => None,
+    }
+}
+
+// Frees the pages of a level, from its first on, up to a refusal.
+fn free_level<P: Pages>(alloc: Global, pages: &mut P, first: Pid)
+    ensures { FreesFrom (first ∷ []) (P.store pages.old) (P.store pages.new) }
+{
+    let mut cursor = Some(first);
+    for page in 0..u64::MAX {
+        let Some(pid) = cursor else {
+            return;
+        };
+        cursor = free_page(alloc, pages, pid);
+    }
+}
+
+// Frees the pages of the levels that begin with these, the last level first.
+fn free_levels<P: Pages>(alloc: Global, pages: &mut P, firsts: &[Pid])
+    ensures { FreesFrom firsts.now (P.store pages.old) (P.store pages.new) }
+{
+    for level in 0..firsts.len() {
+        free_level(alloc, pages, firsts[firsts.len() - 1 - level]);
+    }
+}
+
+// Takes the root of a tree out, and then frees the tree's pages. It is refused before the root goes, or not at all.
+fn drop_root<P: Pages>(alloc: Global, pages: &mut P, name: &[u8], root: Pid) -> Result<()>
+    requires { (now (P.store pages.old)).roots name.now ≡ Some root }
+    ensures ok { OnOk result (DropsRoot name.now (P.store pages.old) (P.store pages.new)) }
+    ensures err { IfErr result (λ e. is_action_refused_as e (P.store pages.old) (P.store pages.new)) }
+{
+    let firsts = match first_pages(alloc, pages, root) {
+        Ok(firsts) => firsts,
+        Err(e) => return Err(e),
+    };
+    match pages.cas_root(name, Some(root), None) {
+        Ok(Ok(())) => {}
+        Ok(Err(_)) => unreachable!(),
+        Err(e) => {
+            drop(firsts);
+            return Err(e);
+        }
+    }
+    free_levels(alloc, pages, firsts.as_slice());
+    drop(firsts);
+    Ok(())
+}
+
+// Takes a name out of the list of trees.
+fn take_name(trees: &mut Vec<(IVec, u64)>, name: &[u8])
+    ensures { trees.new.items ≡ without name.now trees.old.items }
+{
+    trees.retain(|tree| !name.cmp(tree.0.as_ref()).is_eq());
+}
+
+// Takes the operator of a tree out, if it has one.
+fn take_operator<M: MergeOperator>(operators: &mut Vec<(u64, M)>, number: u64)
+    ensures { operators.new.items ≡ filter (λ o. not (nat_eq o.0 number)) operators.old.items }
+{
+    operators.retain(|operator| operator.0 != number);
+}
+
+impl<P: Pages, M: MergeOperator> Db<P, M> {
+    ghost use Rattle.sled.specs.Drops.{DropsTree, RefusesDrop};
+
+    /// Drops the tree of a name, and answers whether there was one. The name can be opened anew, as an empty tree; every
+    /// `Tree` of before is answered with `CollectionNotFound` from now on, and so is each call in flight on it at its next step.
+    ///
+    /// The tree's first pages are read, its root is taken out, which decides, and its pages are freed. Refused with `Closed`;
+    /// for the default tree with `Unsupported`; and with `Io` and `NoMemory` before the root goes: then the tree stays. A
+    /// refusal after that is not told: then pages are left that no tree has.
+    pub fn drop_tree(&mut self, name: &[u8]) -> Result<bool>
+        ensures ok { IfOk result (λ dropped. DropsTree P.store M.meant self.old name.now dropped self.new) }
+        ensures err { IfErr result (λ e. RefusesDrop P.store M.meant self.old name.now e self.new) }
+    {
+        if self.pages.in_group() {
+            return Err(Error::Closed);
+        }
+        if name == DEFAULT_TREE.as_bytes() {
+            return Err(Error::Unsupported(CORE_STRUCTURES));
+        }
+        let Some(number) = number_of(self.trees.as_slice(), name) else {
+            return Ok(false);
+        };
+        let Some(root) = self.pages.root(name) else {
+            unreachable!()
+        };
+        if let Err(e) = drop_root(self.alloc, &mut self.pages, name, root) {
+            return Err(e);
+        }
+        take_name(&mut self.trees, name);
+        take_operator(&mut self.operators, number);
+        Ok(true)
+    }
+}
