@@ -6,3 +6,4 @@ pub mod Meant
 pub mod Surviving
 pub mod Entries
 pub mod Queueing
+pub mod Rising

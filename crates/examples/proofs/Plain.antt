@@ -25,7 +25,7 @@ use Rattle.sled_tree.specs.declared.flight.Went.{Went}
 use Rattle.sled_tree.specs.declared.flight.Went.TheVariants.{Moved}
 use Rattle.sled.specs.Direct.{Conducts, PointDecided, PointRefused}
 use Rattle.sled.specs.Flights.{BringsEvent, DbStepContract, DbSteps, Ends, GoesOn, DbRunsToEnd, outcome_of, slot_after, maps_added}
-use Rattle.sled.specs.Opens.{Opens}
+use Rattle.sled.specs.Opens.{Opens, OpensBySteps, OpenRefusedBySteps}
 use Rattle.sled.specs.Pops.{TakesOut, RefusesToTake, IsAtEnd, PopsBySteps, PopRefusedBySteps, IsLongWay, GivesUpPop, ClearsBySteps, ClearsNone, ClearsMore, ClearRefusedBySteps}
 use Rattle.sled.specs.Sound.{IsDb}
 use Rattle.sled.specs.Values.{DbValue, named, numbers_of, db_state, configuration_of}
@@ -75,10 +75,18 @@ module _ {P M : Type 0} (store : P → Store) (meant : M → Merge) where
 
   -- what holds of a database holds of it whatever its operators are
   pub plain_sound : (d : DbValue P M) → IsDb store d → IsDb store (plain d)
-  plain_sound d s = record { forest = s.forest; is = s.is; sized = s.sized; safe = s.safe; ascends = s.ascends; default = s.default; unwatched = s.unwatched; ids = s.ids }
+  plain_sound d s = record { forest = s.forest; is = s.is; sized = s.sized; safe = s.safe; ascends = s.ascends; default = s.default; ungiven = λ n above. none_of (find nat_cmp n (meanings d.operators)) (found d.operators n ∙ ap (option_map meant) (s.ungiven n above)); unwatched = s.unwatched; ids = s.ids }
+    where
+      none_of : (o : Option Merge) → option_map (λ (m : Merge). m) o ≡ None → o ≡ None
+      none_of None e = refl
+      none_of (Some m) e = cc
 
   pub meant_sound : (d : DbValue P M) → IsDb store (plain d) → IsDb store d
-  meant_sound d s = record { forest = s.forest; is = s.is; sized = s.sized; safe = s.safe; ascends = s.ascends; default = s.default; unwatched = s.unwatched; ids = s.ids }
+  meant_sound d s = record { forest = s.forest; is = s.is; sized = s.sized; safe = s.safe; ascends = s.ascends; default = s.default; ungiven = λ n above. none_of (find nat_cmp n d.operators) (sym (found d.operators n) ∙ ap (option_map (λ (m : Merge). m)) (s.ungiven n above)); unwatched = s.unwatched; ids = s.ids }
+    where
+      none_of : (o : Option M) → option_map meant o ≡ None → o ≡ None
+      none_of None e = refl
+      none_of (Some m) e = cc
 
   -- ---- the steps of a call
 
@@ -115,7 +123,7 @@ module _ {P M : Type 0} (store : P → Store) (meant : M → Merge) where
 
   module _ (old new : DbValue P M) where
     plain_conducts : (maps : List Maps) (refused : Option Error) → Conducts store maps refused old new → Conducts store maps refused (plain old) (plain new)
-    plain_conducts maps refused c = record { acts = c.acts; extends = c.extends; others = c.others; loses = c.loses; sound = λ d. plain_sound new (c.sound (meant_sound old d)); same = ap plain c.same }
+    plain_conducts maps refused c = record { acts = c.acts; leaves = record { extends = c.leaves.extends; others = c.leaves.others; loses = c.leaves.loses; sound = λ d. plain_sound new (c.leaves.sound (meant_sound old d)) }; same = ap plain c.same }
 
     plain_decided : (tree : Tree) (call : Call) (reply : Reply) → PointDecided store meant old tree call reply new → PointDecided store (λ m. m) (plain old) tree call reply (plain new)
     plain_decided tree call reply p = record {
@@ -146,6 +154,19 @@ module _ {P M : Type 0} (store : P → Store) (meant : M → Merge) where
         | inr m ↦ inr (m.0, ap plain m.1)
       ];
     }
+
+  -- ---- names that are opened
+
+  pub plain_opens_by : (name : Key) (old new : DbValue P M) → OpensBySteps store name old new → OpensBySteps store name (plain old) (plain new)
+  plain_opens_by name old new h = record { known = λ n e. ap plain (h.known n e); made = h.made }
+
+  pub plain_opens_not : (name : Key) (old : DbValue P M) (e : Error) (new : DbValue P M) → OpenRefusedBySteps store name old e new → OpenRefusedBySteps store name (plain old) e (plain new)
+  plain_opens_not name old e new h = record {
+    is = elim h.is [
+      | inl same ↦ inl (ap plain same)
+      | inr stopped ↦ inr stopped
+    ];
+  }
 
   -- ---- pops and clears
 

@@ -1,5 +1,5 @@
 -- What adding a job and taking one out do to the jobs that wait.
-use Rattle.std.proofs.Common.{◌≡◌, ℕ, Bool, true, false, not, cond, ◌&&◌, T, List, [], ◌∷◌, ◌++◌, Option, Some, None, option_map, is_some, Less, Equal, Greater, is_eq, sym, refl, ap, ◌∙◌, subst}
+use Rattle.std.proofs.Common.{◌≡◌, ℕ, Bool, true, false, not, cond, ◌&&◌, T, [], ◌∷◌, ◌++◌, Option, Some, None, option_map, is_some, Less, Equal, Greater, is_eq, sym, refl, ap, ◌∙◌, subst}
 use Rattle.std.specs.FinMap.Entries.{find, put, by_order, is_sorted, below_all}
 use Rattle.std.specs.List.{AllByRecursion}
 use Rattle.std.specs.Ordering.{is_lt, eq_by_cmp}
@@ -22,7 +22,6 @@ use Rattle.sled_model.specs.declared.reply.Reply.{Reply}
 use Rattle.sled_model.specs.declared.reply.Reply.TheVariants.{Pair}
 use Rattle.sled_model.specs.declared.tree.Tree.{Tree}
 use Rattle.tree_laws.specs.Forest.{contents}
-use Rattle.tree_laws.specs.Contents.{trees_of}
 use Rattle.tree_laws.specs.Snapshot.{nodes_at}
 use Rattle.tree_laws.proofs.Order.{key_total}
 use Rattle.tree_laws.proofs.Pairs.{above, without_above}

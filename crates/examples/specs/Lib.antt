@@ -2,3 +2,4 @@ pub mod Reads
 pub mod Survive
 pub mod Index
 pub mod Queue
+pub mod Ids

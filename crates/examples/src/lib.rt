@@ -1,9 +1,10 @@
 //! Callers that are proved from public contracts alone, as a user would write them: what those contracts say is enough to build
-//! on. `callers` are examples of a machine, `index` of a scan, `recovery` of a crash, and `queue` of a database that takes pairs
-//! out.
+//! on. `callers` are examples of a machine, `index` of a scan, `recovery` of a crash, `ids` of two runs with a crash between them,
+//! and `queue` of a database that takes pairs out.
 #![tactic(auto)]
 
 mod callers;
+mod ids;
 mod index;
 mod queue;
 mod recovery;
@@ -11,6 +12,7 @@ mod recovery;
 pub use callers::{
     crash, get, get_in_new, insert_then_get, insert_then_get_in_new, race, reopen, reopen_then_get,
 };
+pub use ids::run_twice;
 pub use index::entries_under;
 pub use queue::{add, take};
 pub use recovery::survive;

@@ -1,6 +1,7 @@
 -- Calls that are made at once, in no slot.
-use Rattle.std.proofs.Common.{◌≡◌, ◌≢◌, ℕ, zero, suc, ◌+◌, ◌<◌, ◌≤◌, ◌⊎◌, Bool, true, false, List, [], ◌∷◌, ◌++◌, length, Option, Some, None, option_map, sym, refl, ap, ◌∙◌, subst, inl, inr, arith}
+use Rattle.std.proofs.Common.{◌≡◌, ◌≢◌, ℕ, zero, suc, ◌+◌, ◌<◌, ◌⊎◌, Bool, true, false, List, [], ◌∷◌, ◌++◌, length, Option, Some, None, option_map, sym, refl, ap, ◌∙◌, subst, inl, inr, arith}
 use Rattle.std.proofs.lemmas.Bool.{cases_lt}
+use Rattle.sled_pages.specs.Order.{Key}
 use Rattle.sled_pages.specs.In.{In}
 use Rattle.sled_pages.specs.State.{nodes_of}
 use Rattle.sled_pages.specs.Store.{Store, now}
@@ -10,7 +11,7 @@ use Rattle.sled_pages.specs.declared.error.Error.{Error}
 use Rattle.sled_pages.specs.declared.error.Error.TheVariants as error
 use Rattle.sled_model.specs.Maps.{Maps, Merge}
 use Rattle.sled_model.specs.State.{State, CallInFlight, maps_of}
-use Rattle.sled_model.specs.Refusal.{MustRefuse, IsClosed, IsForeign, IsDropped, HasNoOperator, ToStep, ToPoint, must_refuse, must_refuse_of, MayRefuse, MeetsFullQueue, TellsTurns, cause_of, may_refuse_as, turns_limit}
+use Rattle.sled_model.specs.Refusal.{MustRefuse, IsClosed, IsForeign, IsDropped, HasNoOperator, ToStep, ToPoint, must_refuse, must_refuse_of, MayRefuse, TellsTurns, cause_of, may_refuse_as, turns_limit}
 use Rattle.sled_model.specs.Transition.{Decide, RefuseStep}
 use Rattle.sled_model.specs.Whole.{DecidesPoint, RefusesPoint}
 use Rattle.sled_model.specs.declared.call.Call.{Call}
@@ -18,11 +19,10 @@ use Rattle.sled_model.specs.declared.reply.Reply.{Reply}
 use Rattle.sled_model.specs.declared.tree.Tree.{Tree}
 use Rattle.tree_laws.specs.Forest.{Place, Forest}
 use Rattle.tree_laws.specs.Snapshot.{Snapshot, nodes_at, HasForest}
-use Rattle.tree_laws.specs.Paths.{IsClean}
 use Rattle.tree_laws.specs.Crashes.{AddsCrashStates}
 use Rattle.tree_laws.proofs.Crashing.{extends_same, extends_then}
 use Rattle.sled_tree.specs.Known.{IsKnown, AreApart}
-use Rattle.sled_tree.specs.StageAction.{ActsOnce, ActsAtMostOnce}
+use Rattle.sled_tree.specs.StageAction.{ActsAtMostOnce}
 use Rattle.sled_tree.specs.declared.flight.InFlight.{InFlight}
 use Rattle.sled_tree.specs.declared.flight.Job.{Job}
 use Rattle.sled_tree.specs.declared.flight.Went.{Went}
@@ -30,8 +30,8 @@ use Rattle.sled_tree.specs.declared.flight.Went.TheVariants.{Moved, Decided, Ref
 use Rattle.sled.specs.Values.{DbValue, state_of, db_state, snapshot_of_db}
 use Rattle.sled.specs.Sound.{IsDb}
 use Rattle.sled.specs.Calls.{MustBeRefused, must_be_refused_as}
-use Rattle.sled.specs.Flights.{call_in_flight_of, maps_added, PagesLast, KeepsTreePages, effect_of_step, IsStepRefused, DbStepContract, DbSteps, Ends, GoesOn, DbRunsToEnd}
-use Rattle.sled.specs.Direct.{ActsOften, NoAction, OneAction, effects_until, StaysInChainOrWent, KeepsOrFreesTreePages, Conducts, begun_flight, PointDecided, PointRefused}
+use Rattle.sled.specs.Flights.{maps_added, PagesLast, KeepsTreePages, effect_of_step, IsStepRefused, DbStepContract, DbSteps, Ends, GoesOn, DbRunsToEnd}
+use Rattle.sled.specs.Direct.{ActsOften, NoAction, OneAction, effects_until, StaysInChainOrWent, KeepsOrFreesTreePages, LeavesAll, Conducts, begun_flight, PointDecided, PointRefused}
 use Rattle.sled.proofs.Testing.{must_point}
 use Rattle.sled.proofs.Flying.{loses_nothing, quiet_untold, everywhere, went_on}
 
@@ -91,34 +91,34 @@ module _ (m n o : Snapshot) (w : Forest) (was : HasForest m w) where
       go p g on given (inl same) = b.merges p g same on
       go p g on given (inr none) = inr (b.gone p (a.pids p given) none)
 
-loses_then : (m n o : Snapshot) (u : Forest) → HasForest n u → KeepsOrFreesTreePages m n → KeepsOrFreesTreePages n o → KeepsOrFreesTreePages m o
-loses_then m n o u is one two w v was now =
+pub loses_then : (lost : Option Key) (m n o : Snapshot) (u : Forest) → HasForest n u → KeepsOrFreesTreePages lost m n → KeepsOrFreesTreePages lost n o → KeepsOrFreesTreePages lost m o
+loses_then lost m n o u is one two w v was now =
     let a = one w u was is in let b = two u v is now in record {
-      is = λ x p i. let here = was.formed.page x p (was.formed.homed x p i) in go a b x p (number_given m w was p here.0 here.1.live) (a.is x p i);
+      is = λ x p on i. let here = was.formed.page x p (was.formed.homed x p i) in go a b x p on (number_given m w was p here.0 here.1.live) (a.is x p on i);
       last = lasts_then m n o w was a.last b.last;
     }
   where
-    go : StaysInChainOrWent m w n u → StaysInChainOrWent n u o v → (x : Place) (p : ℕ) → m.pids p ≡ true → In p (u.chain x) ⊎ (((d : Node) × (nodes_at n p ≡ Some d) × (d.merging ≡ true)) ⊎ (nodes_at n p ≡ None))
+    go : StaysInChainOrWent lost m w n u → StaysInChainOrWent lost n u o v → (x : Place) (p : ℕ) → lost ≢ Some x.tree → m.pids p ≡ true → In p (u.chain x) ⊎ (((d : Node) × (nodes_at n p ≡ Some d) × (d.merging ≡ true)) ⊎ (nodes_at n p ≡ None))
         → In p (v.chain x) ⊎ (((d : Node) × (nodes_at o p ≡ Some d) × (d.merging ≡ true)) ⊎ (nodes_at o p ≡ None))
-    go a b x p given (inl here) = b.is x p here
-    go a b x p given (inr (inl (d, live, on))) = elim (b.last.merges p d live on) [
-      | inl same ↦ inr (inl (d, same, on))
+    go a b x p on given (inl here) = b.is x p on here
+    go a b x p on given (inr (inl (d, live, merges))) = elim (b.last.merges p d live merges) [
+      | inl same ↦ inr (inl (d, same, merges))
       | inr none ↦ inr (inr none)
     ]
-    go a b x p given (inr (inr none)) = inr (inr (b.last.gone p (a.last.pids p given) none))
+    go a b x p on given (inr (inr none)) = inr (inr (b.last.gone p (a.last.pids p given) none))
 
-loses_once : (m n : Snapshot) → KeepsTreePages None m n → KeepsOrFreesTreePages m n
-loses_once m n l w v was now =
+pub loses_once : (lost : Option Key) (m n : Snapshot) → KeepsTreePages lost m n → KeepsOrFreesTreePages lost m n
+loses_once lost m n l w v was now =
     let s = l w v was now in record {
-      is = λ x p i. elim (s.is x p (λ e. none_some e) i) [
+      is = λ x p on i. elim (s.is x p on i) [
         | inl here ↦ inl here
         | inr merging ↦ inr (inl merging)
       ];
       last = s.last;
     }
 
-pub loses_same : (m : Snapshot) → KeepsOrFreesTreePages m m
-loses_same m = loses_once m m (loses_nothing None m)
+pub loses_same : (m : Snapshot) → KeepsOrFreesTreePages None m m
+loses_same m = loses_once None m m (loses_nothing None m)
 
 -- ---- the causes of a refusal
 
@@ -176,22 +176,30 @@ no_slots s = record s { slots = λ n. None; slots_given = 0 }
 
 module _ {P M : Type 0} (store : P → Store) (meant : M → Merge) where
   -- two calls one after the other
+  pub leaves_then : (k l : List Maps) (lost : Option Key) (old mid new : DbValue P M) → LeavesAll store k lost old mid → IsDb store mid → LeavesAll store l lost mid new → LeavesAll store (k ++ l) lost old new
+  leaves_then k l lost old mid new a db b = record {
+    extends = extends_then a.extends b.extends;
+    others = λ h known. b.others h (a.others h known);
+    loses = loses_then lost (snapshot_of_db store old) (snapshot_of_db store mid) (snapshot_of_db store new) db.forest db.is a.loses b.loses;
+    sound = λ d. b.sound (a.sound d);
+  }
+
   pub conducts_then : (k l : List Maps) (r : Option Error) (old mid new : DbValue P M) → Conducts store k None old mid → IsDb store mid → Conducts store l r mid new → Conducts store (k ++ l) r old new
   conducts_then k l r old mid new a db b = record {
     acts = acts_then r (store old.pages) (store mid.pages) (store new.pages) a.acts b.acts;
-    extends = extends_then a.extends b.extends;
-    others = λ h known. b.others h (a.others h known);
-    loses = loses_then (snapshot_of_db store old) (snapshot_of_db store mid) (snapshot_of_db store new) db.forest db.is a.loses b.loses;
-    sound = λ d. b.sound (a.sound d);
+    leaves = leaves_then k l None old mid new a.leaves db b.leaves;
     same = b.same ∙ ap (λ (z : DbValue P M). record z { pages = new.pages }) a.same;
   }
 
   -- a call that does nothing, and one that is refused at its begin for no fault
+  pub leaves_none : (old : DbValue P M) → LeavesAll store [] None old old
+  leaves_none old = record { extends = extends_same (store old.pages); others = λ h known. known; loses = loses_same (snapshot_of_db store old); sound = λ d. d }
+
   pub conducts_none : (old : DbValue P M) → Conducts store [] None old old
-  conducts_none old = record { acts = NoAction; extends = extends_same (store old.pages); others = λ h known. known; loses = loses_same (snapshot_of_db store old); sound = λ d. d; same = refl }
+  conducts_none old = record { acts = NoAction; leaves = leaves_none old; same = refl }
 
   pub conducts_refused : (old : DbValue P M) (e : Error) → IsStepRefused e (store old.pages) (store old.pages) → Conducts store [] (Some e) old old
-  conducts_refused old e quiet = record { acts = (store old.pages, NoAction, quiet); extends = extends_same (store old.pages); others = λ h known. known; loses = loses_same (snapshot_of_db store old); sound = λ d. d; same = refl }
+  conducts_refused old e quiet = record { acts = (store old.pages, NoAction, quiet); leaves = leaves_none old; same = refl }
 
   -- the steps of a call
   walk_acts : (n : ℕ) (old new : DbValue P M) (f g : InFlight) (went : Went) → DbSteps store meant n old f went new g → effects_until (error_of went) (store old.pages) (store new.pages)
@@ -206,10 +214,10 @@ module _ {P M : Type 0} (store : P → Store) (meant : M → Merge) where
   walk_others zero old new f g went (Ends flies off) k apart known = (flies.knows.others k apart known).0
   walk_others (suc n) old new f g went (GoesOn {mid = mid} {h = h} flies db rest) k apart known = let o = flies.knows.others k apart known in walk_others n mid new h g went rest k (o.1 refl) o.0
 
-  walk_loses : (n : ℕ) (old new : DbValue P M) (f g : InFlight) (went : Went) → DbSteps store meant n old f went new g → KeepsOrFreesTreePages (snapshot_of_db store old) (snapshot_of_db store new)
-  walk_loses zero old new f g went (Ends flies off) = loses_once (snapshot_of_db store old) (snapshot_of_db store new) flies.loses
+  walk_loses : (n : ℕ) (old new : DbValue P M) (f g : InFlight) (went : Went) → DbSteps store meant n old f went new g → KeepsOrFreesTreePages None (snapshot_of_db store old) (snapshot_of_db store new)
+  walk_loses zero old new f g went (Ends flies off) = loses_once None (snapshot_of_db store old) (snapshot_of_db store new) flies.loses
   walk_loses (suc n) old new f g went (GoesOn {mid = mid} {h = h} flies db rest) =
-      loses_then (snapshot_of_db store old) (snapshot_of_db store mid) (snapshot_of_db store new) db.forest db.is (loses_once (snapshot_of_db store old) (snapshot_of_db store mid) flies.loses) (walk_loses n mid new h g went rest)
+      loses_then None (snapshot_of_db store old) (snapshot_of_db store mid) (snapshot_of_db store new) db.forest db.is (loses_once None (snapshot_of_db store old) (snapshot_of_db store mid) flies.loses) (walk_loses n mid new h g went rest)
 
   walk_sound : (n : ℕ) (old new : DbValue P M) (f g : InFlight) (went : Went) → DbSteps store meant n old f went new g → IsDb store old → IsDb store new
   walk_sound zero old new f g went (Ends flies off) d = flies.sound.keeps d
@@ -257,10 +265,12 @@ module _ {P M : Type 0} (store : P → Store) (meant : M → Merge) where
     begun_conducts went flies =
         let n = flies.moves in let f = begun_flight tree call in record {
           acts = walk_acts n old new f g went flies.flies;
-          extends = walk_extends n old new f g went flies.flies;
-          others = λ k known. walk_others n old new f g went flies.flies k (record { off = λ q i j. absurd i }) known;
-          loses = walk_loses n old new f g went flies.flies;
-          sound = walk_sound n old new f g went flies.flies;
+          leaves = record {
+            extends = walk_extends n old new f g went flies.flies;
+            others = λ k known. walk_others n old new f g went flies.flies k (record { off = λ q i j. absurd i }) known;
+            loses = walk_loses n old new f g went flies.flies;
+            sound = walk_sound n old new f g went flies.flies;
+          };
           same = walk_same n old new f g went flies.flies;
         }
 

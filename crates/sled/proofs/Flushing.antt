@@ -23,7 +23,7 @@ use Rattle.sled.proofs.Testing.{open_now, closed_now}
 use Rattle.sled.proofs.Resting.{SameNow, flushed_now, rests_only_faults, rests_now, rests_left}
 
 -- a refusal of the store is one in which nothing changes but the faults
-only : (e : Error) (a b : Store) → is_refused_as e a b → only_faults e a b
+pub only : (e : Error) (a b : Store) → is_refused_as e a b → only_faults e a b
 only error.NoMemory a b t = t
 only (error.Io fault) a b t = t
 only (error.CollectionNotFound name) a b t = absurd t
@@ -64,6 +64,7 @@ module _ {P M : Type 0} (store : P → Store) (meant : M → Merge) (old : DbVal
       safe = flushes_whole_law (store old.pages) (store q) (subst (λ (z : Store). Flushes (store old.pages) z) (sym e) (flushes_same (store old.pages))) no_group (record { forest = db.forest; formed = db.is.formed; sized = db.sized });
       ascends = db.ascends;
       default = db.default;
+      ungiven = db.ungiven;
       unwatched = db.unwatched;
       ids = subst (λ (z : Store). old.greatest_id ≤ z.mark) (sym e) db.ids;
     }
@@ -90,6 +91,7 @@ module _ {P M : Type 0} (store : P → Store) (meant : M → Merge) (old : DbVal
       safe = record { whole = λ x i. db.safe.whole x (subst (In x) (rests_left rests) i) };
       ascends = db.ascends;
       default = db.default;
+      ungiven = db.ungiven;
       unwatched = db.unwatched;
       ids = subst (λ m. old.greatest_id ≤ m) (sym rests.mark) db.ids;
     }

@@ -75,7 +75,7 @@ lasts_acting m n w v a = record {
 pub loses_nothing : (lost : Option Tree) (m : Snapshot) → KeepsTreePages lost m m
 loses_nothing lost m w v was is = subst (λ (z : Forest). StaysInChain lost m w m z) (one_law (nodes_at m) m.state.roots w v was.formed is.formed) (record { is = λ x p on i. inl i; last = lasts_same m })
 
-loses_acting : {mine own : List ℕ} (m n : Snapshot) (w v : Forest) → HasForest m w → KeepsForest mine own m w n v → KeepsTreePages None m n
+pub loses_acting : {mine own : List ℕ} (m n : Snapshot) (w v : Forest) → HasForest m w → KeepsForest mine own m w n v → KeepsTreePages None m n
 loses_acting m n w v is a u z was is_now =
     subst (λ (f : Forest). StaysInChain None m f n z) (one_law (nodes_at m) m.state.roots w u is.formed was.formed)
     (subst (λ (f : Forest). StaysInChain None m w n f) (one_law (nodes_at n) n.state.roots v z a.is.formed is_now.formed)
@@ -211,7 +211,7 @@ module _ {P M : Type 0} (store : P → Store) (meant : M → Merge) (old : DbVal
   at = snapshot_of_db store old
 
   -- the state over other pages
-  state_over : (p : P) (slots after : ℕ → Option CallInFlight) (given : ℕ) → ((name : Key) → trees_of (now (store p)) name ≡ trees_of (now (store old.pages)) name) → (now (store p)).in_group ≡ (now (store old.pages)).in_group → (store p).mark ≡ (store old.pages).mark
+  pub state_over : (p : P) (slots after : ℕ → Option CallInFlight) (given : ℕ) → ((name : Key) → trees_of (now (store p)) name ≡ trees_of (now (store old.pages)) name) → (now (store p)).in_group ≡ (now (store old.pages)).in_group → (store p).mark ≡ (store old.pages).mark
       → state_of store meant (record old { pages = p }) after given ≡ record (state_of store meant old slots given) { slots = after }
   state_over p slots after given trees no_group mark = λ i. record {
     name = old.name;
@@ -253,7 +253,7 @@ module _ {P M : Type 0} (store : P → Store) (meant : M → Merge) (old : DbVal
 
       -- the database is as it should be
       is_db : (v : Forest) {mine own : List ℕ} → KeepsForest mine own at db.forest after v → IsCrashConsistent (store q) → (store q).mark ≡ (store old.pages).mark → IsDb store new
-      is_db v a safe mark = record { forest = v; is = a.is; sized = a.sized db.sized; safe = safe; ascends = db.ascends; default = db.default; unwatched = db.unwatched; ids = subst (λ m. old.greatest_id ≤ m) (sym mark) db.ids }
+      is_db v a safe mark = record { forest = v; is = a.is; sized = a.sized db.sized; safe = safe; ascends = db.ascends; default = db.default; ungiven = db.ungiven; unwatched = db.unwatched; ids = subst (λ m. old.greatest_id ≤ m) (sym mark) db.ids }
 
       -- no group is open
       no_group : (now (store old.pages)).in_group ≡ false

@@ -12,3 +12,4 @@ pub mod Scanning
 pub mod Popping
 pub mod Naming
 pub mod Numbering
+pub mod Planting

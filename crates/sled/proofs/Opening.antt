@@ -1,8 +1,8 @@
 -- Opening: a tree is planted, the trees are numbered, and what may still be refused.
-use Rattle.std.proofs.Common.{◌≡◌, ◌≢◌, ℕ, suc, ◌+◌, ◌*◌, ◌<◌, ◌≤◌, ◌^◌, Bool, true, false, cond, ◌&&◌, List, [], ◌∷◌, length, map, Option, Some, None, is_some, option_map, Less, Equal, Greater, is_eq, Result, Ok, Err, sym, refl, ap, ◌∙◌, subst, inl, inr, arith}
+use Rattle.std.proofs.Common.{◌≡◌, ◌≢◌, ℕ, suc, ◌+◌, ◌*◌, ◌<◌, ◌≤◌, ◌^◌, Bool, true, false, cond, ◌&&◌, List, [], ◌∷◌, length, map, Option, Some, None, is_some, option_map, Less, Equal, Greater, is_eq, Result, Ok, Err, OnOk, IfErr, sym, refl, ap, ◌∙◌, subst, inl, inr, arith}
 use Rattle.std.proofs.Math.Path.{fun_ext}
 use Rattle.std.specs.FinMap.Entries.{find, is_sorted, below_all}
-use Rattle.std.specs.Ordering.{eq_by_cmp}
+use Rattle.std.specs.Ordering.{eq_by_cmp, nat_cmp}
 use Rattle.std.specs.declared.cmp.Ordering.{Ordering}
 use Rattle.std.proofs.lemmas.Bool.Decides.{nat_tests}
 use Rattle.std.specs.Str.{bytes_eq}
@@ -34,7 +34,7 @@ use Rattle.tree_laws.proofs.Fuel.{contents_law}
 use Rattle.sled.specs.declared.TheConstants.{DEFAULT_TREE}
 use Rattle.sled.specs.Values.{DbValue, default_name, numbers_of, given_to, snapshot_of_db}
 use Rattle.sled.specs.Sound.{IsDb}
-use Rattle.sled.specs.Opens.{or_empty, with_tree, planted, numbered, IsOnePage, CanBeOpened, RefusesTree, Opens}
+use Rattle.sled.specs.Opens.{or_empty, with_tree, planted, MakesTree, StopsMaking, numbered, IsOnePage, CanBeOpened, RefusesTree, Opens}
 use Rattle.sled.specs.theory.Opens.{HasTree, AreNumbered}
 use Rattle.tree_laws.specs.Paths.{IsClean}
 
@@ -220,24 +220,24 @@ module _ (name : Key) where
     w : Forest
     w = well.forest
 
-    unseen : trees_of (now b) ≡ trees_of (now a)
+    pub unseen : trees_of (now b) ≡ trees_of (now a)
     unfolding w
     unseen = made_same are new w well.formed on
 
-    calm_then : (now b).in_group ≡ false
+    pub calm_then : (now b).in_group ≡ false
     calm_then = ap (λ (s : State). s.in_group) (now_allocates node pid version a b new) ∙ no_group
 
     well_then : IsValid (now b)
     unfolding w
     well_then = record { forest = w; formed = made_formed are new w well.formed; sized = made_sized are new w well.formed well.sized }
 
-    absent : trees_of (now a) name ≡ None
+    pub absent : trees_of (now a) name ≡ None
     absent = ap (option_map (Rattle.tree_laws.specs.Contents.pairs_under (nodes_of (now a)))) none
 
     one : length (planted name (trees_of (now a))) ≡ 1
     one = ap length (planted_absent (trees_of (now a)) absent)
 
-    grown : AddsCrashStates [] a b
+    pub grown : AddsCrashStates [] a b
     grown = adds_unseen (adds_page new) no_group calm_then well_then unseen
 
     pub made_again : CanBeOpened name a b
@@ -305,7 +305,30 @@ module _ (name : Key) where
         at_most : (x y : ℕ) → x ≡ y → x ≤ y
         at_most x y e = omega arith
 
+  -- what comes of making it
+  module _ (a c : Store) (well : IsValid (now a)) (no_group : (now a).in_group ≡ false) (are : AreGiven a) (none : (now a).roots name ≡ None) where
+    pub tree_made : MakesTree name a c → HasTree name a c
+    tree_made m = has_planted well no_group are m.leaf.given none m.leaf.is refl c m.is
+
+    tree_unmade : (e : Error) → StopsMaking a e c → RefusesTree name a e c
+    tree_unmade e s = elim s.did [
+      | inl same ↦ refused a a c e (again_same a well no_group) refl (subst (λ (z : Store). IsRefused e z c) same s.refused)
+      | inr leaf ↦ refused a s.last c e (made_again well no_group are leaf.given none leaf.is) (made_faults well no_group are leaf.given none leaf.is) s.refused
+    ]
+
+    pub all_made : (r : Result (Unit {0}) Error) → OnOk r (MakesTree name a c) → OnOk r (HasTree name a c)
+    all_made (Ok done) m = tree_made m
+    all_made (Err e) m = tt
+
+    pub all_unmade : (r : Result (Unit {0}) Error) → IfErr r (λ e. StopsMaking a e c) → IfErr r (λ e. RefusesTree name a e c)
+    all_unmade (Ok done) s = tt
+    all_unmade (Err e) s = tree_unmade e s
+
   -- what the root is found to be
+
+  -- a new page is no root
+  pub unrooted : {node : Node} {pid version : ℕ} {a b : Store} → Allocates node pid version a b → (now a).roots name ≡ None → (now b).roots name ≡ None
+  unrooted {node} {pid} {version} {a} {b} new none = ap (λ (s : State). s.roots name) (now_allocates node pid version a b new) ∙ none
 
   pub root_none : (f : Key → Option ℕ) (o : Option ℕ) (b : Bool) → o ≡ f name → b ≡ is_some o → b ≡ false → f name ≡ None
   root_none f None b is some missing = sym is
@@ -411,8 +434,8 @@ module _ (s : Store) {trees : List (Key × ℕ)} (all : AreNumbered (now s) tree
       within : (n m given : ℕ) → 0 < n → n ≤ 0 + m → given ≡ m → given_to given n ≡ true
       within n m given p q e = grind (arith, nat_tests)
 
-  pub opened_db : {P M : Type 0} (store : P → Store) (d : DbValue P M) → d.trees ≡ trees → d.trees_given ≡ length trees → d.queues ≡ [] → d.greatest_id ≡ (store d.pages).mark → AreGiven s → (a : Store) → HasTree default_name a s → store d.pages ≡ after_flush s → IsDb store d
-  opened_db store d same count queues ids are a h e =
+  pub opened_db : {P M : Type 0} (store : P → Store) (d : DbValue P M) → d.trees ≡ trees → d.trees_given ≡ length trees → d.operators ≡ [] → d.queues ≡ [] → d.greatest_id ≡ (store d.pages).mark → AreGiven s → (a : Store) → HasTree default_name a s → store d.pages ≡ after_flush s → IsDb store d
+  opened_db store d same count operators queues ids are a h e =
       let well = h.again.well in record {
         forest = well.forest;
         is = subst (λ (m : Snapshot). HasForest m well.forest) (sym at) (moment_here d.trees_given count are well.forest well.formed);
@@ -420,6 +443,7 @@ module _ (s : Store) {trees : List (Key × ℕ)} (all : AreNumbered (now s) tree
         safe = subst IsCrashConsistent (sym e) (flushes_whole_law s (after_flush s) (flushes_same s) h.again.no_group well);
         ascends = ap (is_sorted key_cmp) same ∙ ascends;
         default = subst (λ ts. (n : ℕ) × (numbers_of ts default_name ≡ Some n)) (sym same) (none_no (numbers_of trees default_name) (is_number default_name ∙ there));
+        ungiven = λ n above. ap (find nat_cmp n) operators;
         unwatched = queues;
         ids = at_most d.greatest_id (store d.pages).mark ids;
       }

@@ -1,5 +1,5 @@
 -- Calls that take out the pair at an end of a tree, and clears.
-use Rattle.std.proofs.Common.{◌≡◌, ◌≢◌, ℕ, zero, suc, ◌+◌, ◌<◌, ◌≤◌, ◌⊎◌, Bool, true, false, not, cond, List, [], ◌∷◌, ◌++◌, append-nil, length, Option, Some, None, is_some, Result, Ok, Err, IfOk, IfErr, sym, refl, ap, ◌∙◌, subst, inl, inr, arith}
+use Rattle.std.proofs.Common.{◌≡◌, ◌≢◌, ℕ, zero, suc, ◌<◌, ◌≤◌, ◌⊎◌, Bool, true, false, not, cond, List, [], ◌∷◌, ◌++◌, append-nil, length, Option, Some, None, is_some, Result, Ok, Err, IfOk, IfErr, sym, refl, ap, ◌∙◌, subst, inl, inr, arith}
 use Rattle.std.proofs.lemmas.Cmp.{tied_itself}
 use Rattle.std.specs.List.{filter, list_any}
 use Rattle.std.specs.FinMap.Entries.{find}
@@ -9,17 +9,17 @@ use Rattle.sled_pages.specs.Order.{Key, key_cmp}
 use Rattle.sled_pages.specs.Among.{is_from, is_up_to, IsSuccessor, IsPredecessor}
 use Rattle.sled_pages.specs.Node.{without}
 use Rattle.sled_pages.specs.theory.Facts.{put_name_here}
-use Rattle.sled_pages.specs.Update.{put_name}
 use Rattle.sled_pages.specs.Store.{Store, now}
 use Rattle.sled_pages.specs.declared.error.Error.{Error}
 use Rattle.sled_pages.specs.declared.error.Error.TheVariants as error
 use Rattle.sled_pages.specs.declared.texts.TheConstants.{WALK_PASSED_TURNS}
 use Rattle.sled_model.specs.Maps.{Map, Maps, Merge, IsLeast, IsGreatest}
-use Rattle.sled_model.specs.Answer.{Answer, answer_of, map_after}
+use Rattle.sled_model.specs.Answer.{answer_of, map_after}
 use Rattle.sled_model.specs.State.{State, NamedTree, CallInFlight, maps_of, after_decision_on}
-use Rattle.sled_model.specs.Refusal.{MustRefuse, IsClosed, IsForeign, IsDropped, HasNoOperator, first_of, must_refuse, must_refuse_of, MayRefuse, MeetsFullQueue, EndMeetsFullQueue, TellsTurns, ToPoint, ToCall, cause_of, may_refuse_as, tells, turns_limit}
-use Rattle.sled_model.specs.Transition.{Configuration, WholeDecides, WholeRefuses}
-use Rattle.sled_model.specs.Whole.{Pops, after_pop, RemovesLeast, RemovesNone, RemovesOne, Clears, StopsClearing}
+use Rattle.sled_model.specs.Refusal.{MustRefuse, IsClosed, IsForeign, IsDropped, HasNoOperator, first_of, must_refuse, must_refuse_of, MayRefuse, EndMeetsFullQueue, TellsTurns, ToPoint, ToCall, cause_of, may_refuse_as}
+use Rattle.sled_model.specs.Transition.{Configuration, WholeDecides, WholeRefuses, kind_of}
+use Rattle.sled_model.specs.declared.outcome.Outcome.TheVariants as outcome
+use Rattle.sled_model.specs.Whole.{Pops, RemovesLeast, RemovesNone, RemovesOne}
 use Rattle.sled_model.specs.declared.call.Call.TheVariants.{Remove}
 use Rattle.sled_model.specs.declared.call.Whole.{Whole}
 use Rattle.sled_model.specs.declared.call.Whole.TheVariants.{PopMin, PopMax, Clear}
@@ -36,8 +36,8 @@ use Rattle.sled.specs.Values.{DbValue, state_of, db_state, configuration_of}
 use Rattle.sled.specs.Sound.{IsDb}
 use Rattle.sled.specs.Flights.{IsStepRefused}
 use Rattle.sled.specs.Reads.{ReadsMap, RefusesReading, refuses_reading_as, stops_reading}
-use Rattle.sled.specs.Direct.{ActsOften, NoAction, OneAction, Conducts, PointDecided, PointRefused, WholeDecided, WholeRefused}
-use Rattle.sled.specs.Pops.{TakesOut, RefusesToTake, IsAtEnd, PopsBySteps, PopRefusedBySteps, IsLongWay, GivesUpPop, ClearsBySteps, ClearsNone, ClearsMore, ClearRefusedBySteps}
+use Rattle.sled.specs.Direct.{ActsOften, NoAction, OneAction, effect_of_whole, changes_only, lost_of, LeavesAll, Conducts, PointDecided, PointRefused, WholeDecided, WholeRefused}
+use Rattle.sled.specs.Pops.{TakesOut, RefusesToTake, IsAtEnd, PopsBySteps, PopRefusedBySteps, GivesUpPop, ClearsBySteps, ClearsNone, ClearsMore, ClearRefusedBySteps}
 use Rattle.sled.proofs.Conducting.{conducts_then, conducts_none, conducts_refused}
 use Rattle.sled.proofs.Testing.{tested_calm}
 use Rattle.sled.proofs.Trees.{maps_are}
@@ -126,6 +126,7 @@ first_alone (Some m) = refl
 
 -- a whole call that takes out the pair at an end
 pub record IsPop (is_end : Map → Option (Key × Key) → Type 0) (tree : Tree) (whole : Whole) : Type 0 where
+  pub which : (whole ≡ PopMin tree) ⊎ (whole ≡ PopMax tree)
   pub must : (s : State) → must_refuse s (ToCall whole) ≡ must_refuse_of s (tree ∷ [])
   pub cause : (s : State) (a b : Store) (e : Error) → cause_at_end is_end s a b tree e → cause_of s a b (ToCall whole) e
   pub decides : (old : Configuration) (reply : Reply) (new : State) (maps : List Maps) → Pops is_end old.state whole tree reply new maps → WholeDecides old whole reply new maps
@@ -133,6 +134,7 @@ pub record IsPop (is_end : Map → Option (Key × Key) → Type 0) (tree : Tree)
 
 min_is : (tree : Tree) → IsPop IsLeast tree (PopMin tree)
 min_is tree = record {
+  which = inl refl;
   must = λ s. first_alone (must_refuse_of s (tree ∷ []));
   cause = go;
   decides = λ old reply new maps k. k;
@@ -151,6 +153,7 @@ min_is tree = record {
 
 max_is : (tree : Tree) → IsPop IsGreatest tree (PopMax tree)
 max_is tree = record {
+  which = inr refl;
   must = λ s. first_alone (must_refuse_of s (tree ∷ []));
   cause = go;
   decides = λ old reply new maps k. k;
@@ -166,6 +169,37 @@ max_is tree = record {
     go s a b (error.Unsupported text) k = k
     go s a b (error.Corruption fault) k = k
     go s a b error.Closed k = k
+
+-- what a pop does and leaves is what the removal does and leaves
+module _ (tree : Tree) (whole : Whole) (which : (whole ≡ PopMin tree) ⊎ (whole ≡ PopMax tree)) where
+  of_pops : (Q : Whole → Type 0) → Q (PopMin tree) → Q (PopMax tree) → Q whole
+  of_pops Q least greatest = elim which [
+    | inl e ↦ subst Q (sym e) least
+    | inr e ↦ subst Q (sym e) greatest
+  ]
+
+  pop_decided : {P M : Type 0} (store : P → Store) (meant : M → Merge) (old : DbValue P M) (reply : Reply) (new : DbValue P M) (maps : List Maps)
+      → ((slots : ℕ → Option CallInFlight) (slots_given number : ℕ) → WholeDecides (configuration_of store meant old slots slots_given number) whole reply (state_of store meant new slots slots_given) maps)
+      → Conducts store maps None old new → WholeDecided store meant old whole reply new
+  pop_decided store meant old reply new maps decides c = record {
+    maps = maps;
+    decides = decides;
+    acts = of_pops (λ w. effect_of_whole (kind_of w) (outcome.Decided reply) (store old.pages) (store new.pages)) c.acts c.acts;
+    leaves = of_pops (λ w. LeavesAll store maps (lost_of w reply) old new) c.leaves c.leaves;
+    same = of_pops (λ w. changes_only w old new) c.same c.same;
+  }
+
+  pop_refused : {P M : Type 0} (store : P → Store) (meant : M → Merge) (old : DbValue P M) (e : Error) (new : DbValue P M)
+      → ((slots : ℕ → Option CallInFlight) (slots_given : ℕ) → WholeRefuses (state_of store meant old slots slots_given) (store old.pages) (store new.pages) whole e (state_of store meant new slots slots_given) [])
+      → Conducts store [] (Some e) old new → (must_refuse (db_state store meant old) (ToCall whole) ≢ None → new ≡ old) → WholeRefused store meant old whole e new
+  pop_refused store meant old e new refuses c tested = record {
+    maps = [];
+    refuses = refuses;
+    acts = of_pops (λ w. effect_of_whole (kind_of w) (outcome.Refused e) (store old.pages) (store new.pages)) c.acts c.acts;
+    leaves = c.leaves;
+    same = c.same;
+    tested = tested;
+  }
 
 -- a part of a clear is refused as a pop of the least pair is
 as_clear : (s : State) (a m b : Store) (tree : Tree) (e : Error) → m.faults ≡ a.faults → m.is_readable ≡ a.is_readable → MayRefuse s m b (ToCall (PopMin tree)) e → MayRefuse s a b (ToCall (Clear tree)) e
@@ -237,12 +271,7 @@ module _ {P M : Type 0} (store : P → Store) (meant : M → Merge) (old : DbVal
 
   refused : (e : Error) (new : DbValue P M) → ((slots : ℕ → Option CallInFlight) (given : ℕ) → MayRefuse (state_of store meant old slots given) (store old.pages) (store new.pages) (ToCall whole) e) → db_state store meant new ≡ db_state store meant old → Conducts store [] (Some e) old new → (must_refuse (db_state store meant old) (ToCall whole) ≢ None → new ≡ old)
       → WholeRefused store meant old whole e new
-  refused e new may is conducts tested = record {
-    maps = [];
-    refuses = λ slots given. pop.refuses (state_of store meant old slots given) (store old.pages) (store new.pages) e (state_of store meant new slots given) (may slots given) (ap (with_slots slots given) is);
-    conducts = conducts;
-    tested = tested;
-  }
+  refused e new may is conducts tested = pop_refused tree whole pop.which store meant old e new (λ slots given. pop.refuses (state_of store meant old slots given) (store old.pages) (store new.pages) e (state_of store meant new slots given) (may slots given) (ap (with_slots slots given) is)) conducts tested
 
   -- the read was refused
   pub pop_unread : (of : ℕ → ℕ) (e : Error) → RefusesReading store meant old tree of e → WholeRefused store meant old whole e old
@@ -250,39 +279,38 @@ module _ {P M : Type 0} (store : P → Store) (meant : M → Merge) (old : DbVal
 
   -- the tree has no pair
   pub pop_none : IsDb store old → ReadsMap store meant old tree (λ map. is_end map None) → WholeDecided store meant old whole (Pair None) old
-  pop_none db r = record {
-    maps = maps_of (db_state store meant old) ∷ [];
-    decides = λ slots given number. pop.decides (configuration_of store meant old slots given number) (Pair None) (state_of store meant old slots given) (maps_of (db_state store meant old) ∷ [])
-        (record { free = pop.must (state_of store meant old slots given) ∙ r.tested; named = r.named; there = r.there; found = None; ends = r.is; replies = refl; is = refl; added = refl });
-    conducts = let none = conducts_none store meant old in record {
-      acts = none.acts;
-      extends = subst (λ m. Rattle.tree_laws.specs.Crashes.AddsCrashStates (m ∷ []) (store old.pages) (store old.pages)) (sym (maps_are store meant old db.forest db.is)) (extends_again none.extends (tested_calm store meant old tree r.tested));
-      others = none.others;
-      loses = none.loses;
-      sound = λ d. d;
-      same = none.same;
-    };
-  }
+  pop_none db r = pop_decided tree whole pop.which store meant old (Pair None) old (maps_of (db_state store meant old) ∷ [])
+      (λ slots given number. pop.decides (configuration_of store meant old slots given number) (Pair None) (state_of store meant old slots given) (maps_of (db_state store meant old) ∷ [])
+      (record { free = pop.must (state_of store meant old slots given) ∙ r.tested; named = r.named; there = r.there; found = None; ends = r.is; replies = refl; is = refl; added = refl }))
+      (let none = conducts_none store meant old in record {
+        acts = none.acts;
+        leaves = record {
+          extends = subst (λ m. Rattle.tree_laws.specs.Crashes.AddsCrashStates (m ∷ []) (store old.pages) (store old.pages)) (sym (maps_are store meant old db.forest db.is)) (extends_again none.leaves.extends (tested_calm store meant old tree r.tested));
+          others = none.leaves.others;
+          loses = none.leaves.loses;
+          sound = λ d. d;
+        };
+        same = none.same;
+      })
 
   module _ (pair : Key × Key) (r : ReadsMap store meant old tree (λ map. is_end map (Some pair))) where
     -- the pair was taken out
     pub pop_found : (found : Option (Key × Key)) (new : DbValue P M) → TakesOut store meant old tree pair found new → WholeDecided store meant old whole (Pair found) new
     pop_found found new t =
-        let d = t.decided.decides in record {
-          maps = maps_of (db_state store meant new) ∷ [];
-          decides = λ slots given number. pop.decides (configuration_of store meant old slots given number) (Pair found) (state_of store meant new slots given) (maps_of (db_state store meant new) ∷ [])
-              (record {
-                free = pop.must (state_of store meant old slots given) ∙ r.tested;
-                named = d.named;
-                there = d.there;
-                found = Some pair;
-                ends = subst (λ (n : NamedTree). is_end n.map (Some pair)) (some_is (sym r.there ∙ d.there)) r.is;
-                replies = ap Pair t.answers;
-                is = ap (with_slots slots given) d.is;
-                added = refl;
-              });
-          conducts = t.decided.conducts;
-        }
+        let d = t.decided.decides in
+        pop_decided tree whole pop.which store meant old (Pair found) new (maps_of (db_state store meant new) ∷ [])
+        (λ slots given number. pop.decides (configuration_of store meant old slots given number) (Pair found) (state_of store meant new slots given) (maps_of (db_state store meant new) ∷ [])
+        (record {
+          free = pop.must (state_of store meant old slots given) ∙ r.tested;
+          named = d.named;
+          there = d.there;
+          found = Some pair;
+          ends = subst (λ (n : NamedTree). is_end n.map (Some pair)) (some_is (sym r.there ∙ d.there)) r.is;
+          replies = ap Pair t.answers;
+          is = ap (with_slots slots given) d.is;
+          added = refl;
+        }))
+        t.decided.conducts
 
     -- the causes for which a removal is refused
     take_cause : (slots : ℕ → Option CallInFlight) (given : ℕ) (b : Store) (e : Error) → cause_of (db_state store meant old) (store old.pages) b (ToPoint tree (Remove pair.0)) e → cause_at_end is_end (state_of store meant old slots given) (store old.pages) b tree e
@@ -479,12 +507,18 @@ module _ {P M : Type 0} (store : P → Store) (meant : M → Merge) (old : DbVal
           none = least_is r.named.map None (subst (λ z. IsSuccessor Unbounded r.named.map z) e r.is);
         },
       );
-      conducts = k.conducts;
+      acts = k.conducts.acts;
+      leaves = k.conducts.leaves;
+      same = k.conducts.same;
     }
+
+    stopped : IsDb store mid → (e : Error) (new : DbValue P M) → WholeRefused store meant mid (PopMin tree) e new → Conducts store k.maps (Some e) old new
+    stopped db e new w = subst (λ m. Conducts store m (Some e) old new) (append-nil k.maps)
+        (conducts_then store meant k.maps [] (Some e) old mid new k.conducts db (subst (λ m. Conducts store m (Some e) mid new) (w.refuses (λ n. None) 0).2 (record { acts = w.acts; leaves = w.leaves; same = w.same })))
 
     -- the next part is refused
     clearing_stops : IsDb store mid → (e : Error) (new : DbValue P M) → WholeRefused store meant mid (PopMin tree) e new → WholeRefused store meant old (Clear tree) e new
-    clearing_stops db e new w = record {
+    clearing_stops db e new w = let c = stopped db e new w in record {
       maps = k.maps;
       refuses = λ slots given.
           let r = w.refuses slots given in record {
@@ -497,8 +531,9 @@ module _ {P M : Type 0} (store : P → Store) (meant : M → Merge) (old : DbVal
             may = as_clear (state_of store meant new slots given) (store old.pages) (store mid.pages) (store new.pages) tree e (often_faults k.conducts.acts) (often_readable k.conducts.acts)
                 (subst (λ (s : State). MayRefuse s (store mid.pages) (store new.pages) (ToCall (PopMin tree)) e) (sym r.1) r.0);
           };
-      conducts = subst (λ m. Conducts store m (Some e) old new) (append-nil k.maps)
-          (conducts_then store meant k.maps [] (Some e) old mid new k.conducts db (subst (λ m. Conducts store m (Some e) mid new) (w.refuses (λ n. None) 0).2 w.conducts));
+      acts = c.acts;
+      leaves = c.leaves;
+      same = c.same;
       tested = λ must. elim k.tested [
         | inl same ↦ w.tested (subst (λ (z : DbValue P M). must_refuse (db_state store meant z) (ToCall (Clear tree)) ≢ None) (sym same.0) must) ∙ same.0
         | inr before ↦ absurd (must (first_alone (must_refuse_of (db_state store meant old) (tree ∷ [])) ∙ before))

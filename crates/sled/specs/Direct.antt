@@ -2,17 +2,21 @@
 use Rattle.std.specs.Prelude.{◌≡◌, ◌≢◌, ℕ, ◌≤◌, ◌⊎◌, true, List, [], ◌∷◌, length, Option, Some, None}
 use Rattle.sled_pages.specs.In.{In}
 use Rattle.std.specs.declared.ops.Bound.TheVariants.{Included}
-use Rattle.sled_pages.specs.Store.{Store, now}
+use Rattle.sled_pages.specs.Order.{Key}
+use Rattle.sled_pages.specs.Store.{Store, now, after_flush}
 use Rattle.sled_pages.specs.declared.node.Node.{Node}
 use Rattle.sled_pages.specs.declared.error.Error.{Error}
 use Rattle.sled_model.specs.Maps.{Maps, Merge}
 use Rattle.sled_model.specs.Answer.{key_of}
 use Rattle.sled_model.specs.State.{CallInFlight, maps_of}
-use Rattle.sled_model.specs.Transition.{WholeDecides, WholeRefuses}
+use Rattle.sled_model.specs.Transition.{WholeDecides, WholeRefuses, Kind, Flushing, Telling, kind_of}
 use Rattle.sled_model.specs.Whole.{DecidesPoint, RefusesPoint}
 use Rattle.sled_model.specs.Refusal.{ToCall, must_refuse, TellsTurns, turns_limit}
 use Rattle.sled_model.specs.declared.call.Call.{Call}
 use Rattle.sled_model.specs.declared.call.Whole.{Whole}
+use Rattle.sled_model.specs.declared.call.Whole.TheVariants.{OpenTree, GenerateId}
+use Rattle.sled_model.specs.declared.outcome.Outcome.{Outcome}
+use Rattle.sled_model.specs.declared.outcome.Outcome.TheVariants as outcome
 use Rattle.sled_model.specs.declared.tree.Tree.{Tree}
 use Rattle.sled_model.specs.declared.reply.Reply.{Reply}
 use Rattle.tree_laws.specs.Forest.{Place, Forest}
@@ -28,6 +32,7 @@ use Rattle.sled_tree.specs.declared.flight.Went.TheVariants.{Decided, Refused}
 use Rattle.sled.specs.Values.{DbValue, db_state, state_of, configuration_of, snapshot_of_db}
 use Rattle.sled.specs.Sound.{IsDb}
 use Rattle.sled.specs.Flights.{PagesLast, IsStepRefused, DbRunsToEnd}
+use Rattle.sled.specs.Flush.{only_faults}
 
 -- any number of changing actions, one after the other
 pub data ActsOften : Store → Store → Type 0 where
@@ -39,24 +44,51 @@ abbrev pub effects_until : Option Error → Store → Store → Type 0
 effects_until None old new = ActsOften old new
 effects_until (Some e) old new = (last : Store) × ActsOften old last × IsStepRefused e last new
 
--- each page that stood in a tree stands there still, or is merging, or was freed
-pub record StaysInChainOrWent (old : Snapshot) (w : Forest) (new : Snapshot) (v : Forest) : Type 0 where
-  pub is : (x : Place) (p : ℕ) → In p (w.chain x) → In p (v.chain x) ⊎ (((n : Node) × (nodes_at new p ≡ Some n) × (n.merging ≡ true)) ⊎ (nodes_at new p ≡ None))
+-- each page that stood in a tree stands there still, or is merging, or was freed; but for those of the tree that is lost, if one is
+pub record StaysInChainOrWent (lost : Option Key) (old : Snapshot) (w : Forest) (new : Snapshot) (v : Forest) : Type 0 where
+  pub is : (x : Place) (p : ℕ) → lost ≢ Some x.tree → In p (w.chain x) → In p (v.chain x) ⊎ (((n : Node) × (nodes_at new p ≡ Some n) × (n.merging ≡ true)) ⊎ (nodes_at new p ≡ None))
   pub last : PagesLast old new
 
 -- .. at the forests that fit the pages at the two moments: over any number of steps no page of a tree is lost
-abbrev pub KeepsOrFreesTreePages : Snapshot → Snapshot → Type 0
-KeepsOrFreesTreePages old new = (w v : Forest) → HasForest old w → HasForest new v → StaysInChainOrWent old w new v
+abbrev pub KeepsOrFreesTreePages : Option Key → Snapshot → Snapshot → Type 0
+KeepsOrFreesTreePages lost old new = (w v : Forest) → HasForest old w → HasForest new v → StaysInChainOrWent lost old w new v
 
--- What a call leaves of all else: what a crash may leave grows by these maps, what every call in flight knows stays true, no page of a
--- tree is lost, and nothing of the database changes but its pages
-pub record Conducts {P M : Type 0} (store : P → Store) (maps : List Maps) (refused : Option Error) (old new : DbValue P M) : Type 0 where
-  pub acts : effects_until refused (store old.pages) (store new.pages)
+-- What a call leaves of all else: what a crash may leave grows by these maps, what every call in flight knows stays true, and no page
+-- of a tree is lost but of this one, if there is one
+pub record LeavesAll {P M : Type 0} (store : P → Store) (maps : List Maps) (lost : Option Key) (old new : DbValue P M) : Type 0 where
   pub extends : AddsCrashStates maps (store old.pages) (store new.pages)
   pub others : (h : InFlight) → IsKnown (snapshot_of_db store old) h → IsKnown (snapshot_of_db store new) h
-  pub loses : KeepsOrFreesTreePages (snapshot_of_db store old) (snapshot_of_db store new)
+  pub loses : KeepsOrFreesTreePages lost (snapshot_of_db store old) (snapshot_of_db store new)
   pub sound : IsDb store old → IsDb store new
+
+-- What a call on a key does and leaves: nothing of the database changes but its pages
+pub record Conducts {P M : Type 0} (store : P → Store) (maps : List Maps) (refused : Option Error) (old new : DbValue P M) : Type 0 where
+  pub acts : effects_until refused (store old.pages) (store new.pages)
+  pub leaves : LeavesAll store maps None old new
   pub same : new ≡ record old { pages = new.pages }
+
+-- What a whole call does to the store: a flush makes all durable, and a call that tells something does nothing, but that it may raise
+-- the mark; where one of these is refused, nothing but a fault is counted. Any other does changing actions, one after the other, and
+-- after the last of them nothing; where it is refused then at most a fault is counted
+abbrev pub effect_of_whole : Kind → Outcome → Store → Store → Type 0
+effect_of_whole Flushing (outcome.Decided reply) old new = new ≡ after_flush old
+effect_of_whole Flushing (outcome.Refused e) old new = only_faults e old new
+effect_of_whole Telling (outcome.Decided reply) old new = new ≡ record old { mark = new.mark }
+effect_of_whole Telling (outcome.Refused e) old new = only_faults e old new
+effect_of_whole kind (outcome.Decided reply) old new = effects_until None old new
+effect_of_whole kind (outcome.Refused e) old new = effects_until (Some e) old new
+effect_of_whole kind o old new = ⊥
+
+-- what a decided whole call may change of the database: its pages; and one that opens a tree the list of trees, one that takes an id
+-- the greatest that was given
+abbrev pub changes_only : {P M : Type 0} → Whole → DbValue P M → DbValue P M → Type 0
+changes_only (OpenTree name) old new = new ≡ record old { pages = new.pages; trees = new.trees; trees_given = new.trees_given }
+changes_only GenerateId old new = new ≡ record old { pages = new.pages; greatest_id = new.greatest_id }
+changes_only whole old new = new ≡ record old { pages = new.pages }
+
+-- the tree that a decided whole call drops: none does so yet
+abbrev pub lost_of : Whole → Reply → Option Key
+lost_of whole reply = None
 
 -- a call as it begins
 abbrev pub begun_flight : Tree → Call → InFlight
@@ -78,16 +110,20 @@ module _ {P M : Type 0} (store : P → Store) (meant : M → Merge) where
     pub steps : (new ≡ old) ⊎ ((last : InFlight) × DbRunsToEnd store meant old (begun_flight tree call) (Refused e) new last)
     pub turns : TellsTurns e → (path : List ℕ) → IsClean (now (store old.pages)) tree.name (Included (key_of call)) path → turns_limit ≤ length path
 
-  -- A whole call on a tree was decided, in whatever machine the database is
+  -- A whole call was decided, in whatever machine the database is
   pub record WholeDecided (old : DbValue P M) (whole : Whole) (reply : Reply) (new : DbValue P M) : Type 0 where
     pub maps : List Maps
     pub decides : (slots : ℕ → Option CallInFlight) (slots_given number : ℕ) → WholeDecides (configuration_of store meant old slots slots_given number) whole reply (state_of store meant new slots slots_given) maps
-    pub conducts : Conducts store maps None old new
+    pub acts : effect_of_whole (kind_of whole) (outcome.Decided reply) (store old.pages) (store new.pages)
+    pub leaves : LeavesAll store maps (lost_of whole reply) old new
+    pub same : changes_only whole old new
 
   -- .. or it was refused
   pub record WholeRefused (old : DbValue P M) (whole : Whole) (e : Error) (new : DbValue P M) : Type 0 where
     pub maps : List Maps
     pub refuses : (slots : ℕ → Option CallInFlight) (slots_given : ℕ) → WholeRefuses (state_of store meant old slots slots_given) (store old.pages) (store new.pages) whole e (state_of store meant new slots slots_given) maps
-    pub conducts : Conducts store maps (Some e) old new
+    pub acts : effect_of_whole (kind_of whole) (outcome.Refused e) (store old.pages) (store new.pages)
+    pub leaves : LeavesAll store maps None old new
+    pub same : new ≡ record old { pages = new.pages }
     -- by a test, and then it did nothing
     pub tested : must_refuse (db_state store meant old) (ToCall whole) ≢ None → new ≡ old

@@ -1,5 +1,5 @@
 -- Ids.
-use Rattle.std.specs.Prelude.{◌≡◌, ℕ, ◌+◌, ◌≤◌, min, nat_lt, true, false, [], Option, None, if◌then◌else◌}
+use Rattle.std.specs.Prelude.{◌≡◌, ℕ, ◌+◌, ◌<◌, ◌≤◌, true, false, [], Option, None}
 use Rattle.sled_pages.specs.Crash.{crash_states}
 use Rattle.sled_pages.specs.Store.{Store, now}
 use Rattle.sled_pages.specs.declared.error.Error.{Error}
@@ -7,46 +7,21 @@ use Rattle.sled_pages.specs.declared.error.Error.TheVariants.{Unsupported, Io, N
 use Rattle.sled_pages.specs.declared.texts.TheConstants.{IDS_USED_UP}
 use Rattle.sled_model.specs.Maps.{Merge}
 use Rattle.sled_model.specs.State.{CallInFlight}
+use Rattle.sled_model.specs.Ids.{greatest_of_all, mark_above}
 use Rattle.sled_model.specs.Refusal.{must_refuse_of}
-use Rattle.tree_laws.specs.Crashes.{AddsCrashStates}
-use Rattle.sled_tree.specs.Known.{IsKnown}
-use Rattle.sled_tree.specs.declared.flight.InFlight.{InFlight}
-use Rattle.sled.specs.Values.{DbValue, db_state, state_of, snapshot_of_db}
-use Rattle.sled.specs.Sound.{IsDb}
-use Rattle.sled.specs.Flush.{only_faults}
-use Rattle.sled.specs.Direct.{KeepsOrFreesTreePages}
-
--- the greatest id that there can be, which is the greatest u64
-abbrev pub greatest_of_all : ℕ
-greatest_of_all = 18446744073709551615
-
--- the mark above this one: by 4096, or the greatest
-abbrev pub raised : ℕ → ℕ
-raised mark = min (mark + 4096) greatest_of_all
-
--- the mark after an id is taken: it is raised where no id above the greatest given is set aside
-abbrev pub mark_above : ℕ → ℕ → ℕ
-mark_above greatest mark = if nat_lt greatest mark then mark else raised mark
+use Rattle.sled.specs.Values.{DbValue, db_state, state_of}
+use Rattle.sled.specs.Direct.{LeavesAll}
 
 abbrev pub refuses_to_raise_as : Store → Error → Store → Type 0
 refuses_to_raise_as old (Unsupported text) new = (text.now ≡ IDS_USED_UP.now) × (old.mark ≡ greatest_of_all) × (new ≡ old)
-refuses_to_raise_as old NoMemory new = new ≡ old
-refuses_to_raise_as old (Io fault) new = new ≡ record old { faults = old.faults + 1 }
+refuses_to_raise_as old NoMemory new = (old.mark < greatest_of_all) × (new ≡ old)
+refuses_to_raise_as old (Io fault) new = (old.mark < greatest_of_all) × (new ≡ record old { faults = old.faults + 1 })
 refuses_to_raise_as old e new = ⊥
 
 -- no id is set aside, and all were given, or the store refuses to set more aside
 pub record RefusesToRaise (greatest : ℕ) (old : Store) (e : Error) (new : Store) : Type 0 where
   pub none : old.mark ≤ greatest
   pub is : refuses_to_raise_as old e new
-
--- What an id that was taken or refused leaves of all else: what a crash may leave is as it was, what every call in flight knows stays
--- true, and no page of a tree is lost
-pub record LeavesAll {P M : Type 0} (store : P → Store) (old new : DbValue P M) : Type 0 where
-  pub extends : AddsCrashStates [] (store old.pages) (store new.pages)
-  pub left : crash_states (store new.pages) ≡ crash_states (store old.pages)
-  pub others : (h : InFlight) → IsKnown (snapshot_of_db store old) h → IsKnown (snapshot_of_db store new) h
-  pub loses : KeepsOrFreesTreePages (snapshot_of_db store old) (snapshot_of_db store new)
-  pub sound : IsDb store old → IsDb store new
 
 -- The database was open, and the id is one above the greatest that was given, and is set aside
 pub record GivesId {P M : Type 0} (store : P → Store) (meant : M → Merge) (old : DbValue P M) (id : ℕ) (new : DbValue P M) : Type 0 where
@@ -56,10 +31,11 @@ pub record GivesId {P M : Type 0} (store : P → Store) (meant : M → Merge) (o
   pub is : store new.pages ≡ record (store old.pages) { mark = mark_above old.greatest_id (store old.pages).mark }
   pub same : new ≡ record old { pages = new.pages; greatest_id = id }
   pub state : (slots : ℕ → Option CallInFlight) (slots_given : ℕ) → state_of store meant new slots slots_given ≡ record (state_of store meant old slots slots_given) { greatest_id = id; mark = mark_above old.greatest_id (store old.pages).mark }
-  pub leaves : LeavesAll store old new
+  pub leaves : LeavesAll store [] None old new
+  pub left : crash_states (store new.pages) ≡ crash_states (store old.pages)
 
 abbrev pub refuses_id_as : {P : Type 0} → (P → Store) → ℕ → P → Error → P → Type 0
-refuses_id_as store greatest old Closed new = ((now (store old)).in_group ≡ true) × (store new ≡ store old)
+refuses_id_as store greatest old Closed new = ((now (store old)).in_group ≡ true) × (new ≡ old)
 refuses_id_as store greatest old e new = ((now (store old)).in_group ≡ false) × RefusesToRaise greatest (store old) e (store new)
 
 -- No id was given: the database is closed, or the store sets no more aside; and nothing changes, but that a fault is counted
@@ -67,4 +43,5 @@ pub record RefusesId {P M : Type 0} (store : P → Store) (meant : M → Merge) 
   pub is : refuses_id_as store old.greatest_id old.pages e new.pages
   pub same : new ≡ record old { pages = new.pages }
   pub state : (slots : ℕ → Option CallInFlight) (slots_given : ℕ) → state_of store meant new slots slots_given ≡ state_of store meant old slots slots_given
-  pub leaves : LeavesAll store old new
+  pub leaves : LeavesAll store [] None old new
+  pub left : crash_states (store new.pages) ≡ crash_states (store old.pages)

@@ -4,8 +4,10 @@ use Rattle.std.specs.FinMap.Entries.{is_sorted}
 use Rattle.std.specs.Str.{bytes_eq}
 use Rattle.std.specs.declared.ops.Bound.TheVariants.{Included}
 use Rattle.sled_pages.specs.Order.{Key, key_cmp}
-use Rattle.sled_pages.specs.Store.{Store, now}
-use Rattle.sled_pages.specs.State.{State}
+use Rattle.sled_pages.specs.Store.{Store, now, after_action, Allocates, IsRefused, AreGiven}
+use Rattle.sled_pages.specs.State.{State, RootBecomes}
+use Rattle.sled_pages.specs.declared.node.Node.{Node}
+use Rattle.sled_pages.specs.declared.node.Data.TheVariants as kind
 use Rattle.sled_pages.specs.Crash.{crash_states}
 use Rattle.sled_pages.specs.Faults.{IsFault}
 use Rattle.sled_pages.specs.declared.error.Error.{Error}
@@ -29,6 +31,29 @@ with_default = with_tree default_name
 -- the maps that are added: none where there is a tree of this name, and else those with the empty one
 abbrev pub planted : Key → Maps → List Maps
 planted name maps = if is_some (maps name) then [] else (with_tree name maps ∷ [])
+
+-- a leaf without pairs that covers every key
+abbrev pub empty_page : Node
+empty_page = record { lo = []; hi = []; next = None; merging = false; merging_child = None; content = kind.Leaf [] }
+
+-- one page was made, an empty leaf
+pub record MakesLeaf (old new : Store) : Type 0 where
+  pub pid : ℕ
+  pub version : ℕ
+  pub is : Allocates empty_page pid version old new
+  pub given : AreGiven new
+
+-- a tree of this name was made, by two actions: an empty leaf, and then it is the name's root
+pub record MakesTree (name : Key) (old new : Store) : Type 0 where
+  pub middle : Store
+  pub leaf : MakesLeaf old middle
+  pub is : new ≡ after_action (RootBecomes name (Some leaf.pid)) middle
+
+-- one of the two was refused, or there was no memory; and after the first a page is left that no tree has
+pub record StopsMaking (old : Store) (e : Error) (new : Store) : Type 0 where
+  pub last : Store
+  pub did : (last ≡ old) ⊎ MakesLeaf old last
+  pub refused : IsRefused e last new
 
 -- numbers from n + 1 on, in the order of the names
 abbrev pub numbered : ℕ → List Key → List (Key × ℕ)
@@ -98,3 +123,12 @@ pub record Opens {P M : Type 0} (store : P → Store) (before : Store) (called :
   pub recovered : (store d.pages).recovered ≡ before.recovered
   pub readable : (store d.pages).is_readable ≡ before.is_readable
   pub faults : (store d.pages).faults ≡ before.faults
+
+-- A name that is known was opened without an action, and a new one by those two
+pub record OpensBySteps {P M : Type 0} (store : P → Store) (name : Key) (old new : DbValue P M) : Type 0 where
+  pub known : (number : ℕ) → numbers_of old.trees name ≡ Some number → new ≡ old
+  pub made : numbers_of old.trees name ≡ None → MakesTree name (store old.pages) (store new.pages)
+
+-- .. or it was refused: it did nothing, or the name is new and one of the two was refused
+pub record OpenRefusedBySteps {P M : Type 0} (store : P → Store) (name : Key) (old : DbValue P M) (e : Error) (new : DbValue P M) : Type 0 where
+  pub is : (new ≡ old) ⊎ ((numbers_of old.trees name ≡ None) × StopsMaking (store old.pages) e (store new.pages))

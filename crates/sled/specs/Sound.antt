@@ -1,6 +1,7 @@
 -- What holds of a database between two calls.
-use Rattle.std.specs.Prelude.{◌≡◌, ◌≤◌, ℕ, true, [], Some}
-use Rattle.std.specs.FinMap.Entries.{is_sorted}
+use Rattle.std.specs.Prelude.{◌≡◌, ◌<◌, ◌≤◌, ℕ, true, [], Some, None}
+use Rattle.std.specs.FinMap.Entries.{find, is_sorted}
+use Rattle.std.specs.Ordering.{nat_cmp}
 use Rattle.sled_pages.specs.Order.{key_cmp}
 use Rattle.sled_pages.specs.Store.{Store}
 use Rattle.tree_laws.specs.Forest.{Forest, IsSized}
@@ -18,6 +19,8 @@ pub record IsDb {P M : Type 0} (store : P → Store) (d : DbValue P M) : Type 0 
   -- the trees ascend by name, and the default tree is there
   pub ascends : is_sorted key_cmp d.trees ≡ true
   pub default : (n : ℕ) × (numbers_of d.trees default_name ≡ Some n)
+  -- no number that was not given has an operator
+  pub ungiven : (n : ℕ) → d.trees_given < n → find nat_cmp n d.operators ≡ None
   -- nobody has subscribed yet
   pub unwatched : d.queues ≡ []
   -- the ids that were given were set aside

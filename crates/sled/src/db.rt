@@ -1,8 +1,6 @@
 //! The database.
 ghost use Rattle.std.specs.Prelude.{◌≡◌, ◌≢◌, IfOk, IfErr, OnOk, OnErr, IfSome, false, true, Some, None, [], ◌∷◌, map};
 ghost use Rattle.std.specs.Option.{option_copied};
-ghost use Rattle.std.specs.FinMap.Entries.{find};
-ghost use Rattle.sled_pages.specs.Order.{key_cmp};
 ghost use Rattle.sled_pages.specs.declared.error.Error.TheVariants.{NoMemory};
 ghost use Rattle.sled_pages.specs.Store.{now};
 ghost use Rattle.tree_laws.specs.Crashes.{IsValid, IsCrashConsistent};
@@ -10,25 +8,13 @@ ghost use Rattle.sled_model.specs.Refusal.{must_refuse_of};
 ghost use Rattle.sled.specs.Calls.{IsHandle, RefusesHandle, MustBeRefused};
 
 use crate::DEFAULT_TREE;
+use crate::tree_list::number_of;
 use sled_model::{MAX_LOOPS, MergeOperator, Tree};
 use sled_pages::texts::{HANDLE_OF_ANOTHER_DATABASE, WALK_PASSED_TURNS};
 use sled_pages::{Error, IVec, Pages, Result};
 use sled_tree::{InFlight, Went, advance};
 use std::alloc::Global;
 use std::marker::Model;
-
-// The number of the tree of a name.
-#[tactic(auto, unfolding(sled_pages::specs::Order::key_cmp))]
-pub(crate) fn number_of(trees: &[(IVec, u64)], name: &[u8]) -> Option<u64>
-    ensures { result ≡ find key_cmp name.now trees.now }
-{
-    for tree in trees {
-        if name.cmp(tree.0.as_ref()).is_eq() {
-            return Some(tree.1);
-        }
-    }
-    None
-}
 
 /// A database: named trees over a store of pages.
 #[derive(Drop)]

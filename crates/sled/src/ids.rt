@@ -1,7 +1,8 @@
 //! Ids, which rise strictly.
 ghost use Rattle.std.specs.Prelude.{◌≡◌, ◌≤◌, ◌<◌, ◌⊎◌, IfOk, IfErr, OnOk, OnErr, true};
 ghost use Rattle.sled_pages.specs.Store.{now};
-ghost use Rattle.sled.specs.Ids.{greatest_of_all, raised, mark_above, RefusesToRaise};
+ghost use Rattle.sled_model.specs.Ids.{greatest_of_all, raised, mark_above};
+ghost use Rattle.sled.specs.Ids.{RefusesToRaise};
 
 use crate::db::Db;
 use sled_model::MergeOperator;

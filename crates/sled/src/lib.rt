@@ -16,6 +16,7 @@ mod memory;
 mod names;
 mod open;
 mod read;
+mod tree_list;
 mod whole;
 
 pub use db::Db;

@@ -1,20 +1,25 @@
-//! Opening a database.
+//! Opening a database, and the tree of a name.
 ghost use Rattle.std.specs.Prelude.{◌≡◌, map, false, None, [], IfOk, IfErr, OnOk};
 ghost use Rattle.sled_pages.specs.declared.error.Error.TheVariants.{NoMemory};
-ghost use Rattle.sled_pages.specs.declared.node.Data.TheVariants as kind;
 ghost use Rattle.sled_pages.specs.Store.{now};
 ghost use Rattle.tree_laws.specs.Crashes.{IsValid};
-ghost use Rattle.sled.specs.Opens.{Opens, RefusesOpen, RefusesTree, numbered};
+ghost use Rattle.sled.specs.Opens.{empty_page, MakesTree, StopsMaking, Opens, RefusesOpen, RefusesTree, numbered};
+ghost use Rattle.sled.specs.Values.{numbers_of};
 ghost use Rattle.sled.specs.theory.Opens.{HasTree, AreNumbered};
+ghost use Rattle.sled_model.specs.declared.call.Whole.TheVariants.{OpenTree};
+ghost use Rattle.sled_model.specs.declared.reply.Reply.TheVariants as told;
 
 use crate::DEFAULT_TREE;
 use crate::db::Db;
+use crate::tree_list::{number_of, put_tree, reserve_one};
+use sled_model::{MergeOperator, Tree};
+use sled_pages::texts::NUMBERS_USED_UP;
 use sled_pages::{Data, Error, IVec, Leaf, Node, Pages, Pid, Result, law_given};
 use std::alloc::Global;
 
 // A leaf without pairs that covers every key.
 fn empty_leaf(alloc: Global) -> Result<Node>
-    ensures ok { IfOk result (λ node. node ≡ record { lo = []; hi = []; next = None; merging = false; merging_child = None; content = kind.Leaf [] }) }
+    ensures ok { IfOk result (λ node. node ≡ empty_page) }
     ensures err { IfErr result (λ e. e ≡ NoMemory) }
 {
     Ok(Node {
@@ -27,21 +32,16 @@ fn empty_leaf(alloc: Global) -> Result<Node>
     })
 }
 
-// Makes an empty tree of this name where there is none.
-pub(crate) fn create_tree<P: Pages>(alloc: Global, pages: &mut P, name: &[u8]) -> Result<()>
-    requires well { IsValid (now (P.store pages.old)) }
-    requires no_group { (now (P.store pages.old)).in_group ≡ false }
-    ensures ok { OnOk result (HasTree name.now (P.store pages.old) (P.store pages.new)) }
-    ensures err { IfErr result (λ e. RefusesTree name.now (P.store pages.old) e (P.store pages.new)) }
+// Makes an empty tree of a name that has none.
+pub(crate) fn make_tree<P: Pages>(alloc: Global, pages: &mut P, name: &[u8]) -> Result<()>
+    requires { (now (P.store pages.old)).roots name.now ≡ None }
+    ensures ok { OnOk result (MakesTree name.now (P.store pages.old) (P.store pages.new)) }
+    ensures err { IfErr result (λ e. StopsMaking (P.store pages.old) e (P.store pages.new)) }
 {
-    if pages.root(name).is_some() {
-        return Ok(());
-    }
     let node = match empty_leaf(alloc) {
         Ok(node) => node,
         Err(e) => return Err(e),
     };
-    law_given(pages);
     let (pid, _) = match pages.allocate(node) {
         Ok(given) => given,
         Err(e) => return Err(e),
@@ -52,6 +52,20 @@ pub(crate) fn create_tree<P: Pages>(alloc: Global, pages: &mut P, name: &[u8]) -
         Ok(Err(_)) => unreachable!(),
         Err(e) => Err(e),
     }
+}
+
+// Makes an empty tree of this name where there is none.
+fn create_tree<P: Pages>(alloc: Global, pages: &mut P, name: &[u8]) -> Result<()>
+    requires well { IsValid (now (P.store pages.old)) }
+    requires no_group { (now (P.store pages.old)).in_group ≡ false }
+    ensures ok { OnOk result (HasTree name.now (P.store pages.old) (P.store pages.new)) }
+    ensures err { IfErr result (λ e. RefusesTree name.now (P.store pages.old) e (P.store pages.new)) }
+{
+    if pages.root(name).is_some() {
+        return Ok(());
+    }
+    law_given(pages);
+    make_tree(alloc, pages, name)
 }
 
 // The names of these roots, numbered from 1 in their order.
@@ -120,5 +134,88 @@ impl<P: Pages> Db<P> {
             trees_given,
             greatest_id,
         })
+    }
+}
+
+impl<P: Pages, M: MergeOperator> Db<P, M> {
+    ghost use Rattle.sled.specs.Direct.{WholeDecided, WholeRefused};
+    ghost use Rattle.sled.specs.Opens.{OpensBySteps, OpenRefusedBySteps};
+
+    // What names the tree of this name and number.
+    fn handle_of(&self, name: &[u8], number: u64) -> Result<Tree>
+        ensures ok { IfOk result (λ tree. tree ≡ record { database = self.now.name; name = name.now; number = number }) }
+        ensures err { IfErr result (λ e. e ≡ NoMemory) }
+    {
+        let database = self.name.clone()?;
+        match IVec::from_slice(self.alloc, name) {
+            Ok(name) => Ok(Tree {
+                database,
+                name,
+                number,
+            }),
+            Err(e) => {
+                drop(database);
+                Err(e)
+            }
+        }
+    }
+
+    /// Opens the tree of a name. One that is there keeps its number, and no page is touched; else an empty one is made, by two
+    /// actions, and gets the next number and no merge operator. Refused with `Closed`; with `NoMemory`; and of a new name with
+    /// `Unsupported` where all numbers were given, and with `Io` where the store counts a fault. Then no map changes, and at
+    /// most a page is left that no tree has.
+    pub fn open_tree(&mut self, name: &[u8]) -> Result<Tree>
+        ensures ok { IfOk result (λ tree. WholeDecided P.store M.meant self.old (OpenTree name.now) (told.Tree tree) self.new) }
+        ensures err { IfErr result (λ e. WholeRefused P.store M.meant self.old (OpenTree name.now) e self.new) }
+        ensures steps { OnOk result (OpensBySteps P.store name.now self.old self.new) }
+        ensures refused { IfErr result (λ e. OpenRefusedBySteps P.store name.now self.old e self.new) }
+    {
+        if self.pages.in_group() {
+            return Err(Error::Closed);
+        }
+        match number_of(self.trees.as_slice(), name) {
+            Some(number) => self.handle_of(name, number),
+            None => self.add_tree(name),
+        }
+    }
+
+    // Makes the tree of a name that has none. What it needs in memory it gets before the first action.
+    fn add_tree(&mut self, name: &[u8]) -> Result<Tree>
+        requires no_group { (now (P.store self.old.pages)).in_group ≡ false }
+        requires unknown { numbers_of self.old.trees name.now ≡ None }
+        ensures ok { IfOk result (λ tree. WholeDecided P.store M.meant self.old (OpenTree name.now) (told.Tree tree) self.new) }
+        ensures err { IfErr result (λ e. WholeRefused P.store M.meant self.old (OpenTree name.now) e self.new) }
+        ensures steps { OnOk result (OpensBySteps P.store name.now self.old self.new) }
+        ensures refused { IfErr result (λ e. OpenRefusedBySteps P.store name.now self.old e self.new) }
+    {
+        if self.trees_given == u64::MAX {
+            return Err(Error::Unsupported(NUMBERS_USED_UP));
+        }
+        let number = self.trees_given + 1;
+        let tree = match self.handle_of(name, number) {
+            Ok(tree) => tree,
+            Err(e) => return Err(e),
+        };
+        let own = match IVec::from_slice(self.alloc, name) {
+            Ok(own) => own,
+            Err(e) => {
+                drop(tree);
+                return Err(e);
+            }
+        };
+        if let Err(e) = reserve_one(&mut self.trees) {
+            drop(tree);
+            drop(own);
+            return Err(e);
+        }
+        law_given(&self.pages);
+        if let Err(e) = make_tree(self.alloc, &mut self.pages, name) {
+            drop(tree);
+            drop(own);
+            return Err(e);
+        }
+        put_tree(&mut self.trees, own, number);
+        self.trees_given = number;
+        Ok(tree)
     }
 }

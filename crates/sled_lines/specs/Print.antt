@@ -7,7 +7,7 @@ use Rattle.sled_pages.specs.declared.error.Error.TheVariants.{CollectionNotFound
 use Rattle.sled_model.specs.declared.call.Call.{Call}
 use Rattle.sled_model.specs.declared.call.Call.TheVariants.{Get, Insert, Remove, CompareAndSwap}
 use Rattle.sled_model.specs.declared.reply.Reply.{Reply}
-use Rattle.sled_model.specs.declared.reply.Reply.TheVariants.{Value, Swapped, Number, Done, Pair}
+use Rattle.sled_model.specs.declared.reply.Reply.TheVariants.{Value, Swapped, Number, Done, Pair, Tree}
 use Rattle.sled_model.specs.declared.reply.CompareAndSwapError.{CompareAndSwapError}
 use Rattle.sled_model.specs.declared.outcome.Outcome.{Outcome}
 use Rattle.sled_model.specs.declared.outcome.Outcome.TheVariants.{Begun, Moved, Decided, Refused, Abandoned, NoSuchSlot}
@@ -44,6 +44,9 @@ conflict_line conflict = codes "conflict " ++ word_of conflict.current ++ codes 
 abbrev pub found_line : Key → Key → List ℕ
 found_line key value = codes "found " ++ printed key ++ codes " " ++ printed value ++ end
 
+abbrev pub tree_line : Key → List ℕ
+tree_line name = codes "tree " ++ printed name ++ end
+
 abbrev pub reply_line : Shown → Reply → List ℕ
 reply_line show (Value bytes) = name_of show ++ word_of bytes ++ end
 reply_line show (Swapped (Ok done)) = codes "swapped" ++ end
@@ -52,6 +55,7 @@ reply_line show (Number n) = codes "flushed " ++ decimal n ++ end
 reply_line show Done = codes "done" ++ end
 reply_line show (Pair (Some pair)) = found_line pair.0 pair.1
 reply_line show (Pair None) = codes "found -" ++ end
+reply_line show (Tree tree) = tree_line tree.name
 
 -- errors are numbered in the order of their variants
 abbrev pub error_number : Error → ℕ

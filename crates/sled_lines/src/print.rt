@@ -5,7 +5,7 @@ ghost use Rattle.std.specs.Option.{option_copied};
 ghost use Rattle.std.specs.List.{flat_map};
 ghost use Rattle.sled_pages.specs.declared.error.Error.TheVariants.{NoMemory};
 ghost use Rattle.sled_lines.specs.Words.{word_of};
-ghost use Rattle.sled_lines.specs.Print.{end, piece_text, shown_of, name_of, conflict_line, found_line, reply_line, error_number, refused_line, slot_line, outcome_line, pair_line, end_line, recovered_line, bad_line};
+ghost use Rattle.sled_lines.specs.Print.{end, piece_text, shown_of, name_of, conflict_line, found_line, tree_line, reply_line, error_number, refused_line, slot_line, outcome_line, pair_line, end_line, recovered_line, bad_line};
 
 use crate::words::push_word;
 use sled_model::{Call, CompareAndSwapError, Outcome, Reply};
@@ -137,6 +137,17 @@ fn push_found<'a>(out: &mut Vec<u8>, key: &'a [u8], value: &'a [u8]) -> Result<(
     )
 }
 
+// Adds the line of a tree that was opened.
+fn push_tree<'a>(out: &mut Vec<u8>, name: &'a [u8]) -> Result<()>
+    ensures ok { OnOk result (out.new.items ≡ out.old.items ++ tree_line name.now) }
+    ensures err { IfErr result (λ e. e ≡ NoMemory) }
+{
+    push_pieces(
+        out,
+        &[Piece::Text(b"tree "), Piece::Word(name), Piece::Text(b"\n")],
+    )
+}
+
 // Adds the line of a reply.
 fn push_reply(out: &mut Vec<u8>, shown: Shown, reply: &Reply) -> Result<()>
     ensures ok { OnOk result (out.new.items ≡ out.old.items ++ reply_line shown reply.now) }
@@ -157,6 +168,7 @@ fn push_reply(out: &mut Vec<u8>, shown: Shown, reply: &Reply) -> Result<()>
         Reply::Done => push_text(out, b"done\n"),
         Reply::Pair(Some(pair)) => push_found(out, pair.0.as_ref(), pair.1.as_ref()),
         Reply::Pair(None) => push_text(out, b"found -\n"),
+        Reply::Tree(tree) => push_tree(out, tree.name.as_ref()),
     }
 }
 

@@ -30,7 +30,6 @@ use Rattle.sled_tree.proofs.Known.{known_new}
 use Rattle.tree_laws.specs.declared.flight.Stage.TheVariants.{Root}
 use Rattle.sled_tree.specs.declared.flight.Went.{Went}
 use Rattle.sled_tree.specs.declared.flight.Went.TheVariants.{Moved, Decided, Refused}
-use Rattle.sled.specs.Sound.{IsDb}
 use Rattle.sled.specs.Values.{DbValue, state_of, db_state, configuration_of as instant_of_db, snapshot_of_db}
 use Rattle.sled.specs.Calls.{MustBeRefused, must_be_refused_as}
 use Rattle.sled_tree.specs.Known.{IsKnown, AreApart}
@@ -360,8 +359,8 @@ module _ {P M : Type 0} (store : P → Store) (number : P → ℕ) (meant : M �
 
   -- a flush
   module _ (db : DbValue P M) (same : db ≡ record (v.db) { pages = db.pages }) (stays : SameNow (store v.db.pages) (store db.pages)) where
-    flush_loses : MachineKeepsTreePages store v (step.Whole Flush) (record v { db = db })
-    flush_loses = record { none = subst (λ (m : Snapshot). KeepsTreePages None (snapshot_of_db store v.db) m) (sym (stays_moment store meant v.db db same stays)) (loses_nothing None (snapshot_of_db store v.db)) }
+    flush_loses : (o : Outcome) → MachineKeepsTreePages store v (step.Whole Flush) o (record v { db = db })
+    flush_loses o = record { none = subst (λ (m : Snapshot). KeepsTreePages None (snapshot_of_db store v.db) m) (sym (stays_moment store meant v.db db same stays)) (loses_nothing None (snapshot_of_db store v.db)) }
 
     pub stays_machine : IsMachine (snapshot_of_db store db) v.flights v.slots_given
     stays_machine = subst (λ (m : Snapshot). IsMachine m v.flights v.slots_given) (sym (stays_moment store meant v.db db same stays)) im
@@ -378,7 +377,7 @@ module _ {P M : Type 0} (store : P → Store) (number : P → ℕ) (meant : M �
     follows = record { is = tt };
     passes = record { is = tt };
     slots = record { starts = tt; others = λ q off. refl };
-    loses = flush_loses db f.same (flushed_now f.is);
+    loses = flush_loses db f.same (flushed_now f.is) (outcome.Decided (Number n));
     leaves = record { is = tt };
     gives_up = record { is = tt };
     tested = record { is = tt };
@@ -400,7 +399,7 @@ module _ {P M : Type 0} (store : P → Store) (number : P → ℕ) (meant : M �
     follows = record { is = tt };
     passes = record { is = tt };
     slots = record { starts = tt; others = λ q off. refl };
-    loses = flush_loses db f.same (rests_now rests);
+    loses = flush_loses db f.same (rests_now rests) (outcome.Refused e);
     leaves = record { is = tt };
     gives_up = record { is = tt };
     tested = record { is = tt };

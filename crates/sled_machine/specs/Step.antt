@@ -1,6 +1,6 @@
 -- One step of the machine.
 use Rattle.std.specs.Prelude.{◌≡◌, ◌≢◌, ℕ, suc, ◌<◌, List, [], ◌∷◌, length, Option, Some, None}
-use Rattle.sled_pages.specs.Store.{Store, now, after_flush}
+use Rattle.sled_pages.specs.Store.{Store, now}
 use Rattle.sled_pages.specs.Order.{Key}
 use Rattle.sled_model.specs.Maps.{Map, Maps, Merge, IsLeast, IsGreatest}
 use Rattle.sled_model.specs.Answer.{answer_of}
@@ -9,7 +9,7 @@ use Rattle.sled_model.specs.State.{State, NamedTree, CallInFlight, maps_of}
 use Rattle.sled_model.specs.Transition.{Transition, Kind, Flushing, kind_of}
 use Rattle.sled_pages.specs.declared.error.Error.{Error}
 use Rattle.sled_model.specs.declared.call.Whole.{Whole}
-use Rattle.sled_model.specs.declared.call.Whole.TheVariants.{PopMin, PopMax, Clear}
+use Rattle.sled_model.specs.declared.call.Whole.TheVariants.{PopMin, PopMax, Clear, OpenTree}
 use Rattle.sled_model.specs.declared.reply.Reply.TheVariants.{Pair}
 use Rattle.sled_model.specs.declared.tree.Tree.{Tree}
 use Rattle.sled_model.specs.declared.outcome.Step.{Step}
@@ -32,8 +32,8 @@ use Rattle.tree_reads.specs.Walk.{once, for_each}
 use Rattle.sled.specs.Sound.{IsDb}
 use Rattle.sled.specs.Values.{DbValue, db_state, snapshot_of_db}
 use Rattle.sled.specs.Flights.{IsStepRefused, KeepsTreePages, outcome_of}
-use Rattle.sled.specs.Flush.{only_faults}
-use Rattle.sled.specs.Direct.{effects_until, KeepsOrFreesTreePages}
+use Rattle.sled.specs.Opens.{OpensBySteps, OpenRefusedBySteps}
+use Rattle.sled.specs.Direct.{effect_of_whole, lost_of, KeepsOrFreesTreePages}
 use Rattle.sled.specs.Pops.{GivesUpPop, PopsBySteps, PopRefusedBySteps, ClearsBySteps, ClearRefusedBySteps}
 use Rattle.sled_machine.specs.CrashMaps.{AreCrashMaps, crash_maps_after}
 use Rattle.sled_machine.specs.StepsInSlot.{flight_after}
@@ -64,15 +64,6 @@ pub record DecidesBy (s : State) (slot : ℕ) (old new : Store) : Type 0 where
   pub does : ActsAtMostOnce old new
   pub quiet : BringsAt s slot None → new ≡ old
   pub loud : (event : Event) → BringsAt s slot (Some event) → ActsOnce old new
-
--- What a whole call does to the store: a flush makes all durable, and where it is refused nothing but a fault is counted. Any other does
--- changing actions, one after the other, and after the last of them nothing; where it is refused then at most a fault is counted
-abbrev pub effect_of_whole : Kind → Outcome → Store → Store → Type 0
-effect_of_whole Flushing (Decided reply) old new = new ≡ after_flush old
-effect_of_whole Flushing (Refused e) old new = only_faults e old new
-effect_of_whole kind (Decided reply) old new = effects_until None old new
-effect_of_whole kind (Refused e) old new = effects_until (Some e) old new
-effect_of_whole kind o old new = ⊥
 
 -- What a step does to the store: a call that begins or is given up, or that no slot has, does nothing. A step of a slot does at most
 -- one changing action: none where the call is refused or decided without an event, and one where it is decided with one. A fault that
@@ -137,19 +128,24 @@ pub record MachineSlots {P M : Type 0} (old : MachineValue P M) (s : Step) (o : 
   pub starts : starts_as s o new
   pub others : (slot : ℕ) → slot_of s o ≢ Some slot → kept_at new.flights slot ≡ kept_at old.flights slot
 
--- each page of a tree stands there still, or is merging. A whole call but a flush does many actions, and a page that merged may have
--- been freed by then
-abbrev pub whole_keeps_tree_pages : Kind → Snapshot → Snapshot → Type 0
-whole_keeps_tree_pages Flushing old new = KeepsTreePages None old new
-whole_keeps_tree_pages kind old new = KeepsOrFreesTreePages old new
+-- the tree that a step drops, if it drops one
+abbrev pub lost_by : Step → Outcome → Option Key
+lost_by (step.Whole whole) (Decided reply) = lost_of whole reply
+lost_by s o = None
 
-abbrev pub keeps_tree_pages_as : Step → Snapshot → Snapshot → Type 0
-keeps_tree_pages_as (step.Whole whole) old new = whole_keeps_tree_pages (kind_of whole) old new
-keeps_tree_pages_as s old new = KeepsTreePages None old new
+-- each page of a tree stands there still, or is merging, but for those of the tree that is lost. A whole call but a flush does many
+-- actions, and a page that merged may have been freed by then
+abbrev pub whole_keeps_tree_pages : Kind → Option Key → Snapshot → Snapshot → Type 0
+whole_keeps_tree_pages Flushing lost old new = KeepsTreePages None old new
+whole_keeps_tree_pages kind lost old new = KeepsOrFreesTreePages lost old new
+
+abbrev pub keeps_tree_pages_as : Step → Outcome → Snapshot → Snapshot → Type 0
+keeps_tree_pages_as (step.Whole whole) o old new = whole_keeps_tree_pages (kind_of whole) (lost_by (step.Whole whole) o) old new
+keeps_tree_pages_as s o old new = KeepsTreePages None old new
 
 -- no page of a tree is lost
-pub record MachineKeepsTreePages {P M : Type 0} (store : P → Store) (old : MachineValue P M) (s : Step) (new : MachineValue P M) : Type 0 where
-  pub none : keeps_tree_pages_as s (snapshot_of_db store old.db) (snapshot_of_db store new.db)
+pub record MachineKeepsTreePages {P M : Type 0} (store : P → Store) (old : MachineValue P M) (s : Step) (o : Outcome) (new : MachineValue P M) : Type 0 where
+  pub none : keeps_tree_pages_as s o (snapshot_of_db store old.db) (snapshot_of_db store new.db)
 
 -- the pages that are the own of the call in a slot, if there is one
 abbrev pub owned_by : Option InFlight → List ℕ
@@ -202,10 +198,17 @@ clears_as store meant old tree (Decided reply) new = ClearsBySteps store meant t
 clears_as store meant old tree (Refused e) new = ClearRefusedBySteps store meant old tree e new
 clears_as store meant old tree o new = Unit {0}
 
+-- a known name is opened without an action, and a new one by two
+abbrev pub opens_as : {P M : Type 0} → (P → Store) → DbValue P M → Key → Outcome → DbValue P M → Type 0
+opens_as store old name (Decided reply) new = OpensBySteps store name old new
+opens_as store old name (Refused e) new = OpenRefusedBySteps store name old e new
+opens_as store old name o new = Unit {0}
+
 abbrev pub way_of_whole : {P M : Type 0} → (P → Store) → (M → Merge) → DbValue P M → Whole → Outcome → DbValue P M → Type 0
 way_of_whole store meant old (PopMin tree) o new = pops_as store meant old tree IsLeast o new
 way_of_whole store meant old (PopMax tree) o new = pops_as store meant old tree IsGreatest o new
 way_of_whole store meant old (Clear tree) o new = clears_as store meant old tree o new
+way_of_whole store meant old (OpenTree name) o new = opens_as store old name o new
 way_of_whole store meant old whole o new = Unit {0}
 
 abbrev pub way_as : {P M : Type 0} → (P → Store) → (M → Merge) → DbValue P M → Step → Outcome → DbValue P M → Type 0
@@ -223,7 +226,7 @@ pub record MachineStepContract {P M : Type 0} (store : P → Store) (flush_numbe
   pub follows : MachineFollows store meant old s o new
   pub passes : MachinePasses store old s o new
   pub slots : MachineSlots old s o new
-  pub loses : MachineKeepsTreePages store old s new
+  pub loses : MachineKeepsTreePages store old s o new
   pub leaves : MachineLeaksNoPage store old s o new
   pub gives_up : MachineGivesUp store meant old s o
   pub tested : MachineTested store meant old s o new

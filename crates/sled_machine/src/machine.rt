@@ -4,7 +4,7 @@ ghost use Rattle.std.specs.Option.{option_map};
 ghost use Rattle.sled_pages.specs.declared.error.Error.TheVariants.{NoMemory};
 ghost use Rattle.sled_model.specs.Refusal.{must_refuse_of};
 ghost use Rattle.sled_model.specs.declared.call.Call.{Call};
-ghost use Rattle.sled_model.specs.declared.call.Whole.TheVariants.{Flush, PopMin, PopMax, Clear};
+ghost use Rattle.sled_model.specs.declared.call.Whole.TheVariants.{Flush, PopMin, PopMax, Clear, OpenTree, GenerateId};
 ghost use Rattle.sled_model.specs.declared.outcome.Outcome.TheVariants as outcome;
 ghost use Rattle.sled_model.specs.declared.outcome.Step.TheVariants as step;
 
@@ -13,7 +13,7 @@ use crate::table::Table;
 use sled::Db;
 use sled_model::{Call, MergeOperator, Outcome, Reply, Slot, Step, Tree, Whole};
 use sled_pages::texts::NUMBERS_USED_UP;
-use sled_pages::{Error, Pages, Result};
+use sled_pages::{Error, IVec, Pages, Result};
 use sled_tree::InFlight;
 use std::marker::Model;
 
@@ -128,7 +128,7 @@ impl<P: Pages, M: MergeOperator> Machine<P, M> {
         ensures follows { MachineFollows P.store M.meant self.old (step.Step slot) result self.new }
         ensures passes { MachinePasses P.store self.old (step.Step slot) result self.new }
         ensures slots { MachineSlots self.old (step.Step slot) result self.new }
-        ensures loses { MachineKeepsTreePages P.store self.old (step.Step slot) self.new }
+        ensures loses { MachineKeepsTreePages P.store self.old (step.Step slot) result self.new }
         ensures leaves { MachineLeaksNoPage P.store self.old (step.Step slot) result self.new }
     {
         let Some(i) = self.table.find(slot.0) else {
@@ -175,6 +175,8 @@ impl<P: Pages, M: MergeOperator> Machine<P, M> {
             Whole::PopMin(tree) => self.pop_min(tree),
             Whole::PopMax(tree) => self.pop_max(tree),
             Whole::Clear(tree) => self.clear(tree),
+            Whole::OpenTree(name) => self.open_tree(name),
+            Whole::GenerateId => self.generate_id(),
         }
     }
 
@@ -215,6 +217,26 @@ impl<P: Pages, M: MergeOperator> Machine<P, M> {
             return Outcome::Refused(e);
         }
         Outcome::Decided(Reply::Done)
+    }
+
+    fn open_tree(&mut self, name: &IVec) -> Outcome
+        ensures { MachineStepContract P.store P.flush_number M.meant self.old (step.Whole (OpenTree name.now)) result self.new }
+    {
+        let tree = match self.db.open_tree(name.as_ref()) {
+            Ok(tree) => tree,
+            Err(e) => return Outcome::Refused(e),
+        };
+        Outcome::Decided(Reply::Tree(tree))
+    }
+
+    fn generate_id(&mut self) -> Outcome
+        ensures { MachineStepContract P.store P.flush_number M.meant self.old (step.Whole GenerateId) result self.new }
+    {
+        let id = match self.db.generate_id() {
+            Ok(id) => id,
+            Err(e) => return Outcome::Refused(e),
+        };
+        Outcome::Decided(Reply::Number(id))
     }
 
     /// Does steps of the call in the slot until it ends. There are no more than its turns allow. Where no other call left

@@ -2,6 +2,7 @@ pub mod Maps
 pub mod Event
 pub mod Answer
 pub mod State
+pub mod Ids
 pub mod Queues
 pub mod Refusal
 pub mod Whole

@@ -5,14 +5,15 @@ use Rattle.sled_pages.specs.Order.{Key}
 use Rattle.sled_pages.specs.Store.{Store}
 use Rattle.sled_pages.specs.declared.error.Error.{Error}
 use Rattle.sled_pages.specs.declared.error.Error.TheVariants.{CollectionNotFound, Unsupported, ReportableBug, Io, NoMemory, FullQueue, Closed}
-use Rattle.sled_pages.specs.declared.texts.TheConstants.{HANDLE_OF_ANOTHER_DATABASE, NO_MERGE_OPERATOR, NUMBERS_USED_UP, WALK_PASSED_TURNS}
+use Rattle.sled_pages.specs.declared.texts.TheConstants.{HANDLE_OF_ANOTHER_DATABASE, NO_MERGE_OPERATOR, NUMBERS_USED_UP, IDS_USED_UP, WALK_PASSED_TURNS}
 use Rattle.sled_model.specs.Maps.{Map, IsLeast, IsGreatest}
 use Rattle.sled_model.specs.Answer.{answer_of}
 use Rattle.sled_model.specs.State.{State, NamedTree, CallInFlight, Queue, matches}
+use Rattle.sled_model.specs.Ids.{greatest_of_all}
 use Rattle.sled_model.specs.declared.call.Call.{Call}
 use Rattle.sled_model.specs.declared.call.Call.TheVariants.{Get, Insert, Remove, CompareAndSwap}
 use Rattle.sled_model.specs.declared.call.Whole.{Whole}
-use Rattle.sled_model.specs.declared.call.Whole.TheVariants.{Flush, PopMin, PopMax, Clear}
+use Rattle.sled_model.specs.declared.call.Whole.TheVariants.{Flush, PopMin, PopMax, Clear, OpenTree, GenerateId}
 use Rattle.sled_model.specs.declared.event.Event.{Event}
 use Rattle.sled_model.specs.declared.tree.Tree.{Tree}
 
@@ -32,6 +33,8 @@ trees_asked (ToCall Flush) = []
 trees_asked (ToCall (PopMin tree)) = tree ∷ []
 trees_asked (ToCall (PopMax tree)) = tree ∷ []
 trees_asked (ToCall (Clear tree)) = tree ∷ []
+trees_asked (ToCall (OpenTree name)) = []
+trees_asked (ToCall GenerateId) = []
 
 -- why a call must be refused: the database is closed, the tree is another database's, it was dropped, or it has no operator
 pub data MustRefuse : Type 0 where
@@ -126,9 +129,17 @@ pub record EndMeetsFullQueue (is_end : Map → Option (Key × Key) → Type 0) (
   pub ends : is_end named.map (Some pair)
   pub meets : MeetsFullQueue s t (Remove pair.0)
 
--- The causes of a refusal that is none of those tests: slots are numbered up to the greatest u64; the call has no turns left; the
--- store counted a fault, or some page is not readable; a queue is full. a is the store before, b the store after
+-- why no id is given: none is set aside, and the greatest that there can be was given, or the store sets no more aside
+abbrev pub cause_of_id : State → Store → Store → Error → Type 0
+cause_of_id s a b (Unsupported text) = (text.now ≡ IDS_USED_UP.now) × (s.mark ≤ s.greatest_id) × (s.mark ≡ greatest_of_all)
+cause_of_id s a b NoMemory = (s.mark ≤ s.greatest_id) × (s.mark < greatest_of_all)
+cause_of_id s a b (Io fault) = (s.mark ≤ s.greatest_id) × (s.mark < greatest_of_all) × (a.faults < b.faults)
+cause_of_id s a b e = ⊥
+
+-- The causes of a refusal that is none of those tests: slots and trees are numbered up to the greatest u64; the call has no turns
+-- left; the store counted a fault, or some page is not readable; a queue is full. a is the store before, b the store after
 abbrev pub cause_of : State → Store → Store → Asked → Error → Type 0
+cause_of s a b (ToCall GenerateId) e = cause_of_id s a b e
 cause_of s a b asked NoMemory = Unit {0}
 cause_of s a b (ToBegin tree call) (Unsupported text) = (text.now ≡ NUMBERS_USED_UP.now) × (s.slots_given ≡ 18446744073709551615)
 cause_of s a b (ToStep f) (Io fault) = (a.faults < b.faults) ⊎ ((pid : ℕ) × (a.is_readable pid ≡ false))
@@ -139,6 +150,9 @@ cause_of s a b (ToPoint tree call) (ReportableBug text) = text.now ≡ WALK_PASS
 cause_of s a b (ToPoint tree call) FullQueue = MeetsFullQueue s tree call
 cause_of s a b (ToCall Flush) (Io fault) = a.faults < b.faults
 cause_of s a b (ToCall Flush) e = ⊥
+cause_of s a b (ToCall (OpenTree name)) (Io fault) = (s.trees name ≡ None) × (a.faults < b.faults)
+cause_of s a b (ToCall (OpenTree name)) (Unsupported text) = (text.now ≡ NUMBERS_USED_UP.now) × (s.trees name ≡ None) × (s.trees_given ≡ 18446744073709551615)
+cause_of s a b (ToCall (OpenTree name)) e = ⊥
 cause_of s a b (ToCall whole) (Io fault) = (a.faults < b.faults) ⊎ ((pid : ℕ) × (a.is_readable pid ≡ false))
 cause_of s a b (ToCall whole) (ReportableBug text) = text.now ≡ WALK_PASSED_TURNS.now
 cause_of s a b (ToCall (PopMin tree)) FullQueue = EndMeetsFullQueue IsLeast s tree

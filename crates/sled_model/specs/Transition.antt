@@ -9,8 +9,8 @@ use Rattle.sled_model.specs.State.{State, NamedTree, CallInFlight, maps_of, call
 use Rattle.sled_model.specs.Refusal.{ToBegin, ToStep, ToCall, must_refuse, MayRefuse, TellsTurns, turns_limit}
 use Rattle.sled_model.specs.declared.call.Call.{Call}
 use Rattle.sled_model.specs.declared.call.Whole.{Whole}
-use Rattle.sled_model.specs.declared.call.Whole.TheVariants.{Flush, PopMin, PopMax, Clear}
-use Rattle.sled_model.specs.Whole.{Pops, Clears, StopsClearing}
+use Rattle.sled_model.specs.declared.call.Whole.TheVariants.{Flush, PopMin, PopMax, Clear, OpenTree, GenerateId}
+use Rattle.sled_model.specs.Whole.{Pops, Clears, StopsClearing, OpensTree, GeneratesId}
 use Rattle.sled_model.specs.declared.tree.Tree.{Tree}
 use Rattle.sled_model.specs.declared.reply.Reply.{Reply}
 use Rattle.sled_model.specs.declared.reply.Reply.TheVariants.{Number, Done}
@@ -83,6 +83,8 @@ kind_of Flush = Flushing
 kind_of (PopMin tree) = Changing
 kind_of (PopMax tree) = Changing
 kind_of (Clear tree) = InParts
+kind_of (OpenTree name) = Changing
+kind_of GenerateId = Telling
 
 -- a whole call is decided. A flush answers the store's number
 abbrev pub WholeDecides : Configuration → Whole → Reply → State → List Maps → Type 0
@@ -90,6 +92,8 @@ WholeDecides old Flush reply new maps = (must_refuse old.state (ToCall Flush) �
 WholeDecides old (PopMin tree) reply new maps = Pops IsLeast old.state (PopMin tree) tree reply new maps
 WholeDecides old (PopMax tree) reply new maps = Pops IsGreatest old.state (PopMax tree) tree reply new maps
 WholeDecides old (Clear tree) reply new maps = (reply ≡ Done) × Clears old.state tree new maps
+WholeDecides old (OpenTree name) reply new maps = OpensTree old.state name reply new maps
+WholeDecides old GenerateId reply new maps = GeneratesId old.state reply new maps
 
 -- a whole call is refused, and nothing changes, but for the parts that a call in parts has done
 abbrev pub WholeRefuses : State → Store → Store → Whole → Error → State → List Maps → Type 0

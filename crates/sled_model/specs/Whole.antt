@@ -1,19 +1,22 @@
--- What whole calls on one tree make of the state.
-use Rattle.std.specs.Prelude.{◌≡◌, ℕ, zero, suc, ◌⊎◌, List, [], ◌∷◌, Option, Some, None}
+-- What whole calls make of the state.
+use Rattle.std.specs.Prelude.{◌≡◌, ℕ, zero, suc, ◌+◌, ◌≤◌, ◌⊎◌, List, [], ◌∷◌, Option, Some, None}
 use Rattle.sled_pages.specs.Order.{Key}
 use Rattle.sled_pages.specs.Store.{Store}
+use Rattle.sled_pages.specs.Update.{put_name}
 use Rattle.sled_pages.specs.declared.error.Error.{Error}
 use Rattle.sled_model.specs.Maps.{Map, Maps}
 use Rattle.sled_model.specs.Answer.{answer_of}
 use Rattle.sled_model.specs.State.{State, NamedTree, maps_of, after_decision_on}
+use Rattle.sled_model.specs.Ids.{mark_above}
 use Rattle.sled_model.specs.Refusal.{ToPoint, ToCall, must_refuse, MayRefuse}
 use Rattle.sled_model.specs.declared.call.Call.{Call}
 use Rattle.sled_model.specs.declared.call.Call.TheVariants.{Remove}
 use Rattle.sled_model.specs.declared.call.Whole.{Whole}
-use Rattle.sled_model.specs.declared.call.Whole.TheVariants.{Clear}
+use Rattle.sled_model.specs.declared.call.Whole.TheVariants.{Clear, OpenTree, GenerateId}
 use Rattle.sled_model.specs.declared.tree.Tree.{Tree}
 use Rattle.sled_model.specs.declared.reply.Reply.{Reply}
-use Rattle.sled_model.specs.declared.reply.Reply.TheVariants.{Pair}
+use Rattle.sled_model.specs.declared.reply.Reply.TheVariants.{Pair, Number}
+use Rattle.sled_model.specs.declared.reply.Reply.TheVariants as told
 
 -- A call on a tree, made at once and in no slot, replies, changes the tree's map and fills the queues by the answer on the map now
 pub record DecidesPoint (old : State) (tree : Tree) (call : Call) (reply : Reply) (new : State) : Type 0 where
@@ -66,3 +69,37 @@ pub record StopsClearing (old : State) (a b : Store) (tree : Tree) (e : Error) (
   pub tested : (parts ≡ zero) ⊎ (must_refuse old (ToCall (Clear tree)) ≡ None)
   pub removes : RemovesLeast tree old parts new maps
   pub may : MayRefuse new a b (ToCall (Clear tree)) e
+
+-- a new tree: it has the next number, an empty map, and no merge operator
+abbrev pub new_tree : State → NamedTree
+new_tree s = record { number = s.trees_given + 1; map = []; merge = None }
+
+-- the number of a name's tree, where there is one, and else of a new one
+abbrev pub number_opened : Option NamedTree → State → ℕ
+number_opened (Some t) s = t.number
+number_opened None s = s.trees_given + 1
+
+-- the state after a name was opened, which had this tree
+abbrev pub state_opened : Option NamedTree → State → Key → State
+state_opened (Some t) s name = s
+state_opened None s name = record s { trees = put_name s.trees name (Some (new_tree s)); trees_given = s.trees_given + 1 }
+
+-- the maps that this added: where the tree is new those with its empty one, and else none
+abbrev pub maps_opened : Option NamedTree → State → List Maps
+maps_opened (Some t) new = []
+maps_opened None new = maps_of new ∷ []
+
+-- A name is opened: the reply is its tree, which is a new one where it had none
+pub record OpensTree (old : State) (name : Key) (reply : Reply) (new : State) (maps : List Maps) : Type 0 where
+  pub free : must_refuse old (ToCall (OpenTree name)) ≡ None
+  pub replies : reply ≡ told.Tree (record { database = old.name; name = name; number = number_opened (old.trees name) old })
+  pub is : new ≡ state_opened (old.trees name) old name
+  pub added : maps ≡ maps_opened (old.trees name) new
+
+-- An id is taken: it is one above the greatest that was given, and set aside
+pub record GeneratesId (old : State) (reply : Reply) (new : State) (maps : List Maps) : Type 0 where
+  pub free : must_refuse old (ToCall GenerateId) ≡ None
+  pub replies : reply ≡ Number (old.greatest_id + 1)
+  pub aside : old.greatest_id + 1 ≤ new.mark
+  pub is : new ≡ record old { greatest_id = old.greatest_id + 1; mark = mark_above old.greatest_id old.mark }
+  pub added : maps ≡ []

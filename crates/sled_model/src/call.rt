@@ -32,6 +32,10 @@ pub enum Whole {
     PopMax(Tree),
     /// Takes all keys out of a tree, one after the other from the least up. Refused midway, those that are out stay out.
     Clear(Tree),
+    /// Opens the tree of a name, which is made where the name has none, and replies with it.
+    OpenTree(IVec),
+    /// Takes the next id, and replies with it.
+    GenerateId,
 }
 
 impl Call {
@@ -110,6 +114,8 @@ impl Whole {
             Whole::PopMin(tree) => Ok(Whole::PopMin(tree.clone()?)),
             Whole::PopMax(tree) => Ok(Whole::PopMax(tree.clone()?)),
             Whole::Clear(tree) => Ok(Whole::Clear(tree.clone()?)),
+            Whole::OpenTree(name) => Ok(Whole::OpenTree(name.clone()?)),
+            Whole::GenerateId => Ok(Whole::GenerateId),
         }
     }
 }

@@ -2,6 +2,7 @@
 ghost use Rattle.std.specs.Prelude.{◌≡◌, IfOk, IfErr};
 ghost use Rattle.sled_pages.specs.declared.error.Error.TheVariants.{NoMemory};
 
+use crate::tree::Tree;
 use sled_pages::{IVec, Result};
 use std::fmt::{self, Display, Formatter, Write};
 
@@ -40,12 +41,14 @@ pub enum Reply {
     Value(Option<IVec>),
     /// Whether the value was swapped.
     Swapped(std::result::Result<(), CompareAndSwapError>),
-    /// A number, as of a flush.
+    /// A number, as of a flush, or an id.
     Number(u64),
     /// The call has done what it was to do, and has nothing to tell.
     Done,
     /// The pair that was taken out, if there was one.
     Pair(Option<(IVec, IVec)>),
+    /// The tree that was opened.
+    Tree(Tree),
 }
 
 // The same value, if there is one.

@@ -1,0 +1,20 @@
+use Rattle.std.proofs.Common.{rules, ◌≡◌, false, Some, subst}
+use Rattle.sled_pages.specs.Store.{now}
+use Rattle.sled.specs.Sound.{IsDb}
+use Rattle.sled.specs.Values.{numbers_of}
+use Rattle.sled.proofs.Planting.{opens_closed, all_known, all_short}
+use Rattle.sled.proofs.db.Db.open_tree.Goals as goal
+
+pub returns-then-in_group-clause-err : goal.returns-then-in_group-clause-err
+returns-then-in_group-clause-err g c = opens_closed g.P.Pages.store g.M.MergeOperator.meant c.args.self.now c.args.name.now (search rules)
+
+pub returns-in-Some-clause-ok : goal.returns-in-Some-clause-ok
+returns-in-Some-clause-ok g c =
+    let no_group : (now (g.P.Pages.store c.args.self.now.pages)).in_group ≡ false = search rules in
+    let known : numbers_of c.args.self.now.trees c.args.name.now ≡ Some c.in-Some.number = search rules in
+    all_known g.P.Pages.store g.M.MergeOperator.meant c.args.self.now no_group c.args.name.now (subst (λ z. IsDb g.P.Pages.store z) c.self.view_is c.self.invariant) c.in-Some.number known c.handle_of.result c.handle_of.ensures.ok
+
+pub returns-in-Some-clause-err : goal.returns-in-Some-clause-err
+returns-in-Some-clause-err g c =
+    let no_group : (now (g.P.Pages.store c.args.self.now.pages)).in_group ≡ false = search rules in
+    all_short g.P.Pages.store g.M.MergeOperator.meant c.args.self.now no_group c.args.name.now c.handle_of.result c.handle_of.ensures.err

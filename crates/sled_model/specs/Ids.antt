@@ -1,0 +1,14 @@
+-- Ids, and how many are set aside.
+use Rattle.std.specs.Prelude.{ℕ, ◌+◌, min, nat_lt, if◌then◌else◌}
+
+-- the greatest id that there can be, which is the greatest u64
+abbrev pub greatest_of_all : ℕ
+greatest_of_all = 18446744073709551615
+
+-- the mark above this one: by 4096, or the greatest
+abbrev pub raised : ℕ → ℕ
+raised mark = min (mark + 4096) greatest_of_all
+
+-- the mark after an id is taken: it is raised where no id above the greatest given is set aside
+abbrev pub mark_above : ℕ → ℕ → ℕ
+mark_above greatest mark = if nat_lt greatest mark then mark else raised mark
