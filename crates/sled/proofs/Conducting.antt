@@ -1,5 +1,5 @@
 -- Calls that are made at once, in no slot.
-use Rattle.std.proofs.Common.{◌≡◌, ℕ, zero, suc, ◌+◌, ◌<◌, ◌⊎◌, Bool, true, false, List, [], ◌∷◌, ◌++◌, length, Option, Some, None, option_map, sym, refl, ap, ◌∙◌, subst, inl, inr, arith}
+use Rattle.std.proofs.Common.{◌≡◌, ℕ, zero, suc, ◌+◌, ◌<◌, ◌⊎◌, Bool, true, false, List, [], ◌∷◌, ◌++◌, length, Option, Some, None, option_map, sym, refl, ap, ◌∙◌, subst, inl, inr, arith, ◌≢◌}
 use Rattle.std.proofs.lemmas.Bool.{cases_lt}
 use Rattle.sled_pages.specs.Order.{Key}
 use Rattle.sled_pages.specs.In.{In}
@@ -33,7 +33,6 @@ use Rattle.sled.specs.Calls.{MustBeRefused, must_be_refused_as}
 use Rattle.sled.specs.Flights.{call_in_flight_of, maps_added, PagesLast, KeepsTreePages, effect_of_step, IsStepRefused, DbStepContract, DbSteps, Ends, GoesOn, DbRunsToEnd}
 use Rattle.sled.specs.Direct.{ActsOften, NoAction, OneAction, effects_until, StaysInChainOrWent, KeepsOrFreesTreePages, Conducts, begun_flight, PointDecided, PointRefused, LeavesAll}
 use Rattle.sled.proofs.Operating.{fails_first, passes_plain}
-use Rattle.sled.proofs.Testing.{must_point}
 use Rattle.sled.proofs.Flying.{loses_nothing, quiet_untold, everywhere, went_on}
 
 none_some : {P X : Type 0} {x : X} → None ≡ Some x → P

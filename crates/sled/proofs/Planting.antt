@@ -1,9 +1,9 @@
 -- A tree of a new name is made in a database.
-use Rattle.std.proofs.Common.{◌≡◌, ◌≢◌, ℕ, ◌+◌, ◌<◌, ◌≤◌, Bool, true, false, not, cond, nat_eq, List, [], ◌∷◌, Option, Some, None, option_map, Result, Ok, Err, IfOk, IfErr, Bor, Less, Equal, Greater, is_eq, refl, sym, ap, ◌∙◌, subst, inl, inr, arith}
+use Rattle.std.proofs.Common.{◌≡◌, ℕ, ◌+◌, ◌<◌, ◌≤◌, Bool, true, false, not, cond, nat_eq, List, [], ◌∷◌, Option, Some, None, option_map, Result, Ok, Err, IfOk, IfErr, Bor, Less, Equal, Greater, is_eq, refl, sym, ap, ◌∙◌, subst, inl, inr, arith}
 use Rattle.std.proofs.Math.Path.{fun_ext}
 use Rattle.std.proofs.lemmas.Bool.Decides.{nat_tests}
 use Rattle.std.proofs.lemmas.Cmp.{tied_itself}
-use Rattle.std.specs.FinMap.Entries.{put, find, find-put, is_sorted}
+use Rattle.std.specs.FinMap.Entries.{put, find, find-put}
 use Rattle.std.specs.Ordering.{nat_cmp, eq_by_cmp}
 use Rattle.std.specs.Str.{bytes_eq}
 use Rattle.std.specs.declared.cmp.Ordering.{Ordering}
@@ -19,18 +19,17 @@ use Rattle.sled_pages.specs.declared.page.Page.{Page}
 use Rattle.sled_pages.specs.theory.Facts.{same_name, name_itself, put_name_elsewhere}
 use Rattle.sled_pages.proofs.Rising.{rises_put}
 use Rattle.sled_model.specs.Maps.{Map, Maps, Merge}
-use Rattle.sled_model.specs.State.{State, NamedTree, CallInFlight, maps_of}
-use Rattle.sled_model.specs.Refusal.{MustRefuse, IsClosed, first_of, must_refuse, MayRefuse, ToCall, cause_of, may_refuse_as}
-use Rattle.sled_model.specs.Whole.{new_tree, number_opened, state_opened, maps_opened, OpensTree}
+use Rattle.sled_model.specs.State.{NamedTree, CallInFlight, maps_of}
+use Rattle.sled_model.specs.Refusal.{IsClosed, first_of, must_refuse, MayRefuse, ToCall, cause_of, may_refuse_as}
+use Rattle.sled_model.specs.Whole.{new_tree, number_opened, state_opened, maps_opened}
 use Rattle.sled_model.specs.declared.call.Whole.TheVariants.{OpenTree}
 use Rattle.sled_model.specs.declared.reply.Reply.TheVariants as told
 use Rattle.sled_model.specs.declared.tree.Tree.{Tree}
 use Rattle.tree_laws.specs.Contents.{trees_of}
-use Rattle.tree_laws.specs.Crashes.{IsValid, IsCrashConsistent, AddsCrashStates}
+use Rattle.tree_laws.specs.Crashes.{IsValid, AddsCrashStates}
 use Rattle.tree_laws.specs.Forest.{Forest, IsSized, contents}
 use Rattle.tree_laws.specs.Snapshot.{Snapshot, snapshot_of, nodes_at, HasForest}
-use Rattle.tree_laws.specs.Stages.{owned}
-use Rattle.tree_laws.specs.theory.Laws.{IsAlone, Rooted, StepsForest, after_allocation, after_creation}
+use Rattle.tree_laws.specs.theory.Laws.{Rooted, StepsForest, after_allocation, after_creation}
 use Rattle.tree_laws.specs.theory.Snapshot.{KeepsForest}
 use Rattle.tree_laws.specs.Stages.{IsOwn}
 use Rattle.tree_laws.proofs.Crashing.{extends_then}
@@ -44,17 +43,17 @@ use Rattle.sled_tree.specs.declared.flight.InFlight.{InFlight}
 use Rattle.sled_tree.proofs.Facts.{once_made, once_rooted, grows_not}
 use Rattle.sled_tree.proofs.Known.{not_own, known_kept}
 use Rattle.sled_tree.proofs.Splits.{made_below}
-use Rattle.sled.specs.Values.{DbValue, default_name, named, numbers_of, given_to, state_of, db_state, configuration_of, snapshot_of_db}
+use Rattle.sled.specs.Values.{DbValue, default_name, named, numbers_of, given_to, state_of, snapshot_of_db}
 use Rattle.sled.specs.Sound.{IsDb}
 use Rattle.sled.specs.Flights.{IsStepRefused}
-use Rattle.sled.specs.Opens.{empty_page, MakesLeaf, MakesTree, StopsMaking, with_tree, planted, or_empty, OpensBySteps, OpenRefusedBySteps}
+use Rattle.sled.specs.Opens.{empty_page, MakesLeaf, MakesTree, StopsMaking, planted, or_empty}
 use Rattle.sled.specs.theory.Opens.{HasTree}
-use Rattle.sled.specs.Direct.{ActsOften, NoAction, OneAction, effects_until, KeepsOrFreesTreePages, LeavesAll, WholeDecided, WholeRefused}
+use Rattle.sled.specs.Direct.{NoAction, OneAction, KeepsOrFreesTreePages, WholeDecided, WholeRefused}
 use Rattle.sled.proofs.Conducting.{loses_then, loses_once, leaves_none}
 use Rattle.sled.proofs.Flushing.{only, same_state}
 use Rattle.sled.proofs.Flying.{loses_acting, state_over}
 use Rattle.sled.proofs.Numbering.{leaves_rests}
-use Rattle.sled.proofs.Opening.{grown, calm_then, unseen, absent, planted_absent, unrooted, tree_made}
+use Rattle.sled.proofs.Opening.{grown, calm_then, unseen, absent, planted_absent, tree_made}
 use Rattle.sled.proofs.Resting.{Rests, rests_only_faults, rests_now, rests_extends, now_rests}
 use Rattle.sled.proofs.Trees.{trees_at, maps_are}
 

@@ -1,4 +1,4 @@
-use Rattle.std.proofs.Common.{rules, ◌≡◌, false, Some, sym, subst, ◌∙◌}
+use Rattle.std.proofs.Common.{rules, ◌≡◌, false, Some, subst}
 use Rattle.sled_pages.specs.Store.{now}
 use Rattle.sled.specs.Sound.{IsDb}
 use Rattle.sled.specs.Values.{numbers_of}
