@@ -1,5 +1,5 @@
 -- Merge operators of trees.
-use Rattle.std.proofs.Common.{◌≡◌, ◌≢◌, ℕ, suc, ◌≤◌, ◌<◌, Bool, true, false, cond, List, [], ◌∷◌, ◌++◌, length, Option, Some, None, is_some, option_map, slice_set, Result, Ok, Err, OnOk, sym, refl, ap, ◌∙◌, subst, arith}
+use Rattle.std.proofs.Common.{◌≡◌, ◌≢◌, ℕ, suc, ◌≤◌, ◌<◌, Bool, true, false, cond, List, [], ◌∷◌, ◌++◌, length, Option, Some, None, is_some, option_map, slice_set, Result, Ok, Err, OnOk, OnErr, sym, refl, ap, ◌∙◌, subst, arith}
 use Rattle.std.specs.declared.cmp.Ordering.{Ordering}
 use Rattle.std.specs.declared.cmp.Ordering.TheVariants.{Less, Equal, Greater}
 use Rattle.std.specs.Ordering.{nat_cmp, eq_by_cmp, is_eq}
@@ -240,6 +240,13 @@ set_told store meant inside old e db tree operator (Ok done) operators must is =
     subst (λ z. OperatorSet store meant z tree (meant operator) (record inside { operators = operators })) e
     (subst (λ z. OperatorSet store meant inside tree (meant operator) (record inside { operators = z })) (sym is) (set_now store meant inside db tree (subst (λ z. must_refuse_of (db_state store meant z) (tree ∷ []) ≡ None) (sym e) must) operator))
 set_told store meant inside old e db tree operator (Err x) operators must is = tt
+
+-- .. and what holds of it, whether or not there was memory
+pub set_db_told : {P M E : Type 0} (store : P → Store) (meant : M → Merge) (inside old : DbValue P M) (e : inside ≡ old) (db : IsDb store inside) (tree : Tree) (operator : M) (r : Result (Unit {0}) E) (operators : List (ℕ × M))
+    → must_refuse_of (db_state store meant old) (tree ∷ []) ≡ None → OnOk r (operators ≡ with_operator tree.number operator inside.operators) → OnErr r (operators ≡ inside.operators) → IsDb store (record inside { operators = operators })
+set_db_told store meant inside old e db tree operator (Ok done) operators must is same =
+    subst (λ z. IsDb store (record inside { operators = z })) (sym is) (set_db store meant inside db tree (subst (λ z. must_refuse_of (db_state store meant z) (tree ∷ []) ≡ None) (sym e) must) operator)
+set_db_told store meant inside old e db tree operator (Err x) operators must is same = subst (λ z. IsDb store (record inside { operators = z })) (sym same) db
 
 -- what holds of a database holds of it without its operators
 pub bare_db : {P M N : Type 0} (store : P → Store) (d : DbValue P M) → IsDb store d → IsDb store (without_operators {N = N} d)

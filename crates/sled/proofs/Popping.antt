@@ -20,7 +20,6 @@ use Rattle.sled_model.specs.Refusal.{MustRefuse, IsClosed, IsForeign, IsDropped,
 use Rattle.sled_model.specs.Transition.{Configuration, WholeDecides, WholeRefuses, kind_of}
 use Rattle.sled_model.specs.Whole.{Pops, RemovesLeast, RemovesNone, RemovesOne, after_pop, Clears, StopsClearing}
 use Rattle.sled_model.specs.declared.outcome.Outcome.TheVariants as outcome
-use Rattle.sled_model.specs.Whole.{Pops, RemovesLeast, RemovesNone, RemovesOne}
 use Rattle.sled_model.specs.declared.call.Call.TheVariants.{Remove}
 use Rattle.sled_model.specs.declared.call.Whole.{Whole}
 use Rattle.sled_model.specs.declared.call.Whole.TheVariants.{PopMin, PopMax, Clear}
