@@ -11,6 +11,7 @@ does not print what the case spells out.
 import sys
 import cases_flights
 import cases_levels
+import cases_merges
 import cases_owned
 import cases_pops
 import cases_prefixes

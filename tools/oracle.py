@@ -220,6 +220,34 @@ class Store:
         self.forget()
 
 
+# Merge operators: the new value, of the one that stands and the bytes of the merge.
+
+def short(old, new):
+    raise Refused(6)
+
+
+def added(old, new):
+    numbers = [int.from_bytes(b, 'big') if b is not None and len(b) == 8 else 0 for b in (old, new)]
+    return (sum(numbers) & GREATEST).to_bytes(8, 'big')
+
+
+OPERATORS = {
+    'concat': lambda old, new: (old or b'') + new,
+    'add': added,
+    'max': lambda old, new: new if old is None else max(old, new),
+    'before': lambda old, new: new + (old or b''),
+    'keep': lambda old, new: new if old is None else old,
+    'gone': lambda old, new: None,
+    'short': short,
+}
+
+
+def operator_of(text):
+    if text not in OPERATORS:
+        raise BadLine(f'`{text}` is no operator: concat, add, max, before, keep, gone and short are')
+    return text
+
+
 # Calls in flight.
 
 def decide(call, old):
@@ -231,6 +259,8 @@ def decide(call, old):
         return old != values[0], values[0], f'old {word(old)}'
     if name == 'remove':
         return old is not None, None, f'old {word(old)}'
+    if name == 'merge':
+        return True, None, None
     if old != values[0]:
         return False, old, f'conflict {word(old)} {word(values[1])}'
     return True, values[1], 'swapped'
@@ -295,6 +325,9 @@ def walk(store, call):
     if not changes:
         return answer
     yield
+    if call[0] == 'merge':
+        value = OPERATORS[store.operator](node.get(key), call[2])
+        answer = f'value {word(value)}'
     if store.change(view, node.put(key, value))[0]:
         return answer
     store.notes['change is stale'] += 1
@@ -476,20 +509,20 @@ class Range:
 
 # The shell.
 
-FORMS = """insert K V; get K; remove K; cas K OLD NEW; begin insert K V; begin get K; begin remove K; begin cas K OLD NEW
+FORMS = """insert K V; get K; remove K; cas K OLD NEW; merge K V; begin merge K V; operator OPERATOR; begin insert K V; begin get K; begin remove K; begin cas K OLD NEW
 step N; finish N; abandon N; turns N; flush; crash N; dump; new; new refuse N ..; reopen; reopen refuse N ..
 reopen unreadable PID ..; reopen mark N; recover; recover refuse N ..; recovered; pages; crowd SEED CALLS; run STEP, ..
 reads; load N MOST ALL; find N PAGES; overtake N COUNT; handle DATABASE NAME N; help; quit
 has K; read K; lt K; gt K; first; last; len; empty; range LO HI; range-back LO HI; range-ends LO HI; prefix P; prefix-back P
 keys LO HI; keys-back LO HI; values LO HI; values-back LO HI
 pop-min; pop-max; clear
-owned insert K V; owned set K V; owned remove K; owned del K; owned cas K OLD NEW; owned pop-min
+owned insert K V; owned set K V; owned remove K; owned del K; owned cas K OLD NEW; owned merge K V; owned pop-min
 owned pop-max; owned clear; owned flush; owned id; names"""
 FORMS = [form.split(' ') for form in re.split('; |\n', FORMS)]
-POINT = ('insert', 'get', 'remove', 'cas')
+POINT = ('insert', 'get', 'remove', 'cas', 'merge')
 POPS = ('pop-min', 'pop-max', 'clear')
 LOOKS = ('has', 'read', 'lt', 'gt', 'first', 'last', 'len', 'empty', 'range', 'prefix', 'keys', 'values')
-READERS = {'K': value_of, 'V': value_of, 'P': value_of, 'DATABASE': value_of, 'NAME': value_of, 'OLD': optional, 'NEW': optional, 'LO': bound_of, 'HI': bound_of}
+READERS = {'K': value_of, 'V': value_of, 'P': value_of, 'DATABASE': value_of, 'NAME': value_of, 'OLD': optional, 'NEW': optional, 'LO': bound_of, 'HI': bound_of, 'OPERATOR': operator_of}
 
 
 def fit(form, words):
@@ -569,7 +602,7 @@ class Shell:
         if TREE not in self.store.roots:
             self.store.swap_root(None, self.store.allocate(Node()).pid)
         self.store.flush()
-        self.greatest_id, self.opened = self.store.mark, True
+        self.greatest_id, self.opened, self.store.operator = self.store.mark, True, None
 
     def run(self, text):
         """What a line prints, as a list of lines."""
@@ -607,8 +640,13 @@ class Shell:
         if name == 'owned':
             self.slots, self.begun = {}, 0
             return self.do(*in_line(words))
-        if (name.partition('-')[0] in POINT + LOOKS + ('begin',) or name in POPS) and self.handle != HANDLE:
+        if (name.partition('-')[0] in POINT + LOOKS + ('begin', 'operator') or name in POPS) and self.handle != HANDLE:
             raise Refused(2 if self.handle[0] != HANDLE[0] else 1)
+        if name == 'operator':
+            store.operator = words[0]
+            return ['done']
+        if 'merge' in (name, words[0] if name == 'begin' else None) and store.operator is None:
+            raise Refused(2)
         if name in POINT:
             return [self.advance([fly(store, (name,) + words), 0], True)]
         if name.partition('-')[0] in LOOKS:

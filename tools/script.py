@@ -7,7 +7,7 @@ answers, what each dump has, and that a crash leaves the pairs of some moment si
 import os
 import re
 import sys
-from oracle import GREATEST, LOOKS, POPS, Shell, in_line, is_from, is_up_to, read_line, some_keys, word
+from oracle import GREATEST, LOOKS, OPERATORS, POPS, Shell, in_line, is_from, is_up_to, read_line, some_keys, word
 
 DATA = os.path.join(os.path.dirname(os.path.abspath(__file__)), '..', 'crates', 'sledsh', 'data')
 CASES = []
@@ -39,7 +39,7 @@ class Plain:
     """The pairs as a dictionary, the calls in flight, and what was changed since the last flush."""
 
     def __init__(self):
-        self.pairs, self.calls, self.changes = {}, {}, []
+        self.pairs, self.calls, self.changes, self.operator = {}, {}, [], None
 
     def answer(self, call):
         """What a call answers that is decided now."""
@@ -49,11 +49,11 @@ class Plain:
             return f'value {word(old)}'
         if name == 'cas' and old != values[0]:
             return f'conflict {word(old)} {word(values[1])}'
-        new = None if name == 'remove' else values[-1]
+        new = OPERATORS[self.operator](old, values[0]) if name == 'merge' else None if name == 'remove' else values[-1]
         if new != old:
             self.changes.append((key, old))
         self.set(key, new)
-        return 'swapped' if name == 'cas' else f'old {word(old)}'
+        return 'swapped' if name == 'cas' else f'value {word(new)}' if name == 'merge' else f'old {word(old)}'
 
     def set(self, key, value):
         self.pairs.pop(key, None)
@@ -128,7 +128,9 @@ class Plain:
             return
         if last.startswith('refused'):
             return
-        if name in ('insert', 'get', 'remove', 'cas'):
+        if name == 'operator':
+            self.operator = words[1]
+        elif name in ('insert', 'get', 'remove', 'cas', 'merge'):
             expect(last == self.answer(words), words, last)
         elif name.partition('-')[0] in LOOKS:
             expect(printed == self.look(*words), words, printed)
@@ -145,7 +147,7 @@ class Plain:
         elif name in ('crash', 'recover'):
             leaves = shell.levels()[-1]
             self.is_left({k: v for leaf in leaves for k, v in leaf.entries}, words[1] if name == 'crash' else GREATEST)
-            self.calls, self.changes = {}, []
+            self.calls, self.changes, self.operator = {}, [], None
         elif name == 'run':
             for step, line in zip(words[1], printed):
                 # of a list of steps each value is told as one
@@ -155,7 +157,7 @@ class Plain:
             for key in some_keys(words[1]):
                 self.answer(('insert', key, key))
         elif name in ('reopen', 'pages'):
-            self.calls, self.changes = {}, []
+            self.calls, self.changes, self.operator = {}, [], None
 
 
 class Script:

@@ -318,7 +318,7 @@ fn made<M: MergeOperator>(db: &mut Db<MemPages, M>, tree: &Tree, call: &Call) ->
         Call::Get(key) => db.get(tree, key.as_ref()),
         Call::Insert(key, value) => db.insert(tree, key.as_ref(), value.as_ref()),
         Call::Remove(key) => db.remove(tree, key.as_ref()),
-        Call::CompareAndSwap(..) => return Err(Stopped),
+        Call::CompareAndSwap(..) | Call::Merge(..) => return Err(Stopped),
     };
     match answer {
         Ok(value) => {

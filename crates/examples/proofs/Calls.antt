@@ -80,8 +80,8 @@ Trees = Key → Option NamedTree
 pub record Answered (old new : Key → Option NamedTree) (tree : Tree) (call : Call) (reply : Reply) : Type 0 where
   pub was : NamedTree
   pub there : old tree.name ≡ Some was
-  pub replies : reply ≡ (answer_of call was.map).reply
-  pub is : new ≡ put_name old tree.name (Some (record was { map = (answer_of call was.map).map }))
+  pub replies : reply ≡ (answer_of was.merge call was.map).reply
+  pub is : new ≡ put_name old tree.name (Some (record was { map = (answer_of was.merge call was.map).map }))
 
 -- a step of the slot, by what it does to the trees
 abbrev pub told_as : Outcome → (Key → Option NamedTree) → (Key → Option NamedTree) → Tree → Call → Type 0
@@ -135,12 +135,12 @@ with_turns (Err e) x h = tt
 -- an insert that was decided changes one value
 insert_puts : (old new : Trees) (tree : Tree) (key value : Key) (reply : Reply) → Answered old new tree (Insert key value) reply → PutsOne (maps_at old) (maps_at new) tree.name key value
 insert_puts old new tree key value reply a =
-    let here : maps_at new tree.name ≡ Some (answer_of (Insert key value) a.was.map).map =
+    let here : maps_at new tree.name ≡ Some (answer_of a.was.merge (Insert key value) a.was.map).map =
     ap (option_map (λ (t : NamedTree). t.map)) (ap (λ (ts : Trees). ts tree.name) a.is ∙ put_name_here old tree.name _) in
     let there : maps_at old tree.name ≡ Some a.was.map = ap (option_map (λ (t : NamedTree). t.map)) a.there in
     record {
-      here = ap (λ m. found_in m key) here ∙ insert_here key value a.was.map;
-      keys = λ other off. ap (λ m. found_in m other) here ∙ (insert_there other key value a.was.map off ∙ sym (ap (λ m. found_in m other) there));
+      here = ap (λ m. found_in m key) here ∙ insert_here a.was.merge key value a.was.map;
+      keys = λ other off. ap (λ m. found_in m other) here ∙ (insert_there a.was.merge other key value a.was.map off ∙ sym (ap (λ m. found_in m other) there));
       trees = λ other off. ap (option_map (λ (t : NamedTree). t.map)) (ap (λ (ts : Trees). ts other) a.is ∙ put_name_elsewhere old tree.name other _ off);
     }
 

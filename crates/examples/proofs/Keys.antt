@@ -8,7 +8,7 @@ use Rattle.std.specs.declared.cmp.Ordering.{Ordering}
 use Rattle.std.proofs.lemmas.Cmp.{nat_list_cmp_total, tied_itself}
 use Rattle.sled_pages.specs.Order.{Key, key_cmp}
 use Rattle.sled_pages.specs.theory.Facts.{same_name}
-use Rattle.sled_model.specs.Maps.{Map}
+use Rattle.sled_model.specs.Maps.{Map, Merge}
 use Rattle.sled_model.specs.Answer.{answer_of, decision_of, map_after}
 use Rattle.sled_model.specs.declared.call.Call.TheVariants.{Insert}
 use Rattle.sled_model.specs.declared.decision.Effect.TheVariants.{Nothing, Set}
@@ -33,25 +33,25 @@ put_there q k v m off = find-put key_cmp key_total q k v m ∙ go (key_cmp q k) 
     go Greater e = refl
 
 -- after an insert the key has the value
-pub insert_here : (k v : Key) (m : Map) → find key_cmp k (answer_of (Insert k v) m).map ≡ Some v
-insert_here k v m = go (find key_cmp k m) refl
+pub insert_here : (merge : Option Merge) (k v : Key) (m : Map) → find key_cmp k (answer_of merge (Insert k v) m).map ≡ Some v
+insert_here merge k v m = go (find key_cmp k m) refl
   where
     over : (old : Key) (b : Bool) → bytes_eq old v ≡ b → find key_cmp k m ≡ Some old → find key_cmp k (map_after (cond b Nothing (Set v)) k m) ≡ Some v
     over old true same e = e ∙ ap Some (same_name old v same)
     over old false other e = put_here k v m
 
-    go : (o : Option Key) → find key_cmp k m ≡ o → find key_cmp k (map_after (decision_of (Insert k v) o).effect k m) ≡ Some v
+    go : (o : Option Key) → find key_cmp k m ≡ o → find key_cmp k (map_after (decision_of merge (Insert k v) o).effect k m) ≡ Some v
     go None e = put_here k v m
     go (Some old) e = over old (bytes_eq old v) refl e
 
 -- .. and every other key what it had
-pub insert_there : (q k v : Key) (m : Map) → q ≢ k → find key_cmp q (answer_of (Insert k v) m).map ≡ find key_cmp q m
-insert_there q k v m off = go (find key_cmp k m)
+pub insert_there : (merge : Option Merge) (q k v : Key) (m : Map) → q ≢ k → find key_cmp q (answer_of merge (Insert k v) m).map ≡ find key_cmp q m
+insert_there merge q k v m off = go (find key_cmp k m)
   where
     over : (old : Key) (b : Bool) → find key_cmp q (map_after (cond b Nothing (Set v)) k m) ≡ find key_cmp q m
     over old true = refl
     over old false = put_there q k v m off
 
-    go : (o : Option Key) → find key_cmp q (map_after (decision_of (Insert k v) o).effect k m) ≡ find key_cmp q m
+    go : (o : Option Key) → find key_cmp q (map_after (decision_of merge (Insert k v) o).effect k m) ≡ find key_cmp q m
     go None = put_there q k v m off
     go (Some old) = over old (bytes_eq old v)

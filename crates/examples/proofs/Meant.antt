@@ -7,7 +7,7 @@ use Rattle.sled_pages.specs.Store.{Store, now}
 use Rattle.sled_pages.specs.declared.error.Error.{Error}
 use Rattle.sled_model.specs.Maps.{Map, Maps, Merge, IsLeast, IsGreatest}
 use Rattle.sled_model.specs.State.{State, maps_of}
-use Rattle.sled_model.specs.Refusal.{Asked, ToCall, must_refuse, must_refuse_of}
+use Rattle.sled_model.specs.Refusal.{Asked, ToCall, ToStep, must_refuse}
 use Rattle.sled_model.specs.Transition.{Configuration, Transition}
 use Rattle.sled_model.specs.declared.call.Whole.TheVariants.{Flush, PopMin, PopMax, Clear}
 use Rattle.sled_model.specs.declared.outcome.Step.{Step}
@@ -20,6 +20,7 @@ use Rattle.tree_reads.specs.Walk.{once, for_each}
 use Rattle.sled.specs.Opens.{Opens}
 use Rattle.sled.specs.Pops.{IsLongWay, GivesUpPop}
 use Rattle.sled.specs.Sound.{IsDb}
+use Rattle.sled.specs.Flights.{call_in_flight_of}
 use Rattle.sled.specs.Values.{DbValue, named, numbers_of, db_state}
 use Rattle.sled_machine.specs.CrashMaps.{AreCrashMaps, crash_maps_after}
 use Rattle.sled_machine.specs.Run.{RunsWithCrashMaps, KeepsAll, KeepsMore, MachineSteps, NoCalls, OneCall}
@@ -92,12 +93,12 @@ module _ {P M : Type 0} (store : P → Store) (number : P → ℕ) (meant : M �
   same_db : (d : DbValue P M) → db_state store (λ o. o) (plain d) ≡ db_state store meant d
   same_db d = same_state (record { db = d; flights = []; slots_given = 0 })
 
-  same_tests : (d : DbValue P M) (trees : List Tree) → must_refuse_of (db_state store (λ o. o) (plain d)) trees ≡ must_refuse_of (db_state store meant d) trees
-  same_tests d trees = ap (λ (s : State). must_refuse_of s trees) (same_state (record { db = d; flights = []; slots_given = 0 }))
+  same_tests : (d : DbValue P M) (asked : Asked) → must_refuse (db_state store (λ o. o) (plain d)) asked ≡ must_refuse (db_state store meant d) asked
+  same_tests d asked = ap (λ (s : State). must_refuse s asked) (same_state (record { db = d; flights = []; slots_given = 0 }))
 
   module _ (a b : MachineValue P M) where
     plain_follows : (s : Step) (o : Outcome) → follows_stage_as store meant a s o b → follows_stage_as store (λ m. m) (plain_machine a) s o (plain_machine b)
-    plain_follows (step.Step slot) o h = λ f there must fits. let k = h f there (sym (same_tests a.db (f.job.tree ∷ [])) ∙ must) fits in record { went = k.went; next = k.next; outcome = k.outcome; there = k.there; follows = k.follows }
+    plain_follows (step.Step slot) o h = λ f there must fits. let k = h f there (sym (same_tests a.db (ToStep (call_in_flight_of f))) ∙ must) fits in record { went = k.went; next = k.next; outcome = k.outcome; there = k.there; follows = k.follows }
     plain_follows (step.Begin tree call) o h = h
     plain_follows (step.Abandon slot) o h = h
     plain_follows (step.Whole whole) o h = h

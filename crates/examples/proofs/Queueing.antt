@@ -1,5 +1,5 @@
 -- What adding a job and taking one out do to the jobs that wait.
-use Rattle.std.proofs.Common.{◌≡◌, ℕ, Bool, true, false, not, cond, ◌&&◌, T, List, [], ◌∷◌, ◌++◌, Option, Some, None, option_map, is_some, Less, Equal, Greater, is_eq, sym, refl, ap, ◌∙◌, subst}
+use Rattle.std.proofs.Common.{◌≡◌, ℕ, Bool, true, false, not, cond, ◌&&◌, T, [], ◌∷◌, ◌++◌, Option, Some, None, option_map, is_some, Less, Equal, Greater, is_eq, sym, refl, ap, ◌∙◌, subst}
 use Rattle.std.specs.FinMap.Entries.{find, put, by_order, is_sorted, below_all}
 use Rattle.std.specs.List.{AllByRecursion}
 use Rattle.std.specs.Ordering.{is_lt, eq_by_cmp}
@@ -22,7 +22,6 @@ use Rattle.sled_model.specs.declared.reply.Reply.{Reply}
 use Rattle.sled_model.specs.declared.reply.Reply.TheVariants.{Pair}
 use Rattle.sled_model.specs.declared.tree.Tree.{Tree}
 use Rattle.tree_laws.specs.Forest.{contents}
-use Rattle.tree_laws.specs.Contents.{trees_of}
 use Rattle.tree_laws.specs.Snapshot.{nodes_at}
 use Rattle.tree_laws.proofs.Order.{key_total}
 use Rattle.tree_laws.proofs.Pairs.{above, without_above}
@@ -50,8 +49,8 @@ last : (k v : Key) (m : Map) → AllByRecursion (λ e. Below e.0 k) m → put ke
 last k v [] a = refl
 last k v (x ∷ xs) a = ap (λ o. by_order o ((k, v) ∷ x ∷ xs) ((x.0, v) ∷ xs) (x ∷ put key_cmp k v xs)) (above x.0 k a.0) ∙ ap (λ r. x ∷ r) (last k v xs a.1)
 
-inserted : (k v : Key) (m : Map) → AllByRecursion (λ e. Below e.0 k) m → (answer_of (Insert k v) m).map ≡ m ++ (k, v) ∷ []
-inserted k v m a = ap (λ o. map_after (decision_of (Insert k v) o).effect k m) (absent k m a) ∙ last k v m a
+inserted : (merge : Option Merge) (k v : Key) (m : Map) → AllByRecursion (λ e. Below e.0 k) m → (answer_of merge (Insert k v) m).map ≡ m ++ (k, v) ∷ []
+inserted merge k v m a = ap (λ o. map_after (decision_of merge (Insert k v) o).effect k m) (absent k m a) ∙ last k v m a
 
 -- the keys behind the first are above it
 lowest : (k : Key) (m : Map) → T (below_all key_cmp k m) → AllByRecursion (λ e. Below k e.0) m
@@ -67,8 +66,8 @@ first : (a b : Bool) → T (a && b) → T a
 first true b t = tt
 first false b t = absurd t
 
-removed : (pair : Key × Key) (rest : Map) → T (is_sorted key_cmp (pair ∷ rest)) → (answer_of (Remove pair.0) (pair ∷ rest)).map ≡ rest
-removed pair rest sorted =
+removed : (merge : Option Merge) (pair : Key × Key) (rest : Map) → T (is_sorted key_cmp (pair ∷ rest)) → (answer_of merge (Remove pair.0) (pair ∷ rest)).map ≡ rest
+removed merge pair rest sorted =
     ap (λ b. map_after (cond (is_some (cond b (Some pair.1) (find key_cmp pair.0 rest))) effect.Remove effect.Nothing) pair.0 (pair ∷ rest)) tied
     ∙ ap (λ b. cond (not b) (pair ∷ without pair.0 rest) (without pair.0 rest)) tied
     ∙ without_above pair.0 rest (lowest pair.0 rest (first (below_all key_cmp pair.0 rest) (is_sorted key_cmp rest) sorted))
@@ -83,8 +82,8 @@ module _ {P M : Type 0} (store : P → Store) (meant : M → Merge) (old : DbVal
   waits : (s : State) (named : NamedTree) → s.trees queue.name ≡ Some named → jobs_of (maps_of s queue.name) ≡ named.map
   waits s named there = ap (λ o. jobs_of (option_map (λ (t : NamedTree). t.map) o)) there
 
-  decided_waits : (s : State) (named : NamedTree) (call : Call) → jobs_of (maps_of (after_decision_on s queue.name named (answer_of call named.map)) queue.name) ≡ (answer_of call named.map).map
-  decided_waits s named call = ap (λ o. jobs_of (option_map (λ (t : NamedTree). t.map) o)) (put_name_here s.trees queue.name (Some (record named { map = (answer_of call named.map).map })))
+  decided_waits : (s : State) (named : NamedTree) (call : Call) → jobs_of (maps_of (after_decision_on s queue.name named (answer_of named.merge call named.map)) queue.name) ≡ (answer_of named.merge call named.map).map
+  decided_waits s named call = ap (λ o. jobs_of (option_map (λ (t : NamedTree). t.map) o)) (put_name_here s.trees queue.name (Some (record named { map = (answer_of named.merge call named.map).map })))
 
   -- a map's keys rise
   rises : IsDb store old → (named : NamedTree) → (db_state store meant old).trees queue.name ≡ Some named → T (is_sorted key_cmp named.map)
@@ -101,7 +100,7 @@ module _ {P M : Type 0} (store : P → Store) (meant : M → Merge) (old : DbVal
         is = λ below.
             ap (λ (s : State). jobs_of (maps_of s queue.name)) d.is
             ∙ decided_waits (db_state store meant old) d.named (Insert ticket job)
-            ∙ inserted ticket job d.named.map (subst (AllByRecursion (λ e. Below e.0 ticket)) was below)
+            ∙ inserted d.named.merge ticket job d.named.map (subst (AllByRecursion (λ e. Below e.0 ticket)) was below)
             ∙ ap (λ m. m ++ (ticket, job) ∷ []) (sym was);
       }
 
@@ -118,8 +117,8 @@ module _ {P M : Type 0} (store : P → Store) (meant : M → Merge) (old : DbVal
       let after : jobs_of (maps_of new queue.name) ≡ ends.0 =
       ap (λ (s : State). jobs_of (maps_of s queue.name)) is
       ∙ decided_waits (db_state store meant old) named (Remove pair.0)
-      ∙ ap (λ m. (answer_of (Remove pair.0) m).map) ends.1
-      ∙ removed pair ends.0 (subst (λ m. T (is_sorted key_cmp m)) ends.1 sorted) in
+      ∙ ap (λ m. (answer_of named.merge (Remove pair.0) m).map) ends.1
+      ∙ removed named.merge pair ends.0 (subst (λ m. T (is_sorted key_cmp m)) ends.1 sorted) in
       was ∙ ends.1 ∙ ap (λ m. pair ∷ m) (sym after)
 
   pair_is : {a b : Option (Key × Key)} → Pair a ≡ Pair b → a ≡ b

@@ -1,7 +1,9 @@
 //! Calls of a database.
 ghost use Rattle.std.specs.Prelude.{◌≡◌, IfOk, IfErr, OnOk, None, [], ◌∷◌, map, false};
+ghost use Rattle.std.specs.Option.{option_map};
 ghost use Rattle.sled_pages.specs.Store.{now};
-ghost use Rattle.sled_model.specs.Answer.{decision_of};
+ghost use Rattle.sled_model.specs.Answer.{ReadDecides, decision_of};
+ghost use Rattle.sled.specs.Operators.{OperatorSet};
 ghost use Rattle.sled_model.specs.Refusal.{must_refuse_of};
 ghost use Rattle.tree_laws.specs.Contents.{trees_of};
 ghost use Rattle.tree_laws.specs.Crashes.{Flushes, IsValid};
@@ -16,7 +18,7 @@ ghost use Rattle.sled.specs.Values.{db_state, default_name, snapshot_of_db};
 
 use sled::{Collection, Db, empty_pages};
 use sled_machine::Machine;
-use sled_model::{Call, Decision, MergeOperator, Tree};
+use sled_model::{Call, Decision, MergeOperator, Reply, Tree};
 use sled_pages::{IVec, Pages, Result};
 use sled_tree::{InFlight, Went};
 use std::alloc::Global;
@@ -102,9 +104,32 @@ pub fn advance_to_end<P: Pages, M: MergeOperator>(db: &mut Db<P, M>, flight: &mu
     db.advance_to_end(flight)
 }
 
-/// What a call comes to where this value stands at its key.
-pub fn decide(call: &Call, value: Option<IVec>) -> Result<Decision>
-    ensures { IfOk result (λ decision. decision ≡ decision_of call.now value) }
+/// What a call replies by the read of its value, where it changes nothing.
+pub fn at_read(call: &Call, value: Option<IVec>) -> Result<Option<Reply>>
+    ensures { IfOk result (ReadDecides call.now value) }
 {
-    call.decide(value)
+    call.at_read(value)
+}
+
+/// What a call comes to where this value stands at its key, by the operator of its tree.
+pub fn at_link<M: MergeOperator>(
+    alloc: Global,
+    call: &Call,
+    value: Option<IVec>,
+    operator: Option<&M>,
+) -> Result<Decision>
+    ensures { IfOk result (λ decision. decision ≡ decision_of (option_map (λ o. M.meant o.now) operator.entry) call.now value) }
+{
+    call.at_link(alloc, value, operator)
+}
+
+/// Gives a tree a merge operator.
+pub fn set_merge_operator<P: Pages, M: MergeOperator>(
+    db: &mut Db<P, M>,
+    tree: &Tree,
+    operator: M,
+) -> Result<()>
+    ensures { OnOk result (OperatorSet P.store M.meant db.old tree.now (M.meant operator) db.new) }
+{
+    db.set_merge_operator(tree, operator)
 }

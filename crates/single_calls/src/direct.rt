@@ -47,3 +47,16 @@ pub fn compare_and_swap<P: Pages, M: MergeOperator>(
 {
     db.compare_and_swap(tree, key, old, new)
 }
+
+/// Merges bytes at a key.
+pub fn merge<P: Pages, M: MergeOperator>(
+    db: &mut Db<P, M>,
+    tree: &Tree,
+    key: &[u8],
+    bytes: &[u8],
+) -> Result<Option<IVec>>
+    ensures ok { IfOk result (λ merged. PointDecided P.store M.meant db.old tree.now (call.Merge key.now bytes.now) (told.Value merged) db.new) }
+    ensures err { IfErr result (λ e. PointRefused P.store M.meant db.old tree.now (call.Merge key.now bytes.now) e db.new) }
+{
+    db.merge(tree, key, bytes)
+}

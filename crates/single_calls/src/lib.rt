@@ -9,9 +9,10 @@ mod pops;
 mod reads;
 
 pub use database::{
-    advance, advance_to_end, check, close, decide, default_tree, export, flush, new_tree,
+    advance, advance_to_end, at_link, at_read, check, close, default_tree, export, flush, new_tree,
+    set_merge_operator,
 };
-pub use direct::{compare_and_swap, insert, remove};
+pub use direct::{compare_and_swap, insert, merge, remove};
 pub use machine::{abandon, begin, complete, finish, new_machine, run, step, turns, whole};
 pub use pops::{clear, pop_max, pop_min};
 pub use reads::{contains_key, get_lt, len, range};

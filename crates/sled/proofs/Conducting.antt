@@ -1,5 +1,5 @@
 -- Calls that are made at once, in no slot.
-use Rattle.std.proofs.Common.{◌≡◌, ◌≢◌, ℕ, zero, suc, ◌+◌, ◌<◌, ◌≤◌, ◌⊎◌, Bool, true, false, List, [], ◌∷◌, ◌++◌, length, Option, Some, None, option_map, sym, refl, ap, ◌∙◌, subst, inl, inr, arith}
+use Rattle.std.proofs.Common.{◌≡◌, ℕ, zero, suc, ◌+◌, ◌<◌, ◌⊎◌, Bool, true, false, List, [], ◌∷◌, ◌++◌, length, Option, Some, None, option_map, sym, refl, ap, ◌∙◌, subst, inl, inr, arith}
 use Rattle.std.proofs.lemmas.Bool.{cases_lt}
 use Rattle.sled_pages.specs.In.{In}
 use Rattle.sled_pages.specs.State.{nodes_of}
@@ -10,7 +10,7 @@ use Rattle.sled_pages.specs.declared.error.Error.{Error}
 use Rattle.sled_pages.specs.declared.error.Error.TheVariants as error
 use Rattle.sled_model.specs.Maps.{Maps, Merge}
 use Rattle.sled_model.specs.State.{State, CallInFlight, maps_of}
-use Rattle.sled_model.specs.Refusal.{MustRefuse, IsClosed, IsForeign, IsDropped, HasNoOperator, ToStep, ToPoint, must_refuse, must_refuse_of, MayRefuse, MeetsFullQueue, TellsTurns, cause_of, may_refuse_as, turns_limit}
+use Rattle.sled_model.specs.Refusal.{MustRefuse, IsClosed, IsForeign, IsDropped, HasNoOperator, ToStep, ToPoint, must_refuse, must_refuse_of, needs_operator, MayRefuse, TellsTurns, cause_of, may_refuse_as, turns_limit}
 use Rattle.sled_model.specs.Transition.{Decide, RefuseStep}
 use Rattle.sled_model.specs.Whole.{DecidesPoint, RefusesPoint}
 use Rattle.sled_model.specs.declared.call.Call.{Call}
@@ -18,11 +18,10 @@ use Rattle.sled_model.specs.declared.reply.Reply.{Reply}
 use Rattle.sled_model.specs.declared.tree.Tree.{Tree}
 use Rattle.tree_laws.specs.Forest.{Place, Forest}
 use Rattle.tree_laws.specs.Snapshot.{Snapshot, nodes_at, HasForest}
-use Rattle.tree_laws.specs.Paths.{IsClean}
 use Rattle.tree_laws.specs.Crashes.{AddsCrashStates}
 use Rattle.tree_laws.proofs.Crashing.{extends_same, extends_then}
 use Rattle.sled_tree.specs.Known.{IsKnown, AreApart}
-use Rattle.sled_tree.specs.StageAction.{ActsOnce, ActsAtMostOnce}
+use Rattle.sled_tree.specs.StageAction.{ActsAtMostOnce}
 use Rattle.sled_tree.specs.declared.flight.InFlight.{InFlight}
 use Rattle.sled_tree.specs.declared.flight.Job.{Job}
 use Rattle.sled_tree.specs.declared.flight.Went.{Went}
@@ -32,7 +31,7 @@ use Rattle.sled.specs.Sound.{IsDb}
 use Rattle.sled.specs.Calls.{MustBeRefused, must_be_refused_as}
 use Rattle.sled.specs.Flights.{call_in_flight_of, maps_added, PagesLast, KeepsTreePages, effect_of_step, IsStepRefused, DbStepContract, DbSteps, Ends, GoesOn, DbRunsToEnd}
 use Rattle.sled.specs.Direct.{ActsOften, NoAction, OneAction, effects_until, StaysInChainOrWent, KeepsOrFreesTreePages, Conducts, begun_flight, PointDecided, PointRefused}
-use Rattle.sled.proofs.Testing.{must_point}
+use Rattle.sled.proofs.Operating.{fails_first, passes_plain}
 use Rattle.sled.proofs.Flying.{loses_nothing, quiet_untold, everywhere, went_on}
 
 none_some : {P X : Type 0} {x : X} → None ≡ Some x → P
@@ -331,30 +330,37 @@ untold_fault o e t fault is = go o (subst (must_be_refused_as o) is t)
 
 module _ {P M : Type 0} (store : P → Store) (meant : M → Merge) (old : DbValue P M) (tree : Tree) (call : Call) (e : Error) where
   -- by the tests
-  pub point_untested : MustBeRefused (must_refuse_of (db_state store meant old) (tree ∷ [])) e → PointRefused store meant old tree call e old
+  pub point_untested : MustBeRefused (must_refuse (db_state store meant old) (ToPoint tree call)) e → PointRefused store meant old tree call e old
   point_untested tested = record {
-    refuses = record { may = record { is = subst (λ o. may_refuse_as o (db_state store meant old) (store old.pages) (store old.pages) (ToPoint tree call) e) (sym (must_point (db_state store meant old) tree call)) (go (must_refuse_of (db_state store meant old) (tree ∷ [])) tested.is) }; is = refl };
-    conducts = conducts_refused store meant old e (quiet_untold e (store old.pages) (untold_fault (must_refuse_of (db_state store meant old) (tree ∷ [])) e tested.is));
+    refuses = record { may = record { is = go (must_refuse (db_state store meant old) (ToPoint tree call)) tested.is }; is = refl };
+    conducts = conducts_refused store meant old e (quiet_untold e (store old.pages) (untold_fault (must_refuse (db_state store meant old) (ToPoint tree call)) e tested.is));
     steps = inl refl;
-    turns = λ tells path clean. absurd (untold_turns (must_refuse_of (db_state store meant old) (tree ∷ [])) e tested.is tells);
+    turns = λ tells path clean. absurd (untold_turns (must_refuse (db_state store meant old) (ToPoint tree call)) e tested.is tells);
   }
     where
       go : (o : Option MustRefuse) → must_be_refused_as o e → may_refuse_as o (db_state store meant old) (store old.pages) (store old.pages) (ToPoint tree call) e
       go None t = absurd t
       go (Some must) t = t
 
+  -- by those of its tree
+  pub tree_untested : MustBeRefused (must_refuse_of (db_state store meant old) (tree ∷ [])) e → PointRefused store meant old tree call e old
+  tree_untested tested = point_untested (fails_first store meant old tree e tested call)
+
   -- for want of memory
-  pub point_short : must_refuse_of (db_state store meant old) (tree ∷ []) ≡ None → e ≡ error.NoMemory → PointRefused store meant old tree call e old
+  pub point_short : must_refuse (db_state store meant old) (ToPoint tree call) ≡ None → e ≡ error.NoMemory → PointRefused store meant old tree call e old
   point_short must short = subst (λ z. PointRefused store meant old tree call z old) (sym short) (record {
-    refuses = record { may = record { is = subst (λ o. may_refuse_as o (db_state store meant old) (store old.pages) (store old.pages) (ToPoint tree call) error.NoMemory) (sym (must_point (db_state store meant old) tree call ∙ must)) tt }; is = refl };
+    refuses = record { may = record { is = subst (λ o. may_refuse_as o (db_state store meant old) (store old.pages) (store old.pages) (ToPoint tree call) error.NoMemory) (sym must) tt }; is = refl };
     conducts = conducts_refused store meant old error.NoMemory refl;
     steps = inl refl;
     turns = λ tells path clean. absurd tells;
   })
 
+  pub plain_short : needs_operator call ≡ false → must_refuse_of (db_state store meant old) (tree ∷ []) ≡ None → e ≡ error.NoMemory → PointRefused store meant old tree call e old
+  plain_short plain must = point_short (passes_plain store meant old tree must call plain)
+
   -- a call that begins knows nothing of the pages
   pub point_known : (copy : Tree) (f : InFlight) → f ≡ begun_flight copy call → IsKnown (snapshot_of_db store old) f
   point_known copy f is = subst (λ z. IsKnown (snapshot_of_db store old) z) (sym is) (record { is = λ w m. (tt, tt, refl); fits = omega arith; begins = λ none. refl; aimed = refl })
 
-  pub point_tested : (copy : Tree) (f : InFlight) → f ≡ begun_flight copy call → copy ≡ tree → must_refuse_of (db_state store meant old) (tree ∷ []) ≡ None → must_refuse_of (db_state store meant old) (f.job.tree ∷ []) ≡ None
-  point_tested copy f is same must = ap (λ (z : InFlight). must_refuse_of (db_state store meant old) (z.job.tree ∷ [])) is ∙ ap (λ t. must_refuse_of (db_state store meant old) (t ∷ [])) same ∙ must
+  pub point_tested : (copy : Tree) (f : InFlight) → f ≡ begun_flight copy call → copy ≡ tree → must_refuse (db_state store meant old) (ToPoint tree call) ≡ None → must_refuse (db_state store meant old) (ToStep (call_in_flight_of f)) ≡ None
+  point_tested copy f is same must = ap (λ (z : InFlight). must_refuse (db_state store meant old) (ToPoint z.job.tree z.job.call)) is ∙ ap (λ t. must_refuse (db_state store meant old) (ToPoint t call)) same ∙ must

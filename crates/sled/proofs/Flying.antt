@@ -15,7 +15,7 @@ use Rattle.sled_pages.specs.declared.error.Error.TheVariants as error
 use Rattle.sled_model.specs.Maps.{Map, Merge}
 use Rattle.sled_model.specs.Answer.{Answer, answer_of}
 use Rattle.sled_model.specs.State.{State, NamedTree, Queue, CallInFlight, maps_of, queues_after, after_decision}
-use Rattle.sled_model.specs.Refusal.{MustRefuse, IsClosed, IsForeign, IsDropped, HasNoOperator, must_refuse, must_refuse_of, MayRefuse, ToStep, TellsTurns, cause_of, may_refuse_as, turns_limit}
+use Rattle.sled_model.specs.Refusal.{MustRefuse, IsClosed, IsForeign, IsDropped, HasNoOperator, must_refuse, MayRefuse, ToStep, ToPoint, TellsTurns, cause_of, may_refuse_as, turns_limit}
 use Rattle.sled_model.specs.declared.event.Event.{Event}
 use Rattle.sled_model.specs.declared.reply.Reply.{Reply}
 use Rattle.sled_model.specs.declared.TheConstants.{MAX_LOOPS}
@@ -40,14 +40,14 @@ use Rattle.sled_tree.specs.Known.{IsKnown}
 use Rattle.sled_tree.specs.Passing.{IsOnPath, StepsOnPath}
 use Rattle.sled_tree.specs.Follows.{FollowsOn}
 use Rattle.sled_tree.specs.StageAction.{ActsOnce, ActsAtMostOnce, LeaksNoPage}
-use Rattle.sled_tree.specs.theory.StageAction.{StageAction, KeepsContents, DecidesAs, is_action_refused_as, FlightStep}
+use Rattle.sled_tree.specs.theory.StageAction.{StageActionBy, KeepsContents, DecidesAs, Only, is_action_refused_as, FlightStepBy}
 use Rattle.sled.specs.Values.{DbValue, numbers_of, given_to, named, state_of, db_state, snapshot_of_db}
 use Rattle.sled.specs.Sound.{IsDb}
 use Rattle.sled.specs.Calls.{MustBeRefused, must_be_refused_as}
 use Rattle.sled.specs.Flights.{call_in_flight_of, PagesLast, StaysInChain, KeepsTreePages, IsStepRefused, DbStepContract, DbSteps, Ends, GoesOn, has_turns, TakesAtMost, DbRunsToEnd}
 use Rattle.sled_tree.proofs.Known.{not_own, known_kept}
 use Rattle.sled.proofs.Resting.{Rests, rests_refused, now_rests, rests_extends, rests_left}
-use Rattle.sled.proofs.Testing.{must_step, limit_is, tested_calm}
+use Rattle.sled.proofs.Testing.{tree_tested, limit_is, tested_calm}
 use Rattle.sled.proofs.Trees.{trees_at, trees_same, trees_put, maps_are, current, numbered}
 
 none_some : {P X : Type 0} {x : X} → None ≡ Some x → P
@@ -156,10 +156,10 @@ no_queue queues n event k e = subst (λ (z : List (ℕ × Queue)). find nat_cmp 
 
 -- a call that is refused before it touches a page
 module _ {P M : Type 0} (store : P → Store) (meant : M → Merge) (old : DbValue P M) where
-  untouched : (f g : InFlight) (e : Error) → ((fault : Fault) → e ≡ error.Io fault → ⊥) → (must_refuse_of (db_state store meant old) (f.job.tree ∷ []) ≡ None → f.turns < turns_limit → ⊥) → (must_refuse_of (db_state store meant old) (f.job.tree ∷ []) ≡ None → f.turns ≡ turns_limit → TellsTurns e) → ((slots : ℕ → Option CallInFlight) (given : ℕ) → MayRefuse (state_of store meant old slots given) (store old.pages) (store old.pages) (ToStep (call_in_flight_of f)) e) → DbStepContract store meant old f (Refused e) old g
+  untouched : (f g : InFlight) (e : Error) → ((fault : Fault) → e ≡ error.Io fault → ⊥) → (must_refuse (db_state store meant old) (ToStep (call_in_flight_of f)) ≡ None → f.turns < turns_limit → ⊥) → (must_refuse (db_state store meant old) (ToStep (call_in_flight_of f)) ≡ None → f.turns ≡ turns_limit → TellsTurns e) → ((slots : ℕ → Option CallInFlight) (given : ℕ) → MayRefuse (state_of store meant old slots given) (store old.pages) (store old.pages) (ToStep (call_in_flight_of f)) e) → DbStepContract store meant old f (Refused e) old g
   untouched f g e off stopped limit may = record {
     step = record {
-      steps = λ slots given slot before after here. record { is = (record { flying = call_in_flight_of f; here = here; may = may slots given; limit = λ none all. limit (sym (must_step (state_of store meant old slots given) (call_in_flight_of f)) ∙ none) all; is = refl }, refl) };
+      steps = λ slots given slot before after here. record { is = (record { flying = call_in_flight_of f; here = here; may = may slots given; limit = limit; is = refl }, refl) };
       extends = extends_same (store old.pages);
       same = refl;
     };
@@ -179,8 +179,8 @@ module _ {P M : Type 0} (store : P → Store) (meant : M → Merge) (old : DbVal
       silent r e = cc
 
   -- the tests refuse the call
-  pub flies_untested : (f g : InFlight) (e : Error) → MustBeRefused (must_refuse_of (db_state store meant old) (f.job.tree ∷ [])) e → DbStepContract store meant old f (Refused e) old g
-  flies_untested f g e tested = untouched f g e (λ fault io. untold fault (must_refuse_of (db_state store meant old) (f.job.tree ∷ [])) (subst (λ z. must_be_refused_as (must_refuse_of (db_state store meant old) (f.job.tree ∷ [])) z) io tested.is)) (λ none fits. absurd (subst (λ o. must_be_refused_as o e) none tested.is)) (λ none all. absurd (subst (λ o. must_be_refused_as o e) none tested.is)) (λ slots given. record { is = subst (λ o. may_refuse_as o (state_of store meant old slots given) (store old.pages) (store old.pages) (ToStep (call_in_flight_of f)) e) (sym (must_step (state_of store meant old slots given) (call_in_flight_of f))) (go slots given (must_refuse_of (db_state store meant old) (f.job.tree ∷ [])) tested.is) })
+  pub flies_untested : (f g : InFlight) (e : Error) → MustBeRefused (must_refuse (db_state store meant old) (ToStep (call_in_flight_of f))) e → DbStepContract store meant old f (Refused e) old g
+  flies_untested f g e tested = untouched f g e (λ fault io. untold fault (must_refuse (db_state store meant old) (ToStep (call_in_flight_of f))) (subst (λ z. must_be_refused_as (must_refuse (db_state store meant old) (ToStep (call_in_flight_of f))) z) io tested.is)) (λ none fits. absurd (subst (λ o. must_be_refused_as o e) none tested.is)) (λ none all. absurd (subst (λ o. must_be_refused_as o e) none tested.is)) (λ slots given. record { is = go slots given (must_refuse (db_state store meant old) (ToStep (call_in_flight_of f))) tested.is })
     where
       go : (slots : ℕ → Option CallInFlight) (given : ℕ) (o : Option MustRefuse) → must_be_refused_as o e → may_refuse_as o (state_of store meant old slots given) (store old.pages) (store old.pages) (ToStep (call_in_flight_of f)) e
       go slots given None t = absurd t
@@ -195,9 +195,9 @@ module _ {P M : Type 0} (store : P → Store) (meant : M → Merge) (old : DbVal
       untold fault (Some HasNoOperator) t = t
 
   -- the tests let the call pass
-  module _ (f : InFlight) (must : must_refuse_of (db_state store meant old) (f.job.tree ∷ []) ≡ None) where
+  module _ (f : InFlight) (must : must_refuse (db_state store meant old) (ToStep (call_in_flight_of f)) ≡ None) where
     may_refuse : (slots : ℕ → Option CallInFlight) (given : ℕ) (a b : Store) (e : Error) → cause_of (state_of store meant old slots given) a b (ToStep (call_in_flight_of f)) e → MayRefuse (state_of store meant old slots given) a b (ToStep (call_in_flight_of f)) e
-    may_refuse slots given a b e cause = record { is = subst (λ o. may_refuse_as o (state_of store meant old slots given) a b (ToStep (call_in_flight_of f)) e) (sym (must_step (state_of store meant old slots given) (call_in_flight_of f) ∙ must)) cause }
+    may_refuse slots given a b e cause = record { is = subst (λ o. may_refuse_as o (state_of store meant old slots given) a b (ToStep (call_in_flight_of f)) e) (sym must) cause }
 
     -- its turns are the limit
     pub flies_limit : (g : InFlight) (e : Error) → f.turns ≡ turns_limit → TellsTurns e → ((slots : ℕ → Option CallInFlight) (given : ℕ) → cause_of (state_of store meant old slots given) (store old.pages) (store old.pages) (ToStep (call_in_flight_of f)) e) → DbStepContract store meant old f (Refused e) old g
@@ -230,13 +230,16 @@ module _ {P M : Type 0} (store : P → Store) (meant : M → Merge) (old : DbVal
   same_store slots after given = refl
 
   -- the tests let the call pass
-  module _ (f : InFlight) (must : must_refuse_of (db_state store meant old) (f.job.tree ∷ []) ≡ None) where
+  module _ (f : InFlight) (must : must_refuse (db_state store meant old) (ToStep (call_in_flight_of f)) ≡ None) where
     named_now : numbers_of old.trees f.job.tree.name ≡ Some f.job.tree.number
-    named_now = numbered f.job.tree.number (numbers_of old.trees f.job.tree.name) (trees_of (now (store old.pages)) f.job.tree.name) _ (current (db_state store meant old) f.job.tree must)
+    named_now = numbered f.job.tree.number (numbers_of old.trees f.job.tree.name) (trees_of (now (store old.pages)) f.job.tree.name) _ (current (db_state store meant old) f.job.tree (tree_tested (db_state store meant old) f.job.tree f.job.call must))
 
     -- the call's tree
+    abbrev operator : Option Merge
+    operator = option_map meant (find nat_cmp f.job.tree.number old.operators)
+
     abbrev tree_now : NamedTree
-    tree_now = record { number = f.job.tree.number; map = contents (nodes_at at) db.forest f.job.tree.name; merge = option_map meant (find nat_cmp f.job.tree.number old.operators) }
+    tree_now = record { number = f.job.tree.number; map = contents (nodes_at at) db.forest f.job.tree.name; merge = operator }
 
     there : (db_state store meant old).trees f.job.tree.name ≡ Some tree_now
     there =
@@ -257,7 +260,7 @@ module _ {P M : Type 0} (store : P → Store) (meant : M → Merge) (old : DbVal
 
       -- no group is open
       no_group : (now (store old.pages)).in_group ≡ false
-      no_group = tested_calm store meant old f.job.tree must
+      no_group = tested_calm store meant old f.job.tree (tree_tested (db_state store meant old) f.job.tree f.job.call must)
 
       -- after an action the state now, and every state that a crash may leave, is as it should be
       well : (v : Forest) {mine own : List ℕ} → KeepsForest mine own at db.forest after v → IsValid (now (store q))
@@ -268,7 +271,7 @@ module _ {P M : Type 0} (store : P → Store) (meant : M → Merge) (old : DbVal
       whole v a (inr o) = whole_law o.action (store old.pages) (store q) (once_adds o) db.safe (λ no_group. well v a)
 
       -- the call goes on
-      module _ (fits : f.turns < turns_limit) (g : InFlight) (job : g.job ≡ f.job) (aim : g.aim ≡ f.aim) (turns : g.turns ≡ f.turns + 1) (moves : StageAction (course_of f) (store old.pages) f.stage (next.Go g.stage) (store q)) (further : StepsOnPath (now (store old.pages)) f Moved (now (store q)) g) (follows : FollowsOn (store old.pages) f Moved (store q) g) where
+      module _ (fits : f.turns < turns_limit) (g : InFlight) (job : g.job ≡ f.job) (aim : g.aim ≡ f.aim) (turns : g.turns ≡ f.turns + 1) (moves : StageActionBy (Only operator) (course_of f) (store old.pages) f.stage (next.Go g.stage) (store q)) (further : StepsOnPath (now (store old.pages)) f Moved (now (store q)) g) (follows : FollowsOn (store old.pages) f Moved (store q) g) where
         moved : (v : Forest) × KeepsForest (owned f.stage) (owned g.stage) at db.forest after v × (Knows after v (course_of f) g.stage × KeepsContents at db.forest after v) × LeaksNoPage (owned f.stage) (owned g.stage) (now (store old.pages)) (now (store q)) v
         moved = moves.is (numbers_of old.trees) (given_to old.trees_given) db.forest db.is named_now (known.is db.forest db.is)
 
@@ -312,7 +315,7 @@ module _ {P M : Type 0} (store : P → Store) (meant : M → Merge) (old : DbVal
                 record {
                   flying = call_in_flight_of f;
                   here = here;
-                  free = must_step (state_of store meant old slots given) (call_in_flight_of f) ∙ must;
+                  free = must;
                   fits = fits;
                   is = state_over q slots (put_at slots slot (Some (call_in_flight_of g))) given (λ t i. moved_trees i t) moved_touches.no_group moved_touches.mark
                       ∙ ap (λ (z : CallInFlight). record (state_of store meant old slots given) { slots = put_at slots slot (Some z) }) flying_more;
@@ -339,7 +342,7 @@ module _ {P M : Type 0} (store : P → Store) (meant : M → Merge) (old : DbVal
             apart r e = cc
 
       -- the call is refused by the store
-      module _ (fits : f.turns < turns_limit) (g : InFlight) (e : Error) (moves : StageAction (course_of f) (store old.pages) f.stage (next.Refused e) (store q)) (follows : FollowsOn (store old.pages) f (Refused e) (store q) g) where
+      module _ (fits : f.turns < turns_limit) (g : InFlight) (e : Error) (moves : StageActionBy (Only operator) (course_of f) (store old.pages) f.stage (next.Refused e) (store q)) (follows : FollowsOn (store old.pages) f (Refused e) (store q) g) where
         refused : (v : Forest) × KeepsForest (owned f.stage) [] at db.forest after v × KeepsContents at db.forest after v × Unit {0}
         refused = moves.is (numbers_of old.trees) (given_to old.trees_given) db.forest db.is named_now (known.is db.forest db.is)
 
@@ -392,15 +395,15 @@ module _ {P M : Type 0} (store : P → Store) (meant : M → Merge) (old : DbVal
             below n h e = omega arith
 
       -- the call is decided
-      module _ (fits : f.turns < turns_limit) (g : InFlight) (reply : Reply) (moves : StageAction (course_of f) (store old.pages) f.stage (next.Decided reply) (store q)) (follows : FollowsOn (store old.pages) f (Decided reply) (store q) g) where
-        done : (v : Forest) × KeepsForest (owned f.stage) [] at db.forest after v × DecidesAs (course_of f) reply (store old.pages) (store q) at db.forest after v × LeaksNoPage (owned f.stage) [] (now (store old.pages)) (now (store q)) v
-        done = moves.is (numbers_of old.trees) (given_to old.trees_given) db.forest db.is named_now (known.is db.forest db.is)
+      module _ (fits : f.turns < turns_limit) (g : InFlight) (reply : Reply) (moves : StageActionBy (Only operator) (course_of f) (store old.pages) f.stage (next.Decided reply) (store q)) (follows : FollowsOn (store old.pages) f (Decided reply) (store q) g) where
+        done : (v : Forest) × KeepsForest (owned f.stage) [] at db.forest after v × DecidesAs operator (course_of f) reply (store old.pages) (store q) at db.forest after v × LeaksNoPage (owned f.stage) [] (now (store old.pages)) (now (store q)) v
+        done = let d = moves.is (numbers_of old.trees) (given_to old.trees_given) db.forest db.is named_now (known.is db.forest db.is) in (d.0, d.1, d.2 operator refl, d.3)
 
         done_touches : Touches (store old.pages) (store q)
         done_touches = touches_acting (store old.pages) (store q) moves.touches
 
         abbrev answer : Answer
-        answer = answer_of f.job.call tree_now.map
+        answer = answer_of operator f.job.call tree_now.map
 
         done_trees : trees_of (now (store q)) ≡ put_name (trees_of (now (store old.pages))) f.job.tree.name (Some answer.map)
         done_trees =
@@ -456,7 +459,7 @@ module _ {P M : Type 0} (store : P → Store) (meant : M → Merge) (old : DbVal
                 record {
                   flying = call_in_flight_of f;
                   here = here;
-                  free = must_step (state_of store meant old slots given) (call_in_flight_of f) ∙ must;
+                  free = must;
                   fits = fits;
                   tree = tree_now;
                   there = there;
@@ -486,35 +489,35 @@ module _ {P M : Type 0} (store : P → Store) (meant : M → Merge) (old : DbVal
             some_is e = cc
 
             -- the event by the map now
-            brought : (t : NamedTree) → (db_state store meant old).trees f.job.tree.name ≡ Some t → answer.event ≡ (answer_of f.job.call t.map).event
-            brought t there_too = ap (λ (t : NamedTree). (answer_of f.job.call t.map).event) (some_is (sym there ∙ there_too))
+            brought : (t : NamedTree) → (db_state store meant old).trees f.job.tree.name ≡ Some t → answer.event ≡ (answer_of t.merge f.job.call t.map).event
+            brought t there_too = ap (λ (t : NamedTree). (answer_of t.merge f.job.call t.map).event) (some_is (sym there ∙ there_too))
 
             off : Decided reply ≡ Moved → ⊥
             off e = cc
 
       -- one step of the call, whatever comes of it
-      pub flies_on : (fits : f.turns < turns_limit) (went : Went) (g : InFlight) → FlightStep (store old.pages) f went (store q) g → StepsOnPath (now (store old.pages)) f went (now (store q)) g → FollowsOn (store old.pages) f went (store q) g → DbStepContract store meant old f went new g
+      pub flies_on : (fits : f.turns < turns_limit) (went : Went) (g : InFlight) → FlightStepBy (Only operator) (store old.pages) f went (store q) g → StepsOnPath (now (store old.pages)) f went (now (store q)) g → FollowsOn (store old.pages) f went (store q) g → DbStepContract store meant old f went new g
       flies_on fits Moved g a further follows = flies_moved fits g a.is.0 a.is.1 a.is.2 a.is.3 further follows
       flies_on fits (Decided reply) g a further follows = flies_decided fits g reply a.is follows
       flies_on fits (Refused e) g a further follows = flies_refused fits g e a.is follows
 
-      pub db_on : (fits : f.turns < turns_limit) (went : Went) (g : InFlight) → FlightStep (store old.pages) f went (store q) g → StepsOnPath (now (store old.pages)) f went (now (store q)) g → FollowsOn (store old.pages) f went (store q) g → IsDb store (record old { pages = q })
+      pub db_on : (fits : f.turns < turns_limit) (went : Went) (g : InFlight) → FlightStepBy (Only operator) (store old.pages) f went (store q) g → StepsOnPath (now (store old.pages)) f went (now (store q)) g → FollowsOn (store old.pages) f went (store q) g → IsDb store (record old { pages = q })
       db_on fits Moved g a further follows = moved_db fits g a.is.0 a.is.1 a.is.2 a.is.3 further follows
       db_on fits (Decided reply) g a further follows = decided_db fits g reply a.is follows
       db_on fits (Refused e) g a further follows = refused_db fits g e a.is follows
 
 -- the same, where a method knows the database by its fields
 module _ {P M : Type 0} (store : P → Store) (meant : M → Merge) (inside old : DbValue P M) (e : inside ≡ old) (db : IsDb store inside) (f : InFlight) where
-  pub flies_as : (q : P) (fits : f.turns < turns_limit) (went : Went) (g : InFlight) → must_refuse_of (db_state store meant old) (f.job.tree ∷ []) ≡ None → IsKnown (snapshot_of_db store old) f
-      → FlightStep (store inside.pages) f went (store q) g → StepsOnPath (now (store inside.pages)) f went (now (store q)) g → FollowsOn (store inside.pages) f went (store q) g → DbStepContract store meant old f went (record inside { pages = q }) g
+  pub flies_as : (q : P) (fits : f.turns < turns_limit) (went : Went) (g : InFlight) → must_refuse (db_state store meant old) (ToStep (call_in_flight_of f)) ≡ None → IsKnown (snapshot_of_db store old) f
+      → FlightStepBy (Only (option_map meant (find nat_cmp f.job.tree.number inside.operators))) (store inside.pages) f went (store q) g → StepsOnPath (now (store inside.pages)) f went (now (store q)) g → FollowsOn (store inside.pages) f went (store q) g → DbStepContract store meant old f went (record inside { pages = q }) g
   flies_as q fits went g must known a further follows =
-      subst (λ (z : DbValue P M). must_refuse_of (db_state store meant z) (f.job.tree ∷ []) ≡ None → IsKnown (snapshot_of_db store z) f → DbStepContract store meant z f went (record inside { pages = q }) g)
+      subst (λ (z : DbValue P M). must_refuse (db_state store meant z) (ToStep (call_in_flight_of f)) ≡ None → IsKnown (snapshot_of_db store z) f → DbStepContract store meant z f went (record inside { pages = q }) g)
       e (λ must known. flies_on store meant inside db f must q known fits went g a further follows) must known
 
-  pub db_as : (q : P) (fits : f.turns < turns_limit) (went : Went) (g : InFlight) → must_refuse_of (db_state store meant old) (f.job.tree ∷ []) ≡ None → IsKnown (snapshot_of_db store old) f
-      → FlightStep (store inside.pages) f went (store q) g → StepsOnPath (now (store inside.pages)) f went (now (store q)) g → FollowsOn (store inside.pages) f went (store q) g → IsDb store (record inside { pages = q })
+  pub db_as : (q : P) (fits : f.turns < turns_limit) (went : Went) (g : InFlight) → must_refuse (db_state store meant old) (ToStep (call_in_flight_of f)) ≡ None → IsKnown (snapshot_of_db store old) f
+      → FlightStepBy (Only (option_map meant (find nat_cmp f.job.tree.number inside.operators))) (store inside.pages) f went (store q) g → StepsOnPath (now (store inside.pages)) f went (now (store q)) g → FollowsOn (store inside.pages) f went (store q) g → IsDb store (record inside { pages = q })
   db_as q fits went g must known a further follows =
-      subst (λ (z : DbValue P M). must_refuse_of (db_state store meant z) (f.job.tree ∷ []) ≡ None → IsKnown (snapshot_of_db store z) f → IsDb store (record inside { pages = q }))
+      subst (λ (z : DbValue P M). must_refuse (db_state store meant z) (ToStep (call_in_flight_of f)) ≡ None → IsKnown (snapshot_of_db store z) f → IsDb store (record inside { pages = q }))
       e (λ must known. db_on store meant inside db f must q known fits went g a further follows) must known
 
 -- below the limit
@@ -534,10 +537,10 @@ module _ {P M : Type 0} (store : P → Store) (meant : M → Merge) (old new : D
   went_on = (flies.step.steps (everywhere f) 0 0 0 0 refl).is.0
 
   -- the tests pass still
-  pub still_tested : must_refuse_of (db_state store meant old) (f.job.tree ∷ []) ≡ None → must_refuse_of (db_state store meant new) (g.job.tree ∷ []) ≡ None
+  pub still_tested : must_refuse (db_state store meant old) (ToStep (call_in_flight_of f)) ≡ None → must_refuse (db_state store meant new) (ToStep (call_in_flight_of g)) ≡ None
   still_tested must =
-      ap (λ (j : Job). must_refuse_of (db_state store meant new) (j.tree ∷ [])) (flies.knows.goes_on refl).0
-      ∙ (ap (λ (s : State). must_refuse_of s (f.job.tree ∷ [])) went_on.is ∙ must)
+      ap (λ (j : Job). must_refuse (db_state store meant new) (ToPoint j.tree j.call)) (flies.knows.goes_on refl).0
+      ∙ (ap (λ (s : State). must_refuse s (ToPoint f.job.tree f.job.call)) went_on.is ∙ must)
 
   -- it had turns left, and has one less
   pub turn_taken : (f.turns < turns_limit) × (g.turns ≡ f.turns + 1)
@@ -615,10 +618,10 @@ module _ {P M : Type 0} (store : P → Store) (meant : M → Merge) where
 pub record IsFlying {P M : Type 0} (store : P → Store) (meant : M → Merge) (old : DbValue P M) (f : InFlight) (mid : DbValue P M) (h : InFlight) : Type 0 where
   pub whole : (n : ℕ) (went : Went) (new : DbValue P M) (g : InFlight) → DbSteps store meant n mid h went new g → (m : ℕ) × DbSteps store meant m old f went new g
   pub known : IsKnown (snapshot_of_db store mid) h
-  pub tested : must_refuse_of (db_state store meant mid) (h.job.tree ∷ []) ≡ None
+  pub tested : must_refuse (db_state store meant mid) (ToStep (call_in_flight_of h)) ≡ None
 
 module _ {P M : Type 0} (store : P → Store) (meant : M → Merge) (old : DbValue P M) (f : InFlight) where
-  pub going_first : IsKnown (snapshot_of_db store old) f → must_refuse_of (db_state store meant old) (f.job.tree ∷ []) ≡ None → IsFlying store meant old f old f
+  pub going_first : IsKnown (snapshot_of_db store old) f → must_refuse (db_state store meant old) (ToStep (call_in_flight_of f)) ≡ None → IsFlying store meant old f old f
   going_first known tested = record { whole = λ n went new g end. (n, end); known = known; tested = tested }
 
   pub going_more : (mid next : DbValue P M) (h k : InFlight) → IsFlying store meant old f mid h → DbStepContract store meant mid h Moved next k → IsDb store next → IsFlying store meant old f next k

@@ -2,6 +2,7 @@ pub mod Walks
 pub mod Resting
 pub mod Testing
 pub mod Trees
+pub mod Operating
 pub mod Flying
 pub mod Conducting
 pub mod Flushing

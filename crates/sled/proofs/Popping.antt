@@ -1,5 +1,5 @@
 -- Calls that take out the pair at an end of a tree, and clears.
-use Rattle.std.proofs.Common.{◌≡◌, ◌≢◌, ℕ, zero, suc, ◌+◌, ◌<◌, ◌≤◌, ◌⊎◌, Bool, true, false, not, cond, List, [], ◌∷◌, ◌++◌, append-nil, length, Option, Some, None, is_some, Result, Ok, Err, IfOk, IfErr, sym, refl, ap, ◌∙◌, subst, inl, inr, arith}
+use Rattle.std.proofs.Common.{◌≡◌, ◌≢◌, ℕ, zero, suc, ◌<◌, ◌≤◌, ◌⊎◌, Bool, true, false, not, cond, List, [], ◌∷◌, ◌++◌, append-nil, length, Option, Some, None, is_some, Result, Ok, Err, IfOk, IfErr, sym, refl, ap, ◌∙◌, subst, inl, inr, arith}
 use Rattle.std.proofs.lemmas.Cmp.{tied_itself}
 use Rattle.std.specs.List.{filter, list_any}
 use Rattle.std.specs.FinMap.Entries.{find}
@@ -9,17 +9,16 @@ use Rattle.sled_pages.specs.Order.{Key, key_cmp}
 use Rattle.sled_pages.specs.Among.{is_from, is_up_to, IsSuccessor, IsPredecessor}
 use Rattle.sled_pages.specs.Node.{without}
 use Rattle.sled_pages.specs.theory.Facts.{put_name_here}
-use Rattle.sled_pages.specs.Update.{put_name}
 use Rattle.sled_pages.specs.Store.{Store, now}
 use Rattle.sled_pages.specs.declared.error.Error.{Error}
 use Rattle.sled_pages.specs.declared.error.Error.TheVariants as error
 use Rattle.sled_pages.specs.declared.texts.TheConstants.{WALK_PASSED_TURNS}
 use Rattle.sled_model.specs.Maps.{Map, Maps, Merge, IsLeast, IsGreatest}
-use Rattle.sled_model.specs.Answer.{Answer, answer_of, map_after}
+use Rattle.sled_model.specs.Answer.{answer_of, map_after}
 use Rattle.sled_model.specs.State.{State, NamedTree, CallInFlight, maps_of, after_decision_on}
-use Rattle.sled_model.specs.Refusal.{MustRefuse, IsClosed, IsForeign, IsDropped, HasNoOperator, first_of, must_refuse, must_refuse_of, MayRefuse, MeetsFullQueue, EndMeetsFullQueue, TellsTurns, ToPoint, ToCall, cause_of, may_refuse_as, tells, turns_limit}
+use Rattle.sled_model.specs.Refusal.{MustRefuse, IsClosed, IsForeign, IsDropped, HasNoOperator, first_of, must_refuse, must_refuse_of, MayRefuse, EndMeetsFullQueue, TellsTurns, ToPoint, ToCall, cause_of, may_refuse_as}
 use Rattle.sled_model.specs.Transition.{Configuration, WholeDecides, WholeRefuses}
-use Rattle.sled_model.specs.Whole.{Pops, after_pop, RemovesLeast, RemovesNone, RemovesOne, Clears, StopsClearing}
+use Rattle.sled_model.specs.Whole.{Pops, RemovesLeast, RemovesNone, RemovesOne}
 use Rattle.sled_model.specs.declared.call.Call.TheVariants.{Remove}
 use Rattle.sled_model.specs.declared.call.Whole.{Whole}
 use Rattle.sled_model.specs.declared.call.Whole.TheVariants.{PopMin, PopMax, Clear}
@@ -37,7 +36,7 @@ use Rattle.sled.specs.Sound.{IsDb}
 use Rattle.sled.specs.Flights.{IsStepRefused}
 use Rattle.sled.specs.Reads.{ReadsMap, RefusesReading, refuses_reading_as, stops_reading}
 use Rattle.sled.specs.Direct.{ActsOften, NoAction, OneAction, Conducts, PointDecided, PointRefused, WholeDecided, WholeRefused}
-use Rattle.sled.specs.Pops.{TakesOut, RefusesToTake, IsAtEnd, PopsBySteps, PopRefusedBySteps, IsLongWay, GivesUpPop, ClearsBySteps, ClearsNone, ClearsMore, ClearRefusedBySteps}
+use Rattle.sled.specs.Pops.{TakesOut, RefusesToTake, IsAtEnd, PopsBySteps, PopRefusedBySteps, GivesUpPop, ClearsBySteps, ClearsNone, ClearsMore, ClearRefusedBySteps}
 use Rattle.sled.proofs.Conducting.{conducts_then, conducts_none, conducts_refused}
 use Rattle.sled.proofs.Testing.{tested_calm}
 use Rattle.sled.proofs.Trees.{maps_are}
@@ -85,8 +84,8 @@ fewer : (p : Key × Key → Bool) (xs : Map) → length (filter p xs) ≤ length
 fewer p [] = omega arith
 fewer p (x ∷ xs) = let f = fewer p xs in elim (p x) as (λ b. length (cond b (x ∷ filter p xs) (filter p xs)) ≤ suc (length xs)) [ true ↦ omega arith | false ↦ omega arith ]
 
-shorter : (pair : Key × Key) (rest : Map) → length (answer_of (Remove pair.0) (pair ∷ rest)).map < suc (length rest)
-shorter pair rest = subst (λ n. n < suc (length rest)) (sym is) below
+shorter : (merge : Option Merge) (pair : Key × Key) (rest : Map) → length (answer_of merge (Remove pair.0) (pair ∷ rest)).map < suc (length rest)
+shorter merge pair rest = subst (λ n. n < suc (length rest)) (sym is) below
   where
     k : Key
     k = pair.0
@@ -94,7 +93,7 @@ shorter pair rest = subst (λ n. n < suc (length rest)) (sym is) below
     tied : eq_by_cmp key_cmp pair.0 pair.0 ≡ true
     tied = ap is_eq (tied_itself key_total pair.0)
 
-    is : length (answer_of (Remove pair.0) (pair ∷ rest)).map ≡ length (without pair.0 rest)
+    is : length (answer_of merge (Remove pair.0) (pair ∷ rest)).map ≡ length (without pair.0 rest)
     is =
         ap (λ b. length (map_after (cond (is_some (cond b (Some pair.1) (find key_cmp pair.0 rest))) effect.Remove effect.Nothing) pair.0 (pair ∷ rest))) tied
         ∙ ap (λ b. length (cond (not b) (pair ∷ without pair.0 rest) (without pair.0 rest))) tied
@@ -428,9 +427,9 @@ module _ {P M : Type 0} (store : P → Store) (meant : M → Merge) (old : DbVal
 
 -- one more of the least keys is removed
 removes_more : (tree : Tree) (n : ℕ) (a b : State) (maps : List Maps) → RemovesLeast tree a n b maps → (named : NamedTree) (pair : Key × Key) (rest : Map) → b.trees tree.name ≡ Some named → named.map ≡ pair ∷ rest
-    → RemovesLeast tree a (suc n) (after_decision_on b tree.name named (answer_of (Remove pair.0) named.map)) (maps ++ maps_of (after_decision_on b tree.name named (answer_of (Remove pair.0) named.map)) ∷ [])
+    → RemovesLeast tree a (suc n) (after_decision_on b tree.name named (answer_of named.merge (Remove pair.0) named.map)) (maps ++ maps_of (after_decision_on b tree.name named (answer_of named.merge (Remove pair.0) named.map)) ∷ [])
 removes_more tree zero a b [] RemovesNone named pair rest there is = RemovesOne named pair rest there is RemovesNone
-removes_more tree (suc n) a b (m ∷ maps) (RemovesOne first p others here was more) named pair rest there is = RemovesOne first p others here was (removes_more tree n (after_decision_on a tree.name first (answer_of (Remove p.0) first.map)) b maps more named pair rest there is)
+removes_more tree (suc n) a b (m ∷ maps) (RemovesOne first p others here was more) named pair rest there is = RemovesOne first p others here was (removes_more tree n (after_decision_on a tree.name first (answer_of first.merge (Remove p.0) first.map)) b maps more named pair rest there is)
 removes_more tree zero a b (m ∷ maps) run named pair rest there is = elim run [ ]
 removes_more tree (suc n) a b [] run named pair rest there is = elim run [ ]
 
@@ -529,7 +528,7 @@ module _ {P M : Type 0} (store : P → Store) (meant : M → Merge) (old : DbVal
         first : (rest : Map) × (named.map ≡ pair ∷ rest)
         first = subst (λ (n : NamedTree). IsLeast n.map (Some pair)) (some_is (sym r.there ∙ p.decides.there)) (subst (λ z. IsLeast r.named.map z) e (least_is r.named.map read r.is))
 
-        state_now : (slots : ℕ → Option CallInFlight) (given : ℕ) → state_of store meant new slots given ≡ after_decision_on (state_of store meant mid slots given) tree.name named (answer_of (Remove pair.0) named.map)
+        state_now : (slots : ℕ → Option CallInFlight) (given : ℕ) → state_of store meant new slots given ≡ after_decision_on (state_of store meant mid slots given) tree.name named (answer_of named.merge (Remove pair.0) named.map)
         state_now slots given = ap (with_slots slots given) p.decides.is
 
         pub clearing_more : IsDb store mid → IsClearing store meant old tree new
@@ -545,11 +544,11 @@ module _ {P M : Type 0} (store : P → Store) (meant : M → Merge) (old : DbVal
 
         -- and the tree has a pair less
         pub clearing_smaller : size_of ((db_state store meant new).trees tree.name) < size_of ((db_state store meant mid).trees tree.name)
-        clearing_smaller = less (length (answer_of (Remove pair.0) named.map).map) (length first.0) (size_of ((db_state store meant new).trees tree.name)) (size_of ((db_state store meant mid).trees tree.name)) after before
-            (subst (λ (m : Map). length (answer_of (Remove pair.0) m).map < suc (length first.0)) (sym first.1) (shorter pair first.0))
+        clearing_smaller = less (length (answer_of named.merge (Remove pair.0) named.map).map) (length first.0) (size_of ((db_state store meant new).trees tree.name)) (size_of ((db_state store meant mid).trees tree.name)) after before
+            (subst (λ (m : Map). length (answer_of named.merge (Remove pair.0) m).map < suc (length first.0)) (sym first.1) (shorter named.merge pair first.0))
           where
-            after : size_of ((db_state store meant new).trees tree.name) ≡ length (answer_of (Remove pair.0) named.map).map
-            after = ap (λ (s : State). size_of (s.trees tree.name)) p.decides.is ∙ ap size_of (put_name_here (db_state store meant mid).trees tree.name (Some (record named { map = (answer_of (Remove pair.0) named.map).map })))
+            after : size_of ((db_state store meant new).trees tree.name) ≡ length (answer_of named.merge (Remove pair.0) named.map).map
+            after = ap (λ (s : State). size_of (s.trees tree.name)) p.decides.is ∙ ap size_of (put_name_here (db_state store meant mid).trees tree.name (Some (record named { map = (answer_of named.merge (Remove pair.0) named.map).map })))
 
             before : size_of ((db_state store meant mid).trees tree.name) ≡ suc (length first.0)
             before = ap size_of p.decides.there ∙ ap length first.1

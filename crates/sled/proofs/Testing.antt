@@ -1,43 +1,57 @@
 -- The tests that come before a call.
-use Rattle.std.proofs.Common.{◌≡◌, Bool, true, false, not, cond, [], ◌∷◌, Option, Some, None, refl, sym, ap, ◌∙◌}
+use Rattle.std.proofs.Common.{◌≡◌, Bool, true, false, not, ◌&&◌, cond, [], ◌∷◌, Option, Some, None, refl, sym, ap, ◌∙◌}
 use Rattle.sled_pages.specs.Store.{Store, now}
 use Rattle.sled_model.specs.Maps.{Merge}
-use Rattle.sled_model.specs.State.{State, CallInFlight}
-use Rattle.sled_model.specs.Refusal.{MustRefuse, IsClosed, first_of, must_refuse_of, must_refuse, operator_test, foreign_test, dropped_test, ToBegin, ToStep, ToPoint, ToCall}
+use Rattle.sled_model.specs.State.{State}
+use Rattle.sled_model.specs.Refusal.{MustRefuse, IsClosed, HasNoOperator, first_of, must_refuse_of, must_refuse, operator_test, needs_operator, has_operator, foreign_test, dropped_test, ToPoint, ToCall}
 use Rattle.sled_model.specs.declared.TheConstants.{MAX_LOOPS}
 use Rattle.sled_model.specs.Refusal.{turns_limit}
 use Rattle.sled_model.specs.declared.call.Call.{Call}
-use Rattle.sled_model.specs.declared.call.Call.TheVariants.{Get, Insert, Remove, CompareAndSwap}
 use Rattle.sled_model.specs.declared.call.Whole.TheVariants.{Flush}
 use Rattle.sled_model.specs.declared.tree.Tree.{Tree}
 use Rattle.sled.specs.Values.{DbValue, db_state}
 
--- no call needs an operator yet, so the last test always passes
-operator_none : (s : State) (tree : Tree) (call : Call) → operator_test s (ToBegin tree call) ≡ None
-operator_none s tree (Get k) = refl
-operator_none s tree (Insert k v) = refl
-operator_none s tree (Remove k) = refl
-operator_none s tree (CompareAndSwap k old new) = refl
+none_some : {P X : Type 0} {x : X} → None ≡ Some x → P
+none_some e = cc
 
-first_alone : (a : Option MustRefuse) → first_of a None ≡ a
+pub first_alone : (a : Option MustRefuse) → first_of a None ≡ a
 first_alone None = refl
 first_alone (Some m) = refl
 
-pub must_step : (s : State) (f : CallInFlight) → must_refuse s (ToStep f) ≡ must_refuse_of s (f.tree ∷ [])
-must_step s f = ap (first_of (must_refuse_of s (f.tree ∷ []))) (operator_none s f.tree f.call) ∙ first_alone (must_refuse_of s (f.tree ∷ []))
+-- a call that needs no operator has the tests of its tree alone
+pub must_plain : (s : State) (tree : Tree) (call : Call) → needs_operator call ≡ false → must_refuse s (ToPoint tree call) ≡ must_refuse_of s (tree ∷ [])
+must_plain s tree call e = ap (λ b. first_of (must_refuse_of s (tree ∷ [])) (cond (b && not (has_operator (s.trees tree.name))) (Some HasNoOperator) None)) e ∙ first_alone (must_refuse_of s (tree ∷ []))
 
-pub must_begin : (s : State) (tree : Tree) (call : Call) → must_refuse s (ToBegin tree call) ≡ must_refuse_of s (tree ∷ [])
-must_begin s tree call = ap (first_of (must_refuse_of s (tree ∷ []))) (operator_none s tree call) ∙ first_alone (must_refuse_of s (tree ∷ []))
+-- and one whose tree has its operator
+pub must_operated : (s : State) (tree : Tree) (call : Call) → has_operator (s.trees tree.name) ≡ true → must_refuse s (ToPoint tree call) ≡ must_refuse_of s (tree ∷ [])
+must_operated s tree call e = ap (λ b. first_of (must_refuse_of s (tree ∷ [])) (cond (needs_operator call && not b) (Some HasNoOperator) None)) e ∙ ap (λ b. first_of (must_refuse_of s (tree ∷ [])) (cond b (Some HasNoOperator) None)) (neither (needs_operator call)) ∙ first_alone (must_refuse_of s (tree ∷ []))
+  where
+    neither : (b : Bool) → b && false ≡ false
+    neither true = refl
+    neither false = refl
 
-pub must_point : (s : State) (tree : Tree) (call : Call) → must_refuse s (ToPoint tree call) ≡ must_refuse_of s (tree ∷ [])
-must_point s tree call = ap (first_of (must_refuse_of s (tree ∷ []))) (operator_none s tree call) ∙ first_alone (must_refuse_of s (tree ∷ []))
+-- the tree passes its tests, and has no operator
+pub must_unoperated : (s : State) (tree : Tree) (call : Call) → must_refuse_of s (tree ∷ []) ≡ None → needs_operator call ≡ true → has_operator (s.trees tree.name) ≡ false → must_refuse s (ToPoint tree call) ≡ Some HasNoOperator
+must_unoperated s tree call none needs has =
+    ap (λ z. first_of z (operator_test s (ToPoint tree call))) none
+    ∙ ap (λ b. cond (b && not (has_operator (s.trees tree.name))) (Some HasNoOperator) None) needs
+    ∙ ap (λ b. cond (not b) (Some HasNoOperator) None) has
+
+-- a tree that fails its tests fails them first
+pub must_first : (s : State) (tree : Tree) (call : Call) (m : MustRefuse) → must_refuse_of s (tree ∷ []) ≡ Some m → must_refuse s (ToPoint tree call) ≡ Some m
+must_first s tree call m e = ap (λ z. first_of z (operator_test s (ToPoint tree call))) e
+
+-- the tests of a call begin with those of its tree
+pub tree_tested : (s : State) (tree : Tree) (call : Call) → must_refuse s (ToPoint tree call) ≡ None → must_refuse_of s (tree ∷ []) ≡ None
+tree_tested s tree call e = go (must_refuse_of s (tree ∷ [])) e
+  where
+    go : (o : Option MustRefuse) → first_of o (operator_test s (ToPoint tree call)) ≡ None → o ≡ None
+    go None e = refl
+    go (Some m) e = none_some (sym e)
 
 -- the limit of turns is the one that the constant has
 pub limit_is : MAX_LOOPS ≡ turns_limit
 limit_is = refl
-
-none_some : {P X : Type 0} {x : X} → None ≡ Some x → P
-none_some e = cc
 
 -- where the tests pass the database is open
 pub tested_open : (s : State) (t : Tree) → must_refuse_of s (t ∷ []) ≡ None → s.is_open ≡ true

@@ -9,7 +9,7 @@ use Rattle.sled_pages.specs.Update.{put_at}
 use Rattle.sled_model.specs.Maps.{Maps, Merge}
 use Rattle.sled_model.specs.Answer.{answer_of}
 use Rattle.sled_model.specs.State.{NamedTree, CallInFlight, maps_of}
-use Rattle.sled_model.specs.Refusal.{must_refuse_of, TellsTurns, turns_limit}
+use Rattle.sled_model.specs.Refusal.{ToStep, must_refuse, TellsTurns, turns_limit}
 use Rattle.sled_model.specs.Transition.{Transition}
 use Rattle.sled_model.specs.declared.event.Event.{Event}
 use Rattle.sled_model.specs.declared.reply.Reply.{Reply}
@@ -66,7 +66,7 @@ pub record BringsEvent {P M : Type 0} (store : P → Store) (meant : M → Merge
   pub decided : went ≡ Decided reply
   pub tree : NamedTree
   pub there : (db_state store meant old).trees f.job.tree.name ≡ Some tree
-  pub is : (answer_of f.job.call tree.map).event ≡ event
+  pub is : (answer_of tree.merge f.job.call tree.map).event ≡ event
 
 -- a page number that was given stays given; a page that is merging stays as it is until it is freed; and one that was freed never comes back
 pub record PagesLast (old new : Snapshot) : Type 0 where
@@ -115,7 +115,7 @@ pub record DbActs {P M : Type 0} (store : P → Store) (meant : M → Merge) (ol
 
 -- where the tests pass and a turn is left, the step does what the call's stage is to do, and leads where that leads
 abbrev pub DbFollows : {P M : Type 0} → (P → Store) → (M → Merge) → DbValue P M → InFlight → Went → DbValue P M → InFlight → Type 0
-DbFollows store meant old f went new g = must_refuse_of (db_state store meant old) (f.job.tree ∷ []) ≡ None → f.turns < turns_limit → FollowsOn (store old.pages) f went (store new.pages) g
+DbFollows store meant old f went new g = must_refuse (db_state store meant old) (ToStep (call_in_flight_of f)) ≡ None → f.turns < turns_limit → FollowsOn (store old.pages) f went (store new.pages) g
 
 -- no page of the call's own is left behind, but by a call that is refused
 abbrev pub DbLeaksNoPage : {P M : Type 0} → (P → Store) → DbValue P M → InFlight → Went → DbValue P M → InFlight → Type 0

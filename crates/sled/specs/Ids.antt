@@ -13,7 +13,6 @@ use Rattle.sled_tree.specs.Known.{IsKnown}
 use Rattle.sled_tree.specs.declared.flight.InFlight.{InFlight}
 use Rattle.sled.specs.Values.{DbValue, db_state, state_of, snapshot_of_db}
 use Rattle.sled.specs.Sound.{IsDb}
-use Rattle.sled.specs.Flush.{only_faults}
 use Rattle.sled.specs.Direct.{KeepsOrFreesTreePages}
 
 -- the greatest id that there can be, which is the greatest u64

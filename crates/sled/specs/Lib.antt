@@ -10,4 +10,5 @@ pub mod Direct
 pub mod Pops
 pub mod Flush
 pub mod Ids
+pub mod Operators
 pub mod theory

@@ -1,3 +1,4 @@
 pub mod Opens
 pub mod Export
 pub mod Direct
+pub mod Operators

@@ -6,12 +6,14 @@ ghost use Rattle.sled_pages.specs.Order.{key_cmp};
 ghost use Rattle.sled_pages.specs.declared.error.Error.TheVariants.{NoMemory};
 ghost use Rattle.sled_pages.specs.Store.{now};
 ghost use Rattle.tree_laws.specs.Crashes.{IsValid, IsCrashConsistent};
-ghost use Rattle.sled_model.specs.Refusal.{must_refuse_of};
+ghost use Rattle.sled_model.specs.Refusal.{must_refuse, must_refuse_of, needs_operator, ToPoint, ToStep};
+ghost use Rattle.sled_model.specs.declared.call.Call.{Call};
 ghost use Rattle.sled.specs.Calls.{IsHandle, RefusesHandle, MustBeRefused};
 
 use crate::DEFAULT_TREE;
-use sled_model::{MAX_LOOPS, MergeOperator, Tree};
-use sled_pages::texts::{HANDLE_OF_ANOTHER_DATABASE, WALK_PASSED_TURNS};
+use crate::operators::operator_of;
+use sled_model::{Call, MAX_LOOPS, MergeOperator, Tree};
+use sled_pages::texts::{HANDLE_OF_ANOTHER_DATABASE, NO_MERGE_OPERATOR, WALK_PASSED_TURNS};
 use sled_pages::{Error, IVec, Pages, Result};
 use sled_tree::{InFlight, Went, advance};
 use std::alloc::Global;
@@ -62,7 +64,7 @@ impl<P: Pages, M: MergeOperator> Db<P, M> {
     ghost use Rattle.sled.specs.Values.{db_state, snapshot_of_db, default_name};
     ghost use Rattle.sled_tree.specs.Known.{IsKnown};
     ghost use Rattle.sled_tree.specs.Passing.{StepsOnPath};
-    ghost use Rattle.sled.specs.Flights.{DbStep, DbSound, DbActs, DbFollows, DbLeaksNoPage, DbKnows, KeepsTreePages, DbStepContract, DbRunsToEnd};
+    ghost use Rattle.sled.specs.Flights.{DbStep, DbSound, DbActs, DbFollows, DbLeaksNoPage, DbKnows, KeepsTreePages, DbStepContract, DbRunsToEnd, call_in_flight_of};
     ghost use Rattle.sled.specs.Flush.{FlushesDb, RefusesFlush};
 
     /// What holds of every database: its pages are well formed now and in every state that a crash may leave, and its trees
@@ -134,6 +136,32 @@ impl<P: Pages, M: MergeOperator> Db<P, M> {
         }
     }
 
+    /// The tests that come before a call on a key of a tree: those of the tree, and then that it has the operator that the call needs.
+    pub fn check_call(&self, tree: &Tree, call: &Call) -> Result<()>
+        ensures ok { OnOk result (must_refuse (db_state P.store M.meant self.now) (ToPoint tree.now call.now) ≡ None) }
+        ensures err { IfErr result (MustBeRefused (must_refuse (db_state P.store M.meant self.now) (ToPoint tree.now call.now))) }
+    {
+        if call.needs_operator() {
+            self.check_operator(tree)
+        } else {
+            self.check(tree)
+        }
+    }
+
+    /// The tests that come before a merge in a tree: those of the tree, and then that it has an operator.
+    pub fn check_operator(&self, tree: &Tree) -> Result<()>
+        ensures ok { OnOk result ((call : Call) → must_refuse (db_state P.store M.meant self.now) (ToPoint tree.now call) ≡ None) }
+        ensures err { IfErr result (λ e. (call : Call) → needs_operator call ≡ true → MustBeRefused (must_refuse (db_state P.store M.meant self.now) (ToPoint tree.now call)) e) }
+    {
+        if let Err(e) = self.check(tree) {
+            return Err(e);
+        }
+        match operator_of(self.operators.as_slice(), tree.number) {
+            Some(_) => Ok(()),
+            None => Err(Error::Unsupported(NO_MERGE_OPERATOR)),
+        }
+    }
+
     /// One step of a call in flight, which may do one page action. The tests come first, and the count of turns last.
     pub fn advance(&mut self, flight: &mut InFlight) -> Went
         requires { IsKnown (snapshot_of_db P.store self.old) flight.old }
@@ -146,22 +174,23 @@ impl<P: Pages, M: MergeOperator> Db<P, M> {
         ensures leaves { DbLeaksNoPage P.store self.old flight.old result self.new flight.new }
         ensures knows { DbKnows P.store self.old flight.old result self.new flight.new }
     {
-        if let Err(e) = self.check(&flight.job.tree) {
+        if let Err(e) = self.check_call(&flight.job.tree, &flight.job.call) {
             return Went::Refused(e);
         }
         self.advance_tested(flight)
     }
 
-    // The same of a call whose tree passed the tests.
+    // The same of a call that passed the tests.
     fn advance_tested(&mut self, flight: &mut InFlight) -> Went
         requires known { IsKnown (snapshot_of_db P.store self.old) flight.old }
-        requires tested { must_refuse_of (db_state P.store M.meant self.old) (flight.old.job.tree ∷ []) ≡ None }
+        requires tested { must_refuse (db_state P.store M.meant self.old) (ToStep (call_in_flight_of flight.old)) ≡ None }
         ensures { DbStepContract P.store M.meant self.old flight.old result self.new flight.new }
     {
         if flight.turns == MAX_LOOPS {
             return Went::Refused(Error::ReportableBug(WALK_PASSED_TURNS));
         }
-        advance(&mut self.pages, self.alloc, flight)
+        let operator = operator_of(self.operators.as_slice(), flight.job.tree.number);
+        advance(&mut self.pages, self.alloc, operator, flight)
     }
 
     /// Steps of a call in flight until it ends. The tests are made once, since no step of a call changes what they look at.
@@ -169,16 +198,16 @@ impl<P: Pages, M: MergeOperator> Db<P, M> {
         requires { IsKnown (snapshot_of_db P.store self.old) flight.old }
         ensures { DbRunsToEnd P.store M.meant self.old flight.old result self.new flight.new }
     {
-        if let Err(e) = self.check(&flight.job.tree) {
+        if let Err(e) = self.check_call(&flight.job.tree, &flight.job.call) {
             return Went::Refused(e);
         }
         self.advance_on(flight)
     }
 
-    /// The same of a call whose tree passed the tests.
+    /// The same of a call that passed the tests.
     pub fn advance_on(&mut self, flight: &mut InFlight) -> Went
         requires known { IsKnown (snapshot_of_db P.store self.old) flight.old }
-        requires tested { must_refuse_of (db_state P.store M.meant self.old) (flight.old.job.tree ∷ []) ≡ None }
+        requires tested { must_refuse (db_state P.store M.meant self.old) (ToStep (call_in_flight_of flight.old)) ≡ None }
         ensures { DbRunsToEnd P.store M.meant self.old flight.old result self.new flight.new }
     {
         'steps: loop {

@@ -1,10 +1,10 @@
 //! Calls on one key of a tree that are made at once, in no slot.
 //!
 //! They make the same steps as a call in flight, one after the other, repairs included.
-ghost use Rattle.std.specs.Prelude.{◌≡◌, IfOk, IfErr, ◌∷◌, [], None};
+ghost use Rattle.std.specs.Prelude.{◌≡◌, IfOk, IfErr, None};
 ghost use Rattle.std.specs.Option.{option_copied};
 ghost use Rattle.sled_pages.specs.declared.error.Error.TheVariants.{NoMemory};
-ghost use Rattle.sled_model.specs.Refusal.{must_refuse_of};
+ghost use Rattle.sled_model.specs.Refusal.{must_refuse, ToPoint};
 ghost use Rattle.sled_model.specs.declared.call.Call.TheVariants as call;
 ghost use Rattle.sled_model.specs.declared.reply.Reply.TheVariants as told;
 ghost use Rattle.sled.specs.theory.Direct.{IsValue, IsSwap};
@@ -38,6 +38,21 @@ fn insert_of(alloc: Global, key: &[u8], value: &[u8]) -> Result<Call>
     let key = IVec::from_slice(alloc, key)?;
     match IVec::from_slice(alloc, value) {
         Ok(value) => Ok(Call::Insert(key, value)),
+        Err(e) => {
+            drop(key);
+            Err(e)
+        }
+    }
+}
+
+// The call that merges bytes at a key.
+fn merge_of(alloc: Global, key: &[u8], bytes: &[u8]) -> Result<Call>
+    ensures ok { IfOk result (λ made. made ≡ call.Merge key.now bytes.now) }
+    ensures err { IfErr result (λ e. e ≡ NoMemory) }
+{
+    let key = IVec::from_slice(alloc, key)?;
+    match IVec::from_slice(alloc, bytes) {
+        Ok(bytes) => Ok(Call::Merge(key, bytes)),
         Err(e) => {
             drop(key);
             Err(e)
@@ -110,16 +125,16 @@ impl<P: Pages, M: MergeOperator> Db<P, M> {
         ensures ok { IfOk result (λ reply. PointDecided P.store M.meant self.old tree.now call reply self.new) }
         ensures err { IfErr result (λ e. PointRefused P.store M.meant self.old tree.now call e self.new) }
     {
-        if let Err(e) = self.check(tree) {
+        if let Err(e) = self.check_call(tree, &call) {
             drop(call);
             return Err(e);
         }
         self.make(tree, call)
     }
 
-    // The same of a tree that passed the tests.
+    // The same of a call that passed the tests.
     fn make(&mut self, tree: &Tree, call: Call) -> Result<Reply>
-        requires { must_refuse_of (db_state P.store M.meant self.old) (tree.now ∷ []) ≡ None }
+        requires { must_refuse (db_state P.store M.meant self.old) (ToPoint tree.now call) ≡ None }
         ensures ok { IfOk result (λ reply. PointDecided P.store M.meant self.old tree.now call reply self.new) }
         ensures err { IfErr result (λ e. PointRefused P.store M.meant self.old tree.now call e self.new) }
     {
@@ -194,6 +209,25 @@ impl<P: Pages, M: MergeOperator> Db<P, M> {
         ensures err { IfErr result (λ e. PointRefused P.store M.meant self.old tree.now (call.Remove key.now) e self.new) }
     {
         self.remove(tree, key)
+    }
+
+    /// Sets the value at a key to what the tree's merge operator makes of it and these bytes, or takes the key out where that is no
+    /// value, and answers the new value. It is written also where it is equal.
+    pub fn merge(&mut self, tree: &Tree, key: &[u8], bytes: &[u8]) -> Result<Option<IVec>>
+        ensures ok { IfOk result (λ merged. PointDecided P.store M.meant self.old tree.now (call.Merge key.now bytes.now) (told.Value merged) self.new) }
+        ensures err { IfErr result (λ e. PointRefused P.store M.meant self.old tree.now (call.Merge key.now bytes.now) e self.new) }
+    {
+        if let Err(e) = self.check_operator(tree) {
+            return Err(e);
+        }
+        let call = match merge_of(self.allocator(), key, bytes) {
+            Ok(call) => call,
+            Err(e) => return Err(e),
+        };
+        match self.make(tree, call) {
+            Ok(reply) => Ok(value_of(reply)),
+            Err(e) => Err(e),
+        }
     }
 
     /// Where the value `old` stands at a key, `None` being no value, sets `new` there, or takes the key out for `None`. Else

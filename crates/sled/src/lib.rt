@@ -15,6 +15,7 @@ mod ids;
 mod memory;
 mod names;
 mod open;
+mod operators;
 mod read;
 mod whole;
 

@@ -5,7 +5,7 @@ use Rattle.sled_pages.specs.Order.{Key}
 use Rattle.sled_pages.specs.declared.error.Error.{Error}
 use Rattle.sled_pages.specs.declared.error.Error.TheVariants.{CollectionNotFound, Unsupported, ReportableBug, Io, Corruption, NoMemory, FullQueue, Closed}
 use Rattle.sled_model.specs.declared.call.Call.{Call}
-use Rattle.sled_model.specs.declared.call.Call.TheVariants.{Get, Insert, Remove, CompareAndSwap}
+use Rattle.sled_model.specs.declared.call.Call.TheVariants.{Get, Insert, Remove, CompareAndSwap, Merge}
 use Rattle.sled_model.specs.declared.reply.Reply.{Reply}
 use Rattle.sled_model.specs.declared.reply.Reply.TheVariants.{Value, Swapped, Number, Done, Pair}
 use Rattle.sled_model.specs.declared.reply.CompareAndSwapError.{CompareAndSwapError}
@@ -26,12 +26,13 @@ piece_text (piece.Text text) = text.now
 piece_text (piece.Number n) = decimal n
 piece_text (piece.Word bytes) = printed bytes.now
 
--- a get shows the value that stands, an insert and a removal the one that stood; a swap replies no such value
+-- a get shows the value that stands and a merge the new one, an insert and a removal the one that stood; a swap replies no such value
 abbrev pub shown_of : Call → Shown
 shown_of (Get key) = shown.Value
 shown_of (Insert key value) = shown.Old
 shown_of (Remove key) = shown.Old
 shown_of (CompareAndSwap key old new) = shown.Value
+shown_of (Merge key bytes) = shown.Value
 
 abbrev pub name_of : Shown → List ℕ
 name_of shown.Value = codes "value "

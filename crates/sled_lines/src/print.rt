@@ -27,7 +27,7 @@ impl Shown {
         ensures { result ≡ shown_of call.now }
     {
         match call {
-            Call::Get(_) | Call::CompareAndSwap(_, _, _) => Shown::Value,
+            Call::Get(_) | Call::CompareAndSwap(_, _, _) | Call::Merge(_, _) => Shown::Value,
             Call::Insert(_, _) | Call::Remove(_) => Shown::Old,
         }
     }

@@ -5,6 +5,7 @@ ghost use Rattle.sled_pages.specs.Store.{now};
 ghost use Rattle.sled_model.specs.declared.call.Whole.TheVariants.{Flush};
 ghost use Rattle.sled_model.specs.declared.outcome.Step.TheVariants as step;
 ghost use Rattle.tree_laws.specs.Crashes.{IsValid, IsCrashConsistent};
+ghost use Rattle.sled.specs.Operators.{OperatorSet, OperatorNotSet};
 ghost use Rattle.sled_machine.specs.Step.{MachineStepContract};
 ghost use Rattle.sled_machine.specs.Run.{MachineRun, MachineSteps};
 ghost use Rattle.sled_machine.specs.Finish.{Completes};
@@ -170,6 +171,16 @@ impl<P: Pages, M: MergeOperator> Session<P, M> {
         ensures slots { self.new.slots ≡ self.old.slots }
     {
         self.machine.whole(whole)
+    }
+
+    /// Gives the current tree a merge operator.
+    pub fn set_merge_operator(&mut self, operator: M) -> sled_pages::Result<()>
+        ensures ok { OnOk result (OperatorSet P.store M.meant self.old.machine.db self.old.tree (M.meant operator) self.new.machine.db) }
+        ensures err { IfErr result (λ e. OperatorNotSet P.store M.meant self.old.machine.db self.old.tree e self.new.machine.db) }
+        ensures tree { self.new.tree ≡ self.old.tree }
+        ensures slots { self.new.slots ≡ self.old.slots }
+    {
+        self.machine.set_merge_operator(&self.tree, operator)
     }
 
     /// Does a list of steps. They name slots by the machine's numbers.

@@ -7,7 +7,7 @@ use Rattle.sled_pages.specs.Store.{Store, now}
 use Rattle.sled_pages.specs.declared.error.Error.{Error}
 use Rattle.sled_model.specs.Answer.{key_of}
 use Rattle.sled_model.specs.Maps.{Merge}
-use Rattle.sled_model.specs.Refusal.{TellsTurns, must_refuse_of, turns_limit}
+use Rattle.sled_model.specs.Refusal.{TellsTurns, ToBegin, ToStep, must_refuse, turns_limit}
 use Rattle.sled_model.specs.State.{CallInFlight}
 use Rattle.sled_model.specs.declared.call.Call.{Call}
 use Rattle.sled_model.specs.declared.tree.Tree.{Tree}
@@ -160,7 +160,7 @@ module _ {P M : Type 0} (store : P → Store) (number : P → ℕ) (meant : M �
 
 -- a call that begins and ends at once
 module _ {P M : Type 0} (store : P → Store) (number : P → ℕ) (meant : M → Merge) (v : MachineValue P M) (im : IsMachine (snapshot_of_db store v.db) v.flights v.slots_given) where
-  module _ (tree : Tree) (call : Call) (must : must_refuse_of (db_state store meant v.db) (tree ∷ []) ≡ None) (f : InFlight) (is : f ≡ record { job = record { tree = tree; call = call }; aim = OwnKey; stage = Root; turns = 0 }) where
+  module _ (tree : Tree) (call : Call) (must : must_refuse (db_state store meant v.db) (ToBegin tree call) ≡ None) (f : InFlight) (is : f ≡ record { job = record { tree = tree; call = call }; aim = OwnKey; stage = Root; turns = 0 }) where
     completed : (slot : ℕ) → slot ≡ v.slots_given + 1 → (e : DbValue P M) (g : InFlight) (went : Went) → DbRunsToEnd store meant v.db f went e g
         → Completes store number meant v tree call (outcome_of went) (record v { db = e; slots_given = slot }) × IsMachine (snapshot_of_db store e) v.flights slot
     completed slot next e g went flies =
@@ -185,18 +185,18 @@ module _ {P M : Type 0} (store : P → Store) (number : P → ℕ) (meant : M �
         (subst (λ s. RunsToEnd store number meant old s (outcome_of went) (record inside { db = db; flights = gs })) same
         (subst (λ z. RunsToEnd store number meant z n (outcome_of went) (record inside { db = db; flights = gs })) e (finished_all store number meant inside im n db gs f g went there flies gone).0))
 
-  module _ (tree copy : Tree) (call : Call) (c : copy ≡ tree) (must : must_refuse_of (db_state store meant old.db) (tree ∷ []) ≡ None) (f : InFlight) (is : f ≡ record { job = record { tree = copy; call = call }; aim = OwnKey; stage = Root; turns = 0 }) where
+  module _ (tree copy : Tree) (call : Call) (c : copy ≡ tree) (must : must_refuse (db_state store meant old.db) (ToBegin tree call) ≡ None) (f : InFlight) (is : f ≡ record { job = record { tree = copy; call = call }; aim = OwnKey; stage = Root; turns = 0 }) where
     begun_is : f ≡ record { job = record { tree = tree; call = call }; aim = OwnKey; stage = Root; turns = 0 }
     begun_is = is ∙ ap (λ t. record { job = record { tree = t; call = call }; aim = OwnKey; stage = Root; turns = 0 }) c
 
-    tested : must_refuse_of (db_state store meant inside.db) (tree ∷ []) ≡ None
-    tested = subst (λ (z : MachineValue P M). must_refuse_of (db_state store meant z.db) (tree ∷ []) ≡ None) (sym e) must
+    tested : must_refuse (db_state store meant inside.db) (ToBegin tree call) ≡ None
+    tested = subst (λ (z : MachineValue P M). must_refuse (db_state store meant z.db) (ToBegin tree call) ≡ None) (sym e) must
 
     pub known_new : IsKnown (snapshot_of_db store inside.db) f
     known_new = subst (λ z. IsKnown (snapshot_of_db store inside.db) z) (sym begun_is) (known_begun (snapshot_of_db store inside.db) tree call)
 
-    pub tested_new : must_refuse_of (db_state store meant inside.db) (f.job.tree ∷ []) ≡ None
-    tested_new = ap (λ (z : InFlight). must_refuse_of (db_state store meant inside.db) (z.job.tree ∷ [])) begun_is ∙ tested
+    pub tested_new : must_refuse (db_state store meant inside.db) (ToStep (call_in_flight_of f)) ≡ None
+    tested_new = ap (λ (z : InFlight). must_refuse (db_state store meant inside.db) (ToStep (call_in_flight_of z))) begun_is ∙ tested
 
     pub completed_as : (slot : ℕ) → slot ≡ inside.slots_given + 1 → (db : DbValue P M) (g : InFlight) (went : Went) (o : Outcome) → o ≡ outcome_of went → DbRunsToEnd store meant inside.db f went db g → Completes store number meant old tree call o (record inside { db = db; slots_given = slot })
     completed_as slot next db g went o same flies =

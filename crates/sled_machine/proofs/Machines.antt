@@ -8,7 +8,7 @@ use Rattle.sled_pages.specs.declared.error.Error.{Error}
 use Rattle.sled_model.specs.Maps.{Maps, Merge}
 use Rattle.sled_model.specs.Answer.{answer_of}
 use Rattle.sled_model.specs.State.{CallInFlight, maps_of}
-use Rattle.sled_model.specs.Refusal.{MustRefuse, MayRefuse, must_refuse_of, may_refuse_as, cause_of, ToBegin, turns_limit}
+use Rattle.sled_model.specs.Refusal.{MustRefuse, MayRefuse, must_refuse, may_refuse_as, cause_of, ToBegin, ToStep, turns_limit}
 use Rattle.sled_model.specs.Transition.{Transition}
 use Rattle.sled_model.specs.declared.event.Event.{Event}
 use Rattle.sled_model.specs.declared.call.Call.{Call}
@@ -30,7 +30,6 @@ use Rattle.sled_tree.proofs.Known.{known_new}
 use Rattle.tree_laws.specs.declared.flight.Stage.TheVariants.{Root}
 use Rattle.sled_tree.specs.declared.flight.Went.{Went}
 use Rattle.sled_tree.specs.declared.flight.Went.TheVariants.{Moved, Decided, Refused}
-use Rattle.sled.specs.Sound.{IsDb}
 use Rattle.sled.specs.Values.{DbValue, state_of, db_state, configuration_of as instant_of_db, snapshot_of_db}
 use Rattle.sled.specs.Calls.{MustBeRefused, must_be_refused_as}
 use Rattle.sled_tree.specs.Known.{IsKnown, AreApart}
@@ -39,7 +38,6 @@ use Rattle.sled.specs.Flush.{FlushesDb, RefusesFlush}
 use Rattle.sled.proofs.Flying.{loses_nothing}
 use Rattle.sled.proofs.Flushing.{stays_state, stays_moment}
 use Rattle.sled.proofs.Resting.{SameNow, flushed_now, rests_only_faults, rests_now, rests_extends}
-use Rattle.sled.proofs.Testing.{must_begin}
 use Rattle.sled_machine.specs.Slots.{kept_at}
 use Rattle.sled_machine.specs.Values.{MachineValue, slots_of, configuration_of}
 use Rattle.tree_laws.specs.Forest.{Forest}
@@ -188,7 +186,7 @@ module _ {P M : Type 0} (store : P → Store) (number : P → ℕ) (meant : M �
           outcome = refl;
           there = are slot ∙ put_here (kept_at v.flights) slot kept ∙ stands;
           follows = subst (λ (z : InFlight). FollowsOn (store v.db.pages) z went (store db.pages) next) (sym same)
-              (flies.follows (subst (λ (z : InFlight). must_refuse_of (db_state store meant v.db) (z.job.tree ∷ []) ≡ None) same must) (subst (λ (z : InFlight). z.turns < turns_limit) same fits));
+              (flies.follows (subst (λ (z : InFlight). must_refuse (db_state store meant v.db) (ToStep (call_in_flight_of z)) ≡ None) same must) (subst (λ (z : InFlight). z.turns < turns_limit) same fits));
         };
       };
       passes = record { is = passes };
@@ -212,7 +210,7 @@ module _ {P M : Type 0} (store : P → Store) (number : P → ℕ) (meant : M �
               decided = refl;
               tree = b.tree;
               there = subst (λ (z : CallInFlight). (db_state store meant v.db).trees z.tree.name ≡ Some b.tree) (some_is (sym b.here ∙ here)) b.there;
-              is = subst (λ (z : CallInFlight). (answer_of z.call b.tree.map).event ≡ event) (some_is (sym b.here ∙ here)) b.is;
+              is = subst (λ (z : CallInFlight). (answer_of b.tree.merge z.call b.tree.map).event ≡ event) (some_is (sym b.here ∙ here)) b.is;
             }
         acts_flying (Refused r) k = k.does.does
 
@@ -285,16 +283,16 @@ module _ {P M : Type 0} (store : P → Store) (number : P → ℕ) (meant : M �
     tested = record { is = tt };
   }
 
-  pub begin_untested : (tree : Tree) (call : Call) (e : Error) → MustBeRefused (must_refuse_of (db_state store meant v.db) (tree ∷ [])) e → MachineStepContract store number meant v (step.Begin tree call) (outcome.Refused e) v
-  begin_untested tree call e tested = begin_refused tree call e (record { is = subst (λ o. may_refuse_as o (state_of store meant v.db (slots_of v.flights) v.slots_given) (store v.db.pages) (store v.db.pages) (ToBegin tree call) e) (sym (must_begin (state_of store meant v.db (slots_of v.flights) v.slots_given) tree call)) (go (must_refuse_of (db_state store meant v.db) (tree ∷ [])) tested.is) })
+  pub begin_untested : (tree : Tree) (call : Call) (e : Error) → MustBeRefused (must_refuse (db_state store meant v.db) (ToBegin tree call)) e → MachineStepContract store number meant v (step.Begin tree call) (outcome.Refused e) v
+  begin_untested tree call e tested = begin_refused tree call e (record { is = go (must_refuse (db_state store meant v.db) (ToBegin tree call)) tested.is })
     where
       go : (o : Option MustRefuse) → must_be_refused_as o e → may_refuse_as o (state_of store meant v.db (slots_of v.flights) v.slots_given) (store v.db.pages) (store v.db.pages) (ToBegin tree call) e
       go None t = absurd t
       go (Some m) t = t
 
-  module _ (tree : Tree) (call : Call) (must : must_refuse_of (db_state store meant v.db) (tree ∷ []) ≡ None) where
+  module _ (tree : Tree) (call : Call) (must : must_refuse (db_state store meant v.db) (ToBegin tree call) ≡ None) where
     pub begin_caused : (e : Error) → cause_of (state_of store meant v.db (slots_of v.flights) v.slots_given) (store v.db.pages) (store v.db.pages) (ToBegin tree call) e → MachineStepContract store number meant v (step.Begin tree call) (outcome.Refused e) v
-    begin_caused e cause = begin_refused tree call e (record { is = subst (λ o. may_refuse_as o (state_of store meant v.db (slots_of v.flights) v.slots_given) (store v.db.pages) (store v.db.pages) (ToBegin tree call) e) (sym (must_begin (state_of store meant v.db (slots_of v.flights) v.slots_given) tree call ∙ must)) cause })
+    begin_caused e cause = begin_refused tree call e (record { is = subst (λ o. may_refuse_as o (state_of store meant v.db (slots_of v.flights) v.slots_given) (store v.db.pages) (store v.db.pages) (ToBegin tree call) e) (sym must) cause })
 
     module _ (f : InFlight) (is : f ≡ record { job = record { tree = tree; call = call }; aim = OwnKey; stage = Root; turns = 0 }) (slot : ℕ) (next : slot ≡ v.slots_given + 1) (gs : List (ℕ × InFlight)) (e : gs ≡ v.flights ++ (slot, f) ∷ []) where
       pub free_slot : kept_at v.flights slot ≡ None
@@ -313,7 +311,7 @@ module _ {P M : Type 0} (store : P → Store) (number : P → ℕ) (meant : M �
             (record {
               is = (
                 record {
-                  free = must_begin (state_of store meant v.db (slots_of v.flights) v.slots_given) tree call ∙ must;
+                  free = must;
                   next = next;
                   is = ap (λ z. state_of store meant v.db z slot) (slots_put v.flights gs slot (Some f) added_kept ∙ ap (λ z. put_at (slots_of v.flights) slot (Some (call_in_flight_of z))) is);
                 },
@@ -431,24 +429,24 @@ module _ {P M : Type 0} (store : P → Store) (number : P → ℕ) (meant : M �
       as_flying (Some f) = refl
 
 module _ {P M : Type 0} (store : P → Store) (number : P → ℕ) (meant : M → Merge) (inside old : MachineValue P M) (e : inside ≡ old) (im : IsMachine (snapshot_of_db store inside.db) inside.flights inside.slots_given) where
-  pub untested_as : (tree : Tree) (call : Call) (r : Error) → MustBeRefused (must_refuse_of (db_state store meant inside.db) (tree ∷ [])) r → MachineStepContract store number meant old (step.Begin tree call) (outcome.Refused r) old
+  pub untested_as : (tree : Tree) (call : Call) (r : Error) → MustBeRefused (must_refuse (db_state store meant inside.db) (ToBegin tree call)) r → MachineStepContract store number meant old (step.Begin tree call) (outcome.Refused r) old
   untested_as tree call r t = subst (λ z. MachineStepContract store number meant z (step.Begin tree call) (outcome.Refused r) z) e (begin_untested store number meant inside im tree call r t)
 
-  pub caused_as : (tree : Tree) (call : Call) (r : Error) → must_refuse_of (db_state store meant inside.db) (tree ∷ []) ≡ None → cause_of (state_of store meant inside.db (slots_of inside.flights) inside.slots_given) (store inside.db.pages) (store inside.db.pages) (ToBegin tree call) r → MachineStepContract store number meant old (step.Begin tree call) (outcome.Refused r) old
+  pub caused_as : (tree : Tree) (call : Call) (r : Error) → must_refuse (db_state store meant inside.db) (ToBegin tree call) ≡ None → cause_of (state_of store meant inside.db (slots_of inside.flights) inside.slots_given) (store inside.db.pages) (store inside.db.pages) (ToBegin tree call) r → MachineStepContract store number meant old (step.Begin tree call) (outcome.Refused r) old
   caused_as tree call r must cause = subst (λ z. MachineStepContract store number meant z (step.Begin tree call) (outcome.Refused r) z) e (begin_caused store number meant inside im tree call must r cause)
 
-  tested_inside : (tree : Tree) → must_refuse_of (db_state store meant old.db) (tree ∷ []) ≡ None → must_refuse_of (db_state store meant inside.db) (tree ∷ []) ≡ None
-  tested_inside tree must = subst (λ (z : MachineValue P M). must_refuse_of (db_state store meant z.db) (tree ∷ []) ≡ None) (sym e) must
+  tested_inside : (tree : Tree) (call : Call) → must_refuse (db_state store meant old.db) (ToBegin tree call) ≡ None → must_refuse (db_state store meant inside.db) (ToBegin tree call) ≡ None
+  tested_inside tree call must = subst (λ (z : MachineValue P M). must_refuse (db_state store meant z.db) (ToBegin tree call) ≡ None) (sym e) must
 
   -- .. where the list has room, and so may be another one
-  pub begun_as : (tree copy : Tree) (call : Call) → copy ≡ tree → must_refuse_of (db_state store meant old.db) (tree ∷ []) ≡ None → (f : InFlight) → f ≡ record { job = record { tree = copy; call = call }; aim = OwnKey; stage = Root; turns = 0 }
+  pub begun_as : (tree copy : Tree) (call : Call) → copy ≡ tree → must_refuse (db_state store meant old.db) (ToBegin tree call) ≡ None → (f : InFlight) → f ≡ record { job = record { tree = copy; call = call }; aim = OwnKey; stage = Root; turns = 0 }
       → (slot : ℕ) → slot ≡ inside.slots_given + 1 → (gs : List (ℕ × InFlight)) → gs ≡ inside.flights ++ (slot, f) ∷ [] → MachineStepContract store number meant old (step.Begin tree call) (outcome.Begun slot) (record inside { flights = gs; slots_given = slot })
   begun_as tree copy call c must f is slot next gs g = subst (λ z. MachineStepContract store number meant z (step.Begin tree call) (outcome.Begun slot) (record inside { flights = gs; slots_given = slot })) e
-      (begun_call store number meant inside im tree call (tested_inside tree must) f (is ∙ ap (λ t. record { job = record { tree = t; call = call }; aim = OwnKey; stage = Root; turns = 0 }) c) slot next gs g)
+      (begun_call store number meant inside im tree call (tested_inside tree call must) f (is ∙ ap (λ t. record { job = record { tree = t; call = call }; aim = OwnKey; stage = Root; turns = 0 }) c) slot next gs g)
 
-  pub begun_machine_as : (tree copy : Tree) (call : Call) → copy ≡ tree → must_refuse_of (db_state store meant old.db) (tree ∷ []) ≡ None → (f : InFlight) → f ≡ record { job = record { tree = copy; call = call }; aim = OwnKey; stage = Root; turns = 0 }
+  pub begun_machine_as : (tree copy : Tree) (call : Call) → copy ≡ tree → must_refuse (db_state store meant old.db) (ToBegin tree call) ≡ None → (f : InFlight) → f ≡ record { job = record { tree = copy; call = call }; aim = OwnKey; stage = Root; turns = 0 }
       → (slot : ℕ) → slot ≡ inside.slots_given + 1 → (gs : List (ℕ × InFlight)) → gs ≡ inside.flights ++ (slot, f) ∷ [] → IsMachine (snapshot_of_db store inside.db) gs slot
-  begun_machine_as tree copy call c must f is slot next gs g = begun_machine store number meant inside im tree call (tested_inside tree must) f (is ∙ ap (λ t. record { job = record { tree = t; call = call }; aim = OwnKey; stage = Root; turns = 0 }) c) slot next gs g
+  begun_machine_as tree copy call c must f is slot next gs g = begun_machine store number meant inside im tree call (tested_inside tree call must) f (is ∙ ap (λ t. record { job = record { tree = t; call = call }; aim = OwnKey; stage = Root; turns = 0 }) c) slot next gs g
 
   pub flushed_as : (db : DbValue P M) (n : ℕ) → FlushesDb store number meant inside.db n db → MachineStepContract store number meant old (step.Whole Flush) (outcome.Decided (Number n)) (record inside { db = db })
   flushed_as db n f = subst (λ z. MachineStepContract store number meant z (step.Whole Flush) (outcome.Decided (Number n)) (record inside { db = db })) e (flushed_all store number meant inside im db n f)
@@ -457,12 +455,12 @@ module _ {P M : Type 0} (store : P → Store) (number : P → ℕ) (meant : M �
   flush_refused_as db r f = subst (λ z. MachineStepContract store number meant z (step.Whole Flush) (outcome.Refused r) (record inside { db = db })) e (flush_refused store number meant inside im db r f)
 
   -- no memory, where the list of calls may have got room
-  pub memory_as : (tree : Tree) (call : Call) (r : Error) → must_refuse_of (db_state store meant inside.db) (tree ∷ []) ≡ None → r ≡ Rattle.sled_pages.specs.declared.error.Error.TheVariants.NoMemory → MachineStepContract store number meant old (step.Begin tree call) (outcome.Refused r) old
+  pub memory_as : (tree : Tree) (call : Call) (r : Error) → must_refuse (db_state store meant inside.db) (ToBegin tree call) ≡ None → r ≡ Rattle.sled_pages.specs.declared.error.Error.TheVariants.NoMemory → MachineStepContract store number meant old (step.Begin tree call) (outcome.Refused r) old
   memory_as tree call r must m = subst (λ x. MachineStepContract store number meant old (step.Begin tree call) (outcome.Refused x) old) (sym m) (caused_as tree call Rattle.sled_pages.specs.declared.error.Error.TheVariants.NoMemory must tt)
 
-  pub room_as : (tree : Tree) (call : Call) (r : Error) → must_refuse_of (db_state store meant old.db) (tree ∷ []) ≡ None → r ≡ Rattle.sled_pages.specs.declared.error.Error.TheVariants.NoMemory → (gs : List (ℕ × InFlight)) → gs ≡ inside.flights
+  pub room_as : (tree : Tree) (call : Call) (r : Error) → must_refuse (db_state store meant old.db) (ToBegin tree call) ≡ None → r ≡ Rattle.sled_pages.specs.declared.error.Error.TheVariants.NoMemory → (gs : List (ℕ × InFlight)) → gs ≡ inside.flights
       → MachineStepContract store number meant old (step.Begin tree call) (outcome.Refused r) (record inside { flights = gs })
-  room_as tree call r must m gs g = subst (λ z. MachineStepContract store number meant old (step.Begin tree call) (outcome.Refused r) z) (sym e ∙ ap (λ z. record inside { flights = z }) (sym g)) (memory_as tree call r (tested_inside tree must) m)
+  room_as tree call r must m gs g = subst (λ z. MachineStepContract store number meant old (step.Begin tree call) (outcome.Refused r) z) (sym e ∙ ap (λ z. record inside { flights = z }) (sym g)) (memory_as tree call r (tested_inside tree call must) m)
 
 -- what holds of any error of a kind
 pub err_weaker : {A E : Type 0} (P Q : E → Type 0) → ((e : E) → P e → Q e) → (r : Result A E) → IfErr r P → IfErr r Q

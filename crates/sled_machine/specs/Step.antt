@@ -1,9 +1,9 @@
 -- One step of the machine.
-use Rattle.std.specs.Prelude.{◌≡◌, ◌≢◌, ℕ, suc, ◌<◌, List, [], ◌∷◌, length, Option, Some, None}
+use Rattle.std.specs.Prelude.{◌≡◌, ◌≢◌, ℕ, suc, ◌<◌, List, [], length, Option, Some, None}
 use Rattle.sled_pages.specs.Store.{Store, now, after_flush}
 use Rattle.sled_model.specs.Maps.{Maps, Merge, IsLeast, IsGreatest}
 use Rattle.sled_model.specs.Answer.{answer_of}
-use Rattle.sled_model.specs.Refusal.{ToCall, must_refuse, must_refuse_of, turns_limit}
+use Rattle.sled_model.specs.Refusal.{ToCall, ToStep, must_refuse, turns_limit}
 use Rattle.sled_model.specs.State.{State, NamedTree, CallInFlight, maps_of}
 use Rattle.sled_model.specs.Transition.{Transition, Kind, Flushing, kind_of}
 use Rattle.sled_pages.specs.declared.error.Error.{Error}
@@ -28,7 +28,7 @@ use Rattle.sled_tree.specs.declared.flight.Went.{Went}
 use Rattle.tree_reads.specs.Walk.{once, for_each}
 use Rattle.sled.specs.Sound.{IsDb}
 use Rattle.sled.specs.Values.{DbValue, db_state, snapshot_of_db}
-use Rattle.sled.specs.Flights.{IsStepRefused, KeepsTreePages, outcome_of}
+use Rattle.sled.specs.Flights.{IsStepRefused, KeepsTreePages, call_in_flight_of, outcome_of}
 use Rattle.sled.specs.Flush.{only_faults}
 use Rattle.sled.specs.Direct.{effects_until, KeepsOrFreesTreePages}
 use Rattle.sled.specs.Pops.{GivesUpPop}
@@ -54,7 +54,7 @@ pub record BringsAt (s : State) (slot : ℕ) (event : Option Event) : Type 0 whe
   pub here : s.slots slot ≡ Some flying
   pub tree : NamedTree
   pub there : s.trees flying.tree.name ≡ Some tree
-  pub is : (answer_of flying.call tree.map).event ≡ event
+  pub is : (answer_of tree.merge flying.call tree.map).event ≡ event
 
 -- what a decided call does: no action where it brings no event, and one changing action where it brings one
 pub record DecidesBy (s : State) (slot : ℕ) (old new : Store) : Type 0 where
@@ -96,7 +96,7 @@ pub record FollowsAt {P M : Type 0} (store : P → Store) (old : MachineValue P 
 
 -- a step of a slot follows from the stage of its call, where the tests pass and a turn is left
 abbrev pub follows_stage_as : {P M : Type 0} → (P → Store) → (M → Merge) → MachineValue P M → Step → Outcome → MachineValue P M → Type 0
-follows_stage_as store meant old (step.Step slot) o new = (f : InFlight) → kept_at old.flights slot ≡ Some f → must_refuse_of (db_state store meant old.db) (f.job.tree ∷ []) ≡ None → f.turns < turns_limit → FollowsAt store old f slot o new
+follows_stage_as store meant old (step.Step slot) o new = (f : InFlight) → kept_at old.flights slot ≡ Some f → must_refuse (db_state store meant old.db) (ToStep (call_in_flight_of f)) ≡ None → f.turns < turns_limit → FollowsAt store old f slot o new
 follows_stage_as store meant old s o new = Unit {0}
 
 pub record MachineFollows {P M : Type 0} (store : P → Store) (meant : M → Merge) (old : MachineValue P M) (s : Step) (o : Outcome) (new : MachineValue P M) : Type 0 where

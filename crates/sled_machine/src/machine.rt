@@ -2,8 +2,7 @@
 ghost use Rattle.std.specs.Prelude.{◌≡◌, ◌<◌, ◌∷◌, IfOk, IfErr, OnOk, OnErr, None, []};
 ghost use Rattle.std.specs.Option.{option_map};
 ghost use Rattle.sled_pages.specs.declared.error.Error.TheVariants.{NoMemory};
-ghost use Rattle.sled_model.specs.Refusal.{must_refuse_of};
-ghost use Rattle.sled_model.specs.declared.call.Call.{Call};
+ghost use Rattle.sled_model.specs.Refusal.{must_refuse, ToBegin};
 ghost use Rattle.sled_model.specs.declared.call.Whole.TheVariants.{Flush, PopMin, PopMax, Clear};
 ghost use Rattle.sled_model.specs.declared.outcome.Outcome.TheVariants as outcome;
 ghost use Rattle.sled_model.specs.declared.outcome.Step.TheVariants as step;
@@ -44,6 +43,7 @@ impl<P: Pages, M: MergeOperator> Machine<P, M> {
     ghost use Rattle.sled.specs.Sound.{IsDb};
     ghost use Rattle.sled_machine.specs.Values.{slots_of};
     ghost use Rattle.sled.specs.Values.{db_state};
+    ghost use Rattle.sled.specs.Operators.{OperatorSet, OperatorNotSet};
     ghost use Rattle.sled_machine.specs.Step.{MachineStep, MachineSound, MachineActs, MachineFollows, MachinePasses, MachineSlots, MachineKeepsTreePages, MachineLeaksNoPage, MachineStepContract};
     ghost use Rattle.sled_machine.specs.Run.{MachineRun, MachineSteps};
     ghost use Rattle.sled_machine.specs.Finish.{RunsToEnd, Completes};
@@ -84,14 +84,24 @@ impl<P: Pages, M: MergeOperator> Machine<P, M> {
         self.db.audit();
     }
 
-    // The tests that come before a call on a tree begins, and a copy of the tree.
-    fn admit(&self, tree: &Tree) -> Result<Tree>
-        ensures ok { IfOk result (λ copy. copy ≡ tree.now) }
-        ensures tested { OnOk result (must_refuse_of (db_state P.store M.meant self.now.db) (tree.now ∷ []) ≡ None) }
-        ensures room { OnOk result (self.now.slots_given < u64.MAX) }
-        ensures err { IfErr result (λ e. (call : Call) → MachineStepContract P.store P.flush_number M.meant self.now (step.Begin tree.now call) (outcome.Refused e) self.now) }
+    /// Gives a tree a merge operator, in place of the one that it has. A merge is decided by the operator that its tree has at the
+    /// step that decides it. The calls in flight stay as they are, and a call that is refused lets the operator go.
+    pub fn set_merge_operator(&mut self, tree: &Tree, operator: M) -> Result<()>
+        ensures ok { OnOk result (OperatorSet P.store M.meant self.old.db tree.now (M.meant operator) self.new.db) }
+        ensures err { IfErr result (λ e. OperatorNotSet P.store M.meant self.old.db tree.now e self.new.db) }
+        ensures same { self.new ≡ record (self.old) { db = self.new.db } }
     {
-        if let Err(e) = self.db.check(tree) {
+        self.db.set_merge_operator(tree, operator)
+    }
+
+    // The tests that come before a call on a tree begins, and a copy of the tree.
+    fn admit(&self, tree: &Tree, call: &Call) -> Result<Tree>
+        ensures ok { IfOk result (λ copy. copy ≡ tree.now) }
+        ensures tested { OnOk result (must_refuse (db_state P.store M.meant self.now.db) (ToBegin tree.now call.now) ≡ None) }
+        ensures room { OnOk result (self.now.slots_given < u64.MAX) }
+        ensures err { IfErr result (λ e. MachineStepContract P.store P.flush_number M.meant self.now (step.Begin tree.now call.now) (outcome.Refused e) self.now) }
+    {
+        if let Err(e) = self.db.check_call(tree, call) {
             return Err(e);
         }
         if self.slots_given == u64::MAX {
@@ -105,7 +115,7 @@ impl<P: Pages, M: MergeOperator> Machine<P, M> {
         ensures ok { IfOk result (λ slot. MachineStepContract P.store P.flush_number M.meant self.old (step.Begin tree.now call) (outcome.Begun slot) self.new) }
         ensures err { IfErr result (λ e. MachineStepContract P.store P.flush_number M.meant self.old (step.Begin tree.now call) (outcome.Refused e) self.new) }
     {
-        let tree = match self.admit(tree) {
+        let tree = match self.admit(tree, &call) {
             Ok(tree) => tree,
             Err(e) => {
                 drop(call);
@@ -233,7 +243,7 @@ impl<P: Pages, M: MergeOperator> Machine<P, M> {
     pub fn complete(&mut self, tree: &Tree, call: Call) -> Outcome
         ensures { Completes P.store P.flush_number M.meant self.old tree.now call result self.new }
     {
-        let tree = match self.admit(tree) {
+        let tree = match self.admit(tree, &call) {
             Ok(tree) => tree,
             Err(e) => {
                 drop(call);
@@ -251,7 +261,7 @@ impl<P: Pages, M: MergeOperator> Machine<P, M> {
     fn begin_copy(&mut self, tree: &Tree, call: &Call) -> Outcome
         ensures { MachineStepContract P.store P.flush_number M.meant self.old (step.Begin tree.now call.now) result self.new }
     {
-        if let Err(e) = self.db.check(tree) {
+        if let Err(e) = self.db.check_call(tree, call) {
             return Outcome::Refused(e);
         }
         let call = match call.clone() {

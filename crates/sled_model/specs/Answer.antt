@@ -1,13 +1,14 @@
 -- What a point call makes of its tree's map, what it replies, and what subscribers learn.
-use Rattle.std.specs.Prelude.{Bool, Option, Some, None, is_some, Ok, Err, if◌then◌else◌}
+use Rattle.std.specs.Prelude.{◌≡◌, ◌≢◌, Bool, Option, Some, None, is_some, Ok, Err, if◌then◌else◌}
 use Rattle.std.specs.FinMap.Entries.{put, find}
 use Rattle.std.specs.Option.{option_eq}
 use Rattle.std.specs.Str.{bytes_eq}
 use Rattle.sled_pages.specs.Order.{Key, key_cmp}
 use Rattle.sled_pages.specs.Node.{without}
-use Rattle.sled_model.specs.Maps.{Map}
+use Rattle.sled_model.specs.Maps.{Map, Merge}
 use Rattle.sled_model.specs.declared.call.Call.{Call}
 use Rattle.sled_model.specs.declared.call.Call.TheVariants.{Get, Insert, Remove, CompareAndSwap}
+use Rattle.sled_model.specs.declared.call.Call.TheVariants as call
 use Rattle.sled_model.specs.declared.decision.Decision.{Decision}
 use Rattle.sled_model.specs.declared.decision.Effect.{Effect}
 use Rattle.sled_model.specs.declared.decision.Effect.TheVariants as effect
@@ -22,6 +23,7 @@ key_of (Get k) = k
 key_of (Insert k v) = k
 key_of (Remove k) = k
 key_of (CompareAndSwap k old new) = k
+key_of (call.Merge k bytes) = k
 
 -- the two are the same value, or both are none
 abbrev pub same_value : Option Key → Option Key → Bool
@@ -39,12 +41,46 @@ decision_of_swap value old new =
     then (record { effect = effect_of_write new; reply = Swapped (Ok tt) })
     else (record { effect = effect.Nothing; reply = Swapped (Err (record { current = value; proposed = new })) })
 
--- What becomes of the value that stands at the call's key, if one does, and the reply
-abbrev pub decision_of : Call → Option Key → Decision
-decision_of (Get k) value = record { effect = effect.Nothing; reply = Value value }
-decision_of (Insert k v) value = record { effect = if same_value value (Some v) then effect.Nothing else (effect.Set v); reply = Value value }
-decision_of (Remove k) value = record { effect = if is_some value then effect.Remove else effect.Nothing; reply = Value value }
-decision_of (CompareAndSwap k old new) value = decision_of_swap value old new
+-- this value is written, or none is left, and the reply tells it
+abbrev pub decision_of_write : Option Key → Decision
+decision_of_write new = record { effect = effect_of_write new; reply = Value new }
+
+-- a merge writes what the operator makes of the value that stands and the bytes. Without an operator, where it must be refused
+-- before, it would leave no value
+abbrev pub decision_of_merge : Option Merge → Key → Key → Option Key → Decision
+decision_of_merge None k bytes value = decision_of_write None
+decision_of_merge (Some merge) k bytes value = decision_of_write (merge k value bytes)
+
+-- What becomes of the value that stands at the call's key, if one does, and the reply, by the merge operator of the tree
+abbrev pub decision_of : Option Merge → Call → Option Key → Decision
+decision_of merge (Get k) value = record { effect = effect.Nothing; reply = Value value }
+decision_of merge (Insert k v) value = record { effect = if same_value value (Some v) then effect.Nothing else (effect.Set v); reply = Value value }
+decision_of merge (Remove k) value = record { effect = if is_some value then effect.Remove else effect.Nothing; reply = Value value }
+decision_of merge (CompareAndSwap k old new) value = decision_of_swap value old new
+decision_of merge (call.Merge k bytes) value = decision_of_merge merge k bytes value
+
+-- the reply of a swap that finds another value than it expects
+abbrev pub reply_of_swap : Option Key → Option Key → Option Key → Option Reply
+reply_of_swap value old new = if same_value value old then None else (Some (Swapped (Err (record { current = value; proposed = new }))))
+
+-- The reply of a call as the read of its value tells it, where it changes nothing. A call that has none is to link its change:
+-- a merge always is, and a swap that finds what it expects
+abbrev pub reply_of_read : Call → Option Key → Option Reply
+reply_of_read (Get k) value = Some (Value value)
+reply_of_read (Insert k v) value = if same_value value (Some v) then (Some (Value value)) else None
+reply_of_read (Remove k) value = if is_some value then None else (Some (Value value))
+reply_of_read (CompareAndSwap k old new) value = reply_of_swap value old new
+reply_of_read (call.Merge k bytes) value = None
+
+-- with a reply there is no effect, and without one there is an effect
+abbrev pub read_decides_as : Decision → Option Reply → Type 0
+read_decides_as decision (Some reply) = decision ≡ record { effect = effect.Nothing; reply = reply }
+read_decides_as decision None = decision.effect ≢ effect.Nothing
+
+-- the reply is as the read tells it, and the call comes to it by whatever operator
+pub record ReadDecides (c : Call) (value : Option Key) (reply : Option Reply) : Type 0 where
+  pub is : reply ≡ reply_of_read c value
+  pub decides : (merge : Option Merge) → read_decides_as (decision_of merge c value) reply
 
 -- the map after the effect at the key
 abbrev pub map_after : Effect → Key → Map → Map
@@ -66,6 +102,6 @@ pub record Answer : Type 0 where
 abbrev pub answer_with : Key → Map → Decision → Answer
 answer_with k m d = record { map = map_after d.effect k m; reply = d.reply; event = event_of d.effect k }
 
--- the answer of a call on this map
-abbrev pub answer_of : Call → Map → Answer
-answer_of call m = answer_with (key_of call) m (decision_of call (find key_cmp (key_of call) m))
+-- the answer of a call on this map, by the merge operator of its tree
+abbrev pub answer_of : Option Merge → Call → Map → Answer
+answer_of merge c m = answer_with (key_of c) m (decision_of merge c (find key_cmp (key_of c) m))

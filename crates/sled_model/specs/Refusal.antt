@@ -11,23 +11,27 @@ use Rattle.sled_model.specs.Answer.{answer_of}
 use Rattle.sled_model.specs.State.{State, NamedTree, CallInFlight, Queue, matches}
 use Rattle.sled_model.specs.declared.call.Call.{Call}
 use Rattle.sled_model.specs.declared.call.Call.TheVariants.{Get, Insert, Remove, CompareAndSwap}
+use Rattle.sled_model.specs.declared.call.Call.TheVariants as call
 use Rattle.sled_model.specs.declared.call.Whole.{Whole}
 use Rattle.sled_model.specs.declared.call.Whole.TheVariants.{Flush, PopMin, PopMax, Clear}
 use Rattle.sled_model.specs.declared.event.Event.{Event}
 use Rattle.sled_model.specs.declared.tree.Tree.{Tree}
 
--- what was asked of the database: to begin a call, to go on with the call in a slot, to make a call at once, or a whole call
+-- what was asked of the database: to begin a call, to go on with the call in a slot, to make a call at once, a whole call, or to set
+-- the merge operator of a tree
 pub data Asked : Type 0 where
   ToBegin : (tree : Tree) (call : Call) → Asked
   ToStep : (flying : CallInFlight) → Asked
   ToPoint : (tree : Tree) (call : Call) → Asked
   ToCall : (whole : Whole) → Asked
+  ToSetOperator : (tree : Tree) → Asked
 
 -- the trees that it is asked of
 abbrev pub trees_asked : Asked → List Tree
 trees_asked (ToBegin tree call) = tree ∷ []
 trees_asked (ToStep flying) = flying.tree ∷ []
 trees_asked (ToPoint tree call) = tree ∷ []
+trees_asked (ToSetOperator tree) = tree ∷ []
 trees_asked (ToCall Flush) = []
 trees_asked (ToCall (PopMin tree)) = tree ∷ []
 trees_asked (ToCall (PopMax tree)) = tree ∷ []
@@ -63,12 +67,13 @@ dropped_test s (t ∷ ts) = if is_number t.number (s.trees t.name) then dropped_
 abbrev pub must_refuse_of : State → List Tree → Option MustRefuse
 must_refuse_of s trees = first_of (if s.is_open then None else Some IsClosed) (first_of (foreign_test s.name trees) (dropped_test s trees))
 
--- which calls need the merge operator of their tree: none of those that there are yet
+-- which calls need the merge operator of their tree
 abbrev pub needs_operator : Call → Bool
 needs_operator (Get k) = false
 needs_operator (Insert k v) = false
 needs_operator (Remove k) = false
 needs_operator (CompareAndSwap k old new) = false
+needs_operator (call.Merge k bytes) = true
 
 abbrev pub has_operator : Option NamedTree → Bool
 has_operator None = false
@@ -80,6 +85,7 @@ operator_test s (ToBegin tree call) = if needs_operator call && not (has_operato
 operator_test s (ToStep f) = if needs_operator f.call && not (has_operator (s.trees f.tree.name)) then (Some HasNoOperator) else None
 operator_test s (ToPoint tree call) = if needs_operator call && not (has_operator (s.trees tree.name)) then (Some HasNoOperator) else None
 operator_test s (ToCall whole) = None
+operator_test s (ToSetOperator tree) = None
 
 abbrev pub must_refuse : State → Asked → Option MustRefuse
 must_refuse s asked = first_of (must_refuse_of s (trees_asked asked)) (operator_test s asked)
@@ -106,7 +112,7 @@ pub record MeetsFullQueue (s : State) (t : Tree) (call : Call) : Type 0 where
   pub tree : NamedTree
   pub there : s.trees t.name ≡ Some tree
   pub event : Event
-  pub brings : (answer_of call tree.map).event ≡ Some event
+  pub brings : (answer_of tree.merge call tree.map).event ≡ Some event
   pub subscriber : ℕ
   pub queue : Queue
   pub waits : s.queues subscriber ≡ Some queue

@@ -47,8 +47,8 @@ pub record Decide (old : State) (slot : ℕ) (reply : Reply) (new : State) : Typ
   pub fits : flying.turns < turns_limit
   pub tree : NamedTree
   pub there : old.trees flying.tree.name ≡ Some tree
-  pub replies : reply ≡ (answer_of flying.call tree.map).reply
-  pub is : new ≡ after_decision old slot flying.tree.name tree (answer_of flying.call tree.map)
+  pub replies : reply ≡ (answer_of tree.merge flying.call tree.map).reply
+  pub is : new ≡ after_decision old slot flying.tree.name tree (answer_of tree.merge flying.call tree.map)
 
 -- the call in the slot is refused, with its cause, and ends
 pub record RefuseStep (old : State) (a b : Store) (slot : ℕ) (e : Error) (new : State) : Type 0 where

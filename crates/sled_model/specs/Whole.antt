@@ -2,11 +2,12 @@
 use Rattle.std.specs.Prelude.{◌≡◌, ℕ, zero, suc, ◌⊎◌, List, [], ◌∷◌, Option, Some, None}
 use Rattle.sled_pages.specs.Order.{Key}
 use Rattle.sled_pages.specs.Store.{Store}
+use Rattle.sled_pages.specs.Update.{put_name}
 use Rattle.sled_pages.specs.declared.error.Error.{Error}
-use Rattle.sled_model.specs.Maps.{Map, Maps}
+use Rattle.sled_model.specs.Maps.{Map, Maps, Merge}
 use Rattle.sled_model.specs.Answer.{answer_of}
 use Rattle.sled_model.specs.State.{State, NamedTree, maps_of, after_decision_on}
-use Rattle.sled_model.specs.Refusal.{ToPoint, ToCall, must_refuse, MayRefuse}
+use Rattle.sled_model.specs.Refusal.{ToPoint, ToCall, ToSetOperator, must_refuse, MayRefuse}
 use Rattle.sled_model.specs.declared.call.Call.{Call}
 use Rattle.sled_model.specs.declared.call.Call.TheVariants.{Remove}
 use Rattle.sled_model.specs.declared.call.Whole.{Whole}
@@ -20,18 +21,25 @@ pub record DecidesPoint (old : State) (tree : Tree) (call : Call) (reply : Reply
   pub free : must_refuse old (ToPoint tree call) ≡ None
   pub named : NamedTree
   pub there : old.trees tree.name ≡ Some named
-  pub replies : reply ≡ (answer_of call named.map).reply
-  pub is : new ≡ after_decision_on old tree.name named (answer_of call named.map)
+  pub replies : reply ≡ (answer_of named.merge call named.map).reply
+  pub is : new ≡ after_decision_on old tree.name named (answer_of named.merge call named.map)
 
 -- it is refused, with its cause, and nothing changes
 pub record RefusesPoint (old : State) (a b : Store) (tree : Tree) (call : Call) (e : Error) (new : State) : Type 0 where
   pub may : MayRefuse old a b (ToPoint tree call) e
   pub is : new ≡ old
 
+-- A tree has this operator from now on, and all else is as it was
+pub record SetsOperator (old : State) (tree : Tree) (merge : Merge) (new : State) : Type 0 where
+  pub free : must_refuse old (ToSetOperator tree) ≡ None
+  pub named : NamedTree
+  pub there : old.trees tree.name ≡ Some named
+  pub is : new ≡ record old { trees = put_name old.trees tree.name (Some (record named { merge = Some merge })) }
+
 -- the state after this pair of the tree was taken out, if there is one
 abbrev pub after_pop : State → Key → NamedTree → Option (Key × Key) → State
 after_pop s name t None = s
-after_pop s name t (Some pair) = after_decision_on s name t (answer_of (Remove pair.0) t.map)
+after_pop s name t (Some pair) = after_decision_on s name t (answer_of t.merge (Remove pair.0) t.map)
 
 -- a pop takes out the pair at one end, with its event, and replies with it
 pub record Pops (is_end : Map → Option (Key × Key) → Type 0) (old : State) (whole : Whole) (tree : Tree) (reply : Reply) (new : State) (maps : List Maps) : Type 0 where
@@ -48,8 +56,8 @@ pub record Pops (is_end : Map → Option (Key × Key) → Type 0) (old : State) 
 pub data RemovesLeast (tree : Tree) : State → ℕ → State → List Maps → Type 0 where
   RemovesNone : {s : State} → RemovesLeast tree s zero s []
   RemovesOne : {a b : State} {n : ℕ} {maps : List Maps} (named : NamedTree) (pair : Key × Key) (rest : Map) → a.trees tree.name ≡ Some named → named.map ≡ pair ∷ rest
-      → RemovesLeast tree (after_decision_on a tree.name named (answer_of (Remove pair.0) named.map)) n b maps
-      → RemovesLeast tree a (suc n) b (maps_of (after_decision_on a tree.name named (answer_of (Remove pair.0) named.map)) ∷ maps)
+      → RemovesLeast tree (after_decision_on a tree.name named (answer_of named.merge (Remove pair.0) named.map)) n b maps
+      → RemovesLeast tree a (suc n) b (maps_of (after_decision_on a tree.name named (answer_of named.merge (Remove pair.0) named.map)) ∷ maps)
 
 -- a clear removes all keys of a tree, from the least up
 pub record Clears (old : State) (tree : Tree) (new : State) (maps : List Maps) : Type 0 where

@@ -2,7 +2,8 @@
 ghost use Rattle.std.specs.Prelude.{◌≡◌, IfOk, IfErr};
 ghost use Rattle.sled_pages.specs.declared.error.Error.TheVariants.{NoMemory};
 ghost use Rattle.sled_model.specs.Answer.{key_of};
-ghost use Rattle.sled_model.specs.declared.call.Call.TheVariants.{Insert, CompareAndSwap};
+ghost use Rattle.sled_model.specs.Refusal.{needs_operator};
+ghost use Rattle.sled_model.specs.declared.call.Call.TheVariants.{Insert, CompareAndSwap, Merge};
 
 use crate::reply::clone_value;
 use crate::tree::Tree;
@@ -19,6 +20,8 @@ pub enum Call {
     Remove(IVec),
     /// Where the first value stands at a key it becomes the second one; `None` is no value.
     CompareAndSwap(IVec, Option<IVec>, Option<IVec>),
+    /// The value at a key becomes what the merge operator of the tree makes of it and these bytes. Replies with the new value.
+    Merge(IVec, IVec),
 }
 
 /// A call that is one step of the machine as a whole.
@@ -44,7 +47,15 @@ impl Call {
             Call::Insert(key, _) => key,
             Call::Remove(key) => key,
             Call::CompareAndSwap(key, _, _) => key,
+            Call::Merge(key, _) => key,
         }
+    }
+
+    /// Whether the call needs the merge operator of its tree.
+    pub fn needs_operator(&self) -> bool
+        ensures { result ≡ needs_operator self.now }
+    {
+        matches!(self, Call::Merge(_, _))
     }
 
     /// The same call. Refused with `NoMemory` alone.
@@ -57,6 +68,7 @@ impl Call {
             Call::Insert(key, value) => copied_insert(key, value),
             Call::Remove(key) => Ok(Call::Remove(key.clone()?)),
             Call::CompareAndSwap(key, old, new) => copied_swap(key, old, new),
+            Call::Merge(key, bytes) => copied_merge(key, bytes),
         }
     }
 }
@@ -69,6 +81,21 @@ fn copied_insert(key: &IVec, value: &IVec) -> Result<Call>
     let key = key.clone()?;
     match value.clone() {
         Ok(value) => Ok(Call::Insert(key, value)),
+        Err(e) => {
+            drop(key);
+            Err(e)
+        }
+    }
+}
+
+// The call that merges a copy of bytes at a copy of a key.
+fn copied_merge(key: &IVec, bytes: &IVec) -> Result<Call>
+    ensures ok { IfOk result (λ call. call ≡ Merge key.now bytes.now) }
+    ensures err { IfErr result (λ e. e ≡ NoMemory) }
+{
+    let key = key.clone()?;
+    match bytes.clone() {
+        Ok(bytes) => Ok(Call::Merge(key, bytes)),
         Err(e) => {
             drop(key);
             Err(e)

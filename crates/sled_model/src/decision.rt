@@ -1,11 +1,13 @@
 //! What a call on one key comes to, by the value that stands there.
-ghost use Rattle.std.specs.Prelude.{◌≡◌, IfOk, IfErr};
+ghost use Rattle.std.specs.Prelude.{◌≡◌, IfOk, IfErr, Some};
+ghost use Rattle.std.specs.Option.{option_map, option_copied};
 ghost use Rattle.sled_pages.specs.declared.error.Error.TheVariants.{NoMemory};
-ghost use Rattle.sled_model.specs.Answer.{decision_of, decision_of_swap};
+ghost use Rattle.sled_model.specs.Answer.{ReadDecides, decision_of, decision_of_swap, decision_of_merge, decision_of_write, reply_of_swap};
 
 use crate::reply::clone_value;
-use crate::{Call, CompareAndSwapError, Reply};
-use sled_pages::{IVec, Result};
+use crate::{Call, CompareAndSwapError, MergeOperator, Reply};
+use sled_pages::{Error, IVec, Result};
+use std::alloc::Global;
 
 /// What becomes of the value at a key.
 #[derive(Drop, PartialEq, Eq)]
@@ -26,9 +28,38 @@ pub struct Decision {
 }
 
 impl Call {
-    /// What the call comes to where this value stands at its key. Refused with `NoMemory` alone.
-    pub fn decide(&self, value: Option<IVec>) -> Result<Decision>
-        ensures ok { IfOk result (λ decision. decision ≡ decision_of self.now value) }
+    /// The reply of the call where this value stands at its key and it changes nothing; without one it is to link its change.
+    /// Refused with `NoMemory` alone.
+    pub fn at_read(&self, value: Option<IVec>) -> Result<Option<Reply>>
+        ensures ok { IfOk result (ReadDecides self.now value) }
+        ensures err { IfErr result (λ e. e ≡ NoMemory) }
+    {
+        let links = match self {
+            Call::Get(_) => false,
+            Call::Insert(_, new) => match &value {
+                Some(old) => old != new,
+                None => true,
+            },
+            Call::Remove(_) => value.is_some(),
+            Call::CompareAndSwap(_, old, new) => return conflict(value, old, new),
+            Call::Merge(_, _) => true,
+        };
+        if links {
+            drop(value);
+            return Ok(None);
+        }
+        Ok(Some(Reply::Value(value)))
+    }
+
+    /// What the call comes to where this value stands at its key, by the merge operator of its tree, which is called once, and by
+    /// a merge alone. Refused with `NoMemory` alone.
+    pub fn at_link<M: MergeOperator>(
+        &self,
+        alloc: Global,
+        value: Option<IVec>,
+        operator: Option<&M>,
+    ) -> Result<Decision>
+        ensures ok { IfOk result (λ decision. decision ≡ decision_of (option_map (λ o. M.meant o.now) operator.entry) self.now value) }
         ensures err { IfErr result (λ e. e ≡ NoMemory) }
     {
         let effect = match self {
@@ -41,14 +72,34 @@ impl Call {
                 Some(_) => Effect::Remove,
                 None => Effect::Nothing,
             },
-            Call::CompareAndSwap(_, old, new) => {
-                return swap(value, old, new);
-            }
+            Call::CompareAndSwap(_, old, new) => return swap(value, old, new),
+            Call::Merge(key, bytes) => return merge(alloc, key, value, bytes, operator),
         };
         Ok(Decision {
             effect,
             reply: Reply::Value(value),
         })
+    }
+}
+
+// The reply of a swap where another value stands than the one that was expected.
+fn conflict(value: Option<IVec>, old: &Option<IVec>, new: &Option<IVec>) -> Result<Option<Reply>>
+    ensures ok { IfOk result (λ reply. reply ≡ reply_of_swap value old.now new.now) }
+    ensures err { IfErr result (λ e. e ≡ NoMemory) }
+{
+    if value == *old {
+        drop(value);
+        return Ok(None);
+    }
+    match clone_value(new) {
+        Ok(proposed) => Ok(Some(Reply::Swapped(Err(CompareAndSwapError {
+            current: value,
+            proposed,
+        })))),
+        Err(e) => {
+            drop(value);
+            Err(e)
+        }
     }
 }
 
@@ -74,4 +125,62 @@ fn swap(value: Option<IVec>, old: &Option<IVec>, new: &Option<IVec>) -> Result<D
         effect,
         reply: Reply::Swapped(Ok(())),
     })
+}
+
+// The bytes are joined to the value that stands, by the operator.
+fn merge<M: MergeOperator>(
+    alloc: Global,
+    key: &IVec,
+    value: Option<IVec>,
+    bytes: &IVec,
+    operator: Option<&M>,
+) -> Result<Decision>
+    ensures ok { IfOk result (λ decision. decision ≡ decision_of_merge (option_map (λ o. M.meant o.now) operator.entry) key.now bytes.now value) }
+    ensures err { IfErr result (λ e. e ≡ NoMemory) }
+{
+    let Some(operator) = operator else {
+        drop(value);
+        return Ok(Decision {
+            effect: Effect::Remove,
+            reply: Reply::Value(None),
+        });
+    };
+    let merged = operator.merge(alloc, key.as_ref(), bytes_of(&value), bytes.as_ref());
+    drop(value);
+    match merged {
+        Ok(Some(new)) => write(alloc, new.as_slice()),
+        Ok(None) => Ok(Decision {
+            effect: Effect::Remove,
+            reply: Reply::Value(None),
+        }),
+        Err(_) => Err(Error::NoMemory),
+    }
+}
+
+// The bytes of a value, if there is one.
+fn bytes_of(value: &Option<IVec>) -> Option<&[u8]>
+    ensures { option_copied result ≡ value.now }
+{
+    match value {
+        Some(value) => Some(value.as_ref()),
+        None => None,
+    }
+}
+
+// A value is written, and the reply tells it.
+fn write(alloc: Global, value: &[u8]) -> Result<Decision>
+    ensures ok { IfOk result (λ decision. decision ≡ decision_of_write (Some value.now)) }
+    ensures err { IfErr result (λ e. e ≡ NoMemory) }
+{
+    let value = IVec::from_slice(alloc, value)?;
+    match value.clone() {
+        Ok(copy) => Ok(Decision {
+            effect: Effect::Set(value),
+            reply: Reply::Value(Some(copy)),
+        }),
+        Err(e) => {
+            drop(value);
+            Err(e)
+        }
+    }
 }

@@ -1,5 +1,5 @@
 -- The change of a leaf.
-use Rattle.std.proofs.Common.{◌≡◌, ◌≢◌, ℕ, false, List, [], Some, None, Ok, sym, refl, ap, ◌∙◌, subst, inr}
+use Rattle.std.proofs.Common.{◌≡◌, ◌≢◌, ℕ, false, List, [], Option, Some, None, MatchOption, Ok, Err, sym, refl, ap, ◌∙◌, subst, inl, inr}
 use Rattle.std.specs.FinMap.Entries.{find}
 use Rattle.std.specs.declared.ops.Bound.TheVariants.{Included}
 use Rattle.sled_pages.specs.Order.{Key, key_cmp}
@@ -8,6 +8,7 @@ use Rattle.sled_pages.specs.Store.{Store, Changes}
 use Rattle.sled_pages.specs.declared.node.Node.{Node}
 use Rattle.sled_pages.specs.declared.link.Link.{Link}
 use Rattle.sled_pages.specs.declared.page.View.{View}
+use Rattle.sled_model.specs.Maps.{Merge as Operator}
 use Rattle.sled_model.specs.Answer.{decision_of, map_after, event_of, key_of}
 use Rattle.sled_model.specs.declared.decision.Decision.{Decision}
 use Rattle.sled_model.specs.declared.decision.Effect.{Effect}
@@ -19,12 +20,13 @@ use Rattle.tree_laws.specs.theory.Laws.{IsNodeNow, Written, after_replacement}
 use Rattle.tree_laws.proofs.Known.{answers, set_written, del_written, set_few, store_replaced}
 use Rattle.sled_tree.specs.declared.act.Change.{Change}
 use Rattle.sled_tree.specs.Course.{Course}
-use Rattle.tree_laws.specs.declared.flight.Stage.TheVariants.{Act}
+use Rattle.tree_laws.specs.declared.flight.Stage.TheVariants.{Act, Root}
 use Rattle.sled_tree.specs.declared.flight.Next.TheVariants as next
 use Rattle.sled_tree.specs.Change.{link_of, decision_at}
+use Rattle.sled_tree.specs.Follows.{TakesWay, LinksChange}
 use Rattle.sled_tree.specs.theory.Change.{IsChangeOf}
 use Rattle.sled_tree.specs.StageAction.{LeaksNoPage}
-use Rattle.sled_tree.specs.theory.StageAction.{StageAction, DecidesAs}
+use Rattle.sled_tree.specs.theory.StageAction.{StageActionBy, DecidesAs, Only}
 use Rattle.sled_tree.proofs.Basics.{none_some, some_is}
 use Rattle.sled_tree.proofs.Facts.{once_acts, leaves_replaced, rid_of_none}
 
@@ -44,8 +46,8 @@ module _ {m : Snapshot} {w : Forest} (is : HasForest m w) (t : Tree) (number : �
       (let d = del_written is t number key look node k c version unused in (written d tt, d.here, d.others))
 
 -- the call's change is linked
-pub act_moves : (j : Course) (old new : Store) (view : View) (change : Change) (given : ℕ) → IsChangeOf j.call view.node.content (Some change) → Changes (after_link change.link) view.pid view.version old new (Ok given) → StageAction j old (Act view) (next.Decided change.reply) new
-act_moves j old new view change given is c = record {
+pub act_moves : (operator : Option Operator) (j : Course) (old new : Store) (view : View) (change : Change) (given : ℕ) → IsChangeOf operator j.call view.node.content (Some change) → Changes (after_link change.link) view.pid view.version old new (Ok given) → StageActionBy (Only operator) j old (Act view) (next.Decided change.reply) new
+act_moves operator j old new view change given is c = record {
   touches = inr (once_acts c.is.2);
   is = λ numbers gave w at named a.
       let m : Snapshot = snapshot_of old numbers gave in
@@ -53,26 +55,38 @@ act_moves j old new view change given is c = record {
       let key : Key = key_of j.call in
       let all : List (Key × Key) = contents (nodes_at m) w t in
       let current : IsNodeNow m t j.tree.number view c.is.0 = record { named = named; page = c.is.1 } in
-      let e : Effect = (decision_at j.call view.node.content).effect in
+      let e : Effect = (decision_at operator j.call view.node.content).effect in
       let acts : IsActing m w t j.tree.number (Included key) view = subst (λ aim. IsActing m w t j.tree.number aim view) a.2 a.0.0 in
       let did = wrote at t j.tree.number key view c.is.0 acts a.0.1 current given c.is.2.fresh e change.link is.0 in
       let after : snapshot_of new numbers gave ≡ after_replacement m view.pid (record { version = given; node = after_link change.link c.is.0 }) = store_replaced numbers gave c.is.2 in
-      let same : decision_of j.call (find key_cmp key all) ≡ decision_at j.call view.node.content = ap (decision_of j.call) (answers at t j.tree.number key view c.is.0 acts current) in (
+      let same : decision_of operator j.call (find key_cmp key all) ≡ decision_at operator j.call view.node.content = ap (decision_of operator j.call) (answers at t j.tree.number key view c.is.0 acts current) in (
         w,
         subst (λ (z : Snapshot). KeepsForest [] [] m w z w) (sym after) (did.0),
-        subst (λ (z : Snapshot). DecidesAs j change.reply old new m w z w) (sym after) (record {
+        λ which same_one. subst (λ (o : Option Operator). DecidesAs o j change.reply old new m w (snapshot_of new numbers gave) w) (sym same_one) (subst (λ (z : Snapshot). DecidesAs operator j change.reply old new m w z w) (sym after) (record {
           replies = is.1 ∙ ap (λ (d : Decision). d.reply) (sym same);
           here = did.1 ∙ ap (λ (d : Decision). map_after d.effect key all) (sym same);
           others = did.2;
-          quiet = λ none. absurd (a.1 (silent e key (ap (λ (d : Decision). event_of d.effect key) (sym same) ∙ none)));
+          quiet = λ none. linked e key change.link is.0 (silent e key (ap (λ (d : Decision). event_of d.effect key) (sym same) ∙ none));
           loud = λ some. once_acts c.is.2;
-        }),
+        })),
         subst (λ (z : Snapshot). LeaksNoPage [] [] m.state z.state w) (sym after) (leaves_replaced [] [] m view.pid (record { version = view.version; node = c.is.0 }) (record { version = given; node = after_link change.link c.is.0 }) w c.is.1
             (rid_of_none [] (record { version = view.version; node = c.is.0 }) view.node (a.0.0.seen.view.speaks (record { version = view.version; node = c.is.0 }) c.is.1 refl) a.0.0.seen.is_open.free) (λ q i. absurd i)),
       );
 }
   where
+    linked : {X : Type 0} (e : Effect) (key : Key) (link : Link) → link_of e key ≡ Some link → e ≡ effect.Nothing → X
+    linked e key link is none = none_some (sym (ap (λ z. link_of z key) none) ∙ is)
+
     silent : (e : Effect) (key : Key) → event_of e key ≡ None → e ≡ effect.Nothing
     silent effect.Nothing key none = refl
     silent (effect.Set v) key none = none_some (sym none)
     silent effect.Remove key none = none_some (sym none)
+
+-- what was linked is the change by this operator
+module _ (operator : Option Operator) (j : Course) (old new : Store) (view : View) (change : Change) (is : IsChangeOf operator j.call view.node.content (Some change)) where
+  pub links_follows : (given : ℕ) → Changes (after_link change.link) view.pid view.version old new (Ok given) → LinksChange j old new view (next.Decided change.reply)
+  links_follows given c = record { operator = operator; is = subst (λ (l : Option Link). MatchOption l ((new ≡ old) × (next.Decided change.reply ≡ next.Go Root)) (λ link. TakesWay (after_link link) view.pid view.version old new (next.Decided change.reply) (λ _. next.Decided (decision_at operator j.call view.node.content).reply) (λ _. next.Go Root))) (sym is.0) (inl (given, c, ap next.Decided is.1)) }
+
+  -- or the leaf was changed since
+  pub late_follows : (present : Option ℕ) → Changes (after_link change.link) view.pid view.version old new (Err present) → LinksChange j old new view (next.Go Root)
+  late_follows present c = record { operator = operator; is = subst (λ (l : Option Link). MatchOption l ((new ≡ old) × (next.Go Root ≡ next.Go Root)) (λ link. TakesWay (after_link link) view.pid view.version old new (next.Go Root) (λ _. next.Decided (decision_at operator j.call view.node.content).reply) (λ _. next.Go Root))) (sym is.0) (inr (present, c, refl)) }

@@ -4,13 +4,13 @@ use Rattle.std.specs.FinMap.Entries.{find}
 use Rattle.std.specs.declared.ops.Bound.{Bound}
 use Rattle.sled_pages.specs.Order.{Key, key_cmp}
 use Rattle.sled_pages.specs.In.{In}
-use Rattle.sled_pages.specs.Among.{IsBefore, IsPointerBefore, IsPointer}
+use Rattle.sled_pages.specs.Among.{IsPointerBefore, IsPointer}
 use Rattle.sled_pages.specs.Node.{pointers, count, value_at}
 use Rattle.sled_pages.specs.Store.{Store, now, view_of}
 use Rattle.sled_pages.specs.declared.node.Data.{Data}
 use Rattle.sled_pages.specs.declared.node.Data.TheVariants.{Leaf, Index}
 use Rattle.sled_pages.specs.declared.page.View.{View}
-use Rattle.sled_model.specs.Answer.{decision_of, map_after, event_of, key_of}
+use Rattle.sled_model.specs.Answer.{decision_of, reply_of_read, read_decides_as, map_after, event_of, key_of}
 use Rattle.sled_model.specs.declared.call.Call.{Call}
 use Rattle.sled_model.specs.declared.decision.Decision.{Decision}
 use Rattle.sled_model.specs.declared.decision.Effect.TheVariants as effect
@@ -32,13 +32,13 @@ use Rattle.sled_tree.specs.declared.flight.Next.TheVariants.{Go, Decided}
 use Rattle.tree_laws.specs.declared.flight.Walk.{Walk}
 use Rattle.tree_laws.specs.declared.flight.Reached.{Reached}
 use Rattle.tree_laws.specs.declared.flight.Reached.TheVariants as reached
-use Rattle.sled_tree.specs.Change.{decision_at}
+use Rattle.sled_tree.specs.Change.{reply_at}
 use Rattle.sled_tree.specs.theory.Change.{IsLeaf, IsIndex}
 use Rattle.sled_tree.specs.Stages.{Knows, changes_at}
 use Rattle.sled_tree.specs.theory.StageAction.{StageAction, AfterPage, IsReadPage, owned_next}
 use Rattle.sled_tree.specs.Follows.{ResumesMerge, BeginsMerge, resumed, begun, posting_of, OrNoMemory, onward, EndsWithin}
 use Rattle.sled_tree.proofs.Facts.{same_here, rests, viewed, live_view, leaves_read}
-use Rattle.sled_tree.proofs.Basics.{none_some}
+use Rattle.sled_tree.proofs.Replying.{read_law}
 
 pub leaf_is : (d : Data) → IsLeaf d → (es : List (Key × Key)) × (d ≡ Leaf es)
 leaf_is (Leaf es) l = (es, refl)
@@ -49,8 +49,8 @@ index_is (Leaf es) l = absurd l
 index_is (Index es) l = (es, refl)
 
 -- what the call comes to by the value that was read
-pub came : (call : Call) (content : Data) (k : Key) (value : Option Key) (d : Decision) → value ≡ value_at content k → k ≡ key_of call → d ≡ decision_of call value → decision_at call content ≡ d
-came call content k value d v e q = sym (q ∙ ap (decision_of call) (v ∙ ap (value_at content) e))
+pub came : (call : Call) (content : Data) (k : Key) (value : Option Key) (reply : Option Reply) → value ≡ value_at content k → k ≡ key_of call → reply ≡ reply_of_read call value → reply_at call content ≡ reply
+came call content k value reply v e q = sym (q ∙ ap (reply_of_read call) (v ∙ ap (value_at content) e))
 
 -- the last pointer within the call's aim
 pub at_bound : (bound aim : Bound Key) (es : List (Key × ℕ)) (c : ℕ) (first : Bool) → bound ≡ aim → IsPointer bound es c first → IsPointer aim es c first
@@ -89,19 +89,19 @@ module _ (j : Course) (view : View) (by : Reached) where
           (follows m w is r).descends b.0 p.key c first b.1 under (record { fits = fits }) (last_in p).0 (last_in p).1)
 
       module _ (leaf : IsLeaf view.node.content) where
-        pub acts : (decision_at j.call view.node.content).effect ≢ effect.Nothing → AfterPage j view by (Go (stage.Act view))
+        pub acts : reply_at j.call view.node.content ≡ None → AfterPage j view by (Go (stage.Act view))
         acts changes = goes _ refl changes (λ m w is named r. let b = leaf_is view.node.content leaf in ((follows m w is r).acts b.0 b.1 under, record { fits = fits }))
 
-        pub answers : (reply : Reply) → decision_at j.call view.node.content ≡ record { effect = effect.Nothing; reply = reply } → AfterPage j view by (Decided reply)
+        pub answers : (reply : Reply) → reply_at j.call view.node.content ≡ Some reply → AfterPage j view by (Decided reply)
         answers reply e = record {
           touches = λ s. inl refl;
           is = λ s numbers given w is named r.
               let m : Snapshot = snapshot_of s numbers given in
               let b = leaf_is view.node.content leaf in
               let all : List (Key × Key) = contents (nodes_at m) w j.tree.name in
-              let d : decision_of j.call (find key_cmp (key_of j.call) all) ≡ record { effect = effect.Nothing; reply = reply } = ap (decision_of j.call) ((follows m w is r).answers b.0 (key_of j.call) b.1 (under_covers (key_of j.call) view.node (subst (λ aim. LiesUnder aim view.node) r.1 under))) ∙ e in (
+              let found : find key_cmp (key_of j.call) all ≡ value_at view.node.content (key_of j.call) = (follows m w is r).answers b.0 (key_of j.call) b.1 (under_covers (key_of j.call) view.node (subst (λ aim. LiesUnder aim view.node) r.1 under)) in (
                 refl,
-                record {
+                λ operator any. let d : decision_of operator j.call (find key_cmp (key_of j.call) all) ≡ record { effect = effect.Nothing; reply = reply } = ap (decision_of operator j.call) found ∙ subst (read_decides_as (decision_of operator j.call (value_at view.node.content (key_of j.call)))) e (read_law operator j.call (value_at view.node.content (key_of j.call))) in record {
                   replies = sym (ap (λ (z : Decision). z.reply) d);
                   here = sym (ap (λ (z : Decision). map_after z.effect (key_of j.call) all) d);
                   others = λ u off. refl;

@@ -10,8 +10,6 @@ use Rattle.sled_pages.specs.declared.node.Data.TheVariants.{Leaf, Index}
 use Rattle.sled_pages.specs.declared.page.Page.{Page}
 use Rattle.sled_pages.specs.declared.page.View.{View}
 use Rattle.sled_model.specs.Answer.{key_of}
-use Rattle.sled_model.specs.declared.decision.Effect.{Effect}
-use Rattle.sled_model.specs.declared.decision.Effect.TheVariants as effect
 use Rattle.sled_model.specs.declared.reply.Reply.{Reply}
 use Rattle.sled_tree.specs.Change.{decision_at, link_of}
 use Rattle.tree_laws.specs.declared.flight.SwapRoot.{SwapRoot}
@@ -31,7 +29,7 @@ use Rattle.tree_laws.specs.declared.flight.Reached.{Reached}
 use Rattle.tree_laws.specs.declared.flight.Reached.TheVariants as reached
 use Rattle.sled_tree.proofs.Basics.{none_some, some_is}
 use Rattle.sled_tree.specs.Passing.{IsUnchanged}
-use Rattle.sled_tree.specs.Follows.{resumed, begun, onward, pointed, down, by_effect, OrNoMemory, follows_content, follows_here, follows_open, follows_awake, follows_read, follows_child, follows_child_awake, follows_cursor, follows_cursor_awake, follows_search, follows_met, searched, FollowsPage, follows_root, follows_act, OrRefused, TakesWay, shortened, crowned, read_again, sought_again, follows_as, Follows}
+use Rattle.sled_tree.specs.Follows.{resumed, begun, onward, pointed, down, done_at, OrNoMemory, follows_content, follows_here, follows_open, follows_awake, follows_read, follows_child, follows_child_awake, follows_cursor, follows_cursor_awake, follows_search, follows_met, searched, FollowsPage, follows_root, LinksChange, OrRefused, TakesWay, shortened, crowned, read_again, sought_again, follows_as, Follows}
 
 -- the leaf of the change that comes next
 abbrev acting : Next → Option View
@@ -137,14 +135,13 @@ module _ (v : View) (n : Next) (is : n ≡ next.Go (stage.Act v)) where
   down_off u (Some c) e = off _ e refl
 
   -- the leaf that was read is the one of the change
-  leaf_at : (u : View) (e : Effect) (reply : Reply) → n ≡ by_effect e u reply → u ≡ v
-  leaf_at u effect.Nothing reply e = off _ e refl
-  leaf_at u (effect.Set value) reply e = some_is (sym (ap acting e) ∙ ap acting is)
-  leaf_at u effect.Remove reply e = some_is (sym (ap acting e) ∙ ap acting is)
+  leaf_at : (u : View) (reply : Option Reply) → n ≡ done_at u reply → u ≡ v
+  leaf_at u (Some reply) e = off _ e refl
+  leaf_at u None e = some_is (sym (ap acting e) ∙ ap acting is)
 
   content_at : (j : Course) (u : View) (d : Data) → follows_content d j u n → u ≡ v
   content_at j u (Index es) d = down_off u d.found d.is
-  content_at j u (Leaf es) (inl e) = leaf_at u _ _ e
+  content_at j u (Leaf es) (inl e) = leaf_at u _ e
   content_at j u (Leaf es) (inr e) = off _ e refl
 
   here_at : (j : Course) (u : View) (by : Reached) → follows_here j u by n → u ≡ v
@@ -213,10 +210,10 @@ module _ (v : View) (n : Next) (is : n ≡ next.Go (stage.Act v)) where
   root_at j s (Some root) f = page_at s root _ (λ u. read_at j u _) f
 
   -- the change of the call leads to no change,
-  act_off : {P : Type 0} (j : Course) (old new : Store) (u : View) → follows_act j old new u n → P
-  act_off {P} j old new u f = go (link_of (decision_at j.call u.node.content).effect (key_of j.call)) f
+  act_off : {P : Type 0} (j : Course) (old new : Store) (u : View) → LinksChange j old new u n → P
+  act_off {P} j old new u f = go (link_of (decision_at f.operator j.call u.node.content).effect (key_of j.call)) f.is
     where
-      go : (link : Option Link) → MatchOption link ((new ≡ old) × (n ≡ next.Go stage.Root)) (λ l. TakesWay (after_link l) u.pid u.version old new n (λ _. next.Decided (decision_at j.call u.node.content).reply) (λ _. next.Go stage.Root)) → P
+      go : (link : Option Link) → MatchOption link ((new ≡ old) × (n ≡ next.Go stage.Root)) (λ l. TakesWay (after_link l) u.pid u.version old new n (λ _. next.Decided (decision_at f.operator j.call u.node.content).reply) (λ _. next.Go stage.Root)) → P
       go None e = off _ e.1 refl
       go (Some l) (inl k) = off _ k.2 refl
       go (Some l) (inr k) = off _ k.2 refl

@@ -1,6 +1,6 @@
 -- Steps at pages where nothing is to be repaired.
 use native.Mathlib.Omega.{arith}
-use Rattle.std.proofs.Common.{◌≡◌, ◌≢◌, ◌↔◌, IsTrue, ℕ, ◌+◌, ◌<◌, ◌≤◌, true, false, Bool, Option, Some, None, Result, Ok, Err, IfOk, IfErr, OnOk, MatchOption, refl, sym, ap, ◌∙◌, subst, inl, inr}
+use Rattle.std.proofs.Common.{◌≡◌, ◌↔◌, IsTrue, ℕ, ◌+◌, ◌<◌, ◌≤◌, true, false, Bool, Option, Some, None, Result, Ok, Err, IfOk, IfErr, OnOk, MatchOption, refl, sym, ap, ◌∙◌, subst, inl, inr}
 use Rattle.sled_pages.specs.Order.{Key}
 use Rattle.sled_pages.specs.Among.{IsPointer}
 use Rattle.sled_pages.specs.Node.{count, pointers}
@@ -10,13 +10,11 @@ use Rattle.sled_pages.specs.declared.error.Error.TheVariants.{NoMemory}
 use Rattle.sled_pages.specs.declared.node.Data.{Data}
 use Rattle.sled_pages.specs.declared.node.Data.TheVariants.{Leaf, Index}
 use Rattle.sled_pages.specs.declared.page.View.{View}
-use Rattle.sled_model.specs.declared.decision.Effect.{Effect}
-use Rattle.sled_model.specs.declared.decision.Effect.TheVariants.{Nothing, Set, Remove}
 use Rattle.sled_model.specs.declared.reply.Reply.{Reply}
-use Rattle.sled_tree.specs.Change.{decision_at}
+use Rattle.sled_tree.specs.Change.{reply_at}
 use Rattle.sled_tree.specs.theory.Change.{IsLeaf, IsIndex}
 use Rattle.sled_tree.specs.theory.Descent.{way_of, met_as, IsPlain, IsClean, Meets, Leads, Descends, Settles}
-use Rattle.sled_tree.specs.Follows.{follows_here, Follows, FollowsPage, by_effect, done_at, follows_read, follows_root, follows_leaf, follows_content}
+use Rattle.sled_tree.specs.Follows.{follows_here, Follows, FollowsPage, done_at, follows_read, follows_root, follows_leaf, follows_content}
 use Rattle.sled_tree.specs.theory.StageAction.{AfterPage}
 use Rattle.sled_tree.specs.theory.Passing.{AdvancesFromPage}
 use Rattle.sled_tree.specs.declared.descent.Descent.TheVariants as descent
@@ -31,7 +29,6 @@ use Rattle.sled_tree.specs.declared.flight.Went.TheVariants as went
 use Rattle.tree_laws.specs.Stages.{by_pointer}
 use Rattle.tree_laws.specs.declared.flight.Reached.{Reached}
 use Rattle.tree_laws.specs.declared.flight.Reached.TheVariants as reached
-use Rattle.sled_tree.proofs.Basics.{true_false}
 use Rattle.sled_tree.proofs.Facts.{unable, unread, restarts, untrue}
 use Rattle.std.proofs.lemmas.Bool.Decides.{leb_tells}
 use Rattle.sled_tree.proofs.Arriving.{root_read, cursor_read, descends, acts, answers}
@@ -73,11 +70,6 @@ leaf_follows j view next (Index es) is f = absurd is
 index_follows : (j : Course) (view : View) (c : ℕ) (first : Bool) (d : Data) → IsIndex d → IsPointer j.aim (pointers view.node.content) c first → follows_content d j view (Go (stage.Walk (record { cursor = c; reached = by_pointer view first })))
 index_follows j view c first (Leaf es) is k = absurd is
 index_follows j view c first (Index es) is k = record { found = Some (c, first); is_last = k; is = refl }
-
-acts_on : (e : Effect) (view : View) (reply : Reply) → e ≢ Nothing → by_effect e view reply ≡ Go (stage.Act view)
-acts_on Nothing view reply changes = absurd (changes refl)
-acts_on (Set value) view reply changes = refl
-acts_on Remove view reply changes = refl
 
 -- a stage that is no walk comes to its page as one that begins
 pub other_way : (a : Stage) → ((w : Walk) → a ≡ stage.Walk w → ⊥) → way_of a ≡ reached.Root
@@ -181,15 +173,15 @@ module _ (s : Store) (f : InFlight) where
     at_leaf_follows : (next : Next) → follows_leaf (course_of f) view next → Follows (course_of f) s f.stage next s
     at_leaf_follows next t = m.follows next (clean_follows (course_of f) view (way_of f.stage) next clean (leaf_follows (course_of f) view next _ leaf t))
 
-    pub comes_to_act : (decision_at f.job.call view.node.content).effect ≢ Nothing → Settles s f went.Moved (record { job = f.job; aim = f.aim; stage = stage.Act view; turns = f.turns + 1 })
+    pub comes_to_act : reply_at f.job.call view.node.content ≡ None → Settles s f went.Moved (record { job = f.job; aim = f.aim; stage = stage.Act view; turns = f.turns + 1 })
     comes_to_act changes = settles_go (stage.Act view) (record {
       moves = m.moves _ (acts (course_of f) view (way_of f.stage) clean.not_merging clean.free clean.under clean.fits leaf changes);
       passes = m.passes _ (leaf_passes (course_of f) view (way_of f.stage) leaf changes);
-      follows = at_leaf_follows _ (inl (sym (acts_on _ view _ changes)));
+      follows = at_leaf_follows _ (inl (sym (ap (done_at view) changes)));
     })
 
     -- or is decided,
-    pub comes_to_reply : (reply : Reply) → decision_at f.job.call view.node.content ≡ record { effect = Nothing; reply = reply } → Settles s f (went.Decided reply) f
+    pub comes_to_reply : (reply : Reply) → reply_at f.job.call view.node.content ≡ Some reply → Settles s f (went.Decided reply) f
     comes_to_reply reply e = record {
       advances = record { is = m.moves _ (answers (course_of f) view (way_of f.stage) clean.not_merging clean.free clean.under clean.fits leaf reply e) };
       passes = record { is = tt };

@@ -15,6 +15,7 @@ use Rattle.sled_pages.specs.declared.error.Error.TheVariants as error
 use Rattle.sled_pages.specs.declared.node.Node.{Node}
 use Rattle.sled_pages.specs.declared.page.Page.{Page}
 use Rattle.sled_pages.specs.declared.page.View.{View}
+use Rattle.sled_model.specs.Maps.{Merge as Operator}
 use Rattle.tree_laws.specs.Forest.{Tree, Forest, Place, place}
 use Rattle.tree_laws.specs.theory.Laws.{after_replacement, after_allocation, after_free, after_hoist}
 use Rattle.tree_laws.specs.Snapshot.{Snapshot, snapshot_of, nodes_at, HasForest}
@@ -30,11 +31,12 @@ use Rattle.tree_laws.specs.declared.flight.Stage.TheVariants as stage
 use Rattle.sled_tree.specs.declared.flight.Next.{Next}
 use Rattle.sled_tree.specs.declared.flight.Next.TheVariants as next
 use Rattle.sled_tree.specs.declared.flight.InFlight.{InFlight}
-use Rattle.sled_tree.specs.declared.flight.Went.TheVariants.{Moved}
+use Rattle.sled_tree.specs.declared.flight.Went.{Went}
+use Rattle.sled_tree.specs.declared.flight.Went.TheVariants as went
 use Rattle.tree_laws.specs.Stages.{IsStage, owned}
 use Rattle.sled_tree.specs.Stages.{Knows, changes_at}
 use Rattle.sled_tree.specs.StageAction.{ActsOnce, LeaksNoPage, leaks_no_page_as}
-use Rattle.sled_tree.specs.theory.StageAction.{StageAction, KeepsContents, FlightStep, is_action_refused_as}
+use Rattle.sled_tree.specs.theory.StageAction.{StageAction, StageActionBy, StageOutcome, Whichever, KeepsContents, FlightStep, FlightStepBy, is_action_refused_as}
 use Rattle.sled_tree.proofs.Basics.{none_some, some_is}
 
 -- a page that stays as it is does not grow
@@ -284,5 +286,24 @@ pub live_view : (s : Store) (pid : ℕ) (v : View) → Some v ≡ view_of pid ((
 live_view s pid v e = let k = viewed pid ((now s).pages pid) v e in ap (now s).pages k.0 ∙ k.1
 
 -- a step after which the call goes on
-pub goes_on : (old new : Store) (f : InFlight) (taken stage : Stage) (n : Next) → taken ≡ f.stage → n ≡ next.Go stage → StageAction (course_of f) old taken n new → FlightStep old f Moved new (record { job = f.job; aim = f.aim; stage = stage; turns = f.turns + 1 })
-goes_on old new f taken stage n e is m = record { is = (refl, refl, refl, subst (λ z. StageAction (course_of f) old z (next.Go stage) new) e (subst (λ z. StageAction (course_of f) old taken z new) is m)) }
+pub goes_on : {by : Option Operator → Type 0} (old new : Store) (f : InFlight) (taken stage : Stage) (n : Next) → taken ≡ f.stage → n ≡ next.Go stage → StageActionBy by (course_of f) old taken n new → FlightStepBy by old f went.Moved new (record { job = f.job; aim = f.aim; stage = stage; turns = f.turns + 1 })
+goes_on {by} old new f taken stage n e is m = record { is = (refl, refl, refl, subst (λ z. StageActionBy by (course_of f) old z (next.Go stage) new) e (subst (λ z. StageActionBy by (course_of f) old taken z new) is m)) }
+
+-- what is decided by whichever operator is decided by these
+pub by_these : {by : Option Operator → Type 0} (j : Course) (old new : Store) (a : Stage) (n : Next) → StageAction j old a n new → StageActionBy by j old a n new
+by_these {by} j old new a n s = record {
+  touches = s.touches;
+  is = λ numbers given w is named k.
+      let r = s.is numbers given w is named k in
+      (r.0, r.1, go n (snapshot_of old numbers given) w (snapshot_of new numbers given) r.0 r.2, r.3);
+}
+  where
+    go : (n : Next) (m : Snapshot) (w : Forest) (l : Snapshot) (v : Forest) → StageOutcome Whichever j old new m w n l v → StageOutcome by j old new m w n l v
+    go (next.Go stage) m w l v o = o
+    go (next.Decided reply) m w l v o = λ operator these. o operator tt
+    go (next.Refused e) m w l v o = o
+
+pub flies_by_these : {by : Option Operator → Type 0} (old new : Store) (f g : InFlight) (w : Went) → FlightStep old f w new g → FlightStepBy by old f w new g
+flies_by_these old new f g went.Moved s = record { is = (s.is.0, s.is.1, s.is.2, by_these (course_of f) old new f.stage (next.Go g.stage) s.is.3) }
+flies_by_these old new f g (went.Decided reply) s = record { is = by_these (course_of f) old new f.stage (next.Decided reply) s.is }
+flies_by_these old new f g (went.Refused e) s = record { is = by_these (course_of f) old new f.stage (next.Refused e) s.is }

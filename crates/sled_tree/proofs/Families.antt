@@ -15,20 +15,20 @@ use Rattle.tree_laws.specs.declared.flight.Split.{Split}
 use Rattle.tree_laws.specs.declared.flight.Walk.{Walk}
 use Rattle.tree_laws.specs.declared.flight.Stage.{Stage}
 use Rattle.tree_laws.specs.declared.flight.Stage.TheVariants as stage
-use Rattle.sled_tree.specs.theory.Stages.{IsOfMerge}
+use Rattle.sled_tree.specs.theory.Stages.{IsOfMerge, IsElsewhere}
 
 -- a stage that is none of these is of a merge
-pub of_merge : (s : Stage) → (s ≡ stage.Root → ⊥) → ((a : Walk) → s ≡ stage.Walk a → ⊥) → ((a : View) → s ≡ stage.Act a → ⊥) → ((a : Split) → s ≡ stage.Split a → ⊥) → ((a : InstallLeft) → s ≡ stage.InstallLeft a → ⊥) → ((a : Post) → s ≡ stage.Post a → ⊥) → ((a : Hoist) → s ≡ stage.Hoist a → ⊥) → ((a : SwapRoot) → s ≡ stage.SwapRoot a → ⊥) → ((a : Orphan) → s ≡ stage.Free a → ⊥) → IsOfMerge s
-of_merge stage.Root root walk act split install_left post hoist swap_root free = absurd (root refl)
-of_merge (stage.Walk a) root walk act split install_left post hoist swap_root free = absurd (walk a refl)
-of_merge (stage.Act a) root walk act split install_left post hoist swap_root free = absurd (act a refl)
-of_merge (stage.Split a) root walk act split install_left post hoist swap_root free = absurd (split a refl)
-of_merge (stage.InstallLeft a) root walk act split install_left post hoist swap_root free = absurd (install_left a refl)
-of_merge (stage.Post a) root walk act split install_left post hoist swap_root free = absurd (post a refl)
-of_merge (stage.Hoist a) root walk act split install_left post hoist swap_root free = absurd (hoist a refl)
-of_merge (stage.SwapRoot a) root walk act split install_left post hoist swap_root free = absurd (swap_root a refl)
-of_merge (stage.Free a) root walk act split install_left post hoist swap_root free = absurd (free a refl)
-of_merge other root walk act split install_left post hoist swap_root free = tt
+pub of_merge : (s : Stage) → (s ≡ stage.Root → ⊥) → ((a : Walk) → s ≡ stage.Walk a → ⊥) → IsElsewhere s → ((a : Split) → s ≡ stage.Split a → ⊥) → ((a : InstallLeft) → s ≡ stage.InstallLeft a → ⊥) → ((a : Post) → s ≡ stage.Post a → ⊥) → ((a : Hoist) → s ≡ stage.Hoist a → ⊥) → ((a : SwapRoot) → s ≡ stage.SwapRoot a → ⊥) → ((a : Orphan) → s ≡ stage.Free a → ⊥) → IsOfMerge s
+of_merge stage.Root root walk elsewhere split install_left post hoist swap_root free = absurd (root refl)
+of_merge (stage.Walk a) root walk elsewhere split install_left post hoist swap_root free = absurd (walk a refl)
+of_merge (stage.Act a) root walk elsewhere split install_left post hoist swap_root free = absurd elsewhere
+of_merge (stage.Split a) root walk elsewhere split install_left post hoist swap_root free = absurd (split a refl)
+of_merge (stage.InstallLeft a) root walk elsewhere split install_left post hoist swap_root free = absurd (install_left a refl)
+of_merge (stage.Post a) root walk elsewhere split install_left post hoist swap_root free = absurd (post a refl)
+of_merge (stage.Hoist a) root walk elsewhere split install_left post hoist swap_root free = absurd (hoist a refl)
+of_merge (stage.SwapRoot a) root walk elsewhere split install_left post hoist swap_root free = absurd (swap_root a refl)
+of_merge (stage.Free a) root walk elsewhere split install_left post hoist swap_root free = absurd (free a refl)
+of_merge other root walk elsewhere split install_left post hoist swap_root free = tt
 
 -- and one of a merge is one of these
 pub no_other : (s : Stage) → IsOfMerge s → ((a : Merge) → s ≡ stage.Intend a → ⊥) → ((a : Merge) → s ≡ stage.Child a → ⊥) → ((a : Cap) → s ≡ stage.Cap a → ⊥) → ((a : Seek) → s ≡ stage.Seek a → ⊥) → ((a : Receive) → s ≡ stage.Receive a → ⊥) → ((a : Confirm) → s ≡ stage.Confirm a → ⊥) → ⊥
@@ -39,3 +39,8 @@ no_other (stage.Seek a) of intend child cap seek receive confirm = seek a refl
 no_other (stage.Receive a) of intend child cap seek receive confirm = receive a refl
 no_other (stage.Confirm a) of intend child cap seek receive confirm = confirm a refl
 no_other other of intend child cap seek receive confirm = of
+
+-- a stage that is not to link the call's change is elsewhere
+pub elsewhere : (s : Stage) → ((a : View) → s ≡ stage.Act a → ⊥) → IsElsewhere s
+elsewhere (stage.Act a) act = act a refl
+elsewhere other act = tt

@@ -1,4 +1,5 @@
 pub mod Basics
+pub mod Replying
 pub mod Facts
 pub mod Arriving
 pub mod Passing

@@ -1,18 +1,17 @@
 -- The steps of a merge.
-use Rattle.std.proofs.Common.{◌≡◌, ◌≢◌, ℕ, ◌≤◌, ◌⊎◌, true, false, List, [], ◌∷◌, Option, Some, None, Ok, Err, sym, refl, ap, ◌∙◌, subst, inl}
-use Rattle.sled_pages.specs.Order.{Key, Below, UpTo}
+use Rattle.std.proofs.Common.{◌≡◌, ◌≢◌, ℕ, ◌≤◌, ◌⊎◌, true, false, [], ◌∷◌, Option, Some, None, Ok, Err, sym, refl, ap, ◌∙◌, subst, inl}
+use Rattle.sled_pages.specs.Order.{Below, UpTo}
 use Rattle.sled_pages.specs.In.{In}
 use Rattle.sled_pages.specs.Halves.{after_receiving}
 use Rattle.sled_pages.specs.Among.{IsPointerBefore}
-use Rattle.sled_pages.specs.Node.{count, after_link, after_intention, pointers}
+use Rattle.sled_pages.specs.Node.{count, after_link, pointers}
 use Rattle.sled_pages.specs.Store.{Store, now, view_of, Changes}
 use Rattle.sled_pages.specs.declared.node.Node.{Node}
-use Rattle.sled_pages.specs.declared.node.Data.TheVariants.{Index}
 use Rattle.sled_pages.specs.declared.link.Link.TheVariants.{ParentMergeIntention, ParentMergeConfirm, ChildMergeCap}
 use Rattle.sled_pages.specs.declared.page.Page.{Page}
 use Rattle.sled_pages.specs.declared.page.View.{View}
 use Rattle.tree_laws.specs.Forest.{Forest, place}
-use Rattle.tree_laws.specs.Snapshot.{Snapshot, snapshot_of, HasForest, HasRoomForOne, StoodInChain}
+use Rattle.tree_laws.specs.Snapshot.{Snapshot, snapshot_of, HasForest, StoodInChain}
 use Rattle.tree_laws.specs.theory.Laws.{after_replacement}
 use Rattle.tree_laws.specs.Stages.{IsStage, owned}
 use Rattle.tree_laws.specs.theory.StageLaws.{Finds}
@@ -31,7 +30,7 @@ use Rattle.tree_laws.specs.declared.flight.Stage.{Stage}
 use Rattle.tree_laws.specs.declared.flight.Stage.TheVariants as stage
 use Rattle.sled_tree.specs.declared.flight.Next.{Next}
 use Rattle.sled_tree.specs.declared.flight.Next.TheVariants as next
-use Rattle.sled_tree.specs.Stages.{Knows, changes_at}
+use Rattle.sled_tree.specs.Stages.{changes_at}
 use Rattle.sled_tree.specs.theory.StageAction.{StageAction, AfterChild, AfterSeek, IsUnchangedNow, owned_next}
 use Rattle.sled_tree.specs.Follows.{ResumesMerge, resumed}
 use Rattle.sled_tree.proofs.Facts.{moves_on, once_acts, stays, rests, same_here, viewed, live_view, leaves_replaced, leaves_read, rid_of_none}

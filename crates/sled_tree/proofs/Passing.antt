@@ -1,23 +1,25 @@
 -- Steps on clean paths.
-use Rattle.std.proofs.Common.{◌≡◌, ◌≢◌, ℕ, length, ◌+◌, ◌<◌, ◌≤◌, ◌↔◌, IsTrue, true, false, Bool, ◌||◌, List, [], ◌∷◌, Option, Some, None, Err, option_map, sym, refl, ap, ◌∙◌, subst, inl, inr, arith}
+use Rattle.std.proofs.Common.{◌≡◌, ℕ, length, ◌+◌, ◌<◌, ◌≤◌, ◌↔◌, IsTrue, true, false, Bool, ◌||◌, List, [], ◌∷◌, Option, Some, None, Err, option_map, sym, refl, ap, ◌∙◌, subst, inl, inr, arith}
 use Rattle.std.specs.List.{list_any}
 use Rattle.std.specs.declared.ops.Bound.{Bound}
 use Rattle.std.proofs.lemmas.List.Folds.{list_any-append}
 use Rattle.sled_pages.specs.Order.{Key}
 use Rattle.sled_pages.specs.Among.{IsLast, IsPointer, IsPointerFor}
-use Rattle.sled_pages.specs.Node.{count, pointers}
+use Rattle.sled_pages.specs.Node.{count, pointers, value_at}
 use Rattle.sled_pages.specs.State.{State, Nodes, nodes_of}
 use Rattle.sled_pages.specs.Store.{Store, now, view_of, Changes}
 use Rattle.sled_pages.specs.declared.node.Node.{Node}
 use Rattle.sled_pages.specs.declared.node.Data.TheVariants.{Leaf, Index}
 use Rattle.sled_pages.specs.declared.page.Page.{Page}
 use Rattle.sled_pages.specs.declared.page.View.{View}
+use Rattle.sled_model.specs.Maps.{Merge as Operator}
+use Rattle.sled_model.specs.Answer.{key_of}
 use Rattle.sled_model.specs.declared.decision.Effect.TheVariants.{Nothing}
 use Rattle.tree_laws.specs.Snapshot.{LiesUnder}
 use Rattle.tree_laws.specs.Paths.{CleanFrom, NeedsNoRepair}
 use Rattle.tree_laws.specs.theory.PathLaws.{CleanStep}
 use Rattle.tree_laws.proofs.Looking.{clean_step_law}
-use Rattle.sled_tree.specs.Change.{decision_at}
+use Rattle.sled_tree.specs.Change.{decision_at, reply_at}
 use Rattle.sled_tree.specs.theory.Change.{IsLeaf, IsIndex}
 use Rattle.sled_tree.specs.Follows.{EndsWithin}
 use Rattle.sled_tree.specs.Passing.{IsUnchanged, IsAheadOf, IsOnPath, StepsOnPath}
@@ -35,6 +37,7 @@ use Rattle.tree_laws.specs.declared.flight.Reached.{Reached}
 use Rattle.tree_laws.specs.declared.flight.Reached.TheVariants as reached
 use Rattle.sled_tree.proofs.Basics.{none_some, some_is, true_false}
 use Rattle.sled_tree.proofs.Facts.{viewed, untrue}
+use Rattle.sled_tree.proofs.Replying.{links_law}
 use Rattle.sled_tree.proofs.Arriving.{leaf_is, index_is}
 
 -- a stage that no clean path leads to
@@ -180,7 +183,7 @@ module _ (j : Course) (view : View) (by : Reached) where
       go false nodes rest k = k
 
   -- and a leaf is its end
-  pub leaf_passes : IsLeaf view.node.content → (decision_at j.call view.node.content).effect ≢ Nothing → AdvancesFromPage j view by (next.Go (stage.Act view))
+  pub leaf_passes : IsLeaf view.node.content → reply_at j.call view.node.content ≡ None → AdvancesFromPage j view by (next.Go (stage.Act view))
   leaf_passes leaf changes = record {
     is = λ s path live k.
         let b = leaf_is view.node.content leaf in
@@ -193,8 +196,8 @@ pub act_current : (j : Course) (old new : Store) (view : View) {change : Node �
 act_current j old new view n c = passes_never j (now old) (now new) (stage.Act view) n (λ path k. c.is.2 (c.is.1 ∙ ap (option_map (λ (g : Page). g.version)) k.1))
 
 -- it changes the leaf
-pub act_changes : (j : Course) (old new : State) (view : View) (n : Next) → (decision_at j.call view.node.content).effect ≡ Nothing → AdvancesOnPath j old (stage.Act view) n new
-act_changes j old new view n none = passes_never j old new (stage.Act view) n (λ path k. k.2 none)
+pub act_changes : (operator : Option Operator) (j : Course) (old new : State) (view : View) (n : Next) → (decision_at operator j.call view.node.content).effect ≡ Nothing → AdvancesOnPath j old (stage.Act view) n new
+act_changes operator j old new view n none = passes_never j old new (stage.Act view) n (λ path k. links_law operator j.call (value_at view.node.content (key_of j.call)) k.2 none)
 
 -- a step after which the call goes on
 pub passes_further : (old new : State) (f : InFlight) (taken stage : Stage) (n : Next) → taken ≡ f.stage → n ≡ next.Go stage → AdvancesOnPath (course_of f) old taken n new → StepsOnPath old f went.Moved new (record { job = f.job; aim = f.aim; stage = stage; turns = f.turns + 1 })

@@ -10,9 +10,8 @@ use Rattle.sled_pages.specs.State.{State}
 use Rattle.sled_pages.specs.Store.{Store, now, Allocates, AreGiven, Changes, Frees, SwapsRoot}
 use Rattle.sled_pages.specs.declared.node.Node.{Node}
 use Rattle.sled_pages.specs.declared.page.Page.{Page}
-use Rattle.sled_pages.specs.declared.page.View.{View}
-use Rattle.tree_laws.specs.Forest.{Tree, Forest, Place}
-use Rattle.tree_laws.specs.Snapshot.{Snapshot, snapshot_of, HasForest}
+use Rattle.tree_laws.specs.Forest.{Place}
+use Rattle.tree_laws.specs.Snapshot.{Snapshot, snapshot_of}
 use Rattle.tree_laws.specs.theory.Laws.{after_replacement, after_allocation, after_free, after_hoist}
 use Rattle.tree_laws.specs.Stages.{IsOver, owned}
 use Rattle.tree_laws.specs.theory.StageLaws.{posts_half}

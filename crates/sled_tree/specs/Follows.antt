@@ -1,7 +1,7 @@
 -- What a call does next: after a page that it read, and after an action.
 --
 -- Each table is total: of its lines the first one whose condition holds says what comes.
-use Rattle.std.specs.Prelude.{◌≡◌, ◌≢◌, ℕ, ◌<◌, ◌≤◌, ◌⊎◌, Bool, true, false, [], Option, Some, None, MatchOption, Result, Ok, Err}
+use Rattle.std.specs.Prelude.{◌≡◌, ◌≢◌, ℕ, ◌<◌, ◌≤◌, ◌⊎◌, Bool, true, [], Option, Some, None, MatchOption, Result, Ok, Err}
 use Rattle.std.specs.declared.ops.Bound.{Bound}
 use Rattle.sled_pages.specs.Order.{Key, UpTo}
 use Rattle.sled_pages.specs.Among.{is_up_to, IsPointerFor, IsPointerBefore}
@@ -17,13 +17,11 @@ use Rattle.sled_pages.specs.declared.node.Data.{Data}
 use Rattle.sled_pages.specs.declared.node.Data.TheVariants.{Leaf, Index}
 use Rattle.sled_pages.specs.declared.page.View.{View}
 use Rattle.sled_model.specs.Answer.{key_of}
-use Rattle.sled_model.specs.declared.decision.Decision.{Decision}
-use Rattle.sled_model.specs.declared.decision.Effect.{Effect}
-use Rattle.sled_model.specs.declared.decision.Effect.TheVariants as effect
+use Rattle.sled_model.specs.Maps.{Merge as Operator}
 use Rattle.sled_model.specs.declared.reply.Reply.{Reply}
 use Rattle.tree_laws.specs.Snapshot.{LiesUnder}
 use Rattle.tree_laws.specs.Stages.{IsOver, parent_of, by_pointer}
-use Rattle.sled_tree.specs.Change.{decision_at, link_of}
+use Rattle.sled_tree.specs.Change.{decision_at, reply_at, link_of}
 use Rattle.sled_tree.specs.Course.{Course, course_of}
 use Rattle.sled_tree.specs.declared.flight.InFlight.{InFlight}
 use Rattle.sled_tree.specs.declared.flight.Went.{Went}
@@ -107,16 +105,12 @@ pub record GoesDown (j : Course) (v : View) (next : Next) : Type 0 where
   pub is : next ≡ down v found
 
 -- a call that changes nothing is decided at its leaf, and any other is to link its change
-abbrev pub by_effect : Effect → View → Reply → Next
-by_effect effect.Nothing v reply = Decided reply
-by_effect (effect.Set value) v reply = Go (stage.Act v)
-by_effect effect.Remove v reply = Go (stage.Act v)
-
-abbrev pub done_at : View → Decision → Next
-done_at v d = by_effect d.effect v d.reply
+abbrev pub done_at : View → Option Reply → Next
+done_at v (Some reply) = Decided reply
+done_at v None = Go (stage.Act v)
 
 abbrev pub follows_leaf : Course → View → Next → Type 0
-follows_leaf j v next = OrNoMemory next (done_at v (decision_at j.call v.node.content))
+follows_leaf j v next = OrNoMemory next (done_at v (reply_at j.call v.node.content))
 
 abbrev pub follows_content : Data → Course → View → Next → Type 0
 follows_content (Index es) j v next = GoesDown j v next
@@ -214,12 +208,17 @@ TakesWay change pid version old new next took late =
     ((given : ℕ) × Changes change pid version old new (Ok given) × (next ≡ took given))
     ⊎ ((present : Option ℕ) × Changes change pid version old new (Err present) × (next ≡ late present))
 
--- a change is linked at the version of the leaf that was read, and then the call is decided
-abbrev pub follows_act : Course → Store → Store → View → Next → Type 0
-follows_act j old new v next =
-    MatchOption (link_of (decision_at j.call v.node.content).effect (key_of j.call))
+-- a change is linked at the version of the leaf that was read, and then the call is decided; by this operator
+abbrev pub links_by : Option Operator → Course → Store → Store → View → Next → Type 0
+links_by operator j old new v next =
+    MatchOption (link_of (decision_at operator j.call v.node.content).effect (key_of j.call))
     ((new ≡ old) × (next ≡ Go stage.Root))
-    (λ link. TakesWay (after_link link) v.pid v.version old new next (λ _. Decided (decision_at j.call v.node.content).reply) (λ _. Go stage.Root))
+    (λ link. TakesWay (after_link link) v.pid v.version old new next (λ _. Decided (decision_at operator j.call v.node.content).reply) (λ _. Go stage.Root))
+
+-- .. by the one that its tree has then
+pub record LinksChange (j : Course) (old new : Store) (v : View) (next : Next) : Type 0 where
+  pub operator : Option Operator
+  pub is : links_by operator j old new v next
 
 -- the right half of a long page is made,
 pub record SplitsPage (old new : Store) (a : Split) (next : Next) : Type 0 where
@@ -311,7 +310,7 @@ follows_confirm old new a next =
 abbrev pub follows_as : Course → Store → Stage → Next → Store → Type 0
 follows_as j old stage.Root next new = (new ≡ old) × follows_root j old ((now old).roots j.tree.name) next
 follows_as j old (stage.Walk a) next new = (new ≡ old) × follows_walk j old a next
-follows_as j old (stage.Act v) next new = OrRefused old new next (follows_act j old new v next)
+follows_as j old (stage.Act v) next new = OrRefused old new next (LinksChange j old new v next)
 follows_as j old (stage.Split a) next new = OrRefused old new next (follows_split old new a next)
 follows_as j old (stage.InstallLeft a) next new = OrRefused old new next (follows_shorten old new a next)
 follows_as j old (stage.Post a) next new = OrRefused old new next (follows_post old new a next)

@@ -1,12 +1,11 @@
 -- Calls in flight on clean paths: where no other call is in the way, a call goes on by a page a step.
-use Rattle.std.specs.Prelude.{◌≡◌, ◌≢◌, ℕ, suc, true, false, List, [], Some, length}
+use Rattle.std.specs.Prelude.{◌≡◌, ℕ, suc, true, false, List, [], Some, None, length}
 use Rattle.std.specs.declared.ops.Bound.{Bound}
 use Rattle.sled_pages.specs.Order.{Key}
 use Rattle.sled_pages.specs.State.{State, Nodes, nodes_of}
 use Rattle.sled_pages.specs.declared.page.View.{View}
-use Rattle.sled_model.specs.declared.decision.Effect.TheVariants.{Nothing}
 use Rattle.tree_laws.specs.Paths.{IsClean, CleanFrom}
-use Rattle.sled_tree.specs.Change.{decision_at}
+use Rattle.sled_tree.specs.Change.{reply_at}
 use Rattle.sled_tree.specs.Course.{Course, course_of}
 use Rattle.sled_tree.specs.declared.flight.InFlight.{InFlight}
 use Rattle.tree_laws.specs.declared.flight.Stage.{Stage}
@@ -32,7 +31,7 @@ IsAheadOf nodes aim p (reached.Next parent) path = ⊥
 abbrev pub IsOnPath : State → Course → Stage → List ℕ → Type 0
 IsOnPath s j stage.Root path = IsClean s j.tree.name j.aim path
 IsOnPath s j (stage.Walk a) path = IsAheadOf (nodes_of s) j.aim a.cursor a.reached path
-IsOnPath s j (stage.Act v) path = (path ≡ []) × IsUnchanged s v × ((decision_at j.call v.node.content).effect ≢ Nothing)
+IsOnPath s j (stage.Act v) path = (path ≡ []) × IsUnchanged s v × (reply_at j.call v.node.content ≡ None)
 IsOnPath s j other path = ⊥
 
 -- a path with one page less is ahead of the call

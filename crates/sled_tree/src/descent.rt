@@ -10,14 +10,15 @@ ghost use Rattle.tree_laws.specs.Snapshot.{LiesUnder};
 ghost use Rattle.tree_laws.specs.Stages.{by_pointer as reached_by};
 ghost use Rattle.sled_pages.specs.declared.error.Error.TheVariants.{NoMemory};
 ghost use Rattle.sled_tree.specs.theory.Change.{IsLeaf, IsIndex};
+ghost use Rattle.sled_tree.specs.Change.{reply_at};
 ghost use Rattle.sled_tree.specs.Course.{aim_of, course, course_of};
-ghost use Rattle.sled_tree.specs.theory.Descent.{way_of, IsPlain, IsClean, Meets, Leads, met_as, IsReplyAt, Descends, Settles};
+ghost use Rattle.sled_tree.specs.theory.Descent.{way_of, IsPlain, IsClean, Meets, Leads, met_as, Descends, Settles};
 ghost use Rattle.tree_laws.specs.declared.flight.Stage.{Stage};
 ghost use Rattle.tree_laws.specs.declared.flight.Stage.TheVariants as variant;
 
 use crate::flight::{Aim, InFlight, Job, Next, Went};
 use crate::walk::{arrive, by_pointer, lies_under, target};
-use sled_model::{Decision, Effect, MAX_LOOPS, Reply};
+use sled_model::{MAX_LOOPS, Reply};
 use sled_pages::{Data, Node, Pages, Pid, Result, View};
 use std::alloc::Global;
 use std::ops::Bound;
@@ -128,21 +129,10 @@ fn is_clean(job: &Job, aim: &Aim, stage: &Stage, view: &View) -> bool
 
 // The reply of a call at its leaf that changes nothing there.
 fn reply_at(job: &Job, node: &Node) -> Result<Option<Reply>>
-    ensures ok { IfOk result (IsReplyAt job.now.call node.now.content) }
+    ensures ok { IfOk result (λ reply. reply ≡ reply_at job.now.call node.now.content) }
     ensures err { IfErr result (λ e. e ≡ NoMemory) }
 {
-    let Decision { effect, reply } = job.call.decide(node.get(job.call.key().as_ref())?)?;
-    match &effect {
-        Effect::Nothing => {
-            drop(effect);
-            Ok(Some(reply))
-        }
-        _ => {
-            drop(effect);
-            drop(reply);
-            Ok(None)
-        }
-    }
+    job.call.at_read(node.get(job.call.key().as_ref())?)
 }
 
 // Puts another stage in the place of one.

@@ -1,12 +1,13 @@
 //! One page action of a call in flight.
-ghost use Rattle.std.specs.Prelude.{◌<◌};
+ghost use Rattle.std.specs.Prelude.{◌≢◌, ◌<◌};
+ghost use Rattle.std.specs.Option.{option_map};
 ghost use Rattle.sled_pages.specs.Store.{now};
 ghost use Rattle.sled_tree.specs.Course.{course};
-ghost use Rattle.sled_tree.specs.theory.StageAction.{StageAction, FlightStep};
+ghost use Rattle.sled_tree.specs.theory.StageAction.{StageAction, StageActionBy, FlightStepBy, Only};
 ghost use Rattle.sled_tree.specs.Follows.{Follows, FollowsOn};
 ghost use Rattle.sled_tree.specs.Passing.{StepsOnPath};
 ghost use Rattle.sled_tree.specs.theory.Passing.{AdvancesOnPath};
-ghost use Rattle.sled_tree.specs.theory.Stages.{IsOfMerge};
+ghost use Rattle.sled_tree.specs.theory.Stages.{IsOfMerge, IsElsewhere};
 
 use crate::act::act;
 use crate::descent::{Descent, at_leaf, descend, settle};
@@ -15,13 +16,39 @@ use crate::hoist::{hoist, swap_root};
 use crate::merge::{cap, confirm, intend, read_child, receive, seek};
 use crate::split::{free, halve, install_left, post};
 use crate::walk::{read_cursor, read_root};
-use sled_model::MAX_LOOPS;
+use sled_model::{MAX_LOOPS, MergeOperator};
 use sled_pages::Pages;
 use std::alloc::Global;
 use tree_laws::flight::Stage;
 
-// Does the action of a stage: at most one page action.
-fn step<P: Pages>(pages: &mut P, alloc: Global, job: &Job, aim: &Aim, stage: Stage) -> Next
+// Does the action of a stage: at most one page action. The operator is asked for at the link of the call's change alone.
+fn step<P: Pages, M: MergeOperator>(
+    pages: &mut P,
+    alloc: Global,
+    operator: Option<&M>,
+    job: &Job,
+    aim: &Aim,
+    stage: Stage,
+) -> Next
+    ensures moves { StageActionBy (Only (option_map (λ o. M.meant o.now) operator.entry)) (course job.now aim.now) (P.store pages.old) stage result (P.store pages.new) }
+    ensures passes { AdvancesOnPath (course job.now aim.now) (now (P.store pages.old)) stage result (now (P.store pages.new)) }
+    ensures follows { Follows (course job.now aim.now) (P.store pages.old) stage result (P.store pages.new) }
+{
+    match stage {
+        Stage::Act(view) => act(pages, alloc, operator, job, aim, view),
+        stage => step_elsewhere(pages, alloc, job, aim, stage),
+    }
+}
+
+// The same, of the stages that do not ask for the operator.
+fn step_elsewhere<P: Pages>(
+    pages: &mut P,
+    alloc: Global,
+    job: &Job,
+    aim: &Aim,
+    stage: Stage,
+) -> Next
+    requires { IsElsewhere stage }
     ensures moves { StageAction (course job.now aim.now) (P.store pages.old) stage result (P.store pages.new) }
     ensures passes { AdvancesOnPath (course job.now aim.now) (now (P.store pages.old)) stage result (now (P.store pages.new)) }
     ensures follows { Follows (course job.now aim.now) (P.store pages.old) stage result (P.store pages.new) }
@@ -29,7 +56,6 @@ fn step<P: Pages>(pages: &mut P, alloc: Global, job: &Job, aim: &Aim, stage: Sta
     match stage {
         Stage::Root => read_root(pages, alloc, job, aim),
         Stage::Walk(walk) => read_cursor(pages, alloc, job, aim, walk),
-        Stage::Act(view) => act(pages, job, aim, view),
         Stage::Split(split) => halve(pages, alloc, job, aim, split),
         Stage::InstallLeft(split) => install_left(pages, job, aim, split),
         Stage::Post(pointer) => post(pages, alloc, job, aim, pointer),
@@ -59,14 +85,19 @@ fn step_of_merge<P: Pages>(pages: &mut P, alloc: Global, job: &Job, aim: &Aim, s
 }
 
 // Does one step of a call in flight that has turns left, whatever its stage is: the stage is moved out, and the next one in.
-fn advance_stage<P: Pages>(pages: &mut P, alloc: Global, flight: &mut InFlight) -> Went
+fn advance_stage<P: Pages, M: MergeOperator>(
+    pages: &mut P,
+    alloc: Global,
+    operator: Option<&M>,
+    flight: &mut InFlight,
+) -> Went
     requires { flight.old.turns < MAX_LOOPS }
-    ensures advances { FlightStep (P.store pages.old) flight.old result (P.store pages.new) flight.new }
+    ensures advances { FlightStepBy (Only (option_map (λ o. M.meant o.now) operator.entry)) (P.store pages.old) flight.old result (P.store pages.new) flight.new }
     ensures passes { StepsOnPath (now (P.store pages.old)) flight.old result (now (P.store pages.new)) flight.new }
     ensures follows { FollowsOn (P.store pages.old) flight.old result (P.store pages.new) flight.new }
 {
     let stage = std::mem::replace(&mut flight.stage, Stage::Root);
-    match step(pages, alloc, &flight.job, &flight.aim, stage) {
+    match step(pages, alloc, operator, &flight.job, &flight.aim, stage) {
         Next::Go(stage) => {
             let old = std::mem::replace(&mut flight.stage, stage);
             drop(old);
@@ -78,15 +109,21 @@ fn advance_stage<P: Pages>(pages: &mut P, alloc: Global, flight: &mut InFlight) 
     }
 }
 
-/// Does one step of a call in flight that has turns left: at most one page action.
-pub fn advance<P: Pages>(pages: &mut P, alloc: Global, flight: &mut InFlight) -> Went
+/// Does one step of a call in flight that has turns left: at most one page action. A merge is decided by the operator that its
+/// tree has then.
+pub fn advance<P: Pages, M: MergeOperator>(
+    pages: &mut P,
+    alloc: Global,
+    operator: Option<&M>,
+    flight: &mut InFlight,
+) -> Went
     requires { flight.old.turns < MAX_LOOPS }
-    ensures advances { FlightStep (P.store pages.old) flight.old result (P.store pages.new) flight.new }
+    ensures advances { FlightStepBy (Only (option_map (λ o. M.meant o.now) operator.entry)) (P.store pages.old) flight.old result (P.store pages.new) flight.new }
     ensures passes { StepsOnPath (now (P.store pages.old)) flight.old result (now (P.store pages.new)) flight.new }
     ensures follows { FollowsOn (P.store pages.old) flight.old result (P.store pages.new) flight.new }
 {
     match descend(pages, alloc, &flight.job, &flight.aim, &mut flight.stage) {
-        Descent::None => advance_stage(pages, alloc, flight),
+        Descent::None => advance_stage(pages, alloc, operator, flight),
         Descent::Further => {
             flight.turns += 1;
             Went::Moved

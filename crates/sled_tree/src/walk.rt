@@ -21,7 +21,6 @@ ghost use Rattle.sled_tree.specs.declared.flight.Next.TheVariants.{Go};
 
 use crate::flight::{Aim, Job, Next};
 use crate::merge::{begin, help};
-use sled_model::{Decision, Effect};
 use sled_pages::{Data, Node, Pages, View};
 use std::alloc::Global;
 use std::ops::Bound;
@@ -344,23 +343,15 @@ fn at_leaf(job: &Job, aim: &Aim, view: View) -> Next
         }
         Ok(value) => value,
     };
-    let Decision { effect, reply } = match job.call.decide(value) {
+    match job.call.at_read(value) {
         Err(e) => {
             drop(view);
-            return Next::Refused(e);
+            Next::Refused(e)
         }
-        Ok(decision) => decision,
-    };
-    match &effect {
-        Effect::Nothing => {
-            drop(effect);
+        Ok(Some(reply)) => {
             drop(view);
             Next::Decided(reply)
         }
-        _ => {
-            drop(effect);
-            drop(reply);
-            Next::Go(Stage::Act(view))
-        }
+        Ok(None) => Next::Go(Stage::Act(view)),
     }
 }

@@ -2,6 +2,7 @@
 
 use crate::counting::Counting;
 use crate::forms::{Verb, quote};
+use crate::operators::{Operator, operator_of};
 use sled_lines::command::{Command, parse};
 use sled_lines::input::{Stopped, without_end};
 use sled_lines::print::Piece::{Number, Text, Word};
@@ -93,7 +94,7 @@ fn has_value(outcome: &Outcome, wanted: Option<&[u8]>) -> bool {
 // How many pages the call of a line reads; more than there are where it does not answer with this value.
 fn reads_of(
     alloc: Global,
-    session: &mut Session<Counting<'_>>,
+    session: &mut Session<Counting<'_>, Operator>,
     reads: &AtomicU64,
     line: &[Piece<'_>],
     wanted: Option<&[u8]>,
@@ -114,7 +115,7 @@ fn reads_of(
 // at the most.
 fn load(
     alloc: Global,
-    session: &mut Session<Counting<'_>>,
+    session: &mut Session<Counting<'_>, Operator>,
     reads: &AtomicU64,
     [keys, most, all]: [u64; 3],
     out: &mut Vec<u8>,
@@ -135,7 +136,7 @@ fn load(
 // each key is looked for twice, and the second get counts.
 fn find(
     alloc: Global,
-    session: &mut Session<Counting<'_>>,
+    session: &mut Session<Counting<'_>, Operator>,
     reads: &AtomicU64,
     [keys, pages, _]: [u64; 3],
     out: &mut Vec<u8>,
@@ -156,7 +157,7 @@ fn find(
 // flushed. Adds how often the call went on.
 fn overtake(
     alloc: Global,
-    session: &mut Session<Counting<'_>>,
+    session: &mut Session<Counting<'_>, Operator>,
     [number, count, _]: [u64; 3],
     out: &mut Vec<u8>,
 ) -> Result<()> {
@@ -175,7 +176,7 @@ fn overtake(
 /// Adds what a session answers that is asked this, with these numbers.
 pub fn ask(
     alloc: Global,
-    session: &mut Session<Counting<'_>>,
+    session: &mut Session<Counting<'_>, Operator>,
     reads: &AtomicU64,
     verb: Verb,
     numbers: [u64; 3],
@@ -241,7 +242,11 @@ fn read_steps(
 }
 
 // Does steps, and adds how each of them came out.
-fn perform(session: &mut Session<Counting<'_>>, steps: &[Step], out: &mut Vec<u8>) -> Result<()> {
+fn perform(
+    session: &mut Session<Counting<'_>, Operator>,
+    steps: &[Step],
+    out: &mut Vec<u8>,
+) -> Result<()> {
     let outcomes = answered(session.perform(steps))?;
     let mut told = Ok(());
     for outcome in outcomes.as_slice() {
@@ -254,7 +259,7 @@ fn perform(session: &mut Session<Counting<'_>>, steps: &[Step], out: &mut Vec<u8
 /// Does the steps that a line says by one call, and adds how each of them came out, or why one cannot be read.
 pub fn run_steps(
     alloc: Global,
-    session: &mut Session<Counting<'_>>,
+    session: &mut Session<Counting<'_>, Operator>,
     line: &[u8],
     out: &mut Vec<u8>,
     why: &mut Vec<u8>,
@@ -301,7 +306,7 @@ fn tree_of(alloc: Global, database: &[u8], words: &[u8]) -> Result<Tree> {
 /// Makes the tree current that a line names.
 pub fn take_handle(
     alloc: Global,
-    session: &mut Session<Counting<'_>>,
+    session: &mut Session<Counting<'_>, Operator>,
     line: &[u8],
     out: &mut Vec<u8>,
 ) -> Result<()> {
@@ -309,4 +314,20 @@ pub fn take_handle(
     let (database, words) = first_word(words);
     session.set_tree(tree_of(alloc, database, words.unwrap_or(b""))?);
     tell(out, &[Text(b"done\n")])
+}
+
+/// Gives the current tree the operator that a line names.
+pub fn set_operator(
+    session: &mut Session<Counting<'_>, Operator>,
+    line: &[u8],
+    out: &mut Vec<u8>,
+) -> Result<()> {
+    let name = first_word(without_end(line)).1.unwrap_or(b"");
+    let Some(operator) = operator_of(name) else {
+        return Err(Stopped);
+    };
+    match session.set_merge_operator(operator) {
+        Ok(()) => tell(out, &[Text(b"done\n")]),
+        Err(error) => tell_refused(out, error),
+    }
 }

@@ -2,6 +2,7 @@
 
 use crate::calls::tell;
 use crate::look::{Look, Side, read_bound};
+use crate::operators::operator_of;
 use crate::owned::Owned;
 use crate::pops::Pop;
 use sled_lines::command::{self, parse};
@@ -9,6 +10,7 @@ use sled_lines::input::Stopped;
 use sled_lines::print::Piece::Text;
 use sled_lines::print::push_pieces;
 use sled_lines::words::{first_word, read_number, read_value, read_word};
+use sled_model::Call;
 use sled_pages::Result;
 use std::alloc::Global;
 
@@ -17,6 +19,11 @@ use std::alloc::Global;
 pub enum Verb {
     /// One that `sledrun` knows too.
     Line,
+    /// A merge from its begin to its end.
+    Merge,
+    /// A merge that begins in a slot.
+    BeginMerge,
+    Operator,
     Turns,
     Crash,
     New,
@@ -48,8 +55,8 @@ pub enum Verb {
 type Form = (&'static str, &'static str, Verb, &'static str);
 
 // What a command takes has words of its own: K, V, P, OLD, NEW, DATABASE and NAME are byte strings, LO and HI bounds, STEP a step of a
-// call in flight, and the others numbers; `..` stands for more of the word before it.
-const FORMS: [Form; 65] = [
+// call in flight, OPERATOR a merge operator, and the others numbers; `..` stands for more of the word before it.
+const FORMS: [Form; 69] = [
     (
         "insert",
         "K V",
@@ -68,6 +75,12 @@ const FORMS: [Form; 65] = [
         "K OLD NEW",
         Verb::Line,
         "sets the value at a key to NEW where it is OLD; - is no value",
+    ),
+    (
+        "merge",
+        "K V",
+        Verb::Merge,
+        "sets the value at a key to what the tree's operator makes of it and V, and prints it",
     ),
     (
         "begin insert",
@@ -89,6 +102,12 @@ const FORMS: [Form; 65] = [
         "begins a swap in a slot",
     ),
     (
+        "begin merge",
+        "K V",
+        Verb::BeginMerge,
+        "begins a merge in a slot",
+    ),
+    (
         "step",
         "N",
         Verb::Line,
@@ -106,6 +125,12 @@ const FORMS: [Form; 65] = [
         "N",
         Verb::Turns,
         "prints how often the call in a slot went on so far",
+    ),
+    (
+        "operator",
+        "OPERATOR",
+        Verb::Operator,
+        "gives the tree a merge operator: concat, add, max, before, keep, gone or short",
     ),
     ("flush", "", Verb::Line, "makes all durable"),
     (
@@ -364,6 +389,12 @@ const FORMS: [Form; 65] = [
         "sets the value at a key to NEW where it is OLD; - is no value",
     ),
     (
+        "owned merge",
+        "K V",
+        Verb::Owned(Owned::Merge),
+        "sets the value at a key to what the tree's operator makes of it and V, and prints it",
+    ),
+    (
         "owned pop-min",
         "",
         Verb::Owned(Owned::PopMin),
@@ -403,6 +434,8 @@ const NO_BYTES: &str =
     "is no byte string: % and two lower-case hexadecimal digits stand for a byte";
 
 const NO_BOUND: &str = "is no bound: [ or ( and a byte string, or ..";
+
+const NO_OPERATOR: &str = "is no operator: concat, add, max, before, keep, gone and short are";
 
 /// What a line asks for.
 #[derive(Drop)]
@@ -538,10 +571,11 @@ enum Kind {
     // A byte string or none.
     Value,
     Bound,
+    Operator,
     Number,
 }
 
-const KINDS: [(&str, Kind); 9] = [
+const KINDS: [(&str, Kind); 10] = [
     ("K", Kind::Bytes),
     ("V", Kind::Bytes),
     ("P", Kind::Bytes),
@@ -551,6 +585,7 @@ const KINDS: [(&str, Kind); 9] = [
     ("NEW", Kind::Value),
     ("LO", Kind::Bound),
     ("HI", Kind::Bound),
+    ("OPERATOR", Kind::Operator),
 ];
 
 // What the word stands for in this place of a command.
@@ -581,6 +616,7 @@ fn odd(alloc: Global, place: &[u8], word: &[u8]) -> Result<&'static str> {
         Kind::Bytes => said_of(read_word(alloc, word), NO_BYTES),
         Kind::Value => said_of(read_value(alloc, word), NO_BYTES),
         Kind::Bound => said_of(read_bound(alloc, word), NO_BOUND),
+        Kind::Operator => said_of(Ok(operator_of(word)), NO_OPERATOR),
         Kind::Number => said_of(Ok(read_number(word)), NO_NUMBER),
     }
 }
@@ -646,10 +682,37 @@ fn read_numbers(words: Option<&[u8]>, numbers: &mut Vec<u64>) -> Result<()> {
     Ok(())
 }
 
+// The merge that a key and bytes ask for.
+fn merge_of(alloc: Global, words: Option<&[u8]>) -> Result<Option<Call>> {
+    let (key, bytes) = first_word(words.unwrap_or(b""));
+    let Some(key) = read_word(alloc, key)? else {
+        return Ok(None);
+    };
+    match read_word(alloc, bytes.unwrap_or(b"")) {
+        Ok(Some(bytes)) => Ok(Some(Call::Merge(key, bytes))),
+        Ok(None) => {
+            drop(key);
+            Ok(None)
+        }
+        Err(error) => {
+            drop(key);
+            Err(error)
+        }
+    }
+}
+
 // What a line asks for that has the words of a command.
 fn command_of(alloc: Global, line: &[u8], verb: Verb) -> Result<Option<Command>> {
     match verb {
         Verb::Line => Ok(parse(alloc, line)?.map(Command::Line)),
+        Verb::Merge => {
+            let call = merge_of(alloc, first_word(line).1)?;
+            Ok(call.map(|call| Command::Line(command::Command::Point(call))))
+        }
+        Verb::BeginMerge => {
+            let call = merge_of(alloc, first_word(first_word(line).1.unwrap_or(b"")).1)?;
+            Ok(call.map(|call| Command::Line(command::Command::Begin(call))))
+        }
         verb => Ok(Some(Command::Own(verb))),
     }
 }

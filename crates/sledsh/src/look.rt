@@ -2,6 +2,7 @@
 
 use crate::calls::{Result, tell, tell_refused, tell_whether};
 use crate::counting::Counting;
+use crate::operators::Operator;
 use sled::{Db, Iter};
 use sled_lines::input::Stopped;
 use sled_lines::print::Piece::{Number, Text, Word};
@@ -120,7 +121,7 @@ fn tell_names(out: &mut Vec<u8>, names: Answer<Vec<IVec>>) -> Result<()> {
     }
 }
 
-fn tell_value(out: &mut Vec<u8>, value: Answer<Option<IVec>>) -> Result<()> {
+pub fn tell_value(out: &mut Vec<u8>, value: Answer<Option<IVec>>) -> Result<()> {
     match value {
         Ok(Some(value)) => {
             let told = tell(out, &[Text(b"value "), Word(value.as_ref()), Text(b"\n")]);
@@ -253,7 +254,7 @@ fn tell_range(out: &mut Vec<u8>, pairs: Answer<Iter<'_, Counting<'_>>>, look: Lo
 
 // Adds what a read of one key or prefix answers.
 fn look_at(
-    db: &Db<Counting<'_>>,
+    db: &Db<Counting<'_>, Operator>,
     tree: &Tree,
     look: Look,
     key: &[u8],
@@ -271,7 +272,7 @@ fn look_at(
 // Adds what a read between two bounds answers.
 fn look_between(
     alloc: Global,
-    db: &Db<Counting<'_>>,
+    db: &Db<Counting<'_>, Operator>,
     tree: &Tree,
     look: Look,
     words: (&[u8], &[u8]),
@@ -294,7 +295,7 @@ fn look_between(
 /// Adds what a read answers, with the words that its line has.
 pub fn tell_look(
     alloc: Global,
-    db: &Db<Counting<'_>>,
+    db: &Db<Counting<'_>, Operator>,
     tree: &Tree,
     look: Look,
     words: (&[u8], &[u8]),

@@ -8,6 +8,7 @@ mod crowd;
 mod forms;
 mod levels;
 mod look;
+mod operators;
 mod owned;
 mod plain;
 mod pops;

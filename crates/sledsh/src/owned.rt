@@ -2,7 +2,8 @@
 
 use crate::calls::{Result, bytes_of, tell, tell_outcome, tell_refused};
 use crate::counting::Counting;
-use crate::look::tell_found;
+use crate::look::{tell_found, tell_value};
+use crate::operators::Operator;
 use sled::{CompareAndSwapResult, Db};
 use sled_lines::input::{Stopped, without_end};
 use sled_lines::print::Piece::{Number, Text, Word};
@@ -23,6 +24,7 @@ pub enum Owned {
     Remove,
     Del,
     Cas,
+    Merge,
     PopMin,
     PopMax,
     Clear,
@@ -97,7 +99,7 @@ fn lend(value: &Option<IVec>) -> Option<&[u8]> {
 
 fn insert(
     alloc: Global,
-    db: &mut Db<Counting<'_>>,
+    db: &mut Db<Counting<'_>, Operator>,
     tree: &Tree,
     owned: Owned,
     words: &[u8],
@@ -123,7 +125,7 @@ fn insert(
 
 fn remove(
     alloc: Global,
-    db: &mut Db<Counting<'_>>,
+    db: &mut Db<Counting<'_>, Operator>,
     tree: &Tree,
     owned: Owned,
     word: &[u8],
@@ -141,7 +143,7 @@ fn remove(
 // A swap at a key.
 fn swap_at(
     alloc: Global,
-    db: &mut Db<Counting<'_>>,
+    db: &mut Db<Counting<'_>, Operator>,
     tree: &Tree,
     key: &[u8],
     values: &[u8],
@@ -164,7 +166,7 @@ fn swap_at(
 
 fn swap(
     alloc: Global,
-    db: &mut Db<Counting<'_>>,
+    db: &mut Db<Counting<'_>, Operator>,
     tree: &Tree,
     words: &[u8],
     out: &mut Vec<u8>,
@@ -176,10 +178,32 @@ fn swap(
     told
 }
 
+fn merge(
+    alloc: Global,
+    db: &mut Db<Counting<'_>, Operator>,
+    tree: &Tree,
+    words: &[u8],
+    out: &mut Vec<u8>,
+) -> Result<()> {
+    let (key, bytes) = first_word(words);
+    let key = bytes_of(alloc, key)?;
+    let bytes = match bytes_of(alloc, bytes.unwrap_or(b"")) {
+        Ok(bytes) => bytes,
+        Err(stopped) => {
+            drop(key);
+            return Err(stopped);
+        }
+    };
+    let merged = db.merge(tree, key.as_ref(), bytes.as_ref());
+    drop(key);
+    drop(bytes);
+    tell_value(out, merged)
+}
+
 // Makes a call with the words that its line has, and adds what it answers.
 fn make(
     alloc: Global,
-    db: &mut Db<Counting<'_>>,
+    db: &mut Db<Counting<'_>, Operator>,
     tree: &Tree,
     owned: Owned,
     words: &[u8],
@@ -189,6 +213,7 @@ fn make(
         Owned::Insert | Owned::Set => insert(alloc, db, tree, owned, words, out),
         Owned::Remove | Owned::Del => remove(alloc, db, tree, owned, words, out),
         Owned::Cas => swap(alloc, db, tree, words, out),
+        Owned::Merge => merge(alloc, db, tree, words, out),
         Owned::PopMin => tell_found(out, db.pop_min(tree)),
         Owned::PopMax => tell_found(out, db.pop_max(tree)),
         Owned::Clear => tell_done(out, db.clear(tree)),
@@ -208,11 +233,11 @@ fn words_of(line: &[u8]) -> &[u8] {
 /// where the same tree is current. The calls in flight are given up.
 pub fn tell_owned<'a>(
     alloc: Global,
-    session: Session<Counting<'a>>,
+    session: Session<Counting<'a>, Operator>,
     owned: Owned,
     line: &[u8],
     out: &mut Vec<u8>,
-) -> (Session<Counting<'a>>, Result<()>) {
+) -> (Session<Counting<'a>, Operator>, Result<()>) {
     let (mut db, tree) = session.into_parts();
     let told = make(alloc, &mut db, &tree, owned, words_of(line), out);
     (Session::with_tree(alloc, db, tree), told)

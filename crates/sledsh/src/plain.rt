@@ -1,6 +1,8 @@
-//! A plain program beside the machine: a list of pairs and a list of calls in flight, slow and short enough to read.
+//! A plain program beside the machine: a list of pairs and a list of calls in flight, slow and short enough to read. It has no
+//! merge operator.
 ghost use Rattle.std.specs.Prelude.{◌≤◌, length};
 
+use crate::operators::Operator;
 use sled_model::{Call, Decision, Effect, Outcome, Slot};
 use sled_pages::{IVec, Result};
 use std::alloc::Global;
@@ -57,9 +59,9 @@ fn apply(pairs: &mut Pairs, key: &IVec, effect: Effect) -> Result<()> {
 }
 
 // Does a call on the pairs.
-fn decide(pairs: &mut Pairs, call: &Call) -> Result<Outcome> {
+fn decide(alloc: Global, pairs: &mut Pairs, call: &Call) -> Result<Outcome> {
     let value = value_at(pairs.as_slice(), call.key())?;
-    let Decision { effect, reply } = call.decide(value)?;
+    let Decision { effect, reply } = call.at_link(alloc, value, None::<&Operator>)?;
     match apply(pairs, call.key(), effect) {
         Ok(()) => Ok(Outcome::Decided(reply)),
         Err(error) => {
@@ -80,6 +82,7 @@ fn outcome_of(answer: Result<Outcome>) -> Outcome {
 /// Pairs, and the calls in flight by slot.
 #[derive(Drop)]
 pub struct Plain {
+    alloc: Global,
     pub pairs: Pairs,
     flights: Vec<(u64, Call)>,
     pub given: u64,
@@ -89,6 +92,7 @@ impl Plain {
     /// These pairs, and no call in flight.
     pub fn new(alloc: Global, pairs: Pairs) -> Plain {
         Plain {
+            alloc,
             pairs,
             flights: Vec::new(alloc),
             given: 0,
@@ -117,7 +121,7 @@ impl Plain {
         let Some(call) = self.take(slot) else {
             return Outcome::NoSuchSlot;
         };
-        let answer = decide(&mut self.pairs, &call);
+        let answer = decide(self.alloc, &mut self.pairs, &call);
         drop(call);
         outcome_of(answer)
     }

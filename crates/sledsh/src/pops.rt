@@ -2,6 +2,7 @@
 
 use crate::calls::{Result, tell_outcome, tell_refused};
 use crate::counting::Counting;
+use crate::operators::Operator;
 use sled_lines::session::Session;
 use sled_model::Whole;
 
@@ -14,7 +15,11 @@ pub enum Pop {
 }
 
 /// Makes the call in one step of the machine, and adds the line of its outcome.
-pub fn tell_pop(session: &mut Session<Counting<'_>>, pop: Pop, out: &mut Vec<u8>) -> Result<()> {
+pub fn tell_pop(
+    session: &mut Session<Counting<'_>, Operator>,
+    pop: Pop,
+    out: &mut Vec<u8>,
+) -> Result<()> {
     let tree = match session.tree().clone() {
         Ok(tree) => tree,
         Err(error) => return tell_refused(out, error),

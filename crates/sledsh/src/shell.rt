@@ -1,11 +1,12 @@
 //! A session of the shell: lines, from opening to opening.
 
-use crate::calls::{ask, run_steps, take_handle, tell, tell_refused, tell_turns};
+use crate::calls::{ask, run_steps, set_operator, take_handle, tell, tell_refused, tell_turns};
 use crate::counting::Counting;
 use crate::crowd::run_calls;
 use crate::forms::{Command, Verb, push_help, read};
 use crate::levels::tell_levels;
 use crate::look::{Look, tell_look};
+use crate::operators::Operator;
 use crate::owned::{Owned, tell_owned};
 use crate::pops::tell_pop;
 use crate::store::Kept;
@@ -36,7 +37,7 @@ fn opening(last: Verb) -> &'static [u8] {
 // The store: opened, or the pages that a refused opening gave back.
 #[derive(Drop)]
 enum State<'a> {
-    Open(Session<Counting<'a>>),
+    Open(Session<Counting<'a>, Operator>),
     Shut(Kept),
 }
 
@@ -188,7 +189,7 @@ impl<'a> Shell<'a> {
     }
 
     // Does steps of calls in flight, which the line says.
-    fn run_steps(&mut self, session: &mut Session<Counting<'a>>) -> Result<(), Stopped> {
+    fn run_steps(&mut self, session: &mut Session<Counting<'a>, Operator>) -> Result<(), Stopped> {
         run_steps(
             self.alloc,
             session,
@@ -200,7 +201,11 @@ impl<'a> Shell<'a> {
     }
 
     // Answers a read, with the words behind its own.
-    fn look(&mut self, session: &Session<Counting<'a>>, which: Look) -> Result<(), Stopped> {
+    fn look(
+        &mut self,
+        session: &Session<Counting<'a>, Operator>,
+        which: Look,
+    ) -> Result<(), Stopped> {
         let text = first_word(without_end(self.line.as_slice())).1;
         let (first, more) = first_word(text.unwrap_or(b""));
         let words = (first, more.unwrap_or(b""));
@@ -249,6 +254,9 @@ impl<'a> Shell<'a> {
                 &mut self.out,
             ),
             (State::Open(session), Verb::Look(which)) => self.look(session, which),
+            (State::Open(session), Verb::Operator) => {
+                set_operator(session, self.line.as_slice(), &mut self.out)
+            }
             (State::Open(session), Verb::Pop(pop)) => tell_pop(session, pop, &mut self.out),
             (State::Open(session), verb) => {
                 ask(
@@ -277,6 +285,7 @@ impl<'a> Shell<'a> {
             | Verb::Find
             | Verb::Overtake
             | Verb::Handle
+            | Verb::Operator
             | Verb::Look(_)
             | Verb::Pop(_) => self.ask(state, verb, numbers),
             Verb::Owned(owned) => self.owned(state, owned),
@@ -372,7 +381,7 @@ impl<'a> Shell<'a> {
     // The same after an opening, which is told.
     fn live_over<R: BufRead, W: Write>(
         &mut self,
-        db: Db<Counting<'a>>,
+        db: Db<Counting<'a>, Operator>,
         input: &mut R,
         output: &mut W,
     ) -> Result<(Kept, Verb), Stopped> {
@@ -405,7 +414,7 @@ impl<'a> Shell<'a> {
             reads: self.reads,
         };
         match Db::open(self.alloc, counting, DATABASE) {
-            Ok(db) => self.live_over(db, input, output),
+            Ok(db) => self.live_over(db.with_operators(), input, output),
             Err((counting, error)) => {
                 self.live_shut(Kept::refused(counting.inner, crashes), error, input, output)
             }

@@ -49,7 +49,7 @@ impl Kept {
     }
 
     /// The same, where the pages are counted that are read.
-    pub fn of_counting(db: Db<Counting<'_>>) -> Kept {
+    pub fn of_counting<M: MergeOperator>(db: Db<Counting<'_>, M>) -> Kept {
         Kept::refused(db.into_pages().inner, true)
     }
 

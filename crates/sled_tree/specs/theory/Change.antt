@@ -4,6 +4,7 @@ use Rattle.sled_pages.specs.declared.node.Data.{Data}
 use Rattle.sled_pages.specs.declared.node.Data.TheVariants.{Leaf, Index}
 use Rattle.sled_model.specs.declared.call.Call.{Call}
 use Rattle.sled_model.specs.declared.decision.Effect.TheVariants as effect
+use Rattle.sled_model.specs.Maps.{Merge}
 use Rattle.sled_model.specs.Answer.{key_of}
 use Rattle.sled_tree.specs.declared.act.Change.{Change}
 use Rattle.sled_tree.specs.Change.{link_of, decision_at}
@@ -17,7 +18,8 @@ abbrev pub IsIndex : Data → Type 0
 IsIndex (Leaf es) = ⊥
 IsIndex (Index es) = Unit {0}
 
--- the change that the call makes of what a leaf holds: the link of its effect, and its reply. Without an effect there is none
-abbrev pub IsChangeOf : Call → Data → Option Change → Type 0
-IsChangeOf call content None = (decision_at call content).effect ≡ effect.Nothing
-IsChangeOf call content (Some change) = (link_of (decision_at call content).effect (key_of call) ≡ Some change.link) × (change.reply ≡ (decision_at call content).reply)
+-- the change that the call makes of what a leaf holds, by the operator of its tree: the link of its effect, and its reply. Without an
+-- effect there is none
+abbrev pub IsChangeOf : Option Merge → Call → Data → Option Change → Type 0
+IsChangeOf merge call content None = (decision_at merge call content).effect ≡ effect.Nothing
+IsChangeOf merge call content (Some change) = (link_of (decision_at merge call content).effect (key_of call) ≡ Some change.link) × (change.reply ≡ (decision_at merge call content).reply)

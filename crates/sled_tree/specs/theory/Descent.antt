@@ -1,14 +1,9 @@
 -- Steps of a call in flight at pages where nothing is to be repaired.
-use Rattle.std.specs.Prelude.{◌≡◌, ◌≢◌, ℕ, ◌≤◌, ◌<◌, true, false, Option, Some, None, Result, Ok, Err}
+use Rattle.std.specs.Prelude.{◌≡◌, ℕ, ◌≤◌, ◌<◌, false, Option, Some, None, Result, Ok, Err}
 use Rattle.sled_pages.specs.Node.{count}
 use Rattle.sled_pages.specs.Store.{Store, now}
 use Rattle.sled_pages.specs.declared.error.Error.{Error}
-use Rattle.sled_pages.specs.declared.node.Data.{Data}
 use Rattle.sled_pages.specs.declared.page.View.{View}
-use Rattle.sled_model.specs.declared.call.Call.{Call}
-use Rattle.sled_model.specs.declared.decision.Effect.TheVariants.{Nothing}
-use Rattle.sled_model.specs.declared.reply.Reply.{Reply}
-use Rattle.sled_tree.specs.Change.{decision_at}
 use Rattle.sled_tree.specs.theory.Change.{IsLeaf}
 use Rattle.sled_tree.specs.Course.{Course}
 use Rattle.sled_tree.specs.Follows.{Follows, FollowsOn, follows_read}
@@ -64,11 +59,6 @@ abbrev pub met_as : Store → Course → Stage → Result (Option View) Error �
 met_as s j a (Ok None) = Leads s j a (Go stage.Root)
 met_as s j a (Ok (Some view)) = Meets s j a view
 met_as s j a (Err e) = Leads s j a (Refused e)
-
--- the reply of a call that changes nothing of what a leaf holds; a call that changes it has none yet
-abbrev pub IsReplyAt : Call → Data → Option Reply → Type 0
-IsReplyAt call content None = (decision_at call content).effect ≢ Nothing
-IsReplyAt call content (Some reply) = decision_at call content ≡ record { effect = Nothing; reply = reply }
 
 abbrev pub descends_as : Store → Course → Stage → Descent → Stage → Type 0
 descends_as s j a descent.None b = b ≡ a

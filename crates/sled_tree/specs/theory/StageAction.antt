@@ -4,6 +4,7 @@ use Rattle.sled_pages.specs.Store.{Store, now}
 use Rattle.sled_pages.specs.declared.page.View.{View}
 use Rattle.sled_pages.specs.declared.error.Error.{Error}
 use Rattle.sled_pages.specs.declared.error.Error.TheVariants.{Io, NoMemory}
+use Rattle.sled_model.specs.Maps.{Merge as Operator}
 use Rattle.sled_model.specs.Answer.{answer_of}
 use Rattle.sled_model.specs.declared.reply.Reply.{Reply}
 use Rattle.tree_laws.specs.Forest.{Tree, Forest, contents}
@@ -40,42 +41,56 @@ effect_of_action (Refused e) old new = is_action_refused_as e old new
 pub record KeepsContents (old : Snapshot) (w : Forest) (new : Snapshot) (v : Forest) : Type 0 where
   pub same : (t : Tree) → contents (nodes_at new) v t ≡ contents (nodes_at old) w t
 
--- The call replies and changes its tree as its answer on the contents now says. Without an event nothing is touched, and with
--- one there is exactly one action
-pub record DecidesAs (j : Course) (reply : Reply) (a b : Store) (old : Snapshot) (w : Forest) (new : Snapshot) (v : Forest) : Type 0 where
-  pub replies : reply ≡ (answer_of j.call (contents (nodes_at old) w j.tree.name)).reply
-  pub here : contents (nodes_at new) v j.tree.name ≡ (answer_of j.call (contents (nodes_at old) w j.tree.name)).map
+-- The call replies and changes its tree as its answer on the contents now says, by this operator. Without an event nothing is touched,
+-- and with one there is exactly one action
+pub record DecidesAs (operator : Option Operator) (j : Course) (reply : Reply) (a b : Store) (old : Snapshot) (w : Forest) (new : Snapshot) (v : Forest) : Type 0 where
+  pub replies : reply ≡ (answer_of operator j.call (contents (nodes_at old) w j.tree.name)).reply
+  pub here : contents (nodes_at new) v j.tree.name ≡ (answer_of operator j.call (contents (nodes_at old) w j.tree.name)).map
   pub others : (t : Tree) → t ≢ j.tree.name → contents (nodes_at new) v t ≡ contents (nodes_at old) w t
-  pub quiet : (answer_of j.call (contents (nodes_at old) w j.tree.name)).event ≡ None → b ≡ a
-  pub loud : (answer_of j.call (contents (nodes_at old) w j.tree.name)).event ≢ None → ActsOnce a b
+  pub quiet : (answer_of operator j.call (contents (nodes_at old) w j.tree.name)).event ≡ None → b ≡ a
+  pub loud : (answer_of operator j.call (contents (nodes_at old) w j.tree.name)).event ≢ None → ActsOnce a b
 
 abbrev pub owned_next : Next → List ℕ
 owned_next (Go stage) = owned stage
 owned_next (Decided reply) = []
 owned_next (Refused e) = []
 
--- what comes of an action from the store a to the store b
-abbrev pub StageOutcome : Course → Store → Store → Snapshot → Forest → Next → Snapshot → Forest → Type 0
-StageOutcome j a b old w (Go stage) new v = Knows new v j stage × KeepsContents old w new v
-StageOutcome j a b old w (Decided reply) new v = DecidesAs j reply a b old w new v
-StageOutcome j a b old w (Refused e) new v = KeepsContents old w new v
+-- what comes of an action from the store a to the store b. The call is decided as it is by each of these operators
+abbrev pub StageOutcome : (Option Operator → Type 0) → Course → Store → Store → Snapshot → Forest → Next → Snapshot → Forest → Type 0
+StageOutcome by j a b old w (Go stage) new v = Knows new v j stage × KeepsContents old w new v
+StageOutcome by j a b old w (Decided reply) new v = (operator : Option Operator) → by operator → DecidesAs operator j reply a b old w new v
+StageOutcome by j a b old w (Refused e) new v = KeepsContents old w new v
+
+-- all operators, and this one alone
+abbrev pub Whichever : Option Operator → Type 0
+Whichever operator = Unit {0}
+
+abbrev pub Only : Option Operator → Option Operator → Type 0
+Only this operator = operator ≡ this
 
 -- One page action of a call whose tree is current, from a stage to what comes next.
 -- At every forest that shows the pages well formed, where the stage's facts hold, there is a forest after
-pub record StageAction (j : Course) (old : Store) (stage : Stage) (next : Next) (new : Store) : Type 0 where
+pub record StageActionBy (by : Option Operator → Type 0) (j : Course) (old : Store) (stage : Stage) (next : Next) (new : Store) : Type 0 where
   pub touches : effect_of_action next old new
   pub is : (numbers : Tree → Option ℕ) (given : ℕ → Bool) (w : Forest)
       → HasForest (snapshot_of old numbers given) w → numbers j.tree.name ≡ Some j.tree.number → Knows (snapshot_of old numbers given) w j stage
-      → (v : Forest) × KeepsForest (owned stage) (owned_next next) (snapshot_of old numbers given) w (snapshot_of new numbers given) v × StageOutcome j old new (snapshot_of old numbers given) w next (snapshot_of new numbers given) v × leaks_no_page_as next (owned stage) (now old) (now new) v
+      → (v : Forest) × KeepsForest (owned stage) (owned_next next) (snapshot_of old numbers given) w (snapshot_of new numbers given) v × StageOutcome by j old new (snapshot_of old numbers given) w next (snapshot_of new numbers given) v × leaks_no_page_as next (owned stage) (now old) (now new) v
 
-abbrev pub flight_step_as : Store → InFlight → Went → Store → InFlight → Type 0
-flight_step_as old f went.Moved new g = (g.job ≡ f.job) × (g.aim ≡ f.aim) × (g.turns ≡ f.turns + 1) × StageAction (course_of f) old f.stage (Go g.stage) new
-flight_step_as old f (went.Decided reply) new g = StageAction (course_of f) old f.stage (Decided reply) new
-flight_step_as old f (went.Refused e) new g = StageAction (course_of f) old f.stage (Refused e) new
+-- .. that does not ask for the operator
+abbrev pub StageAction : Course → Store → Stage → Next → Store → Type 0
+StageAction = StageActionBy Whichever
+
+abbrev pub flight_step_as : (Option Operator → Type 0) → Store → InFlight → Went → Store → InFlight → Type 0
+flight_step_as by old f went.Moved new g = (g.job ≡ f.job) × (g.aim ≡ f.aim) × (g.turns ≡ f.turns + 1) × StageActionBy by (course_of f) old f.stage (Go g.stage) new
+flight_step_as by old f (went.Decided reply) new g = StageActionBy by (course_of f) old f.stage (Decided reply) new
+flight_step_as by old f (went.Refused e) new g = StageActionBy by (course_of f) old f.stage (Refused e) new
 
 -- one step of a call in flight: its stage's page action. Where the call goes on it has one turn more
-pub record FlightStep (old : Store) (f : InFlight) (went : Went) (new : Store) (g : InFlight) : Type 0 where
-  pub is : flight_step_as old f went new g
+pub record FlightStepBy (by : Option Operator → Type 0) (old : Store) (f : InFlight) (went : Went) (new : Store) (g : InFlight) : Type 0 where
+  pub is : flight_step_as by old f went new g
+
+abbrev pub FlightStep : Store → InFlight → Went → Store → InFlight → Type 0
+FlightStep = FlightStepBy Whichever
 
 -- a page that was just read, how the walk came to it, and that the call aims at its key
 abbrev pub IsReadPage : Snapshot → Forest → Course → View → Reached → Type 0
@@ -83,7 +98,7 @@ IsReadPage m w j v by = IsHere m w j.tree.name j.tree.number j.aim v by × IsAim
 
 -- what comes of a read, which changes nothing
 abbrev pub ReadOutcome : Course → Store → Snapshot → Forest → Next → Type 0
-ReadOutcome j s m w next = (owned_next next ≡ []) × StageOutcome j s s m w next m w
+ReadOutcome j s m w next = (owned_next next ≡ []) × StageOutcome Whichever j s s m w next m w
 
 -- What comes after a page was read, of every store where it was read
 pub record AfterPage (j : Course) (view : View) (by : Reached) (next : Next) : Type 0 where

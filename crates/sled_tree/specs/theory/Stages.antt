@@ -11,3 +11,8 @@ IsOfMerge (stage.Seek a) = Unit {0}
 IsOfMerge (stage.Receive a) = Unit {0}
 IsOfMerge (stage.Confirm a) = Unit {0}
 IsOfMerge other = ⊥
+
+-- the call is not to link its change
+abbrev pub IsElsewhere : Stage → Type 0
+IsElsewhere (stage.Act a) = ⊥
+IsElsewhere other = Unit {0}

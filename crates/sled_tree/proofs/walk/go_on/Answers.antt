@@ -1,5 +1,5 @@
 use Rattle.std.proofs.Common.{sym, ◌∙◌}
-use Rattle.sled_tree.proofs.Arriving.{hoists, goes_on, onward_below, onward_root}
+use Rattle.sled_tree.proofs.Arriving.{hoists, goes_on}
 use Rattle.sled_tree.proofs.walk.go_on.Goals as goal
 
 pub returns-in-Ok-clause-arrives : goal.returns-in-Ok-clause-arrives

@@ -5,7 +5,7 @@ use Rattle.sled_machine.proofs.Machines.{room_as, begun_as, begun_machine_as}
 use Rattle.sled_machine.proofs.machine.Machine.begin.Goals as goal
 
 pub returns-in-Err-clause-err : goal.returns-in-Err-clause-err
-returns-in-Err-clause-err g c = c.in-Err.ensures.err c.args.call
+returns-in-Err-clause-err g c = c.in-Err.ensures.err
 
 pub returns-in-Err-push-clause-err : goal.returns-in-Err-push-clause-err
 returns-in-Err-push-clause-err g c = room_as g.P.Pages.store g.P.Pages.flush_number g.M.MergeOperator.meant _ _ c.self.view_is c.self.invariant.0 _ _ _ c.in-Ok.ensures.tested c.in-Err-push.ensures.err (kept c.push.new.self.cells.items) (ap kept c.in-Err-push.ensures.same)

@@ -4,7 +4,7 @@ use Rattle.sled_machine.proofs.Finishing.{completed_as, completed_machine}
 use Rattle.sled_machine.proofs.machine.Machine.complete.Goals as goal
 
 pub returns-in-Err : goal.returns-in-Err
-returns-in-Err g c = inl (record { error = c.in-Err.e; is = refl; reaches = c.in-Err.ensures.err c.args.call })
+returns-in-Err g c = inl (record { error = c.in-Err.e; is = refl; reaches = c.in-Err.ensures.err })
 
 pub invariant_of-self : goal.invariant_of-self
 invariant_of-self g c =

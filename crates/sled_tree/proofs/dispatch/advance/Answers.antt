@@ -1,0 +1,9 @@
+use Rattle.std.proofs.Common.{rules}
+use Rattle.sled_tree.proofs.Facts.{flies_by_these}
+use Rattle.sled_tree.proofs.dispatch.advance.Goals as goal
+
+pub returns-in-Leaf-clause-advances : goal.returns-in-Leaf-clause-advances
+returns-in-Leaf-clause-advances g c = flies_by_these _ _ _ _ _ (search rules)
+
+pub returns-in-Next-clause-advances : goal.returns-in-Next-clause-advances
+returns-in-Next-clause-advances g c = flies_by_these _ _ _ _ _ (search rules)
