@@ -1,12 +1,12 @@
 //! A session of the shell: lines, from opening to opening.
 
-use crate::calls::{ask, run_steps, take_handle, tell, tell_refused, tell_turns};
+use crate::calls::{ask, run_steps, set_operator, take_handle, tell, tell_refused, tell_turns};
 use crate::counting::Counting;
 use crate::crowd::run_calls;
 use crate::forms::{Command, Verb, push_help, read};
 use crate::levels::tell_levels;
 use crate::look::{Look, tell_look};
-use crate::operators::{Operator, operator_of};
+use crate::operators::Operator;
 use crate::owned::{Owned, tell_owned};
 use crate::pops::tell_pop;
 use crate::store::Kept;
@@ -218,21 +218,6 @@ impl<'a> Shell<'a> {
         )
     }
 
-    // Gives the current tree the operator that the line names.
-    fn set_operator(
-        &mut self,
-        session: &mut Session<Counting<'a>, Operator>,
-    ) -> Result<(), Stopped> {
-        let name = first_word(without_end(self.line.as_slice())).1;
-        let Some(operator) = operator_of(name.unwrap_or(b"")) else {
-            return Err(Stopped);
-        };
-        match session.set_merge_operator(operator) {
-            Ok(()) => tell(&mut self.out, &[Text(b"done\n")]),
-            Err(error) => tell_refused(&mut self.out, error),
-        }
-    }
-
     // Answers a command that is a call of the database itself.
     fn owned(&mut self, state: &mut State<'a>, owned: Owned) -> Result<(), Stopped> {
         let shut = State::Shut(Kept::empty(self.alloc));
@@ -268,7 +253,9 @@ impl<'a> Shell<'a> {
                 &mut self.out,
             ),
             (State::Open(session), Verb::Look(which)) => self.look(session, which),
-            (State::Open(session), Verb::Operator) => self.set_operator(session),
+            (State::Open(session), Verb::Operator) => {
+                set_operator(session, self.line.as_slice(), &mut self.out)
+            }
             (State::Open(session), Verb::Pop(pop)) => tell_pop(session, pop, &mut self.out),
             (State::Open(session), verb) => {
                 ask(
