@@ -5,3 +5,5 @@ pub mod Meant
 pub mod Surviving
 pub mod Entries
 pub mod Queueing
+pub mod Typing
+pub mod Walking

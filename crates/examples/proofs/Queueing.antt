@@ -1,5 +1,5 @@
 -- What adding a job and taking one out do to the jobs that wait.
-use Rattle.std.proofs.Common.{◌≡◌, ℕ, Bool, true, false, not, cond, ◌&&◌, T, List, [], ◌∷◌, ◌++◌, Option, Some, None, option_map, is_some, Less, Equal, Greater, is_eq, sym, refl, ap, ◌∙◌, subst}
+use Rattle.std.proofs.Common.{◌≡◌, ℕ, Bool, true, false, not, cond, ◌&&◌, T, [], ◌∷◌, ◌++◌, Option, Some, None, option_map, is_some, Less, Equal, Greater, is_eq, sym, refl, ap, ◌∙◌, subst}
 use Rattle.std.specs.FinMap.Entries.{find, put, by_order, is_sorted, below_all}
 use Rattle.std.specs.List.{AllByRecursion}
 use Rattle.std.specs.Ordering.{is_lt, eq_by_cmp}
@@ -22,7 +22,6 @@ use Rattle.sled_model.specs.declared.reply.Reply.{Reply}
 use Rattle.sled_model.specs.declared.reply.Reply.TheVariants.{Pair}
 use Rattle.sled_model.specs.declared.tree.Tree.{Tree}
 use Rattle.tree_laws.specs.Forest.{contents}
-use Rattle.tree_laws.specs.Contents.{trees_of}
 use Rattle.tree_laws.specs.Snapshot.{nodes_at}
 use Rattle.tree_laws.proofs.Order.{key_total}
 use Rattle.tree_laws.proofs.Pairs.{above, without_above}
@@ -87,7 +86,7 @@ module _ {P M : Type 0} (store : P → Store) (meant : M → Merge) (old : DbVal
   decided_waits s named call = ap (λ o. jobs_of (option_map (λ (t : NamedTree). t.map) o)) (put_name_here s.trees queue.name (Some (record named { map = (answer_of call named.map).map })))
 
   -- a map's keys rise
-  rises : IsDb store old → (named : NamedTree) → (db_state store meant old).trees queue.name ≡ Some named → T (is_sorted key_cmp named.map)
+  pub rises : IsDb store old → (named : NamedTree) → (db_state store meant old).trees queue.name ≡ Some named → T (is_sorted key_cmp named.map)
   rises db named there = go (numbers_of old.trees queue.name) (sym (ap (option_map (λ (t : NamedTree). t.map)) there) ∙ ap (λ m. m queue.name) (maps_are store meant old db.forest db.is) ∙ trees_at (store old.pages) (numbers_of old.trees) (given_to old.trees_given) db.forest db.is queue.name)
     where
       go : (n : Option ℕ) → Some named.map ≡ option_map (λ _. contents (nodes_at (snapshot_of_db store old)) db.forest queue.name) n → T (is_sorted key_cmp named.map)

@@ -2,3 +2,5 @@ pub mod Reads
 pub mod Survive
 pub mod Index
 pub mod Queue
+pub mod Typed
+pub mod theory

@@ -1,5 +1,5 @@
 -- A queue of work in a tree of a database.
-use Rattle.std.specs.Prelude.{◌≡◌, List, [], ◌∷◌, ◌++◌, Option, Some, None}
+use Rattle.std.specs.Prelude.{◌≡◌, [], ◌∷◌, ◌++◌, Option, Some, None}
 use Rattle.std.specs.List.{AllByRecursion}
 use Rattle.sled_pages.specs.Order.{Key, Below}
 use Rattle.sled_pages.specs.Store.{Store}
