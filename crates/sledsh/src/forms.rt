@@ -1,6 +1,7 @@
 //! The commands: what each line asks for, and why a line asks for nothing.
 
 use crate::calls::tell;
+use crate::draw::Drawing;
 use crate::look::{Look, Side, read_bound};
 use crate::owned::Owned;
 use crate::pops::Pop;
@@ -27,6 +28,8 @@ pub enum Verb {
     Recover,
     Recovered,
     Pages,
+    /// A drawing of the tree.
+    Draw(Drawing),
     Crowd,
     Run,
     Reads,
@@ -49,7 +52,7 @@ type Form = (&'static str, &'static str, Verb, &'static str);
 
 // What a command takes has words of its own: K, V, P, OLD, NEW, DATABASE and NAME are byte strings, LO and HI bounds, STEP a step of a
 // call in flight, and the others numbers; `..` stands for more of the word before it.
-const FORMS: [Form; 65] = [
+const FORMS: [Form; 67] = [
     (
         "insert",
         "K V",
@@ -164,6 +167,18 @@ const FORMS: [Form; 65] = [
         "",
         Verb::Pages,
         "prints how many pages each level of the tree has, and the most entries of one of them",
+    ),
+    (
+        "draw",
+        "",
+        Verb::Draw(Drawing::Text),
+        "draws the tree level by level, with what is half done; slots end, as at `pages`",
+    ),
+    (
+        "draw dot",
+        "",
+        Verb::Draw(Drawing::Dot),
+        "the same as a graph for the program dot",
     ),
     (
         "crowd",
