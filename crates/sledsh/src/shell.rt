@@ -3,6 +3,7 @@
 use crate::calls::{ask, run_steps, set_operator, take_handle, tell, tell_refused, tell_turns};
 use crate::counting::Counting;
 use crate::crowd::run_calls;
+use crate::draw::{Drawing, tell_drawing};
 use crate::forms::{Command, Verb, push_help, read};
 use crate::levels::tell_levels;
 use crate::look::{Look, tell_look};
@@ -29,7 +30,7 @@ const DATABASE: &[u8] = b"sledsh";
 fn opening(last: Verb) -> &'static [u8] {
     match last {
         Verb::Crash => b"recovered\n",
-        Verb::Pages | Verb::Quit => b"",
+        Verb::Pages | Verb::Draw(_) | Verb::Quit => b"",
         _ => b"opened\n",
     }
 }
@@ -288,7 +289,7 @@ impl<'a> Shell<'a> {
             | Verb::Look(_)
             | Verb::Pop(_) => self.ask(state, verb, numbers),
             Verb::Owned(owned) => self.owned(state, owned),
-            Verb::Pages if is_shut => tell_refused(&mut self.out, Error::Closed),
+            Verb::Pages | Verb::Draw(_) if is_shut => tell_refused(&mut self.out, Error::Closed),
             Verb::Mark if numbers[0] < self.mark => self.tell_below(numbers[0]),
             Verb::Crowd => run_calls(self.alloc, numbers[0], numbers[1], &mut self.out),
             Verb::Reads => self.tell_reads(),
@@ -457,6 +458,18 @@ impl<'a> Shell<'a> {
         }
     }
 
+    // Adds a drawing of the tree. The pages are opened again without a word.
+    fn draw(&mut self, kept: Kept, drawing: Drawing) -> Result<Kept, Stopped> {
+        let tree = DEFAULT_TREE.as_bytes();
+        match tell_drawing(self.alloc, kept.pages(), tree, drawing, &mut self.out) {
+            Ok(()) => Ok(kept),
+            Err(stopped) => {
+                drop(kept);
+                Err(stopped)
+            }
+        }
+    }
+
     // What is made of the pages by a line that changes them, which are opened then.
     fn changed(&mut self, kept: Kept, verb: Verb) -> Result<Kept, Stopped> {
         self.last = verb;
@@ -474,6 +487,7 @@ impl<'a> Shell<'a> {
             Verb::Unreadable => kept.unreadable(numbers),
             Verb::Mark => Ok(self.set_aside(kept, first)),
             Verb::Pages => self.tell_levels(kept),
+            Verb::Draw(drawing) => self.draw(kept, drawing),
             _ => Ok(kept),
         }
     }
