@@ -1,5 +1,5 @@
 -- Of Words, for proofs. Words: how the byte strings, the numbers and the words themselves stand in a line.
-use Rattle.std.specs.Prelude.{◌≡◌, ℕ, ◌-◌, ◌<◌, List, length, Option, Some, None, MatchOption}
+use Rattle.std.specs.Prelude.{◌≡◌, ℕ, ◌<◌, List, length, Option, Some, None, MatchOption}
 use Rattle.std.specs.Borrow.{Bor}
 use Rattle.sled_lines.specs.Words.{and_then, bytes_of}
 
