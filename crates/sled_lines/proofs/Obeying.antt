@@ -7,7 +7,10 @@ use Rattle.sled_model.specs.declared.outcome.Outcome.{Outcome}
 use Rattle.tree_laws.specs.Contents.{trees_of}
 use Rattle.sled.specs.Export.{collections, RefusesExport}
 use Rattle.sled_lines.specs.Print.{Prints, outcome_line, refused_line, dump_text}
-use Rattle.sled_lines.specs.Session.{performs, obeys, Obeys}
+use Rattle.sled_lines.specs.Session.{slot_at, acts_at, performs, obeys, Obeys}
+use Rattle.sled_lines.specs.theory.Session.{ActsAndShows}
+use Rattle.sled_lines.specs.declared.session.Act.{Act}
+use Rattle.sled_lines.specs.declared.session.Act.TheVariants as act
 use Rattle.sled_lines.specs.declared.command.Command.{Command}
 use Rattle.sled_lines.specs.declared.command.Command.TheVariants as command
 use Rattle.sled_lines.specs.declared.print.Shown.{Shown}
@@ -39,6 +42,27 @@ module _ {P M : Type 0} (store : P → Store) (flush_number : P → ℕ) (meant 
       → new.tree ≡ old.tree → OnOk r (gathered_then ≡ gathered ++ outcome_line show o) → OnOk r (Obeys store flush_number meant old c new held gathered held gathered_then)
   obeyed_shown old c d show o new held gathered gathered_then (Ok done) same does tree is = subst (λ x. Obeys store flush_number meant old x new held gathered held gathered_then) (sym same) (obeyed old d show o new held gathered gathered_then does tree is)
   obeyed_shown old c d show o new held gathered gathered_then (Err e) same does tree is = tt
+
+  -- something is done in a slot, and its line is gathered, if it could be
+  pub acted_shown : {T E : Type 0} (old : Session P M) (a : Act) (n : ℕ) (show : Shown) (o : Outcome) (new : Session P M) (gathered gathered_then : List ℕ) (r : Result T E) → acts_at store flush_number meant old.machine a (slot_at old.slots.items n) show o new.machine
+      → new.tree ≡ old.tree → new.slots ≡ old.slots → OnOk r (gathered_then ≡ gathered ++ outcome_line show o) → OnOk r (ActsAndShows store flush_number meant old a n new gathered gathered_then)
+  acted_shown old a n show o new gathered gathered_then (Ok done) acts tree slots is = record { show = show; outcome = o; acts = acts; tree = tree; slots = slots; line = is }
+  acted_shown old a n show o new gathered gathered_then (Err e) acts tree slots is = tt
+
+  pub obeyed_step : {T E : Type 0} (old : Session P M) (c : Command) (n : ℕ) (new : Session P M) (held : Option (List ℕ)) (gathered gathered_then : List ℕ) (r : Result T E) → c ≡ command.Step n
+      → OnOk r (ActsAndShows store flush_number meant old act.Step n new gathered gathered_then) → OnOk r (Obeys store flush_number meant old c new held gathered held gathered_then)
+  obeyed_step old c n new held gathered gathered_then (Ok done) same did = subst (λ x. Obeys store flush_number meant old x new held gathered held gathered_then) (sym same) (obeyed old (command.Step n) did.show did.outcome new held gathered gathered_then (did.acts, did.slots) did.tree did.line)
+  obeyed_step old c n new held gathered gathered_then (Err e) same did = tt
+
+  pub obeyed_finish : {T E : Type 0} (old : Session P M) (c : Command) (n : ℕ) (new : Session P M) (held : Option (List ℕ)) (gathered gathered_then : List ℕ) (r : Result T E) → c ≡ command.Finish n
+      → OnOk r (ActsAndShows store flush_number meant old act.Finish n new gathered gathered_then) → OnOk r (Obeys store flush_number meant old c new held gathered held gathered_then)
+  obeyed_finish old c n new held gathered gathered_then (Ok done) same did = subst (λ x. Obeys store flush_number meant old x new held gathered held gathered_then) (sym same) (obeyed old (command.Finish n) did.show did.outcome new held gathered gathered_then (did.acts, did.slots) did.tree did.line)
+  obeyed_finish old c n new held gathered gathered_then (Err e) same did = tt
+
+  pub obeyed_abandon : {T E : Type 0} (old : Session P M) (c : Command) (n : ℕ) (new : Session P M) (held : Option (List ℕ)) (gathered gathered_then : List ℕ) (r : Result T E) → c ≡ command.Abandon n
+      → OnOk r (ActsAndShows store flush_number meant old act.Abandon n new gathered gathered_then) → OnOk r (Obeys store flush_number meant old c new held gathered held gathered_then)
+  obeyed_abandon old c n new held gathered gathered_then (Ok done) same did = subst (λ x. Obeys store flush_number meant old x new held gathered held gathered_then) (sym same) (obeyed old (command.Abandon n) did.show did.outcome new held gathered gathered_then (did.acts, did.slots) did.tree did.line)
+  obeyed_abandon old c n new held gathered gathered_then (Err e) same did = tt
 
   -- all pairs are printed
   pub obeyed_all : (s : Session P M) (held held_then : Option (List ℕ)) (gathered gathered_then text : List ℕ) → (now (store s.machine.db.pages)).in_group ≡ false

@@ -15,6 +15,7 @@ ghost use Rattle.sled_lines.specs.declared.command.Command.TheVariants as comman
 ghost use Rattle.sled_lines.specs.declared.print.Shown.{Shown};
 ghost use Rattle.sled_lines.specs.declared.session.Act.TheVariants as act;
 ghost use Rattle.sled_lines.specs.Session.{slot_at, turns_at, begins_as, acts_at, Obeys};
+ghost use Rattle.sled_lines.specs.theory.Session.{ActsAndShows};
 
 use crate::command::Command;
 use crate::input::Stopped;
@@ -241,6 +242,13 @@ impl<P: Pages, M: MergeOperator> Session<P, M> {
         (shown, outcome)
     }
 
+    // The same, and adds the line of how that came out.
+    fn act_and_show(&mut self, number: u64, act: Act, out: &mut Vec<u8>) -> Result<(), Stopped>
+        ensures { OnOk result (ActsAndShows P.store P.flush_number M.meant self.old act number self.new out.old.items out.new.items) }
+    {
+        show(out, self.act(number, act))
+    }
+
     // Prints all pairs.
     fn dump<W: Write>(&self, output: &mut W, out: &mut Vec<u8>) -> Result<(), Stopped>
         ensures { OnOk result (Obeys P.store P.flush_number M.meant self.now command.Dump self.now (W.contents output.old) out.old.items (W.contents output.new) out.new.items) }
@@ -264,9 +272,9 @@ impl<P: Pages, M: MergeOperator> Session<P, M> {
         match command {
             Command::Point(call) => show(out, self.point(call)),
             Command::Begin(call) => show(out, self.begin(call)?),
-            Command::Step(number) => show(out, self.act(number, Act::Step)),
-            Command::Finish(number) => show(out, self.act(number, Act::Finish)),
-            Command::Abandon(number) => show(out, self.act(number, Act::Abandon)),
+            Command::Step(number) => self.act_and_show(number, Act::Step, out),
+            Command::Finish(number) => self.act_and_show(number, Act::Finish, out),
+            Command::Abandon(number) => self.act_and_show(number, Act::Abandon, out),
             Command::Flush => show(out, (Shown::Value, self.flush())),
             Command::Crash(_) => Ok(()),
             Command::Dump => self.dump(output, out),
