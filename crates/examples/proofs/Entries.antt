@@ -93,17 +93,20 @@ module _ (law : KeepsPrefixes) (number : ℕ) (fits : number < 2 ^ 64) (map : Ma
 -- The loop over a scan of all these pairs: what was found and what is still to come are all of them, and the keys that were found
 -- are byte strings
 abbrev pub Goes : {P : Type 0} → Map → Map → Coming P → Type 0
-Goes all found coming = (found ++ coming.pairs ≡ all) × (coming.ended ≡ false) × AllByRecursion (λ e. IsBytes e.0) found
+Goes all found coming = (found ++ coming.pairs ≡ all) × (coming.ended ≡ true → coming.pairs ≡ []) × AllByRecursion (λ e. IsBytes e.0) found
 
 all_and : (entry : Key × Key) (found : Map) → AllByRecursion (λ e. IsBytes e.0) found → IsBytes entry.0 → AllByRecursion (λ e. IsBytes e.0) (found ++ entry ∷ [])
 all_and entry [] each last = (last, tt)
 all_and entry (e ∷ found) each last = (each.0, all_and entry found each.1 last)
 
-nothing_left : (pairs : Map) (ended : Bool) → ended ≡ false → (pairs ≡ []) ⊎ (ended ≡ true) → pairs ≡ []
-nothing_left pairs ended going (inl e) = e
-nothing_left pairs ended going (inr e) = cc
+nothing_left : (pairs : Map) (ended : Bool) → (ended ≡ true → pairs ≡ []) → (pairs ≡ []) ⊎ (ended ≡ true) → pairs ≡ []
+nothing_left pairs ended none (inl e) = e
+nothing_left pairs ended none (inr e) = none e
 
-pub goes_first : {P : Type 0} (found : Map) (entries : Coming P) → found ≡ [] → entries.ended ≡ false → Goes entries.pairs found entries
+pub not_ended : {P : Type 0} (entries : Coming P) → entries.ended ≡ false → entries.ended ≡ true → entries.pairs ≡ []
+not_ended entries e h = absurd cc
+
+pub goes_first : {P : Type 0} (found : Map) (entries : Coming P) → found ≡ [] → (entries.ended ≡ true → entries.pairs ≡ []) → Goes entries.pairs found entries
 goes_first found entries e going = (ap (λ m. m ++ entries.pairs) e, going, subst (λ m. AllByRecursion (λ e. IsBytes e.0) m) (sym e) tt)
 
 module _ {P : Type 0} (store : P → Store) (all found : Map) (old new : Coming P) where
@@ -120,7 +123,7 @@ module _ {P : Type 0} (store : P → Store) (all found : Map) (old new : Coming 
             ∙ ap (λ (e : Key × Key). found ++ e ∷ rest) same
             ∙ ap (λ pairs. found ++ pairs) (sym splits)
             ∙ i.0,
-        ap (λ (c : Coming P). c.ended) left ∙ i.1,
+        not_ended new (ap (λ (c : Coming P). c.ended) left ∙ takes.is.0),
         subst (λ m. AllByRecursion (λ e. IsBytes e.0) m) (sym is) (all_and entry found i.2 bytes),
       )
 

@@ -7,3 +7,5 @@ pub mod Surviving
 pub mod Entries
 pub mod Queueing
 pub mod Rising
+pub mod Typing
+pub mod Walking

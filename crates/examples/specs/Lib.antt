@@ -3,3 +3,5 @@ pub mod Survive
 pub mod Index
 pub mod Queue
 pub mod Ids
+pub mod Typed
+pub mod theory

@@ -1,6 +1,6 @@
 //! An index in a tree: its keys are a number and then a text, as a customer and the name of an order, spelled so that their bytes
 //! are in the order of the parts.
-ghost use Rattle.std.specs.Prelude.{◌≡◌, false, IfOk};
+ghost use Rattle.std.specs.Prelude.{◌≡◌, true, [], IfOk};
 ghost use Rattle.std.specs.List.{AllByRecursion};
 ghost use Rattle.sled.specs.Reads.{ReadsMap};
 ghost use Rattle.tree_reads.specs.Prefixes.{IsBytes};
@@ -13,9 +13,12 @@ use sled_pages::{IVec, Pages, Result};
 use std::alloc::Global;
 use std::iter::Iterator;
 
-// All that is still to come of a scan. Each key is a byte string, since it was given.
-fn all_of<P: Pages>(alloc: Global, entries: &mut Iter<'_, P>) -> Result<Vec<(IVec, IVec)>>
-    requires { entries.old.ended ≡ false }
+// All that is still to come of a scan, which has ended only where nothing is. Each key is a byte string, since it was given.
+pub(crate) fn all_of<P: Pages>(
+    alloc: Global,
+    entries: &mut Iter<'_, P>,
+) -> Result<Vec<(IVec, IVec)>>
+    requires { entries.old.ended ≡ true → entries.old.pairs ≡ [] }
     ensures all { IfOk result (λ found. found.items ≡ entries.old.pairs) }
     ensures bytes { IfOk result (λ found. AllByRecursion (λ e. IsBytes e.0) found.items) }
 {

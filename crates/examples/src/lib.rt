@@ -1,6 +1,6 @@
 //! Callers that are proved from public contracts alone, as a user would write them: what those contracts say is enough to build
 //! on. `callers` are examples of a machine, `index` of a scan, `recovery` of a crash, `ids` of two runs with a crash between them,
-//! and `queue` of a database that takes pairs out.
+//! `queue` of a database that takes pairs out, and `typed` of keys and values of a user's own types.
 #![tactic(auto)]
 
 mod callers;
@@ -8,6 +8,7 @@ mod ids;
 mod index;
 mod queue;
 mod recovery;
+mod typed;
 
 pub use callers::{
     crash, get, get_in_new, insert_then_get, insert_then_get_in_new, race, reopen, reopen_then_get,
@@ -16,3 +17,4 @@ pub use ids::run_twice;
 pub use index::entries_under;
 pub use queue::{add, take};
 pub use recovery::survive;
+pub use typed::{Reading, Spelled, TypedError, TypedResult, look_up, put, walk};

@@ -56,6 +56,10 @@ impl<P: Pages, M: MergeOperator> Db<P, M> {
 
     /// What holds of every database: its pages are well formed now and in every state that a crash may leave, its trees are
     /// those that the pages have roots for, and the pairs of each of its maps rise by key. It does nothing.
+    ///
+    /// ```
+    /// db.audit(); // From here on a proof knows that `db` is well formed.
+    /// ```
     pub fn audit(&self)
         ensures sound { IsDb P.store self.now }
         ensures ascend { MapsAscend (maps_of (db_state P.store M.meant self.now)) }
@@ -64,11 +68,20 @@ impl<P: Pages, M: MergeOperator> Db<P, M> {
     }
 
     /// The allocator that the database was made with.
+    ///
+    /// ```
+    /// let name = IVec::from_slice(db.allocator(), b"ulm")?;
+    /// ```
     pub fn allocator(&self) -> Global {
         self.alloc
     }
 
     /// The pages, as they are. They can be opened again where no group is open.
+    ///
+    /// ```
+    /// let pages = db.into_pages();
+    /// let db = Db::open(alloc, pages, b"weather"); // The same trees.
+    /// ```
     pub fn into_pages(self) -> P
         ensures pages { result ≡ self.pages }
         ensures sound { IsDb P.store self }
@@ -80,6 +93,10 @@ impl<P: Pages, M: MergeOperator> Db<P, M> {
     }
 
     /// Whether the store was made from what an earlier one left.
+    ///
+    /// ```
+    /// let is_recovered = db.was_recovered(); // `false` over a new store.
+    /// ```
     pub fn was_recovered(&self) -> bool
         ensures { result ≡ (P.store self.now.pages).recovered }
     {
@@ -87,6 +104,11 @@ impl<P: Pages, M: MergeOperator> Db<P, M> {
     }
 
     /// The default tree. Refused with `Closed` and `NoMemory` alone.
+    ///
+    /// ```
+    /// let tree = db.default_tree()?;
+    /// let found = db.get(&tree, b"ulm")?;
+    /// ```
     #[tactic(auto, unfolding(crate::specs::Values::default_name))]
     pub fn default_tree(&self) -> Result<Tree>
         ensures ok { IfOk result (IsHandle self.now default_name) }
@@ -108,6 +130,10 @@ impl<P: Pages, M: MergeOperator> Db<P, M> {
 
     /// The tests that come before every call on a tree, in this order: that the database is open, that the tree is its
     /// own, and that the tree was not dropped.
+    ///
+    /// ```
+    /// db.check(&tree)?; // Open, of this database, and not dropped.
+    /// ```
     pub fn check(&self, tree: &Tree) -> Result<()>
         ensures ok { OnOk result (must_refuse_of (db_state P.store M.meant self.now) (tree.now ∷ []) ≡ None) }
         ensures err { IfErr result (MustBeRefused (must_refuse_of (db_state P.store M.meant self.now) (tree.now ∷ []))) }
@@ -151,6 +177,11 @@ impl<P: Pages, M: MergeOperator> Db<P, M> {
     }
 
     /// One step of a call in flight, which may do one page action. The tests come first, and the count of turns last.
+    ///
+    /// ```
+    /// let mut flight = InFlight::new(tree, Call::Get(key));
+    /// let went = db.advance(&mut flight); // One page action at most.
+    /// ```
     pub fn advance(&mut self, flight: &mut InFlight) -> Went
         requires { IsKnown (snapshot_of_db P.store self.old) flight.old }
         ensures step { DbStep P.store M.meant self.old flight.old result self.new flight.new }
@@ -182,6 +213,11 @@ impl<P: Pages, M: MergeOperator> Db<P, M> {
     }
 
     /// Steps of a call in flight until it ends. The tests are made once, since no step of a call changes what they look at.
+    ///
+    /// ```
+    /// let mut flight = InFlight::new(tree, Call::Get(key));
+    /// let went = db.advance_to_end(&mut flight); // Decided or refused, never `Moved`.
+    /// ```
     pub fn advance_to_end(&mut self, flight: &mut InFlight) -> Went
         requires { IsKnown (snapshot_of_db P.store self.old) flight.old }
         ensures { DbRunsToEnd P.store M.meant self.old flight.old result self.new flight.new }
@@ -193,6 +229,10 @@ impl<P: Pages, M: MergeOperator> Db<P, M> {
     }
 
     /// The same of a call that passed the tests.
+    ///
+    /// ```
+    /// let went = db.advance_on(&mut flight); // After `db.check_call(&tree, &call)?`, which it does not repeat.
+    /// ```
     pub fn advance_on(&mut self, flight: &mut InFlight) -> Went
         requires known { IsKnown (snapshot_of_db P.store self.old) flight.old }
         requires tested { must_refuse (db_state P.store M.meant self.old) (ToStep (call_in_flight_of flight.old)) ≡ None }
@@ -207,6 +247,11 @@ impl<P: Pages, M: MergeOperator> Db<P, M> {
     }
 
     /// Makes all that was decided durable. The number that it answers is the store's.
+    ///
+    /// ```
+    /// db.insert(&tree, b"ulm", b"21")?;
+    /// let count = db.flush()?; // No crash takes the insert back now.
+    /// ```
     pub fn flush(&mut self) -> Result<usize>
         ensures ok { IfOk result (λ number. FlushesDb P.store P.flush_number M.meant self.old number self.new) }
         ensures err { IfErr result (RefusesFlush P.store M.meant self.old self.new) }

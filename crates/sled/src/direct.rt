@@ -160,6 +160,11 @@ impl<P: Pages, M: MergeOperator> Db<P, M> {
     ///
     /// Like a call of a machine it repairs what it meets half done on its way: splits and merges that a call before it did
     /// not finish. These stay also where it is refused itself, and change no map.
+    ///
+    /// ```
+    /// let stood = db.insert(&tree, b"ulm", b"21")?;
+    /// // Of an absent key nothing stood; a second insert answers the first one's value.
+    /// ```
     pub fn insert(&mut self, tree: &Tree, key: &[u8], value: &[u8]) -> Result<Option<IVec>>
         ensures ok { IfOk result (λ stood. PointDecided P.store M.meant self.old tree.now (call.Insert key.now value.now) (told.Value stood) self.new) }
         ensures err { IfErr result (λ e. PointRefused P.store M.meant self.old tree.now (call.Insert key.now value.now) e self.new) }
@@ -178,6 +183,10 @@ impl<P: Pages, M: MergeOperator> Db<P, M> {
     }
 
     /// Another name of `insert`.
+    ///
+    /// ```
+    /// let stood = db.set(&tree, b"ulm", b"21")?;
+    /// ```
     pub fn set(&mut self, tree: &Tree, key: &[u8], value: &[u8]) -> Result<Option<IVec>>
         ensures ok { IfOk result (λ stood. PointDecided P.store M.meant self.old tree.now (call.Insert key.now value.now) (told.Value stood) self.new) }
         ensures err { IfErr result (λ e. PointRefused P.store M.meant self.old tree.now (call.Insert key.now value.now) e self.new) }
@@ -186,6 +195,12 @@ impl<P: Pages, M: MergeOperator> Db<P, M> {
     }
 
     /// Takes a key out, and answers the value that stood there, or `None` where the key was absent. Then nothing is written.
+    ///
+    /// ```
+    /// db.insert(&tree, b"ulm", b"21")?;
+    /// let stood = db.remove(&tree, b"ulm")?; // `Some`, the bytes `21`.
+    /// let none = db.remove(&tree, b"ulm")?; // `None`.
+    /// ```
     pub fn remove(&mut self, tree: &Tree, key: &[u8]) -> Result<Option<IVec>>
         ensures ok { IfOk result (λ stood. PointDecided P.store M.meant self.old tree.now (call.Remove key.now) (told.Value stood) self.new) }
         ensures err { IfErr result (λ e. PointRefused P.store M.meant self.old tree.now (call.Remove key.now) e self.new) }
@@ -204,6 +219,10 @@ impl<P: Pages, M: MergeOperator> Db<P, M> {
     }
 
     /// Another name of `remove`.
+    ///
+    /// ```
+    /// let stood = db.del(&tree, b"ulm")?;
+    /// ```
     pub fn del(&mut self, tree: &Tree, key: &[u8]) -> Result<Option<IVec>>
         ensures ok { IfOk result (λ stood. PointDecided P.store M.meant self.old tree.now (call.Remove key.now) (told.Value stood) self.new) }
         ensures err { IfErr result (λ e. PointRefused P.store M.meant self.old tree.now (call.Remove key.now) e self.new) }
@@ -233,6 +252,12 @@ impl<P: Pages, M: MergeOperator> Db<P, M> {
     /// Where the value `old` stands at a key, `None` being no value, sets `new` there, or takes the key out for `None`. Else
     /// it writes nothing, and answers the value that stands and the one that was proposed. A value that is swapped for an
     /// equal one is written.
+    ///
+    /// ```
+    /// // From no value to `21`, and from there to none.
+    /// let made = db.compare_and_swap(&tree, b"ulm", None, Some(b"21"))?;
+    /// let gone = db.compare_and_swap(&tree, b"ulm", Some(b"21"), None)?;
+    /// ```
     pub fn compare_and_swap(
         &mut self,
         tree: &Tree,

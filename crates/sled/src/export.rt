@@ -173,6 +173,10 @@ fn collections_of<P: Pages>(
 impl<P: Pages, M: MergeOperator> Db<P, M> {
     /// The collection of every tree, in the order of the names, its pairs ascending by key. It reads the pages as they are
     /// and repairs nothing. Refused with `Closed`, with `Io` where a page cannot be read, and with `NoMemory`.
+    ///
+    /// ```
+    /// let collections = db.export()?; // Each tree with its name and its pairs, in the order of the names.
+    /// ```
     pub fn export(&self) -> Result<Vec<Collection>>
         ensures ok { IfOk result (λ all. map (λ c. (c.0.items, c.1.items, c.2.items)) all.items ≡ collections (trees_of (now (P.store self.now.pages))) self.now.trees) }
         ensures no_group { OnOk result ((now (P.store self.now.pages)).in_group ≡ false) }

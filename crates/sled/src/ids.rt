@@ -49,6 +49,11 @@ impl<P: Pages, M: MergeOperator> Db<P, M> {
     /// are set aside it asks for no memory, and of the store for its mark and whether it is open. Else 4096 are set aside first, or
     /// as many as are left. Refused with `Closed`; and where none is set aside with `Unsupported` after the greatest `u64`,
     /// and as the store refuses.
+    ///
+    /// ```
+    /// let first = db.generate_id()?;
+    /// let second = db.generate_id()?; // Greater by one.
+    /// ```
     pub fn generate_id(&mut self) -> Result<u64>
         ensures ok { IfOk result (λ id. GivesId P.store M.meant self.old id self.new) }
         ensures err { IfErr result (λ e. RefusesId P.store M.meant self.old e self.new) }

@@ -10,6 +10,10 @@ use sled_pages::{MemPages, Result};
 use std::alloc::Global;
 
 /// An empty store, which can be opened.
+///
+/// ```
+/// let db = Db::open(alloc, empty_pages(alloc), b"weather");
+/// ```
 pub fn empty_pages(alloc: Global) -> MemPages
     ensures empty { store_of result ≡ empty_store }
     ensures well { IsValid (now (store_of result)) }
@@ -20,6 +24,11 @@ pub fn empty_pages(alloc: Global) -> MemPages
 
 /// What a crash leaves of a database's pages that keeps this many of the actions since the last flush, less a group that is
 /// not sealed within them. It can be opened. Refused with `NoMemory` alone: then the store is lost.
+///
+/// ```
+/// let left = crash_pages(db.into_pages(), 3)?; // Three actions after the last flush, at most.
+/// let db = Db::open(alloc, left, b"weather");
+/// ```
 pub fn crash_pages(pages: MemPages, keep: usize) -> Result<MemPages>
     requires { IsCrashConsistent (store_of pages) }
     ensures ok { IfOk result (λ left. Crashes keep (store_of pages) (store_of left)) }

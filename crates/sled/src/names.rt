@@ -26,6 +26,10 @@ impl<P: Pages, M: MergeOperator> Db<P, M> {
 
     /// The names of all trees, the default tree's among them, in byte order. It reads no page. Refused with `Closed` and
     /// `NoMemory` alone.
+    ///
+    /// ```
+    /// let names = db.tree_names()?; // Of a new database the default tree alone.
+    /// ```
     pub fn tree_names(&self) -> Result<Vec<IVec>>
         ensures ok { IfOk result (λ names. AreNames (db_state P.store M.meant self.now) names.items) }
         ensures err { IfErr result (RefusesHandle (P.store self.now.pages)) }

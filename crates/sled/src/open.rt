@@ -96,6 +96,16 @@ impl<P: Pages> Db<P> {
     /// All is flushed then, and the numbers of the trees that earlier databases over these pages gave mean nothing to it.
     /// Refused with `Io` where the store counts a fault, and with `NoMemory`. The pages that are given back can be opened
     /// again: they have all their pairs, and at most the empty default tree is new.
+    ///
+    /// ```
+    /// let db = match Db::open(alloc, empty_pages(alloc), b"weather") {
+    ///     Ok(db) => db,
+    ///     Err((pages, e)) => {
+    ///         drop(pages);
+    ///         return Err(e);
+    ///     }
+    /// };
+    /// ```
     pub fn open(alloc: Global, pages: P, name: &[u8]) -> std::result::Result<Db<P>, (P, Error)>
         requires well { IsValid (now (P.store pages)) }
         requires no_group { (now (P.store pages)).in_group ≡ false }

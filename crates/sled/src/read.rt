@@ -51,6 +51,12 @@ impl<P: Pages, M: MergeOperator> Db<P, M> {
     }
 
     /// The value at a key, or `None` where it is absent. It reads one page of each level where nothing on the way is half done.
+    ///
+    /// ```
+    /// if let Some(value) = db.get(&tree, b"ulm")? {
+    ///     let bytes = value.as_ref();
+    /// }
+    /// ```
     pub fn get(&self, tree: &Tree, key: &[u8]) -> Result<Option<IVec>>
         ensures ok { IfOk result (λ value. ReadsMap P.store M.meant self.now tree.now (λ map. value ≡ find key_cmp key.now map)) }
         ensures err { IfErr result (RefusesReading P.store M.meant self.now tree.now once) }
@@ -67,6 +73,10 @@ impl<P: Pages, M: MergeOperator> Db<P, M> {
     }
 
     /// Whether a key is present.
+    ///
+    /// ```
+    /// let is_there = db.contains_key(&tree, b"ulm")?;
+    /// ```
     pub fn contains_key(&self, tree: &Tree, key: &[u8]) -> Result<bool>
         ensures ok { IfOk result (λ there. ReadsMap P.store M.meant self.now tree.now (λ map. there ≡ is_some (find key_cmp key.now map))) }
         ensures err { IfErr result (RefusesReading P.store M.meant self.now tree.now once) }
@@ -113,6 +123,11 @@ impl<P: Pages, M: MergeOperator> Db<P, M> {
     }
 
     /// The pair with the greatest key below this one.
+    ///
+    /// ```
+    /// // Of the keys bern and ulm, bern.
+    /// let before = db.get_lt(&tree, b"ulm")?;
+    /// ```
     pub fn get_lt(&self, tree: &Tree, key: &[u8]) -> Result<Option<(IVec, IVec)>>
         ensures ok { IfOk result (λ found. ReadsMap P.store M.meant self.now tree.now (λ map. IsPredecessor (Excluded key.now) map found)) }
         ensures err { IfErr result (RefusesReading P.store M.meant self.now tree.now for_each) }
@@ -121,6 +136,11 @@ impl<P: Pages, M: MergeOperator> Db<P, M> {
     }
 
     /// The pair with the least key above this one.
+    ///
+    /// ```
+    /// // Of the keys bern and ulm, ulm.
+    /// let after = db.get_gt(&tree, b"bern")?;
+    /// ```
     pub fn get_gt(&self, tree: &Tree, key: &[u8]) -> Result<Option<(IVec, IVec)>>
         ensures ok { IfOk result (λ found. ReadsMap P.store M.meant self.now tree.now (λ map. IsSuccessor (Excluded key.now) map found)) }
         ensures err { IfErr result (RefusesReading P.store M.meant self.now tree.now once) }
@@ -129,6 +149,10 @@ impl<P: Pages, M: MergeOperator> Db<P, M> {
     }
 
     /// The pair with the least key.
+    ///
+    /// ```
+    /// let least = db.first(&tree)?; // `None` of an empty tree.
+    /// ```
     pub fn first(&self, tree: &Tree) -> Result<Option<(IVec, IVec)>>
         ensures ok { IfOk result (λ found. ReadsMap P.store M.meant self.now tree.now (λ map. IsSuccessor Unbounded map found)) }
         ensures err { IfErr result (RefusesReading P.store M.meant self.now tree.now once) }
@@ -137,6 +161,10 @@ impl<P: Pages, M: MergeOperator> Db<P, M> {
     }
 
     /// The pair with the greatest key.
+    ///
+    /// ```
+    /// let greatest = db.last(&tree)?; // `None` of an empty tree.
+    /// ```
     pub fn last(&self, tree: &Tree) -> Result<Option<(IVec, IVec)>>
         ensures ok { IfOk result (λ found. ReadsMap P.store M.meant self.now tree.now (λ map. IsPredecessor Unbounded map found)) }
         ensures err { IfErr result (RefusesReading P.store M.meant self.now tree.now for_each) }
@@ -145,6 +173,10 @@ impl<P: Pages, M: MergeOperator> Db<P, M> {
     }
 
     /// How many pairs there are. It reads each leaf.
+    ///
+    /// ```
+    /// let count = db.len(&tree)?; // It reads the leaves.
+    /// ```
     pub fn len(&self, tree: &Tree) -> Result<usize>
         ensures ok { IfOk result (λ count. ReadsMap P.store M.meant self.now tree.now (λ map. count ≡ length map)) }
         ensures err { IfErr result (RefusesReading P.store M.meant self.now tree.now once) }
@@ -160,6 +192,10 @@ impl<P: Pages, M: MergeOperator> Db<P, M> {
     }
 
     /// Whether there is no pair.
+    ///
+    /// ```
+    /// let is_new = db.is_empty(&tree)?;
+    /// ```
     pub fn is_empty(&self, tree: &Tree) -> Result<bool>
         ensures ok { IfOk result (λ empty. ReadsMap P.store M.meant self.now tree.now (λ map. IsTrue empty ↔ (map ≡ []))) }
         ensures err { IfErr result (RefusesReading P.store M.meant self.now tree.now once) }
@@ -175,6 +211,13 @@ impl<P: Pages, M: MergeOperator> Db<P, M> {
     }
 
     /// All pairs, from both ends. It reads no page; the iterator does.
+    ///
+    /// ```
+    /// let mut pairs = db.iter(&tree)?;
+    /// while let Some(pair) = pairs.next() {
+    ///     let (key, value) = pair?;
+    /// }
+    /// ```
     pub fn iter(&self, tree: &Tree) -> Result<Iter<'_, P>>
         ensures ok { IfOk result (Begins P.store M.meant self.now tree.now Unbounded Unbounded) }
         ensures err { IfErr result (RefusesRange P.store M.meant self.now tree.now) }
@@ -193,6 +236,13 @@ impl<P: Pages, M: MergeOperator> Db<P, M> {
     }
 
     /// The pairs within two bounds, from both ends. It reads no page; the iterator does.
+    ///
+    /// ```
+    /// // From bern on, and below ulm.
+    /// let mut pairs = db.range(&tree, Bound::Included(b"bern"), Bound::Excluded(b"ulm"))?;
+    /// let first = pairs.next();
+    /// let last = pairs.next_back();
+    /// ```
     pub fn range(&self, tree: &Tree, lo: Bound<&[u8]>, hi: Bound<&[u8]>) -> Result<Iter<'_, P>>
         ensures ok { IfOk result (Begins P.store M.meant self.now tree.now (bound_of lo.entry) (bound_of hi.entry)) }
         ensures err { IfErr result (RefusesRange P.store M.meant self.now tree.now) }
@@ -219,6 +269,11 @@ impl<P: Pages, M: MergeOperator> Db<P, M> {
     ///
     /// They lie from the prefix on and below the prefix without its last bytes 255 and with the last byte that is left raised by
     /// one; where nothing is left they have no upper bound.
+    ///
+    /// ```
+    /// // The keys that begin with be, as bern.
+    /// let mut pairs = db.scan_prefix(&tree, b"be")?;
+    /// ```
     pub fn scan_prefix(&self, tree: &Tree, prefix: &[u8]) -> Result<Iter<'_, P>>
         ensures ok { IfOk result (BeginsWith P.store M.meant self.now tree.now prefix.now) }
         ensures err { IfErr result (RefusesRange P.store M.meant self.now tree.now) }

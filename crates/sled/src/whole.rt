@@ -39,6 +39,12 @@ impl<P: Pages, M: MergeOperator> Db<P, M> {
 
     /// Takes out the pair with the least key, and answers it; or `None`, where the tree is empty. The pair is read without a repair,
     /// and then removed by the steps of `remove`.
+    ///
+    /// ```
+    /// if let Some((key, value)) = db.pop_min(&tree)? {
+    ///     // The pair with the least key is out of the tree.
+    /// }
+    /// ```
     pub fn pop_min(&mut self, tree: &Tree) -> Result<Option<(IVec, IVec)>>
         ensures ok { IfOk result (λ found. WholeDecided P.store M.meant self.old (PopMin tree.now) (Pair found) self.new) }
         ensures err { IfErr result (λ e. WholeRefused P.store M.meant self.old (PopMin tree.now) e self.new) }
@@ -57,6 +63,12 @@ impl<P: Pages, M: MergeOperator> Db<P, M> {
     }
 
     /// Takes out the pair with the greatest key, and answers it; or `None`, where the tree is empty.
+    ///
+    /// ```
+    /// if let Some((key, value)) = db.pop_max(&tree)? {
+    ///     // The pair with the greatest key is out of the tree.
+    /// }
+    /// ```
     pub fn pop_max(&mut self, tree: &Tree) -> Result<Option<(IVec, IVec)>>
         ensures ok { IfOk result (λ found. WholeDecided P.store M.meant self.old (PopMax tree.now) (Pair found) self.new) }
         ensures err { IfErr result (λ e. WholeRefused P.store M.meant self.old (PopMax tree.now) e self.new) }
@@ -76,6 +88,11 @@ impl<P: Pages, M: MergeOperator> Db<P, M> {
 
     /// Takes out all keys, one after the other from the least up, each as `pop_min` does. It is not atomic: refused midway, the
     /// keys that are out stay out.
+    ///
+    /// ```
+    /// db.clear(&tree)?;
+    /// let is_empty = db.is_empty(&tree)?; // `true`.
+    /// ```
     pub fn clear(&mut self, tree: &Tree) -> Result<()>
         ensures ok { OnOk result (WholeDecided P.store M.meant self.old (Clear tree.now) Done self.new) }
         ensures err { IfErr result (λ e. WholeRefused P.store M.meant self.old (Clear tree.now) e self.new) }

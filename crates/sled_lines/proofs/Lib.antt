@@ -4,3 +4,5 @@ mod Lines
 mod Shortest
 mod Reading
 mod Printing
+mod Obeying
+mod Living

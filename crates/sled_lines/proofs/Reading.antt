@@ -1,13 +1,18 @@
 -- How a text is read line by line.
-use Rattle.std.proofs.Common.{◌≡◌, ℕ, suc, ◌+◌, ◌-◌, ◌<◌, ◌==◌, ◌&&◌, Bool, true, false, List, [], ◌∷◌, ◌++◌, length, get_or, take, nat_lt, Option, Some, None, IfSome, IsSome, is_some, refl, sym, subst, ap, ◌∙◌, arith, if◌then◌else◌}
+use Rattle.std.proofs.Common.{◌≡◌, ℕ, suc, ◌+◌, ◌-◌, ◌<◌, ◌==◌, ◌&&◌, Bool, true, false, List, [], ◌∷◌, length, get_or, take, nat_lt, Option, Some, None, IfSome, IsSome, is_some, refl, sym, subst, ap, ◌∙◌, arith, if◌then◌else◌}
 use Rattle.std.proofs.lemmas.Bool.{cond-true, cond-false, eqb-true, lt-ltb}
 use Rattle.std.specs.Io.BufRead.{take_through, drop_through, ends_with_byte, strip_last, first_piece, DropsThrough}
+use Rattle.std.specs.Io.KnownBytes.{IsAtEnd}
 use Rattle.std.specs.List.{slice_split, onto_first}
 use Rattle.std.proofs.lemmas.List.Splits.{slice_split-cons_yes, slice_split-cons_no, length-slice_split}
 use Rattle.std.specs.Str.{bytes_eq}
 use Rattle.sled_lines.specs.declared.command.Command.{Command}
 use Rattle.sled_lines.specs.Command.{command_of}
 use Rattle.sled_lines.specs.Serve.{without_last, lines_of, first_bad, bad_left}
+use Rattle.sled_lines.specs.theory.Serve.{crash_of, BeginsSo, Took, Takes, IsToDo, Reads}
+use Rattle.sled_lines.specs.declared.command.Command.TheVariants as command
+use Rattle.sled_lines.specs.declared.serve.Line.{Line}
+use Rattle.sled_lines.specs.declared.serve.Line.TheVariants as line
 
 nil_not_cons : {X : Type 0} {x : X} {xs : List X} → [] ≡ x ∷ xs → ⊥
 nil_not_cons e = cc
@@ -100,36 +105,73 @@ lines_of-cons x (y ∷ ys) = next_by x (y ∷ ys) (x == 10) refl (λ z zs e. sub
 bad_by : (n : ℕ) (line : List ℕ) (lines : List (List ℕ)) (c : Option Command) → command_of line ≡ c → first_bad n (line ∷ lines) ≡ (if is_some c then first_bad (n + 1) lines else Some n)
 bad_by n line lines c e = ap (λ o. if is_some o then first_bad (n + 1) lines else Some n) e
 
--- what was read is the text's beginning
-through_from : (left : Option (List ℕ)) (front line : List ℕ) → front ≡ [] → IfSome left (λ text. line ≡ front ++ take_through 10 text) → IfSome left (λ text. line ≡ take_through 10 text)
-through_from None front line none is = tt
-through_from (Some text) front line none is = is ∙ ap (λ f. f ++ take_through 10 text) none
+-- nothing is left
+pub none_left : (left after : Option (List ℕ)) → IsAtEnd left → DropsThrough left after 10 → IfSome left (λ text. (text ≡ []) × (after ≡ Some []))
+none_left None after none rest = tt
+none_left (Some text) after none rest = (none, rest ∙ ap (λ t. Some (drop_through 10 t)) none)
 
-bad_at : (n : ℕ) (left : Option (List ℕ)) (line : List ℕ) → IfSome left (λ text. line ≡ take_through 10 text) → 0 < length line → command_of (strip_last 10 line) ≡ None → IfSome (bad_left n left) (λ bad. bad ≡ Some (n + 1))
-bad_at n None line is some odd = tt
-bad_at n (Some []) line is some odd = absurd (omega (arith, ap length is))
-bad_at n (Some (x ∷ xs)) line is some odd =
-    ap (first_bad (n + 1)) (lines_of-cons x xs) ∙ bad_by (n + 1) (first_piece 10 (x ∷ xs)) (lines_of (drop_through 10 (x ∷ xs))) None (ap (λ l. command_of (strip_last 10 l)) (sym is) ∙ odd)
+begins_by : (left after : Option (List ℕ)) (line : List ℕ) (read : Option Command) → IfSome left (λ text. line ≡ take_through 10 text) → 0 < length line → DropsThrough left after 10 → command_of (strip_last 10 line) ≡ read → IfSome left (λ text. BeginsSo text read after)
+begins_by None after line read is some rest reads = tt
+begins_by (Some []) after line read is some rest reads = absurd (omega (arith, ap length is))
+begins_by (Some (x ∷ xs)) after line read is some rest reads = record {
+  line = first_piece 10 (x ∷ xs);
+  rest = drop_through 10 (x ∷ xs);
+  lines = lines_of-cons x xs;
+  reads = ap (λ l. command_of (strip_last 10 l)) (sym is) ∙ reads;
+  left = rest;
+}
 
-good_at : (n : ℕ) (left after : Option (List ℕ)) (line : List ℕ) (c : Command) → IfSome left (λ text. line ≡ take_through 10 text) → 0 < length line → DropsThrough left after 10 → command_of (strip_last 10 line) ≡ Some c → IfSome (bad_left n left) (λ bad. bad_left (n + 1) after ≡ Some bad)
-good_at n None after line c is some rest reads = tt
-good_at n (Some []) after line c is some rest reads = absurd (omega (arith, ap length is))
-good_at n (Some (x ∷ xs)) after line c is some rest reads =
-    ap (bad_left (n + 1)) rest
-    ∙ ap Some (sym (ap (first_bad (n + 1)) (lines_of-cons x xs) ∙ bad_by (n + 1) (first_piece 10 (x ∷ xs)) (lines_of (drop_through 10 (x ∷ xs))) (Some c) (ap (λ l. command_of (strip_last 10 l)) (sym is) ∙ reads)))
+-- a line as it was read, its bytes as they were parsed, and its number
+pub took_line : (n m : ℕ) (left after : Option (List ℕ)) (line slice text : List ℕ) (read : Option Command) → m ≡ n + 1 → IfSome left (λ t. line ≡ take_through 10 t) → 0 < length line
+    → DropsThrough left after 10 → slice ≡ line → text ≡ strip_last 10 slice → command_of text ≡ read → Took left after n m read
+took_line n m left after line slice text read next is some rest same ends reads = record {
+  number = next;
+  is = begins_by left after line read is some rest (ap (λ l. command_of (strip_last 10 l)) (sym same) ∙ (ap command_of (sym ends) ∙ reads));
+}
 
--- the line as it was read, its bytes as they were parsed, and its number
-pub reads_bad : (n m : ℕ) (left : Option (List ℕ)) (front line slice text : List ℕ) → m ≡ n + 1 → front ≡ [] → IfSome left (λ t. line ≡ front ++ take_through 10 t) → 0 < length line
-    → slice ≡ line → text ≡ strip_last 10 slice → command_of text ≡ None → IfSome (bad_left n left) (λ bad. bad ≡ Some m)
-reads_bad n m left front line slice text next none is some same ends odd =
-    let read : command_of (strip_last 10 line) ≡ None = ap (λ l. command_of (strip_last 10 l)) (sym same) ∙ (ap command_of (sym ends) ∙ odd) in
-    subst (λ k. IfSome (bad_left n left) (λ bad. bad ≡ Some k)) (sym next) (bad_at n left line (through_from left front line none is) some read)
+bad_first : (left after : Option (List ℕ)) (n m : ℕ) → m ≡ n + 1 → IfSome left (λ text. BeginsSo text None after) → IfSome (bad_left n left) (λ bad. bad ≡ Some m)
+bad_first None after n m next begins = tt
+bad_first (Some text) after n m next begins = ap (first_bad (n + 1)) begins.lines ∙ (bad_by (n + 1) begins.line (lines_of begins.rest) None begins.reads ∙ ap Some (sym next))
 
-pub reads_command : (n m : ℕ) (left after : Option (List ℕ)) (front line slice text : List ℕ) (c : Command) → m ≡ n + 1 → front ≡ [] → IfSome left (λ t. line ≡ front ++ take_through 10 t) → 0 < length line
-    → DropsThrough left after 10 → slice ≡ line → text ≡ strip_last 10 slice → command_of text ≡ Some c → IfSome (bad_left n left) (λ bad. bad_left m after ≡ Some bad)
-reads_command n m left after front line slice text c next none is some rest same ends reads =
-    let read : command_of (strip_last 10 line) ≡ Some c = ap (λ l. command_of (strip_last 10 l)) (sym same) ∙ (ap command_of (sym ends) ∙ reads) in
-    subst (λ k. IfSome (bad_left n left) (λ bad. bad_left k after ≡ Some bad)) (sym next) (good_at n left after line c (through_from left front line none is) some rest read)
+good_first : (left after : Option (List ℕ)) (n m : ℕ) (c : Command) → m ≡ n + 1 → IfSome left (λ text. BeginsSo text (Some c) after) → IfSome (bad_left n left) (λ bad. bad_left m after ≡ Some bad)
+good_first None after n m c next begins = tt
+good_first (Some text) after n m c next begins =
+    ap (bad_left m) begins.left
+    ∙ (ap (λ k. Some (first_bad (k + 1) (lines_of begins.rest))) next
+    ∙ ap Some (sym (ap (first_bad (n + 1)) begins.lines ∙ bad_by (n + 1) begins.line (lines_of begins.rest) (Some c) begins.reads)))
+
+pub is_crash : (c : Command) (keep : ℕ) → crash_of c ≡ Some keep → c ≡ command.Crash keep
+is_crash (command.Crash k) keep e = cc
+is_crash (command.Point call) keep e = cc
+is_crash (command.Begin call) keep e = cc
+is_crash (command.Step n) keep e = cc
+is_crash (command.Finish n) keep e = cc
+is_crash (command.Abandon n) keep e = cc
+is_crash command.Flush keep e = cc
+is_crash command.Dump keep e = cc
+
+took_as : (left after : Option (List ℕ)) (n m : ℕ) (read other : Option Command) → read ≡ other → Took left after n m read → Took left after n m other
+took_as left after n m read other e took = subst (Took left after n m) e took
+
+-- what is to be done with the line that was read
+pub takes_by : (left after : Option (List ℕ)) (n m : ℕ) (read : Option Command) (l : Line) → IsToDo read l → Took left after n m read → Takes left after n m l
+takes_by left after n m read line.NoLine is took = absurd is
+takes_by left after n m read line.BadLine is took = took_as left after n m read None is took
+takes_by left after n m read (line.Crash keep) is took = took_as left after n m read (Some (command.Crash keep)) is took
+takes_by left after n m read (line.Command c) is took = (is.1, took_as left after n m read (Some c) is.0 took)
+
+-- and whether it is the first bad one
+pub reads_by : (left after : Option (List ℕ)) (n m : ℕ) (l : Line) → (l ≡ line.NoLine → ⊥) → Takes left after n m l → Reads (bad_left n left) (bad_left m after) m l
+reads_by left after n m line.NoLine some takes = absurd (some refl)
+reads_by left after n m line.BadLine some takes = bad_first left after n m takes.number takes.is
+reads_by left after n m (line.Crash keep) some takes = good_first left after n m (command.Crash keep) takes.number takes.is
+reads_by left after n m (line.Command c) some takes = good_first left after n m c takes.1.number takes.1.is
+
+pub to_do_some : (read : Option Command) (l : Line) → IsToDo read l → l ≡ line.NoLine → ⊥
+to_do_some read line.NoLine is e = is
+to_do_some read line.BadLine is e = cc
+to_do_some read (line.Crash keep) is e = cc
+to_do_some read (line.Command c) is e = cc
 
 -- ---- over several lines
 

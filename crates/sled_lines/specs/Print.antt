@@ -1,9 +1,11 @@
 -- Lines: how outcomes are printed.
-use Rattle.std.specs.Prelude.{ℕ, List, [], ◌∷◌, ◌++◌, Option, Some, None, Ok, Err, codes, decimal}
+use Rattle.std.specs.Prelude.{ℕ, ◌-◌, ◌^◌, min, sum_by, List, [], ◌∷◌, ◌++◌, length, Option, Some, None, Ok, Err, codes, decimal}
+use Rattle.std.specs.List.{flat_map}
 use Rattle.std.specs.Io.KnownBytes.{Appends, append_known}
 use Rattle.sled_pages.specs.Order.{Key}
 use Rattle.sled_pages.specs.declared.error.Error.{Error}
 use Rattle.sled_pages.specs.declared.error.Error.TheVariants.{CollectionNotFound, Unsupported, ReportableBug, Io, Corruption, NoMemory, FullQueue, Closed}
+use Rattle.sled_model.specs.Maps.{Map}
 use Rattle.sled_model.specs.declared.call.Call.{Call}
 use Rattle.sled_model.specs.declared.call.Call.TheVariants.{Get, Insert, Remove, CompareAndSwap, Merge}
 use Rattle.sled_model.specs.declared.reply.Reply.{Reply}
@@ -88,6 +90,14 @@ pair_line tree key value = codes "pair " ++ printed tree ++ codes " " ++ printed
 
 abbrev pub end_line : ℕ → List ℕ
 end_line n = codes "end " ++ decimal n ++ end
+
+-- the lines of a collection's pairs: of its type, its name and its map
+abbrev pub collection_lines : Key × Key × Map → List ℕ
+collection_lines c = flat_map (λ pair. pair_line c.1 pair.0 pair.1) c.2
+
+-- all pairs, and how many there are: a count past 64 bits stops at the greatest number
+abbrev pub dump_text : List (Key × Key × Map) → List ℕ
+dump_text all = flat_map collection_lines all ++ end_line (min (sum_by (λ c. length c.2) all) (2 ^ 64 - 1))
 
 abbrev pub recovered_line : List ℕ
 recovered_line = codes "recovered" ++ end

@@ -79,6 +79,7 @@ fn is_at_end<R: BufRead, W: Write>(
     left: &mut usize,
 ) -> Result<bool, Stopped>
     ensures same { OnOk result (Keeps (R.remaining input.old) (R.remaining input.new)) }
+    ensures output { Keeps (W.contents output.old) (W.contents output.new) }
     ensures end { IfOk result (λ ends. ends ≡ true → IsAtEnd (R.remaining input.old)) }
 {
     if *left > 0 {
@@ -103,6 +104,7 @@ pub fn read_line<R: BufRead, W: Write>(
     ensures bytes { OnOk result (IfSome (R.remaining input.old) (λ xs. line.new.items ≡ take_through 10 xs)) }
     ensures rest { OnOk result (DropsThrough (R.remaining input.old) (R.remaining input.new) 10) }
     ensures end { IfOk result (λ n. n ≡ 0 → IsAtEnd (R.remaining input.old)) }
+    ensures output { Keeps (W.contents output.old) (W.contents output.new) }
 {
     line.clear();
     if is_at_end(input, output, left)? {

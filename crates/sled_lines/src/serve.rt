@@ -1,17 +1,21 @@
 //! The program as a function: from the lines that it reads to those that it prints.
-ghost use Rattle.std.specs.Prelude.{◌≡◌, ◌≤◌, false, IfOk, IfSome};
+ghost use Rattle.std.specs.Prelude.{◌≡◌, ◌≤◌, false, [], IfOk, OnOk, IfSome};
+ghost use Rattle.std.specs.Io.KnownBytes.{Keeps};
 ghost use Rattle.sled_pages.specs.Store.{now};
 ghost use Rattle.sled_pages.specs.Memory.{store_of};
 ghost use Rattle.tree_laws.specs.Crashes.{IsValid, IsCrashConsistent};
+ghost use Rattle.sled_lines.specs.Print.{Prints, bad_line};
 ghost use Rattle.sled_lines.specs.Serve.{IsStatus, bad_left};
-ghost use Rattle.sled_lines.specs.theory.Serve.{Reads, Ends, Ran};
+ghost use Rattle.sled_lines.specs.Session.{Obeys};
+ghost use Rattle.sled_lines.specs.theory.Serve.{crash_of, Reads, Takes, IsToDo, Ends, LivesFrom, place, Ran};
 
 use crate::command::{Command, parse};
 use crate::input::{Stopped, read_line, without_end};
 use crate::print::{push_bad_line, push_recovered};
 use crate::session::{Session, write};
 use sled::{Db, crash_pages, empty_pages};
-use sled_pages::MemPages;
+use sled_model::MergeOperator;
+use sled_pages::{MemPages, Pages};
 use std::alloc::Global;
 use std::io::{BufRead, Write};
 
@@ -47,14 +51,45 @@ struct Buffers {
     left: usize,
 }
 
+// How many actions a crash keeps, if the command is one.
+fn crash_of(command: &Command) -> Option<u64>
+    ensures { result ≡ crash_of command.now }
+{
+    match command {
+        Command::Crash(keep) => Some(*keep),
+        _ => None,
+    }
+}
+
+// What is to be done with a line, by the command that it reads as.
+#[tactic(auto, using(crate::proofs::Reading::is_crash))]
+fn to_do(command: Option<Command>) -> Line
+    ensures { IsToDo command result }
+{
+    let Some(command) = command else {
+        return Line::BadLine;
+    };
+    match crash_of(&command) {
+        Some(keep) => {
+            drop(command);
+            Line::Crash(keep)
+        }
+        None => Line::Command(command),
+    }
+}
+
 // Reads the next line.
+#[tactic(auto, using(crate::proofs::Reading::none_left))]
 fn next_line<R: BufRead, W: Write>(
     alloc: Global,
     input: &mut R,
     output: &mut W,
     buffers: &mut Buffers,
 ) -> Result<Line, Stopped>
-    ensures { IfOk result (Reads (bad_left buffers.old.number (R.remaining input.old)) (bad_left buffers.new.number (R.remaining input.new)) buffers.new.number) }
+    ensures bad { IfOk result (Reads (bad_left buffers.old.number (R.remaining input.old)) (bad_left buffers.new.number (R.remaining input.new)) buffers.new.number) }
+    ensures takes { IfOk result (Takes (R.remaining input.old) (R.remaining input.new) buffers.old.number buffers.new.number) }
+    ensures same { OnOk result (buffers.new.out.items ≡ buffers.old.out.items) }
+    ensures output { Keeps (W.contents output.old) (W.contents output.new) }
 {
     if read_line(input, output, &mut buffers.line, &mut buffers.left)? == 0 {
         return Ok(Line::NoLine);
@@ -63,39 +98,41 @@ fn next_line<R: BufRead, W: Write>(
         return Err(Stopped);
     };
     buffers.number = number;
-    match parse(alloc, without_end(buffers.line.as_slice()))? {
-        Some(Command::Crash(keep)) => Ok(Line::Crash(keep)),
-        Some(command) => Ok(Line::Command(command)),
-        None => Ok(Line::BadLine),
-    }
+    let command = parse(alloc, without_end(buffers.line.as_slice()))?;
+    Ok(to_do(command))
 }
 
 // Prints which line could not be read.
-fn tell_bad<W: Write>(number: u64, output: &mut W, out: &mut Vec<u8>) -> Result<(), Stopped> {
+fn tell_bad<W: Write>(number: u64, output: &mut W, out: &mut Vec<u8>) -> Result<(), Stopped>
+    ensures { OnOk result (Prints (W.contents output.old) out.old.items (W.contents output.new) out.new.items (bad_line number)) }
+{
     push_bad_line(out, number)?;
     write(output, out)
 }
 
 // Runs a command, and prints how it came out.
-fn answer<W: Write>(
-    session: &mut Session,
+fn answer<P: Pages, M: MergeOperator, W: Write>(
+    session: &mut Session<P, M>,
     command: Command,
     output: &mut W,
     out: &mut Vec<u8>,
-) -> Result<(), Stopped> {
+) -> Result<(), Stopped>
+    ensures { OnOk result (Obeys P.store P.flush_number M.meant session.old command session.new (W.contents output.old) out.old.items (W.contents output.new) out.new.items) }
+{
     session.run(command, output, out)?;
     write(output, out)
 }
 
 // Runs lines up to a crash or the last of them.
-fn lines<R: BufRead, W: Write>(
+fn lines<P: Pages, M: MergeOperator, R: BufRead, W: Write>(
     alloc: Global,
-    session: &mut Session,
+    session: &mut Session<P, M>,
     input: &mut R,
     output: &mut W,
     buffers: &mut Buffers,
 ) -> Result<End, Stopped>
-    ensures { IfOk result (Ends (bad_left buffers.old.number (R.remaining input.old)) (bad_left buffers.new.number (R.remaining input.new)) buffers.new.number) }
+    ensures bad { IfOk result (Ends (bad_left buffers.old.number (R.remaining input.old)) (bad_left buffers.new.number (R.remaining input.new)) buffers.new.number) }
+    ensures lives { IfOk result (λ end. LivesFrom P.store P.flush_number M.meant session.old (place buffers.old (R.remaining input.old) (W.contents output.old)) end session.new (place buffers.new (R.remaining input.new) (W.contents output.new))) }
 {
     for _ in 0..u64::MAX {
         match next_line(alloc, input, output, buffers)? {

@@ -1,5 +1,5 @@
 //! A session: a database from its opening to a crash or the end.
-ghost use Rattle.std.specs.Prelude.{◌≡◌, ◌++◌, [], IfOk, IfErr, OnOk, OnErr};
+ghost use Rattle.std.specs.Prelude.{◌≡◌, ◌-◌, ◌^◌, ◌++◌, [], false, length, map, min, sum_by, IfOk, IfErr, OnOk, OnErr};
 ghost use Rattle.std.specs.List.{flat_map};
 ghost use Rattle.sled_pages.specs.Store.{now};
 ghost use Rattle.sled_model.specs.declared.call.Whole.TheVariants.{Flush};
@@ -9,11 +9,14 @@ ghost use Rattle.sled.specs.Operators.{OperatorSet, OperatorNotSet};
 ghost use Rattle.sled_machine.specs.Step.{MachineStepContract};
 ghost use Rattle.sled_machine.specs.Run.{MachineRun, MachineSteps};
 ghost use Rattle.sled_machine.specs.Finish.{Completes};
-ghost use Rattle.sled_lines.specs.Print.{shown_of, outcome_line, pair_line, Prints};
+ghost use Rattle.sled.specs.Calls.{IsHandle, RefusesHandle};
+ghost use Rattle.sled.specs.Values.{default_name};
+ghost use Rattle.sled_lines.specs.Print.{shown_of, outcome_line, pair_line, collection_lines, dump_text, Prints};
+ghost use Rattle.sled_lines.specs.declared.command.Command.TheVariants as command;
 ghost use Rattle.sled_lines.specs.declared.print.Shown.{Shown};
 ghost use Rattle.sled_lines.specs.declared.session.Act.TheVariants as act;
-ghost use Rattle.sled_lines.specs.Session.{slot_at, acts_at};
-ghost use Rattle.sled_lines.specs.theory.Session.{begins_as};
+ghost use Rattle.sled_lines.specs.Session.{slot_at, turns_at, begins_as, acts_at, Obeys};
+ghost use Rattle.sled_lines.specs.theory.Session.{ActsAndShows};
 
 use crate::command::Command;
 use crate::input::Stopped;
@@ -50,8 +53,13 @@ impl<P: Pages, M: MergeOperator> Session<P, M> {
     pub fn over(alloc: Global, db: Db<P, M>) -> Result<Session<P, M>, (P, Error)>
         ensures whole { IfErr result (λ e. IsCrashConsistent (P.store e.0)) }
         ensures well { IfErr result (λ e. IsValid (now (P.store e.0))) }
+        ensures pages { IfErr result (λ e. e.0 ≡ db.pages) }
+        ensures cause { IfErr result (λ e. RefusesHandle (P.store db.pages) e.1) }
+        ensures no_group { OnOk result ((now (P.store db.pages)).in_group ≡ false) }
         ensures db { IfOk result (λ s. s.machine.db ≡ db) }
+        ensures tree { IfOk result (λ s. IsHandle db default_name s.tree) }
         ensures flights { IfOk result (λ s. s.machine.flights ≡ []) }
+        ensures given { IfOk result (λ s. s.machine.slots_given ≡ 0) }
         ensures slots { IfOk result (λ s. s.slots.items ≡ []) }
     {
         match db.default_tree() {
@@ -69,6 +77,7 @@ impl<P: Pages, M: MergeOperator> Session<P, M> {
         ensures db { result.machine.db ≡ db }
         ensures tree { result.tree ≡ tree }
         ensures flights { result.machine.flights ≡ [] }
+        ensures given { result.machine.slots_given ≡ 0 }
         ensures slots { result.slots.items ≡ [] }
     {
         Session {
@@ -124,7 +133,9 @@ impl<P: Pages, M: MergeOperator> Session<P, M> {
     }
 
     /// How often the call of this number went on so far, if it is in flight.
-    pub fn turns(&self, number: u64) -> Option<u64> {
+    pub fn turns(&self, number: u64) -> Option<u64>
+        ensures { result ≡ turns_at self.now.machine (slot_at self.now.slots.items number) }
+    {
         let (slot, _) = self.slot(number)?;
         self.machine.turns(slot)
     }
@@ -242,11 +253,20 @@ impl<P: Pages, M: MergeOperator> Session<P, M> {
         (shown, outcome)
     }
 
+    // The same, and adds the line of how that came out.
+    fn act_and_show(&mut self, number: u64, act: Act, out: &mut Vec<u8>) -> Result<(), Stopped>
+        ensures { OnOk result (ActsAndShows P.store P.flush_number M.meant self.old act number self.new out.old.items out.new.items) }
+    {
+        show(out, self.act(number, act))
+    }
+
     // Prints all pairs.
-    fn dump<W: Write>(&self, output: &mut W, out: &mut Vec<u8>) -> Result<(), Stopped> {
+    fn dump<W: Write>(&self, output: &mut W, out: &mut Vec<u8>) -> Result<(), Stopped>
+        ensures { OnOk result (Obeys P.store P.flush_number M.meant self.now command.Dump self.now (W.contents output.old) out.old.items (W.contents output.new) out.new.items) }
+    {
         match self.machine.db().export() {
             Ok(trees) => write_trees(output, out, trees.as_slice()),
-            Err(error) => show(out, Shown::Value, Outcome::Refused(error)),
+            Err(error) => show(out, (Shown::Value, Outcome::Refused(error))),
         }
     }
 
@@ -257,25 +277,27 @@ impl<P: Pages, M: MergeOperator> Session<P, M> {
         command: Command,
         output: &mut W,
         out: &mut Vec<u8>,
-    ) -> Result<(), Stopped> {
-        let (shown, outcome) = match command {
-            Command::Point(call) => self.point(call),
-            Command::Begin(call) => self.begin(call)?,
-            Command::Step(number) => self.act(number, Act::Step),
-            Command::Finish(number) => self.act(number, Act::Finish),
-            Command::Abandon(number) => self.act(number, Act::Abandon),
-            Command::Flush => (Shown::Value, self.flush()),
-            Command::Crash(_) => return Ok(()),
-            Command::Dump => return self.dump(output, out),
-        };
-        show(out, shown, outcome)
+    ) -> Result<(), Stopped>
+        ensures { OnOk result (Obeys P.store P.flush_number M.meant self.old command self.new (W.contents output.old) out.old.items (W.contents output.new) out.new.items) }
+    {
+        match command {
+            Command::Point(call) => show(out, self.point(call)),
+            Command::Begin(call) => show(out, self.begin(call)?),
+            Command::Step(number) => self.act_and_show(number, Act::Step, out),
+            Command::Finish(number) => self.act_and_show(number, Act::Finish, out),
+            Command::Abandon(number) => self.act_and_show(number, Act::Abandon, out),
+            Command::Flush => show(out, (Shown::Value, self.flush())),
+            Command::Crash(_) => Ok(()),
+            Command::Dump => self.dump(output, out),
+        }
     }
 }
 
 // Adds the line of an outcome.
-fn show(out: &mut Vec<u8>, shown: Shown, outcome: Outcome) -> Result<(), Stopped>
-    ensures { OnOk result (out.new.items ≡ out.old.items ++ outcome_line shown outcome) }
+fn show(out: &mut Vec<u8>, told: (Shown, Outcome)) -> Result<(), Stopped>
+    ensures { OnOk result (out.new.items ≡ out.old.items ++ outcome_line told.0 told.1) }
 {
+    let (shown, outcome) = told;
     let pushed = push_outcome(out, shown, &outcome);
     drop(outcome);
     Ok(pushed?)
@@ -322,17 +344,51 @@ fn write_pairs<W: Write>(
     Ok(())
 }
 
+// Adds the lines of a collection's pairs.
+fn write_collection<W: Write>(
+    output: &mut W,
+    out: &mut Vec<u8>,
+    tree: &Collection,
+) -> Result<(), Stopped>
+    ensures { OnOk result (Prints (W.contents output.old) out.old.items (W.contents output.new) out.new.items (collection_lines (tree.now.0.items, tree.now.1.items, tree.now.2.items))) }
+{
+    write_pairs(output, out, tree.1.as_slice(), tree.2.as_slice())
+}
+
 // Adds the lines of all pairs.
+fn write_collections<W: Write>(
+    output: &mut W,
+    out: &mut Vec<u8>,
+    trees: &[Collection],
+) -> Result<(), Stopped>
+    ensures { OnOk result (Prints (W.contents output.old) out.old.items (W.contents output.new) out.new.items (flat_map (λ c. collection_lines (c.0.items, c.1.items, c.2.items)) trees.now)) }
+{
+    for tree in trees {
+        write_collection(output, out, tree)?;
+    }
+    Ok(())
+}
+
+// How many pairs there are; a count past 64 bits stops at the greatest number.
+fn count_pairs(trees: &[Collection]) -> u64
+    ensures { result ≡ min (sum_by (λ c. length c.2.items) trees.now) (2 ^ 64 - 1) }
+{
+    let mut count = 0u64;
+    for tree in trees {
+        count = count.saturating_add(tree.2.len() as u64);
+    }
+    count
+}
+
+// Adds the lines of all pairs, and of how many there are.
 fn write_trees<W: Write>(
     output: &mut W,
     out: &mut Vec<u8>,
     trees: &[Collection],
-) -> Result<(), Stopped> {
-    let mut count = 0u64;
-    for tree in trees {
-        write_pairs(output, out, tree.1.as_slice(), tree.2.as_slice())?;
-        count = count.saturating_add(tree.2.len() as u64);
-    }
-    push_end(out, count)?;
+) -> Result<(), Stopped>
+    ensures { OnOk result (Prints (W.contents output.old) out.old.items (W.contents output.new) out.new.items (dump_text (map (λ c. (c.0.items, c.1.items, c.2.items)) trees.now))) }
+{
+    write_collections(output, out, trees)?;
+    push_end(out, count_pairs(trees))?;
     Ok(())
 }

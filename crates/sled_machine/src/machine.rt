@@ -51,6 +51,10 @@ impl<P: Pages, M: MergeOperator> Machine<P, M> {
     ghost use Rattle.sled_machine.specs.Finish.{RunsToEnd, Completes};
 
     /// A machine over a database, with no call in flight.
+    ///
+    /// ```
+    /// let mut machine = Machine::new(db);
+    /// ```
     pub fn new(db: Db<P, M>) -> Machine<P, M>
         ensures db { result.db ≡ db }
         ensures flights { result.flights ≡ [] }
@@ -65,6 +69,10 @@ impl<P: Pages, M: MergeOperator> Machine<P, M> {
     }
 
     /// The database.
+    ///
+    /// ```
+    /// let tree = machine.db().default_tree()?;
+    /// ```
     pub fn db(&self) -> &Db<P, M>
         ensures { result.now ≡ self.now.db }
     {
@@ -72,6 +80,10 @@ impl<P: Pages, M: MergeOperator> Machine<P, M> {
     }
 
     /// The database. The calls in flight are given up.
+    ///
+    /// ```
+    /// let pages = machine.into_db().into_pages();
+    /// ```
     pub fn into_db(self) -> Db<P, M>
         ensures { result ≡ self.db }
     {
@@ -81,6 +93,10 @@ impl<P: Pages, M: MergeOperator> Machine<P, M> {
 
     /// What holds of every machine: that its database is as it should be, and the pairs of each of its maps rise by key. It
     /// does nothing.
+    ///
+    /// ```
+    /// machine.audit(); // From here on a proof knows that its database is well formed.
+    /// ```
     pub fn audit(&self)
         ensures sound { IsDb P.store self.now.db }
         ensures ascend { MapsAscend (maps_of (db_state P.store M.meant self.now.db)) }
@@ -115,6 +131,11 @@ impl<P: Pages, M: MergeOperator> Machine<P, M> {
     }
 
     /// Begins a call on a tree. It does no page action.
+    ///
+    /// ```
+    /// let slot = machine.begin(&tree, Call::Get(key))?;
+    /// let outcome = machine.step(slot);
+    /// ```
     pub fn begin(&mut self, tree: &Tree, call: Call) -> Result<Slot>
         ensures ok { IfOk result (λ slot. MachineStepContract P.store P.flush_number M.meant self.old (step.Begin tree.now call) (outcome.Begun slot) self.new) }
         ensures err { IfErr result (λ e. MachineStepContract P.store P.flush_number M.meant self.old (step.Begin tree.now call) (outcome.Refused e) self.new) }
@@ -135,6 +156,14 @@ impl<P: Pages, M: MergeOperator> Machine<P, M> {
     }
 
     /// Does the next page action of the call in the slot, if there is one.
+    ///
+    /// ```
+    /// let slot = machine.begin(&tree, Call::Remove(key))?;
+    /// match machine.step(slot) {
+    ///     Outcome::Moved => (), // There is more to do.
+    ///     outcome => return Ok(outcome),
+    /// }
+    /// ```
     pub fn step(&mut self, slot: Slot) -> Outcome
         ensures step { MachineStep P.store P.flush_number M.meant self.old (step.Step slot) result self.new }
         ensures sound { MachineSound P.store self.old self.new }
@@ -152,6 +181,10 @@ impl<P: Pages, M: MergeOperator> Machine<P, M> {
     }
 
     /// Gives the call in the slot up. What it did to the pages stays, and no map changes.
+    ///
+    /// ```
+    /// let outcome = machine.abandon(slot); // `Abandoned`, or `NoSuchSlot`.
+    /// ```
     pub fn abandon(&mut self, slot: Slot) -> Outcome
         ensures { MachineStepContract P.store P.flush_number M.meant self.old (step.Abandon slot) result self.new }
     {
@@ -163,6 +196,10 @@ impl<P: Pages, M: MergeOperator> Machine<P, M> {
     }
 
     /// How often the call in the slot went on so far, if there is one.
+    ///
+    /// ```
+    /// let turns = machine.turns(slot); // `Some(0)` after its begin.
+    /// ```
     pub fn turns(&self, slot: Slot) -> Option<u64>
         ensures { result ≡ option_map (λ f. f.turns) (slots_of self.now.flights slot) }
     {
@@ -173,6 +210,10 @@ impl<P: Pages, M: MergeOperator> Machine<P, M> {
     }
 
     /// Does a whole call, in one step.
+    ///
+    /// ```
+    /// let outcome = machine.whole(Whole::Flush); // `Decided(Reply::Number(..))`, or why not.
+    /// ```
     pub fn whole(&mut self, whole: Whole) -> Outcome
         ensures { MachineStepContract P.store P.flush_number M.meant self.old (step.Whole whole) result self.new }
     {
@@ -255,6 +296,11 @@ impl<P: Pages, M: MergeOperator> Machine<P, M> {
 
     /// Does steps of the call in the slot until it ends. There are no more than its turns allow. Where no other call left
     /// anything to repair on the way to its key, a call that begins goes on at most once for each level of its tree.
+    ///
+    /// ```
+    /// let slot = machine.begin(&tree, Call::Insert(key, value))?;
+    /// let outcome = machine.finish(slot); // Decided or refused, never `Moved`.
+    /// ```
     pub fn finish(&mut self, slot: Slot) -> Outcome
         ensures { RunsToEnd P.store P.flush_number M.meant self.old slot result self.new }
     {
@@ -266,6 +312,10 @@ impl<P: Pages, M: MergeOperator> Machine<P, M> {
 
     /// Does a call from its begin to its end: what `begin` does, and then `finish` of the slot. The slot is given, but nothing
     /// is kept in it, and the tests are made once.
+    ///
+    /// ```
+    /// let outcome = machine.complete(&tree, Call::Insert(key, value));
+    /// ```
     pub fn complete(&mut self, tree: &Tree, call: Call) -> Outcome
         ensures { Completes P.store P.flush_number M.meant self.old tree.now call result self.new }
     {
@@ -313,6 +363,12 @@ impl<P: Pages, M: MergeOperator> Machine<P, M> {
     }
 
     /// Does a list of steps, one after the other. Refused with `NoMemory` alone, and then nothing was done.
+    ///
+    /// ```
+    /// // A call begins and goes on once; then all is flushed.
+    /// let steps = [Step::Begin(tree, call), Step::Step(Slot(1)), Step::Whole(Whole::Flush)];
+    /// let outcomes = machine.run(&steps)?;
+    /// ```
     pub fn run(&mut self, steps: &[Step]) -> Result<Vec<Outcome>>
         ensures ok { IfOk result (λ outcomes. MachineRun P.store P.flush_number M.meant self.old steps.now outcomes.items self.new) }
         ensures each { IfOk result (λ outcomes. MachineSteps P.store P.flush_number M.meant self.old steps.now outcomes.items self.new) }

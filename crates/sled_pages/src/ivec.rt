@@ -50,6 +50,10 @@ impl Model for IVec {
 
 impl IVec {
     /// A copy of the bytes. Refused with `NoMemory` alone.
+    ///
+    /// ```
+    /// let key = IVec::from_slice(alloc, b"ulm")?;
+    /// ```
     pub fn from_slice(alloc: Global, bytes: &[u8]) -> Result<IVec>
         ensures ok { IfOk result (λ made. made ≡ bytes.now) }
         ensures err { IfErr result (λ e. e ≡ NoMemory) }
@@ -74,6 +78,10 @@ impl IVec {
     }
 
     /// The bytes.
+    ///
+    /// ```
+    /// let is_ulm = key.as_ref() == b"ulm".as_slice();
+    /// ```
     pub fn as_ref(&self) -> &[u8]
         ensures { result.now ≡ self.now }
     {
@@ -85,6 +93,10 @@ impl IVec {
     }
 
     /// How many bytes there are.
+    ///
+    /// ```
+    /// let length = key.len(); // Of `ulm` it is 3.
+    /// ```
     pub fn len(&self) -> usize
         ensures { result ≡ length self.now }
     {
@@ -92,6 +104,10 @@ impl IVec {
     }
 
     /// The same byte string. Refused with `NoMemory` alone.
+    ///
+    /// ```
+    /// let same = key.clone()?; // Of a long one the bytes are shared.
+    /// ```
     pub fn clone(&self) -> Result<IVec>
         ensures ok { IfOk result (λ copy. copy ≡ self.now) }
         ensures err { IfErr result (λ e. e ≡ NoMemory) }

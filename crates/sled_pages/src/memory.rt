@@ -89,6 +89,11 @@ impl MemPages {
     ghost use Rattle.sled_pages.specs.theory.Memory.{HasRoom, IsOther};
 
     /// An empty store. It takes no memory.
+    ///
+    /// ```
+    /// let mut pages = MemPages::new(alloc);
+    /// let (pid, version) = pages.allocate(node)?;
+    /// ```
     pub fn new(alloc: Global) -> MemPages
         ensures { store_of result ≡ empty_store }
     {
@@ -144,6 +149,10 @@ impl MemPages {
     /// What a crash leaves that keeps this many of the actions since the last flush, less a group that is not sealed within
     /// them. Calls are counted anew from 1, none is refused, and every page can be read. Refused with `NoMemory` alone: then
     /// the store is lost.
+    ///
+    /// ```
+    /// let left = pages.crash(0)?; // The pages at the last flush.
+    /// ```
     pub fn crash(self, keep: usize) -> Result<MemPages>
         ensures ok { IfOk result (λ left. Crashes keep (store_of self) (store_of left)) }
         ensures left { IfOk result (λ left. IsCrashState (store_of self) (store_of left).base) }
@@ -182,6 +191,10 @@ impl MemPages {
 
     /// The calls of these numbers will be refused, and no others. The calls are those of `Pages` by `&mut self`, counted
     /// from 1 in the order made. Refused with `NoMemory` alone, and then the calls that were named before stay named.
+    ///
+    /// ```
+    /// pages.refuse_at(&[3])?; // The third call since the store was made is refused.
+    /// ```
     pub fn refuse_at(&mut self, calls: &[u64]) -> Result<()>
         ensures same { store_of self.new ≡ store_of self.old }
         ensures named { OnOk result (calls_refused self.new ≡ calls.now) }
@@ -193,6 +206,11 @@ impl MemPages {
     }
 
     /// The page of this number cannot be read any more, until a crash. Refused with `NoMemory` alone, and then unchanged.
+    ///
+    /// ```
+    /// pages.unreadable(pid)?;
+    /// let refused = pages.read(alloc, pid); // `Io`, until a crash.
+    /// ```
     pub fn unreadable(&mut self, pid: Pid) -> Result<()>
         ensures ok { OnOk result (store_of self.new ≡ record (store_of self.old) { is_readable = put_at (store_of self.old).is_readable pid false }) }
         ensures err { OnErr result (store_of self.new ≡ store_of self.old) }

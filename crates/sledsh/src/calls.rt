@@ -2,7 +2,7 @@
 
 use crate::counting::Counting;
 use crate::forms::{Verb, quote};
-use crate::operators::Operator;
+use crate::operators::{Operator, operator_of};
 use sled_lines::command::{Command, parse};
 use sled_lines::input::{Stopped, without_end};
 use sled_lines::print::Piece::{Number, Text, Word};
@@ -314,4 +314,20 @@ pub fn take_handle(
     let (database, words) = first_word(words);
     session.set_tree(tree_of(alloc, database, words.unwrap_or(b""))?);
     tell(out, &[Text(b"done\n")])
+}
+
+/// Gives the current tree the operator that a line names.
+pub fn set_operator(
+    session: &mut Session<Counting<'_>, Operator>,
+    line: &[u8],
+    out: &mut Vec<u8>,
+) -> Result<()> {
+    let name = first_word(without_end(line)).1.unwrap_or(b"");
+    let Some(operator) = operator_of(name) else {
+        return Err(Stopped);
+    };
+    match session.set_merge_operator(operator) {
+        Ok(()) => tell(out, &[Text(b"done\n")]),
+        Err(error) => tell_refused(out, error),
+    }
 }

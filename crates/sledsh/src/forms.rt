@@ -1,6 +1,7 @@
 //! The commands: what each line asks for, and why a line asks for nothing.
 
 use crate::calls::tell;
+use crate::draw::Drawing;
 use crate::look::{Look, Side, read_bound};
 use crate::operators::operator_of;
 use crate::owned::Owned;
@@ -34,6 +35,8 @@ pub enum Verb {
     Recover,
     Recovered,
     Pages,
+    /// A drawing of the tree.
+    Draw(Drawing),
     Crowd,
     Run,
     Reads,
@@ -56,7 +59,7 @@ type Form = (&'static str, &'static str, Verb, &'static str);
 
 // What a command takes has words of its own: K, V, P, OLD, NEW, DATABASE and NAME are byte strings, LO and HI bounds, STEP a step of a
 // call in flight, OPERATOR a merge operator, and the others numbers; `..` stands for more of the word before it.
-const FORMS: [Form; 69] = [
+const FORMS: [Form; 71] = [
     (
         "insert",
         "K V",
@@ -189,6 +192,18 @@ const FORMS: [Form; 69] = [
         "",
         Verb::Pages,
         "prints how many pages each level of the tree has, and the most entries of one of them",
+    ),
+    (
+        "draw",
+        "",
+        Verb::Draw(Drawing::Text),
+        "draws the tree level by level, with what is half done; slots end, as at `pages`",
+    ),
+    (
+        "draw dot",
+        "",
+        Verb::Draw(Drawing::Dot),
+        "the same as a graph for the program dot",
     ),
     (
         "crowd",

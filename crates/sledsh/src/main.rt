@@ -5,6 +5,7 @@
 mod calls;
 mod counting;
 mod crowd;
+mod draw;
 mod forms;
 mod levels;
 mod look;

@@ -1,7 +1,8 @@
 //! The merge operators of the shell.
-ghost use Rattle.std.specs.Prelude.{◌≡◌, ◌++◌, IfOk};
+ghost use Rattle.std.specs.Prelude.{◌≡◌, ◌+◌, ◌%◌, ◌^◌, ◌++◌, IfOk};
+ghost use Rattle.std.specs.Int.{w64, to_be_bytes};
 ghost use Rattle.std.specs.Option.{option_copied};
-ghost use Rattle.sledsh.specs.Operators.{number_of, bytes_or_none};
+ghost use Rattle.sledsh.specs.Operators.{number_of, bytes_or_none, greater, kept};
 
 use sled_model::MergeOperator;
 use std::alloc::{AllocError, Global};
@@ -78,6 +79,40 @@ fn joined(alloc: Global, first: &[u8], second: &[u8]) -> Result<Vec<u8>, AllocEr
     Ok(bytes)
 }
 
+// The sum of two numbers.
+fn sum_of(alloc: Global, old: &[u8], new: &[u8]) -> Result<Vec<u8>, AllocError>
+    ensures { IfOk result (λ made. made.items ≡ to_be_bytes w64 ((number_of old.now + number_of new.now) % 2 ^ 64)) }
+{
+    let sum = number_of(old).wrapping_add(number_of(new));
+    Vec::from_slice(alloc, &sum.to_be_bytes())
+}
+
+// The greater of two byte strings, where the first may be none.
+fn greater_of(alloc: Global, old: Option<&[u8]>, new: &[u8]) -> Result<Vec<u8>, AllocError>
+    ensures { IfOk result (λ made. made.items ≡ greater (option_copied old.entry) new.now) }
+{
+    match old {
+        Some(old) => {
+            if old.cmp(new).is_lt() {
+                Vec::from_slice(alloc, new)
+            } else {
+                Vec::from_slice(alloc, old)
+            }
+        }
+        None => Vec::from_slice(alloc, new),
+    }
+}
+
+// The first of two byte strings, or the second where there is no first.
+fn kept_of(alloc: Global, old: Option<&[u8]>, new: &[u8]) -> Result<Vec<u8>, AllocError>
+    ensures { IfOk result (λ made. made.items ≡ kept (option_copied old.entry) new.now) }
+{
+    match old {
+        Some(old) => Vec::from_slice(alloc, old),
+        None => Vec::from_slice(alloc, new),
+    }
+}
+
 impl MergeOperator for Operator {
     ghost use Rattle.sledsh.specs.Operators.{meaning};
 
@@ -90,24 +125,14 @@ impl MergeOperator for Operator {
         old: Option<&[u8]>,
         new: &[u8],
     ) -> Result<Option<Vec<u8>>, AllocError> {
-        let made = match self {
-            Operator::Concat => joined(alloc, bytes_of(old), new)?,
-            Operator::Before => joined(alloc, new, bytes_of(old))?,
-            Operator::Add => {
-                let sum = number_of(bytes_of(old)).wrapping_add(number_of(new));
-                Vec::from_slice(alloc, &sum.to_be_bytes())?
-            }
-            Operator::Max => match old {
-                Some(old) if old >= new => Vec::from_slice(alloc, old)?,
-                _ => Vec::from_slice(alloc, new)?,
-            },
-            Operator::Keep => match old {
-                Some(old) => Vec::from_slice(alloc, old)?,
-                None => Vec::from_slice(alloc, new)?,
-            },
-            Operator::Gone => return Ok(None),
-            Operator::Short => return Err(AllocError),
-        };
-        Ok(Some(made))
+        match self {
+            Operator::Concat => Ok(Some(joined(alloc, bytes_of(old), new)?)),
+            Operator::Before => Ok(Some(joined(alloc, new, bytes_of(old))?)),
+            Operator::Add => Ok(Some(sum_of(alloc, bytes_of(old), new)?)),
+            Operator::Max => Ok(Some(greater_of(alloc, old, new)?)),
+            Operator::Keep => Ok(Some(kept_of(alloc, old, new)?)),
+            Operator::Gone => Ok(None),
+            Operator::Short => Err(AllocError),
+        }
     }
 }

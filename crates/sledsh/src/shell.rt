@@ -1,12 +1,13 @@
 //! A session of the shell: lines, from opening to opening.
 
-use crate::calls::{ask, run_steps, take_handle, tell, tell_refused, tell_turns};
+use crate::calls::{ask, run_steps, set_operator, take_handle, tell, tell_refused, tell_turns};
 use crate::counting::Counting;
 use crate::crowd::run_calls;
+use crate::draw::{Drawing, tell_drawing};
 use crate::forms::{Command, Verb, push_help, read};
 use crate::levels::tell_levels;
 use crate::look::{Look, tell_look};
-use crate::operators::{Operator, operator_of};
+use crate::operators::Operator;
 use crate::owned::{Owned, tell_owned};
 use crate::pops::tell_pop;
 use crate::store::Kept;
@@ -29,7 +30,7 @@ const DATABASE: &[u8] = b"sledsh";
 fn opening(last: Verb) -> &'static [u8] {
     match last {
         Verb::Crash => b"recovered\n",
-        Verb::Pages | Verb::Quit => b"",
+        Verb::Pages | Verb::Draw(_) | Verb::Quit => b"",
         _ => b"opened\n",
     }
 }
@@ -218,21 +219,6 @@ impl<'a> Shell<'a> {
         )
     }
 
-    // Gives the current tree the operator that the line names.
-    fn set_operator(
-        &mut self,
-        session: &mut Session<Counting<'a>, Operator>,
-    ) -> Result<(), Stopped> {
-        let name = first_word(without_end(self.line.as_slice())).1;
-        let Some(operator) = operator_of(name.unwrap_or(b"")) else {
-            return Err(Stopped);
-        };
-        match session.set_merge_operator(operator) {
-            Ok(()) => tell(&mut self.out, &[Text(b"done\n")]),
-            Err(error) => tell_refused(&mut self.out, error),
-        }
-    }
-
     // Answers a command that is a call of the database itself.
     fn owned(&mut self, state: &mut State<'a>, owned: Owned) -> Result<(), Stopped> {
         let shut = State::Shut(Kept::empty(self.alloc));
@@ -268,7 +254,9 @@ impl<'a> Shell<'a> {
                 &mut self.out,
             ),
             (State::Open(session), Verb::Look(which)) => self.look(session, which),
-            (State::Open(session), Verb::Operator) => self.set_operator(session),
+            (State::Open(session), Verb::Operator) => {
+                set_operator(session, self.line.as_slice(), &mut self.out)
+            }
             (State::Open(session), Verb::Pop(pop)) => tell_pop(session, pop, &mut self.out),
             (State::Open(session), verb) => {
                 ask(
@@ -301,7 +289,7 @@ impl<'a> Shell<'a> {
             | Verb::Look(_)
             | Verb::Pop(_) => self.ask(state, verb, numbers),
             Verb::Owned(owned) => self.owned(state, owned),
-            Verb::Pages if is_shut => tell_refused(&mut self.out, Error::Closed),
+            Verb::Pages | Verb::Draw(_) if is_shut => tell_refused(&mut self.out, Error::Closed),
             Verb::Mark if numbers[0] < self.mark => self.tell_below(numbers[0]),
             Verb::Crowd => run_calls(self.alloc, numbers[0], numbers[1], &mut self.out),
             Verb::Reads => self.tell_reads(),
@@ -470,6 +458,18 @@ impl<'a> Shell<'a> {
         }
     }
 
+    // Adds a drawing of the tree. The pages are opened again without a word.
+    fn draw(&mut self, kept: Kept, drawing: Drawing) -> Result<Kept, Stopped> {
+        let tree = DEFAULT_TREE.as_bytes();
+        match tell_drawing(self.alloc, kept.pages(), tree, drawing, &mut self.out) {
+            Ok(()) => Ok(kept),
+            Err(stopped) => {
+                drop(kept);
+                Err(stopped)
+            }
+        }
+    }
+
     // What is made of the pages by a line that changes them, which are opened then.
     fn changed(&mut self, kept: Kept, verb: Verb) -> Result<Kept, Stopped> {
         self.last = verb;
@@ -487,6 +487,7 @@ impl<'a> Shell<'a> {
             Verb::Unreadable => kept.unreadable(numbers),
             Verb::Mark => Ok(self.set_aside(kept, first)),
             Verb::Pages => self.tell_levels(kept),
+            Verb::Draw(drawing) => self.draw(kept, drawing),
             _ => Ok(kept),
         }
     }

@@ -1,5 +1,15 @@
 -- Of Serve, for proofs. The program as a whole.
-use Rattle.std.specs.Prelude.{◌≡◌, ℕ, Bool, true, false, IsSome, Option, Some, None, IfSome}
+use Rattle.std.specs.Prelude.{◌≡◌, ℕ, ◌+◌, Bool, true, false, List, [], ◌∷◌, ◌++◌, IsSome, Option, Some, None, IfSome}
+use Rattle.sled_pages.specs.Store.{Store}
+use Rattle.sled_model.specs.Maps.{Merge}
+use Rattle.sled_lines.specs.Command.{command_of}
+use Rattle.sled_lines.specs.Print.{Prints, bad_line}
+use Rattle.sled_lines.specs.Serve.{lines_of}
+use Rattle.sled_lines.specs.Session.{obeys}
+use Rattle.sled_lines.specs.declared.command.Command.{Command}
+use Rattle.sled_lines.specs.declared.command.Command.TheVariants as command
+use Rattle.sled_lines.specs.declared.serve.Buffers.{Buffers}
+use Rattle.sled_lines.specs.declared.session.Session.{Session}
 use Rattle.sled_lines.specs.declared.serve.Line.{Line}
 use Rattle.sled_lines.specs.declared.serve.Line.TheVariants as line
 use Rattle.sled_lines.specs.declared.serve.End.{End}
@@ -22,3 +32,66 @@ Ends before after n (Crash keep) = IfSome before (λ bad. after ≡ Some bad)
 abbrev pub Ran : Option (Option ℕ) → Bool → Type 0
 Ran before true = IfSome before (λ bad. bad ≡ None)
 Ran before false = IfSome before (λ bad. IsSome bad)
+
+-- how many actions a crash keeps, if the command is one
+abbrev pub crash_of : Command → Option ℕ
+crash_of (command.Crash keep) = Some keep
+crash_of c = None
+
+-- a text begins with a line that reads so, and a reader has the others left
+pub record BeginsSo (text : List ℕ) (read : Option Command) (after : Option (List ℕ)) : Type 0 where
+  pub line : List ℕ
+  pub rest : List ℕ
+  pub lines : lines_of text ≡ line ∷ lines_of rest
+  pub reads : command_of line ≡ read
+  pub left : after ≡ Some rest
+
+-- the line behind n others was read so, and has the number m
+pub record Took (before after : Option (List ℕ)) (n m : ℕ) (read : Option Command) : Type 0 where
+  pub number : m ≡ n + 1
+  pub is : IfSome before (λ text. BeginsSo text read after)
+
+-- what is read next, and what the reader has left then
+abbrev pub Takes : Option (List ℕ) → Option (List ℕ) → ℕ → ℕ → Line → Type 0
+Takes before after n m line.NoLine = (m ≡ n) × IfSome before (λ text. (text ≡ []) × (after ≡ Some []))
+Takes before after n m line.BadLine = Took before after n m None
+Takes before after n m (line.Crash keep) = Took before after n m (Some (command.Crash keep))
+Takes before after n m (line.Command c) = (crash_of c ≡ None) × Took before after n m (Some c)
+
+-- what is to be done with a line that reads so
+abbrev pub IsToDo : Option Command → Line → Type 0
+IsToDo read line.NoLine = ⊥
+IsToDo read line.BadLine = read ≡ None
+IsToDo read (line.Crash keep) = read ≡ Some (command.Crash keep)
+IsToDo read (line.Command c) = (read ≡ Some c) × (crash_of c ≡ None)
+
+-- A session goes on over these lines, behind n others, until it ends: at the end of the lines, at one that cannot be read, or at a crash.
+-- Each line before that is read as a command and run. The text is what is printed; m lines were read then, and the last lines were not
+pub data Lives {P M : Type 0} (store : P → Store) (flush_number : P → ℕ) (meant : M → Merge) : ℕ → Session P M → List (List ℕ) → List ℕ → End → ℕ → Session P M → List (List ℕ) → Type 0 where
+  AtEnd : {n : ℕ} {s : Session P M} → Lives store flush_number meant n s [] [] NoLine n s []
+  AtBadLine : {n : ℕ} {s : Session P M} {line : List ℕ} {lines : List (List ℕ)} → command_of line ≡ None → Lives store flush_number meant n s (line ∷ lines) (bad_line (n + 1)) BadLine (n + 1) s lines
+  AtCrash : {n keep : ℕ} {s : Session P M} {line : List ℕ} {lines : List (List ℕ)} → command_of line ≡ Some (command.Crash keep) → Lives store flush_number meant n s (line ∷ lines) [] (Crash keep) (n + 1) s lines
+  Obeying : {n m : ℕ} {s next last : Session P M} {line : List ℕ} {lines rest : List (List ℕ)} (c : Command) (text : List ℕ) {texts : List ℕ} {e : End} → command_of line ≡ Some c → crash_of c ≡ None
+      → obeys store flush_number meant s c text next → Lives store flush_number meant (n + 1) next lines texts e m last rest → Lives store flush_number meant n s (line ∷ lines) (text ++ texts) e m last rest
+
+-- where a run stands: how many lines were read, what the reader has left, what the writer holds, and what is gathered for it
+pub record Place : Type 0 where
+  pub number : ℕ
+  pub left : Option (List ℕ)
+  pub held : Option (List ℕ)
+  pub gathered : List ℕ
+
+abbrev pub place : Buffers → Option (List ℕ) → Option (List ℕ) → Place
+place buffers left held = record { number = buffers.number; left = left; held = held; gathered = buffers.out.items }
+
+-- from here to there the session goes on over this text
+pub record LivesOn {P M : Type 0} (store : P → Store) (flush_number : P → ℕ) (meant : M → Merge) (s : Session P M) (here : Place) (e : End) (last : Session P M) (there : Place) (text : List ℕ) : Type 0 where
+  pub texts : List ℕ
+  pub rest : List ℕ
+  pub lives : Lives store flush_number meant here.number s (lines_of text) texts e there.number last (lines_of rest)
+  pub left : there.left ≡ Some rest
+  pub prints : Prints here.held here.gathered there.held there.gathered texts
+
+-- the same of what the reader has left, where that is known
+abbrev pub LivesFrom : {P M : Type 0} → (P → Store) → (P → ℕ) → (M → Merge) → Session P M → Place → End → Session P M → Place → Type 0
+LivesFrom store flush_number meant s here e last there = IfSome here.left (λ text. LivesOn store flush_number meant s here e last there text)

@@ -1,0 +1,84 @@
+-- A map from keys of a type to values of a type, in a tree of a database.
+use Rattle.std.specs.Prelude.{◌≡◌, ◌≢◌, ◌&&◌, Bool, true, not, map, filter, List, [], Option, Some, None}
+use Rattle.std.specs.FinMap.Entries.{find, put, is_sorted}
+use Rattle.std.specs.List.{AllByRecursion}
+use Rattle.std.specs.Ordering.{is_lt, is_gt}
+use Rattle.std.specs.declared.cmp.Ordering.{Ordering}
+use Rattle.std.specs.declared.ops.Bound.{Bound}
+use Rattle.std.specs.declared.ops.Bound.TheVariants.{Included, Excluded, Unbounded}
+use Rattle.std.proofs.Common.{Bor}
+use Rattle.ordered_keys.specs.Keys.{HasShape, spelled, parts_cmp}
+use Rattle.ordered_keys.specs.declared.part.Kind.{Kind}
+use Rattle.ordered_keys.specs.declared.part.Part.{Part}
+use Rattle.sled_pages.specs.Order.{Key}
+use Rattle.sled_model.specs.Maps.{Map, Maps}
+
+-- how the values of a type are spelled as byte strings: what is a value of it, the bytes, and the order of the values
+pub record Spelling (A : Type 0) : Type 1 where
+  pub is_value : A → Type 0
+  pub bytes : A → Key
+  pub order : A → A → Ordering
+
+-- a type whose values are keys of this shape, by their parts
+abbrev pub by_parts : {A : Type 0} → List Kind → (A → List Part) → Spelling A
+by_parts shape parts = record { is_value = λ a. HasShape shape (parts a); bytes = λ a. spelled (parts a); order = λ a b. parts_cmp (parts a) (parts b) }
+
+-- the pairs of a tree, none where there is no tree
+abbrev pub pairs_in : Option Map → Map
+pairs_in None = []
+pairs_in (Some map) = map
+
+-- the key is within a lower bound, within an upper bound
+abbrev pub is_above : {K : Type 0} → (K → K → Ordering) → Bound K → K → Bool
+is_above order (Included b) k = not (is_lt (order k b))
+is_above order (Excluded b) k = is_gt (order k b)
+is_above order Unbounded k = true
+
+abbrev pub is_below : {K : Type 0} → (K → K → Ordering) → Bound K → K → Bool
+is_below order (Included b) k = not (is_gt (order k b))
+is_below order (Excluded b) k = is_lt (order k b)
+is_below order Unbounded k = true
+
+-- a bound, behind its reference
+abbrev pub bound_at : {K : Type 0} → Bound (Bor K) → Bound K
+bound_at (Included b) = Included b.now
+bound_at (Excluded b) = Excluded b.now
+bound_at Unbounded = Unbounded
+
+-- the bytes of a bound
+abbrev pub bound_bytes : {A : Type 0} → Spelling A → Bound A → Bound Key
+bound_bytes s (Included b) = Included (s.bytes b)
+bound_bytes s (Excluded b) = Excluded (s.bytes b)
+bound_bytes s Unbounded = Unbounded
+
+abbrev pub bounds_value : {A : Type 0} → Spelling A → Bound A → Type 0
+bounds_value s (Included b) = s.is_value b
+bounds_value s (Excluded b) = s.is_value b
+bounds_value s Unbounded = Unit {0}
+
+module _ {K V : Type 0} (keys : Spelling K) (values : Spelling V) where
+  abbrev pub pair_bytes : K × V → Key × Key
+  pair_bytes e = (keys.bytes e.0, values.bytes e.1)
+
+  -- the pairs of bytes are those of these entries
+  pub record IsTyped (pairs : Map) (entries : List (K × V)) : Type 0 where
+    pub is : pairs ≡ map pair_bytes entries
+    pub are_values : AllByRecursion (λ e. keys.is_value e.0 × values.is_value e.1) entries
+
+  -- the tree's entries have this value at the key, in its place in the order, and all other trees are as before
+  pub record Puts (old new : Maps) (tree : Key) (key : K) (value : V) : Type 0 where
+    pub here : (entries : List (K × V)) → IsTyped (pairs_in (old tree)) entries → IsTyped (pairs_in (new tree)) (put keys.order key value entries)
+    pub trees : (other : Key) → other ≢ tree → new other ≡ old other
+
+  -- what stands at the key among the tree's entries
+  pub record LooksUp (maps : Maps) (tree : Key) (key : K) (found : Option V) : Type 0 where
+    pub is : (entries : List (K × V)) → IsTyped (pairs_in (maps tree)) entries → found ≡ find keys.order key entries
+
+  -- the tree's entries within both bounds, in order
+  pub record Walks (maps : Maps) (tree : Key) (lo hi : Bound K) (found : List (K × V)) : Type 0 where
+    pub are : (entries : List (K × V)) → IsTyped (pairs_in (maps tree)) entries → found ≡ filter (λ e. is_above keys.order lo e.0 && is_below keys.order hi e.0) entries
+    pub rises : is_sorted keys.order found ≡ true
+
+  -- something in the tree spells no entry
+  pub record IsForeign (maps : Maps) (tree : Key) : Type 0 where
+    pub is : (entries : List (K × V)) → IsTyped (pairs_in (maps tree)) entries → ⊥

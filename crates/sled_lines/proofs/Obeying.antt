@@ -1,0 +1,95 @@
+-- What a session does at a command.
+use Rattle.std.proofs.Common.{◌≡◌, ℕ, false, List, [], ◌++◌, append-nil, Option, Result, Ok, Err, OnOk, refl, sym, subst, inl, inr}
+use Rattle.sled_pages.specs.Store.{Store, now}
+use Rattle.sled_pages.specs.declared.error.Error.{Error}
+use Rattle.sled_model.specs.Maps.{Merge}
+use Rattle.sled_model.specs.declared.outcome.Outcome.{Outcome}
+use Rattle.tree_laws.specs.Contents.{trees_of}
+use Rattle.sled.specs.Export.{collections, RefusesExport}
+use Rattle.sled_lines.specs.Print.{Prints, outcome_line, refused_line, dump_text}
+use Rattle.sled_lines.specs.Session.{slot_at, acts_at, performs, obeys, Obeys}
+use Rattle.sled_lines.specs.theory.Session.{ActsAndShows}
+use Rattle.sled_lines.specs.declared.session.Act.{Act}
+use Rattle.sled_lines.specs.declared.session.Act.TheVariants as act
+use Rattle.sled_lines.specs.declared.command.Command.{Command}
+use Rattle.sled_lines.specs.declared.command.Command.TheVariants as command
+use Rattle.sled_lines.specs.declared.print.Shown.{Shown}
+use Rattle.sled_lines.specs.declared.session.Session.{Session}
+use Rattle.sled_lines.proofs.Printing.{prints_then, prints_onto}
+
+module _ {P M : Type 0} (store : P → Store) (flush_number : P → ℕ) (meant : M → Merge) where
+  obeys_by : (old : Session P M) (c : Command) (show : Shown) (o : Outcome) (new : Session P M) → performs store flush_number meant old c show o new → new.tree ≡ old.tree → obeys store flush_number meant old c (outcome_line show o) new
+  obeys_by old (command.Point call) show o new does tree = (show, o, does, tree, refl)
+  obeys_by old (command.Begin call) show o new does tree = (show, o, does, tree, refl)
+  obeys_by old (command.Step n) show o new does tree = (show, o, does, tree, refl)
+  obeys_by old (command.Finish n) show o new does tree = (show, o, does, tree, refl)
+  obeys_by old (command.Abandon n) show o new does tree = (show, o, does, tree, refl)
+  obeys_by old command.Flush show o new does tree = (show, o, does, tree, refl)
+  obeys_by old (command.Crash keep) show o new does tree = absurd does
+  obeys_by old command.Dump show o new does tree = absurd does
+
+  -- a command came out so, and its line is gathered
+  pub obeyed : (old : Session P M) (c : Command) (show : Shown) (o : Outcome) (new : Session P M) (held : Option (List ℕ)) (gathered gathered_then : List ℕ) → performs store flush_number meant old c show o new → new.tree ≡ old.tree
+      → gathered_then ≡ gathered ++ outcome_line show o → Obeys store flush_number meant old c new held gathered held gathered_then
+  obeyed old c show o new held gathered gathered_then does tree is = record {
+    text = outcome_line show o;
+    does = obeys_by old c show o new does tree;
+    prints = prints_onto held gathered gathered_then (outcome_line show o) is;
+  }
+
+  -- the same of a command that is this one, if its line could be gathered
+  pub obeyed_shown : {T E : Type 0} (old : Session P M) (c d : Command) (show : Shown) (o : Outcome) (new : Session P M) (held : Option (List ℕ)) (gathered gathered_then : List ℕ) (r : Result T E) → c ≡ d → performs store flush_number meant old d show o new
+      → new.tree ≡ old.tree → OnOk r (gathered_then ≡ gathered ++ outcome_line show o) → OnOk r (Obeys store flush_number meant old c new held gathered held gathered_then)
+  obeyed_shown old c d show o new held gathered gathered_then (Ok done) same does tree is = subst (λ x. Obeys store flush_number meant old x new held gathered held gathered_then) (sym same) (obeyed old d show o new held gathered gathered_then does tree is)
+  obeyed_shown old c d show o new held gathered gathered_then (Err e) same does tree is = tt
+
+  -- something is done in a slot, and its line is gathered, if it could be
+  pub acted_shown : {T E : Type 0} (old : Session P M) (a : Act) (n : ℕ) (show : Shown) (o : Outcome) (new : Session P M) (gathered gathered_then : List ℕ) (r : Result T E) → acts_at store flush_number meant old.machine a (slot_at old.slots.items n) show o new.machine
+      → new.tree ≡ old.tree → new.slots ≡ old.slots → OnOk r (gathered_then ≡ gathered ++ outcome_line show o) → OnOk r (ActsAndShows store flush_number meant old a n new gathered gathered_then)
+  acted_shown old a n show o new gathered gathered_then (Ok done) acts tree slots is = record { show = show; outcome = o; acts = acts; tree = tree; slots = slots; line = is }
+  acted_shown old a n show o new gathered gathered_then (Err e) acts tree slots is = tt
+
+  pub obeyed_step : {T E : Type 0} (old : Session P M) (c : Command) (n : ℕ) (new : Session P M) (held : Option (List ℕ)) (gathered gathered_then : List ℕ) (r : Result T E) → c ≡ command.Step n
+      → OnOk r (ActsAndShows store flush_number meant old act.Step n new gathered gathered_then) → OnOk r (Obeys store flush_number meant old c new held gathered held gathered_then)
+  obeyed_step old c n new held gathered gathered_then (Ok done) same did = subst (λ x. Obeys store flush_number meant old x new held gathered held gathered_then) (sym same) (obeyed old (command.Step n) did.show did.outcome new held gathered gathered_then (did.acts, did.slots) did.tree did.line)
+  obeyed_step old c n new held gathered gathered_then (Err e) same did = tt
+
+  pub obeyed_finish : {T E : Type 0} (old : Session P M) (c : Command) (n : ℕ) (new : Session P M) (held : Option (List ℕ)) (gathered gathered_then : List ℕ) (r : Result T E) → c ≡ command.Finish n
+      → OnOk r (ActsAndShows store flush_number meant old act.Finish n new gathered gathered_then) → OnOk r (Obeys store flush_number meant old c new held gathered held gathered_then)
+  obeyed_finish old c n new held gathered gathered_then (Ok done) same did = subst (λ x. Obeys store flush_number meant old x new held gathered held gathered_then) (sym same) (obeyed old (command.Finish n) did.show did.outcome new held gathered gathered_then (did.acts, did.slots) did.tree did.line)
+  obeyed_finish old c n new held gathered gathered_then (Err e) same did = tt
+
+  pub obeyed_abandon : {T E : Type 0} (old : Session P M) (c : Command) (n : ℕ) (new : Session P M) (held : Option (List ℕ)) (gathered gathered_then : List ℕ) (r : Result T E) → c ≡ command.Abandon n
+      → OnOk r (ActsAndShows store flush_number meant old act.Abandon n new gathered gathered_then) → OnOk r (Obeys store flush_number meant old c new held gathered held gathered_then)
+  obeyed_abandon old c n new held gathered gathered_then (Ok done) same did = subst (λ x. Obeys store flush_number meant old x new held gathered held gathered_then) (sym same) (obeyed old (command.Abandon n) did.show did.outcome new held gathered gathered_then (did.acts, did.slots) did.tree did.line)
+  obeyed_abandon old c n new held gathered gathered_then (Err e) same did = tt
+
+  -- all pairs are printed
+  pub obeyed_all : (s : Session P M) (held held_then : Option (List ℕ)) (gathered gathered_then text : List ℕ) → (now (store s.machine.db.pages)).in_group ≡ false
+      → text ≡ dump_text (collections (trees_of (now (store s.machine.db.pages))) s.machine.db.trees) → Prints held gathered held_then gathered_then text → Obeys store flush_number meant s command.Dump s held gathered held_then gathered_then
+  obeyed_all s held held_then gathered gathered_then text ends is prints = record {
+    text = text;
+    does = (refl, inl (ends, is));
+    prints = prints;
+  }
+
+  -- why they are not is printed
+  pub obeyed_refusal : (s : Session P M) (e : Error) (held : Option (List ℕ)) (gathered gathered_then : List ℕ) → RefusesExport (store s.machine.db.pages) e → gathered_then ≡ gathered ++ refused_line e
+      → Obeys store flush_number meant s command.Dump s held gathered held gathered_then
+  obeyed_refusal s e held gathered gathered_then refuses is = record {
+    text = refused_line e;
+    does = (refl, inr (e, refuses, refl));
+    prints = prints_onto held gathered gathered_then (refused_line e) is;
+  }
+
+  -- what is printed is written
+  obeyed_written : (old new : Session P M) (c : Command) (a b d : Option (List ℕ)) (o p q : List ℕ) → Obeys store flush_number meant old c new a o b p → Prints b p d q [] → Obeys store flush_number meant old c new a o d q
+  obeyed_written old new c a b d o p q obeys prints = record {
+    text = obeys.text;
+    does = obeys.does;
+    prints = subst (Prints a o d q) (append-nil obeys.text) (prints_then a b d o p q obeys.text [] obeys.prints prints);
+  }
+
+  pub written_after : {T E : Type 0} (old new : Session P M) (c : Command) (a b d : Option (List ℕ)) (o p q : List ℕ) (r : Result T E) → Obeys store flush_number meant old c new a o b p → OnOk r (Prints b p d q []) → OnOk r (Obeys store flush_number meant old c new a o d q)
+  written_after old new c a b d o p q (Ok done) obeys prints = obeyed_written old new c a b d o p q obeys prints
+  written_after old new c a b d o p q (Err e) obeys prints = tt
