@@ -38,7 +38,7 @@ popped s name t (Some pair) = refl
 
 removed : (tree : Tree) (a b : State) (n : ℕ) (maps : List Maps) → RemovesLeast tree a n b maps → b.greatest_id ≡ a.greatest_id
 removed tree a b zero [] RemovesNone = refl
-removed tree a b (suc n) (m ∷ maps) (RemovesOne named pair rest there is more) = removed tree (after_decision_on a tree.name named (answer_of (Remove pair.0) named.map)) b n maps more
+removed tree a b (suc n) (m ∷ maps) (RemovesOne named pair rest there is more) = removed tree (after_decision_on a tree.name named (answer_of named.merge (Remove pair.0) named.map)) b n maps more
 removed tree a b zero (m ∷ maps) run = elim run [ ]
 removed tree a b (suc n) [] run = elim run [ ]
 
