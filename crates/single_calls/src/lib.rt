@@ -9,8 +9,8 @@ mod pops;
 mod reads;
 
 pub use database::{
-    advance, advance_to_end, at_link, at_read, check, close, default_tree, drop_tree, export, flush,
-    new_tree, set_merge_operator,
+    advance, advance_to_end, at_link, at_read, check, close, default_tree, drop_tree, export,
+    flush, new_tree, set_merge_operator,
 };
 pub use direct::{compare_and_swap, insert, merge, remove};
 pub use machine::{abandon, begin, complete, finish, new_machine, run, step, turns, whole};

@@ -10,9 +10,9 @@ ghost use Rattle.sled.specs.Calls.{IsHandle, RefusesHandle, MustBeRefused};
 
 use crate::DEFAULT_TREE;
 use crate::operators::operator_of;
+use crate::tree_list::number_of;
 use sled_model::{Call, MAX_LOOPS, MergeOperator, Tree};
 use sled_pages::texts::{HANDLE_OF_ANOTHER_DATABASE, NO_MERGE_OPERATOR, WALK_PASSED_TURNS};
-use crate::tree_list::number_of;
 use sled_pages::{Error, IVec, Pages, Result};
 use sled_tree::{InFlight, Went, advance};
 use std::alloc::Global;
