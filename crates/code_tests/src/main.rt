@@ -5,12 +5,16 @@
 mod callers;
 mod index;
 mod streams;
+mod trees;
+mod typed;
 
 use callers::{is_read, survives};
 use index::finds_entries;
 use sled_lines::input::Stopped;
 use std::process::ExitCode;
 use streams::{CASES, served};
+use trees::trees_by_name;
+use typed::reads_readings;
 
 fn answer(is: bool) -> &'static str {
     if is { "yes" } else { "no" }
@@ -36,6 +40,16 @@ fn run(rt: &HostRuntime) -> Result<(), Stopped> {
     tell(rt, "a new database survives a crash", survives(alloc))?;
     let what = "the entries of an index under a number are found";
     tell(rt, what, finds_entries(alloc))?;
+    tell(
+        rt,
+        "readings of a user's own type are read in their order",
+        reads_readings(alloc),
+    )?;
+    tell(
+        rt,
+        "trees open and are dropped by name",
+        trees_by_name(alloc),
+    )?;
     tell_streams(rt)
 }
 

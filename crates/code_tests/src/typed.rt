@@ -1,0 +1,84 @@
+//! The typed map in `examples`, with readings of two stations.
+use examples::{Reading, TypedError, TypedResult, look_up, put, walk};
+use sled::{Db, empty_pages};
+use sled_model::Tree;
+use sled_pages::{IVec, MemPages, Result};
+use std::alloc::Global;
+use std::ops::Bound;
+
+// A station, an hour, and what was measured. Hour 300 of Ulm is measured twice.
+const READINGS: [(&str, u64, u64); 4] = [
+    ("Ulm", 300, 21),
+    ("Bern", 5, 17),
+    ("Ulm", 2, 19),
+    ("Ulm", 300, 20),
+];
+
+fn reading(alloc: Global, station: &str, hour: u64) -> Result<Reading> {
+    Ok(Reading {
+        station: IVec::from_slice(alloc, station.as_bytes())?,
+        hour,
+    })
+}
+
+fn put_all(alloc: Global, db: &mut Db<MemPages>, tree: &Tree) -> Result<()> {
+    for (station, hour, value) in &READINGS {
+        let key = reading(alloc, *station, *hour)?;
+        let done = put(db, tree, &key, value);
+        drop(key);
+        done?;
+    }
+    Ok(())
+}
+
+// Whether the two readings of Ulm are walked, in the order of their hours.
+fn walks_two(db: &Db<MemPages>, tree: &Tree, lo: &Reading, hi: &Reading) -> TypedResult<bool> {
+    let found: Vec<(Reading, u64)> = walk(db, tree, Bound::Included(lo), Bound::Excluded(hi))?;
+    let is_found = match found.as_slice() {
+        [first, second] => {
+            (first.0.hour, first.1) == (2, 19) && (second.0.hour, second.1) == (300, 20)
+        }
+        _ => false,
+    };
+    drop(found);
+    Ok(is_found)
+}
+
+fn reads(alloc: Global, db: &Db<MemPages>, tree: &Tree) -> TypedResult<bool> {
+    let lo = reading(alloc, "Ulm", 0)?;
+    let hi = reading(alloc, "Ulm", 301)?;
+    let last: Option<u64> = look_up(db, tree, &reading(alloc, "Bern", 5)?)?;
+    let walks = walks_two(db, tree, &lo, &hi);
+    drop(lo);
+    drop(hi);
+    Ok(walks? && last == Some(17))
+}
+
+fn fill_and_read(alloc: Global, db: &mut Db<MemPages>) -> Result<bool> {
+    let tree = db.default_tree()?;
+    let filled = put_all(alloc, db, &tree);
+    let is_read = match filled {
+        Ok(()) => reads(alloc, db, &tree),
+        Err(e) => Err(TypedError::Refused(e)),
+    };
+    drop(tree);
+    match is_read {
+        Ok(is) => Ok(is),
+        Err(TypedError::Foreign) => Ok(false),
+        Err(TypedError::Refused(e)) => Err(e),
+    }
+}
+
+/// Whether readings that were put into a new database are read again, in their order.
+pub fn reads_readings(alloc: Global) -> Result<bool> {
+    let mut db = match Db::open(alloc, empty_pages(alloc), b"weather") {
+        Ok(db) => db,
+        Err((pages, e)) => {
+            drop(pages);
+            return Err(e);
+        }
+    };
+    let is_read = fill_and_read(alloc, &mut db);
+    drop(db);
+    is_read
+}
