@@ -14,7 +14,7 @@ use Rattle.tree_laws.specs.Contents.{trees_of}
 use Rattle.tree_laws.specs.Crashes.{Flushes}
 use Rattle.tree_laws.specs.Forest.{IsSized}
 use Rattle.tree_laws.specs.Snapshot.{Snapshot, HasForest, nodes_at}
-use Rattle.tree_laws.proofs.Crashing.{flushes_same, flushes_whole_law, flushes_left, flushes_now}
+use Rattle.tree_laws.proofs.Crashing.{flushes_same, flushes_valid_law, flushes_left, flushes_now}
 use Rattle.sled.specs.Values.{DbValue, named, numbers_of, given_to, state_of, snapshot_of_db}
 use Rattle.sled.specs.Sound.{IsDb}
 use Rattle.sled.specs.Flush.{FlushesDb, only_faults, RefusesFlush}
@@ -61,7 +61,7 @@ module _ {P M : Type 0} (store : P → Store) (meant : M → Merge) (old : DbVal
       forest = db.forest;
       is = s.0;
       sized = s.1;
-      safe = flushes_whole_law (store old.pages) (store q) (subst (λ (z : Store). Flushes (store old.pages) z) (sym e) (flushes_same (store old.pages))) no_group (record { forest = db.forest; formed = db.is.formed; sized = db.sized });
+      safe = flushes_valid_law (store old.pages) (store q) (subst (λ (z : Store). Flushes (store old.pages) z) (sym e) (flushes_same (store old.pages))) no_group (record { forest = db.forest; formed = db.is.formed; sized = db.sized });
       ascends = db.ascends;
       default = db.default;
       ungiven = db.ungiven;

@@ -25,7 +25,7 @@ use Rattle.tree_laws.specs.Crashes.{IsValid, IsCrashConsistent, AddsCrashStates}
 use Rattle.tree_laws.specs.theory.Crashes.{AddsAction}
 use Rattle.tree_laws.specs.Snapshot.{Snapshot, nodes_at, HasForest}
 use Rattle.tree_laws.specs.theory.Snapshot.{KeepsForest}
-use Rattle.tree_laws.proofs.Crashing.{adds_extends, adds_unseen, extends_same, extends_again, whole_law}
+use Rattle.tree_laws.proofs.Crashing.{adds_extends, adds_unseen, extends_same, extends_again, valid_law}
 use Rattle.tree_laws.proofs.Reading.{one_law}
 use Rattle.sled_tree.specs.Course.{Course, course, course_of, IsAimed}
 use Rattle.sled_tree.specs.declared.flight.Aim.{Aim}
@@ -268,7 +268,7 @@ module _ {P M : Type 0} (store : P → Store) (meant : M → Merge) (old : DbVal
 
       whole : (v : Forest) {mine own : List ℕ} → KeepsForest mine own at db.forest after v → ActsAtMostOnce (store old.pages) (store q) → IsCrashConsistent (store q)
       whole v a (inl e) = subst IsCrashConsistent (sym e) db.safe
-      whole v a (inr o) = whole_law o.action (store old.pages) (store q) (once_adds o) db.safe (λ no_group. well v a)
+      whole v a (inr o) = valid_law o.action (store old.pages) (store q) (once_adds o) db.safe (λ no_group. well v a)
 
       -- the call goes on
       module _ (fits : f.turns < turns_limit) (g : InFlight) (job : g.job ≡ f.job) (aim : g.aim ≡ f.aim) (turns : g.turns ≡ f.turns + 1) (moves : StageActionBy (Only operator) (course_of f) (store old.pages) f.stage (next.Go g.stage) (store q)) (further : StepsOnPath (now (store old.pages)) f Moved (now (store q)) g) (follows : FollowsOn (store old.pages) f Moved (store q) g) where

@@ -25,7 +25,7 @@ use Rattle.tree_laws.specs.Contents.{trees_of}
 use Rattle.tree_laws.specs.Crashes.{IsValid, IsCrashConsistent, AddsCrashStates, Flushes}
 use Rattle.tree_laws.specs.Snapshot.{Snapshot, snapshot_of, nodes_at, HasForest, IsOrphan}
 use Rattle.tree_laws.specs.theory.Laws.{IsAlone}
-use Rattle.tree_laws.proofs.Crashing.{adds_page, adds_is, adds_extends, adds_unseen, extends_same, extends_then, flushes_same, flushes_left, flushes_whole_law}
+use Rattle.tree_laws.proofs.Crashing.{adds_page, adds_is, adds_extends, adds_unseen, extends_same, extends_then, flushes_same, flushes_left, flushes_valid_law}
 use Rattle.tree_laws.proofs.Known.{store_moment}
 use Rattle.tree_laws.proofs.Outside.{outside_kept, outside_contents, outside_sized}
 use Rattle.tree_laws.proofs.Order.{key_same}
@@ -440,7 +440,7 @@ module _ (s : Store) {trees : List (Key × ℕ)} (all : AreNumbered (now s) tree
         forest = well.forest;
         is = subst (λ (m : Snapshot). HasForest m well.forest) (sym at) (moment_here d.trees_given count are well.forest well.formed);
         sized = subst (λ (m : Snapshot). IsSized (nodes_at m) well.forest) (sym at) well.sized;
-        safe = subst IsCrashConsistent (sym e) (flushes_whole_law s (after_flush s) (flushes_same s) h.again.no_group well);
+        safe = subst IsCrashConsistent (sym e) (flushes_valid_law s (after_flush s) (flushes_same s) h.again.no_group well);
         ascends = ap (is_sorted key_cmp) same ∙ ascends;
         default = subst (λ ts. (n : ℕ) × (numbers_of ts default_name ≡ Some n)) (sym same) (none_no (numbers_of trees default_name) (is_number default_name ∙ there));
         ungiven = λ n above. ap (find nat_cmp n) operators;

@@ -29,7 +29,7 @@ use Rattle.tree_laws.specs.declared.flight.Reached.{Reached}
 use Rattle.tree_laws.specs.declared.flight.Reached.TheVariants as reached
 use Rattle.sled_tree.proofs.Basics.{none_some, some_is}
 use Rattle.sled_tree.specs.Passing.{IsUnchanged}
-use Rattle.sled_tree.specs.Follows.{resumed, begun, onward, pointed, down, done_at, OrNoMemory, follows_content, follows_here, follows_open, follows_awake, follows_read, follows_child, follows_child_awake, follows_cursor, follows_cursor_awake, follows_search, follows_met, searched, FollowsPage, follows_root, LinksChange, OrRefused, TakesWay, shortened, crowned, read_again, sought_again, follows_as, Follows}
+use Rattle.sled_tree.specs.Follows.{resumed, begun, onward, pointed, down, done_at, OrNoMemory, follows_content, follows_here, follows_open, follows_not_merging, follows_read, follows_child, follows_child_not_merging, follows_cursor, follows_cursor_not_merging, follows_search, follows_met, searched, FollowsPage, follows_root, LinksChange, OrRefused, TakesWay, after_install_left, after_swap_root, read_again, sought_again, follows_as, Follows}
 
 -- the leaf of the change that comes next
 abbrev acting : Next → Option View
@@ -68,12 +68,12 @@ module _ {X : Type 0} (kind : Next → Option X) (x : X) (n : Next) (is : kind n
       root : kind (next.Go stage.Root) ≡ None
       root = goes stage.Root (λ v e. cc)
 
-      shortened_none : (a : InstallLeft) (p : Posting) → kind (shortened a p) ≡ None
+      shortened_none : (a : InstallLeft) (p : Posting) → kind (after_install_left a p) ≡ None
       shortened_none a (posting.Parent parent) = goes _ (λ v e. cc)
       shortened_none a posting.Root = goes _ (λ v e. cc)
       shortened_none a posting.Nowhere = root
 
-      crowned_none : (a : SwapRoot) (answer : Result (Unit {0}) (Option ℕ)) → kind (crowned a answer) ≡ None
+      crowned_none : (a : SwapRoot) (answer : Result (Unit {0}) (Option ℕ)) → kind (after_swap_root a answer) ≡ None
       crowned_none a (Ok done) = root
       crowned_none a (Err present) = goes _ (λ v e. cc)
 
@@ -157,7 +157,7 @@ module _ (v : View) (n : Next) (is : n ≡ next.Go (stage.Act v)) where
   open_at j u by (inr (c, inr (d, inl (k, f)))) = here_at j u by f
   open_at j u by (inr (c, inr (d, inr (k, e)))) = off _ e refl
 
-  awake_at : (j : Course) (u : View) (by : Reached) (child : Option ℕ) → follows_awake child j u by n → u ≡ v
+  awake_at : (j : Course) (u : View) (by : Reached) (child : Option ℕ) → follows_not_merging child j u by n → u ≡ v
   awake_at j u by None f = open_at j u by f
   awake_at j u by (Some child) r = resumed_off u child r.before r.is
 
@@ -169,7 +169,7 @@ module _ (v : View) (n : Next) (is : n ≡ next.Go (stage.Act v)) where
   child_off {P} a u (inl (c, e)) = off _ e refl
   child_off {P} a u (inr (c, f)) = go u.node.merging_child f
     where
-      go : (child : Option ℕ) → follows_child_awake child a u n → P
+      go : (child : Option ℕ) → follows_child_not_merging child a u n → P
       go None e = off _ e refl
       go (Some child) r = resumed_off u child r.before r.is
 
@@ -190,7 +190,7 @@ module _ (v : View) (n : Next) (is : n ≡ next.Go (stage.Act v)) where
   cursor_off {P} a u (inl (c, e)) = off _ e refl
   cursor_off {P} a u (inr (c, f)) = go u.node.merging_child f
     where
-      go : (child : Option ℕ) → follows_cursor_awake child a u n → P
+      go : (child : Option ℕ) → follows_cursor_not_merging child a u n → P
       go None f = search_off a u f
       go (Some child) r = resumed_off u child r.before r.is
 

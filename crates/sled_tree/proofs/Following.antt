@@ -10,13 +10,13 @@ use Rattle.sled_tree.specs.declared.flight.Next.TheVariants.{Go}
 use Rattle.tree_laws.specs.Snapshot.{LiesUnder}
 use Rattle.tree_laws.specs.declared.flight.Stage.TheVariants as stage
 use Rattle.tree_laws.specs.declared.flight.Reached.{Reached}
-use Rattle.sled_tree.specs.Follows.{follows_read, follows_awake, follows_open, follows_here, EndsWithin}
+use Rattle.sled_tree.specs.Follows.{follows_read, follows_not_merging, follows_open, follows_here, EndsWithin}
 use Rattle.sled_tree.proofs.Basics.{true_false}
 use Rattle.sled_tree.proofs.Facts.{untrue}
 
 module _ (j : Course) (v : View) (by : Reached) (n : Next) (not_merging : v.node.merging ≡ false) (free : v.node.merging_child ≡ None) where
   pub opened : follows_open j v by n → follows_read j v by n
-  opened f = inr ((λ m. true_false (sym m ∙ not_merging)), subst (λ o. follows_awake o j v by n) (sym free) f)
+  opened f = inr ((λ m. true_false (sym m ∙ not_merging)), subst (λ o. follows_not_merging o j v by n) (sym free) f)
 
   -- a page that is short enough, and does not end within the aim
   module _ {P : Type 0} (long : Bool) (is_long : IsTrue long ↔ ((16 < count v.node.content) × P)) (short : long ≡ false) (kept : P)

@@ -61,8 +61,8 @@ module _ (j : Course) (old new : Store) (a : InstallLeft) (version : ℕ) (c : C
   plainly posting.Root = tt
   plainly posting.Nowhere = tt
 
-  shortened : StageAction j old (stage.InstallLeft a) (next.Go (posts_half a a.posting)) new
-  shortened = moves_on j old new _ _ (once_acts c.is.2) (plainly a.posting) (λ numbers gave w is named k.
+  after_install_left : StageAction j old (stage.InstallLeft a) (next.Go (posts_half a a.posting)) new
+  after_install_left = moves_on j old new _ _ (once_acts c.is.2) (plainly a.posting) (λ numbers gave w is named k.
       let m : Snapshot = snapshot_of old numbers gave in
       let g : Page = record { version = a.page.version; node = c.is.0 } in
       let did = shorten_action m w j.tree.name j.tree.number j.aim a version c.is.0 is (record { named = named; page = c.is.1 }) c.is.2.fresh k in (
@@ -77,7 +77,7 @@ module _ (j : Course) (old new : Store) (a : InstallLeft) (version : ℕ) (c : C
       ))
 
   pub shortens : (p : Posting) → a.posting ≡ p → StageAction j old (stage.InstallLeft a) (next.Go (posts_half a p)) new
-  shortens p e = subst (λ z. StageAction j old (stage.InstallLeft a) (next.Go (posts_half a z)) new) e shortened
+  shortens p e = subst (λ z. StageAction j old (stage.InstallLeft a) (next.Go (posts_half a z)) new) e after_install_left
 
 -- the page had changed: the right half is freed
 pub shorten_stale : (j : Course) (old new : Store) (a : InstallLeft) (present : Option ℕ) → Changes (λ _. a.left) a.page.pid a.page.version old new (Err present) → StageAction j old (stage.InstallLeft a) (next.Go (stage.Free (record { pid = a.right; version = a.version }))) new
@@ -111,8 +111,8 @@ raises j old new a root q version over c given = moves_on j old new _ _ (once_ma
 ))
 
 -- and set, or another came before
-pub crowned : (j : Course) (old new : Store) (a : SwapRoot) (name : Key) (done : Unit {0}) → name ≡ j.tree.name → SwapsRoot name (Some a.old) (Some a.new) old new (Ok done) → StageAction j old (stage.SwapRoot a) (next.Go stage.Root) new
-crowned j old new a name done e c = moves_on j old new _ _ (once_rooted name (Some a.new) old new c.is.1) tt (λ numbers gave w is named k.
+pub after_swap_root : (j : Course) (old new : Store) (a : SwapRoot) (name : Key) (done : Unit {0}) → name ≡ j.tree.name → SwapsRoot name (Some a.old) (Some a.new) old new (Ok done) → StageAction j old (stage.SwapRoot a) (next.Go stage.Root) new
+after_swap_root j old new a name done e c = moves_on j old new _ _ (once_rooted name (Some a.new) old new c.is.1) tt (λ numbers gave w is named k.
     let m : Snapshot = snapshot_of old numbers gave in
     let did = crown_action m w j.tree.name j.tree.number j.aim a is named (ap (now old).roots (sym e) ∙ c.is.0) k in (
       after_hoist m j.tree.name a.new,

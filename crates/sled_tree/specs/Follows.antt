@@ -138,23 +138,23 @@ follows_open j v by next =
     (Where (LiesUnder j.aim v.node) (follows_here j v by next)
     (next ≡ Go stage.Root)))
 
-abbrev pub follows_awake : Option ℕ → Course → View → Reached → Next → Type 0
-follows_awake (Some child) j v by next = ResumesMerge v child next
-follows_awake None j v by next = follows_open j v by next
+abbrev pub follows_not_merging : Option ℕ → Course → View → Reached → Next → Type 0
+follows_not_merging (Some child) j v by next = ResumesMerge v child next
+follows_not_merging None j v by next = follows_open j v by next
 
 -- a page of a walk
 abbrev pub follows_read : Course → View → Reached → Next → Type 0
-follows_read j v by next = Where (v.node.merging ≡ true) (next ≡ Go stage.Root) (follows_awake v.node.merging_child j v by next)
+follows_read j v by next = Where (v.node.merging ≡ true) (next ≡ Go stage.Root) (follows_not_merging v.node.merging_child j v by next)
 
 -- the merging child: one that is capped already is looked for from the page before it on, and an open one is to be capped
-abbrev pub follows_child_awake : Option ℕ → Merge → View → Next → Type 0
-follows_child_awake (Some child) merge v next = ResumesMerge v child next
-follows_child_awake None merge v next = next ≡ Go (stage.Cap (record { merge = merge; version = v.version; node = v.node }))
+abbrev pub follows_child_not_merging : Option ℕ → Merge → View → Next → Type 0
+follows_child_not_merging (Some child) merge v next = ResumesMerge v child next
+follows_child_not_merging None merge v next = next ≡ Go (stage.Cap (record { merge = merge; version = v.version; node = v.node }))
 
 abbrev pub follows_child : Merge → View → Next → Type 0
 follows_child merge v next =
     Where (v.node.merging ≡ true) (next ≡ Go (stage.Seek (record { merge = merge; version = v.version; node = v.node; cursor = merge.before })))
-    (follows_child_awake v.node.merging_child merge v next)
+    (follows_child_not_merging v.node.merging_child merge v next)
 
 -- The search for the page before the merging child. The one that leads to the child receives it, and splits first where it is
 -- too long; where the search came past the child, that was received already
@@ -177,12 +177,12 @@ follows_search seek v next =
     (Where (ReachesTo v.node seek.node.lo) (next ≡ Go (stage.Confirm (record { parent = seek.merge.parent; child = seek.merge.child; version = seek.version })))
     (next ≡ searched seek v.node.next))
 
-abbrev pub follows_cursor_awake : Option ℕ → Seek → View → Next → Type 0
-follows_cursor_awake (Some child) seek v next = ResumesMerge v child next
-follows_cursor_awake None seek v next = follows_search seek v next
+abbrev pub follows_cursor_not_merging : Option ℕ → Seek → View → Next → Type 0
+follows_cursor_not_merging (Some child) seek v next = ResumesMerge v child next
+follows_cursor_not_merging None seek v next = follows_search seek v next
 
 abbrev pub follows_cursor : Seek → View → Next → Type 0
-follows_cursor seek v next = Where (v.node.merging ≡ true) (next ≡ Go stage.Root) (follows_cursor_awake v.node.merging_child seek v next)
+follows_cursor seek v next = Where (v.node.merging ≡ true) (next ≡ Go stage.Root) (follows_cursor_not_merging v.node.merging_child seek v next)
 
 -- The page that a stage reads says what comes next. Where there is none the call begins again. Where the page is not readable
 -- the call is refused: for that, or for want of memory
@@ -231,13 +231,13 @@ abbrev pub follows_split : Store → Store → Split → Next → Type 0
 follows_split old new a next = Where ((16 < count a.page.node.content) × IsOpen a.page.node) (SplitsPage old new a next) ((new ≡ old) × (next ≡ Go stage.Root))
 
 -- the page becomes the left one, and the right one gets its pointer, or else it goes,
-abbrev pub shortened : InstallLeft → Posting → Next
-shortened a (posting.Parent parent) = Go (stage.Post (record { parent = parent; at = a.at; pid = a.right }))
-shortened a posting.Root = Go (stage.Hoist (record { left = a.page.pid; at = a.at; right = a.right }))
-shortened a posting.Nowhere = Go stage.Root
+abbrev pub after_install_left : InstallLeft → Posting → Next
+after_install_left a (posting.Parent parent) = Go (stage.Post (record { parent = parent; at = a.at; pid = a.right }))
+after_install_left a posting.Root = Go (stage.Hoist (record { left = a.page.pid; at = a.at; right = a.right }))
+after_install_left a posting.Nowhere = Go stage.Root
 
-abbrev pub follows_shorten : Store → Store → InstallLeft → Next → Type 0
-follows_shorten old new a next = TakesWay (λ _. a.left) a.page.pid a.page.version old new next (λ _. shortened a a.posting) (λ _. Go (stage.Free (record { pid = a.right; version = a.version })))
+abbrev pub follows_install_left : Store → Store → InstallLeft → Next → Type 0
+follows_install_left old new a next = TakesWay (λ _. a.left) a.page.pid a.page.version old new next (λ _. after_install_left a a.posting) (λ _. Go (stage.Free (record { pid = a.right; version = a.version })))
 
 -- in an index that has none at its key,
 abbrev pub follows_post : Store → Store → Post → Next → Type 0
@@ -255,17 +255,17 @@ pub record Hoists (old new : Store) (a : Hoist) (next : Next) : Type 0 where
   pub made : Allocates node root version old new
   pub is : next ≡ Go (stage.SwapRoot (record { old = a.left; new = root; version = version }))
 
-abbrev pub crowned : SwapRoot → Result (Unit {0}) (Option ℕ) → Next
-crowned a (Ok done) = Go stage.Root
-crowned a (Err present) = Go (stage.Free (record { pid = a.new; version = a.version }))
+abbrev pub after_swap_root : SwapRoot → Result (Unit {0}) (Option ℕ) → Next
+after_swap_root a (Ok done) = Go stage.Root
+after_swap_root a (Err present) = Go (stage.Free (record { pid = a.new; version = a.version }))
 
-pub record Crowns (name : Key) (old new : Store) (a : SwapRoot) (next : Next) : Type 0 where
+pub record SwapsTheRoot (name : Key) (old new : Store) (a : SwapRoot) (next : Next) : Type 0 where
   pub answer : Result (Unit {0}) (Option ℕ)
   pub swaps : SwapsRoot name (Some a.old) (Some a.new) old new answer
-  pub is : next ≡ crowned a answer
+  pub is : next ≡ after_swap_root a answer
 
 -- a page that no tree came to have is freed
-pub record FreesOwn (old new : Store) (a : Orphan) (next : Next) : Type 0 where
+pub record FreesOrphan (old new : Store) (a : Orphan) (next : Next) : Type 0 where
   pub answer : Result (Unit {0}) (Option ℕ)
   pub frees : Frees a.pid a.version old new answer
   pub is : next ≡ Go stage.Root
@@ -312,11 +312,11 @@ follows_as j old stage.Root next new = (new ≡ old) × follows_root j old ((now
 follows_as j old (stage.Walk a) next new = (new ≡ old) × follows_walk j old a next
 follows_as j old (stage.Act v) next new = OrRefused old new next (LinksChange j old new v next)
 follows_as j old (stage.Split a) next new = OrRefused old new next (follows_split old new a next)
-follows_as j old (stage.InstallLeft a) next new = OrRefused old new next (follows_shorten old new a next)
+follows_as j old (stage.InstallLeft a) next new = OrRefused old new next (follows_install_left old new a next)
 follows_as j old (stage.Post a) next new = OrRefused old new next (follows_post old new a next)
 follows_as j old (stage.Hoist a) next new = OrRefused old new next (Hoists old new a next)
-follows_as j old (stage.SwapRoot a) next new = OrRefused old new next (Crowns j.tree.name old new a next)
-follows_as j old (stage.Free a) next new = OrRefused old new next (FreesOwn old new a next)
+follows_as j old (stage.SwapRoot a) next new = OrRefused old new next (SwapsTheRoot j.tree.name old new a next)
+follows_as j old (stage.Free a) next new = OrRefused old new next (FreesOrphan old new a next)
 follows_as j old (stage.Intend a) next new = OrRefused old new next (follows_intend old new a next)
 follows_as j old (stage.Child a) next new = (new ≡ old) × FollowsPage old a.child (follows_child a) next
 follows_as j old (stage.Cap a) next new = OrRefused old new next (follows_cap old new a next)

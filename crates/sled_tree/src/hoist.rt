@@ -4,7 +4,7 @@ ghost use Rattle.sled_pages.specs.declared.error.Error.TheVariants.{NoMemory};
 ghost use Rattle.tree_laws.specs.Stages.{IsOver};
 ghost use Rattle.sled_tree.specs.Course.{course};
 ghost use Rattle.sled_tree.specs.theory.StageAction.{StageAction};
-ghost use Rattle.sled_tree.specs.Follows.{OrRefused, Hoists, Crowns};
+ghost use Rattle.sled_tree.specs.Follows.{OrRefused, Hoists, SwapsTheRoot};
 
 use crate::flight::{Aim, Job, Next};
 use sled_pages::{Data, IVec, Index, Node, Pages, Pid, Result, law_given};
@@ -93,7 +93,7 @@ pub(crate) fn hoist<P: Pages>(
 // Sets the new root, where the old one is still the root.
 pub(crate) fn swap_root<P: Pages>(pages: &mut P, job: &Job, aim: &Aim, swap_root: SwapRoot) -> Next
     ensures moves { StageAction (course job.now aim.now) (P.store pages.old) (Stage.SwapRoot swap_root) result (P.store pages.new) }
-    ensures follows { OrRefused (P.store pages.old) (P.store pages.new) result (Crowns job.now.tree.name (P.store pages.old) (P.store pages.new) swap_root result) }
+    ensures follows { OrRefused (P.store pages.old) (P.store pages.new) result (SwapsTheRoot job.now.tree.name (P.store pages.old) (P.store pages.new) swap_root result) }
 {
     match pages.cas_root(
         job.tree.name.as_ref(),

@@ -3,7 +3,7 @@
 //! Between any two of these steps the tree is whole. A right half that nobody came to want is freed.
 ghost use Rattle.sled_tree.specs.Course.{course};
 ghost use Rattle.sled_tree.specs.theory.StageAction.{StageAction};
-ghost use Rattle.sled_tree.specs.Follows.{OrRefused, follows_split, follows_shorten, follows_post, FreesOwn};
+ghost use Rattle.sled_tree.specs.Follows.{OrRefused, follows_split, follows_install_left, follows_post, FreesOrphan};
 
 use crate::flight::{Aim, Job, Next};
 use sled_pages::{Pages, law_given};
@@ -80,7 +80,7 @@ pub(crate) fn install_left<P: Pages>(
     split: InstallLeft,
 ) -> Next
     ensures moves { StageAction (course job.now aim.now) (P.store pages.old) (Stage.InstallLeft split) result (P.store pages.new) }
-    ensures follows { OrRefused (P.store pages.old) (P.store pages.new) result (follows_shorten (P.store pages.old) (P.store pages.new) split result) }
+    ensures follows { OrRefused (P.store pages.old) (P.store pages.new) result (follows_install_left (P.store pages.old) (P.store pages.new) split result) }
 {
     let InstallLeft {
         page,
@@ -165,7 +165,7 @@ pub(crate) fn post<P: Pages>(pages: &mut P, alloc: Global, job: &Job, aim: &Aim,
 // Frees a page that is no part of any tree.
 pub(crate) fn free<P: Pages>(pages: &mut P, job: &Job, aim: &Aim, own: Orphan) -> Next
     ensures moves { StageAction (course job.now aim.now) (P.store pages.old) (Stage.Free own) result (P.store pages.new) }
-    ensures follows { OrRefused (P.store pages.old) (P.store pages.new) result (FreesOwn (P.store pages.old) (P.store pages.new) own result) }
+    ensures follows { OrRefused (P.store pages.old) (P.store pages.new) result (FreesOrphan (P.store pages.old) (P.store pages.new) own result) }
 {
     match pages.free(own.pid, own.version) {
         Err(e) => Next::Refused(e),

@@ -10,7 +10,7 @@ use Rattle.sled_pages.specs.theory.Facts.{after_last}
 use Rattle.tree_laws.specs.Contents.{trees_of}
 use Rattle.tree_laws.specs.Crashes.{IsValid, Stutters, StutterEquivalent, Trees, AddsCrashStates, Flushes}
 use Rattle.tree_laws.specs.theory.Crashes.{AddsAction}
-use Rattle.tree_laws.specs.theory.CrashLaws.{ExtendsLaw, RestsLaw, DecidesLaw, UnseenLaw, InsideGroupLaw, AgainLaw, WholeLaw, FlushesWholeLaw}
+use Rattle.tree_laws.specs.theory.CrashLaws.{ExtendsLaw, RestsLaw, DecidesLaw, UnseenLaw, InsideGroupLaw, AgainLaw, ValidLaw, FlushesValidLaw}
 use Rattle.tree_laws.proofs.Runs.{In_cases, In-right}
 
 -- the lists that are equal but for repeats
@@ -272,8 +272,8 @@ inside_group_law act a b d = adds_inside d
 pub again_law : AgainLaw
 again_law maps a b e = extends_again e
 
-pub whole_law : WholeLaw
-whole_law act a b d old new = record { whole = adds_each d IsValid old.whole new }
+pub valid_law : ValidLaw
+valid_law act a b d old new = record { whole = adds_each d IsValid old.whole new }
 
-pub flushes_whole_law : FlushesWholeLaw
-flushes_whole_law a b d out is = record { whole = λ x i. elim (subst (λ l. In x l) (flushes_left d out) i) [ inl e ↦ subst IsValid (sym e) is | inr e ↦ absurd e ] }
+pub flushes_valid_law : FlushesValidLaw
+flushes_valid_law a b d out is = record { whole = λ x i. elim (subst (λ l. In x l) (flushes_left d out) i) [ inl e ↦ subst IsValid (sym e) is | inr e ↦ absurd e ] }

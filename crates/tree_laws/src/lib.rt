@@ -88,7 +88,7 @@
 //!   refuses what takes a root away, flushes, and puts it back and flushes again, after which all else is as it was.
 //! - *The contents after the states that a crash may leave go on by the contents after each call, in order, and by no others,
 //!   equal neighbours taken once*: `AddsCrashStates.grew`, over `StutterEquivalent` (`MatchesLaw`). *Those states stay well formed*: `safe`; so do they
-//!   after a flush (`FlushesWholeLaw`).
+//!   after a flush (`FlushesValidLaw`).
 //! - *A flush alone does otherwise: the base becomes the state before it, nothing is recent, the count stays*: `Flushes`.
 //!
 //! # Calls in flight
@@ -118,8 +118,8 @@
 //! - `UnseenLaw`: An action outside every group that leaves the trees as they were adds none.
 //! - `InsideGroupLaw`: An action inside a group adds nothing that a crash may leave.
 //! - `AgainLaw`: A call that is decided without a change adds the trees as they are.
-//! - `WholeLaw`: The shape and the size are kept in each state that a crash may leave.
-//! - `FlushesWholeLaw`: After a flush of a state that has them, each state that a crash may leave has them.
+//! - `ValidLaw`: The shape and the size are kept in each state that a crash may leave.
+//! - `FlushesValidLaw`: After a flush of a state that has them, each state that a crash may leave has them.
 //! - `MatchesLaw`: Lists match exactly if they are the same once each run of equal neighbours is taken once.
 //!
 //! `images`: pages and roots that are well formed, and such that are not.

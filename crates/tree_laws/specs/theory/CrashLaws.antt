@@ -31,12 +31,12 @@ abbrev pub AgainLaw : Type 0
 AgainLaw = (maps : List Trees) (a b : Store) → AddsCrashStates maps a b → (now b).in_group ≡ false → AddsCrashStates (maps ++ trees_of (now b) ∷ []) a b
 
 -- the shape and the size are kept in each state that a crash may leave
-abbrev pub WholeLaw : Type 0
-WholeLaw = (act : Action) (a b : Store) → AddsAction act a b → IsCrashConsistent a → ((now b).in_group ≡ false → IsValid (now b)) → IsCrashConsistent b
+abbrev pub ValidLaw : Type 0
+ValidLaw = (act : Action) (a b : Store) → AddsAction act a b → IsCrashConsistent a → ((now b).in_group ≡ false → IsValid (now b)) → IsCrashConsistent b
 
 -- and after a flush of a state that has them
-abbrev pub FlushesWholeLaw : Type 0
-FlushesWholeLaw = (a b : Store) → Flushes a b → (now a).in_group ≡ false → IsValid (now a) → IsCrashConsistent b
+abbrev pub FlushesValidLaw : Type 0
+FlushesValidLaw = (a b : Store) → Flushes a b → (now a).in_group ≡ false → IsValid (now a) → IsCrashConsistent b
 
 -- a number comes before a list, unless the list begins with it
 abbrev pub ahead : ℕ → List ℕ → List ℕ
