@@ -14,5 +14,6 @@ pub mod Popping
 pub mod Naming
 pub mod Numbering
 pub mod Planting
+pub mod Importing
 pub mod Dropping
 pub mod Removing

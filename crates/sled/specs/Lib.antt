@@ -9,6 +9,7 @@ pub mod Flights
 pub mod Direct
 pub mod Pops
 pub mod Flush
+pub mod Imports
 pub mod Ids
 pub mod Operators
 pub mod Drops

@@ -3,7 +3,7 @@ ghost use Rattle.std.specs.Prelude.{◌≡◌, ◌<◌, ◌∷◌, IfOk, IfErr, 
 ghost use Rattle.std.specs.Option.{option_map};
 ghost use Rattle.sled_pages.specs.declared.error.Error.TheVariants.{NoMemory};
 ghost use Rattle.sled_model.specs.Refusal.{must_refuse, ToBegin, must_refuse_of};
-ghost use Rattle.sled_model.specs.declared.call.Whole.TheVariants.{Flush, PopMin, PopMax, Clear, OpenTree, GenerateId};
+ghost use Rattle.sled_model.specs.declared.call.Whole.TheVariants.{Flush, PopMin, PopMax, Clear, OpenTree, GenerateId, Import};
 ghost use Rattle.sled_model.specs.declared.call.Call.{Call};
 ghost use Rattle.sled_model.specs.declared.outcome.Outcome.TheVariants as outcome;
 ghost use Rattle.sled_model.specs.declared.outcome.Step.TheVariants as step;
@@ -11,7 +11,7 @@ ghost use Rattle.sled_model.specs.declared.outcome.Step.TheVariants as step;
 use crate::flights::{finish_at, outcome_of, step_at, turns_of};
 use crate::table::Table;
 use sled::Db;
-use sled_model::{Call, MergeOperator, Outcome, Reply, Slot, Step, Tree, Whole};
+use sled_model::{Call, Collection, MergeOperator, Outcome, Reply, Slot, Step, Tree, Whole};
 use sled_pages::texts::NUMBERS_USED_UP;
 use sled_pages::{Error, IVec, Pages, Result};
 use sled_tree::InFlight;
@@ -232,6 +232,7 @@ impl<P: Pages, M: MergeOperator> Machine<P, M> {
             Whole::Clear(tree) => self.clear(tree),
             Whole::OpenTree(name) => self.open_tree(name),
             Whole::GenerateId => self.generate_id(),
+            Whole::Import(collections) => self.import(collections),
         }
     }
 
@@ -292,6 +293,15 @@ impl<P: Pages, M: MergeOperator> Machine<P, M> {
             Err(e) => return Outcome::Refused(e),
         };
         Outcome::Decided(Reply::Number(id))
+    }
+
+    fn import(&mut self, collections: &Vec<Collection>) -> Outcome
+        ensures { MachineStepContract P.store P.flush_number M.meant self.old (step.Whole (Import collections.now)) result self.new }
+    {
+        if let Err(e) = self.db.import(collections.as_slice()) {
+            return Outcome::Refused(e);
+        }
+        Outcome::Decided(Reply::Done)
     }
 
     /// Does steps of the call in the slot until it ends. There are no more than its turns allow. Where no other call left
