@@ -1,7 +1,8 @@
 -- What a list of all that was done says, from its end, and of a beginning of it.
-use Rattle.std.proofs.Common.{◌≡◌, ◌≢◌, ℕ, zero, suc, ◌+◌, ◌-◌, ◌<◌, ◌≤◌, ◌^◌, Bool, true, false, cond, nat_lt, List, [], ◌∷◌, ◌++◌, length, Option, Some, None, refl, sym, ap, subst, ◌∙◌, take, drop, get_or, set, is_some, arith, Result, Ok, Err, IfOk, IfErr}
+use Rattle.std.proofs.Common.{◌≡◌, ◌≢◌, ℕ, zero, suc, ◌+◌, ◌-◌, ◌<◌, ◌≤◌, ◌^◌, Bool, true, false, cond, nat_lt, List, [], ◌∷◌, ◌++◌, length, Option, Some, None, refl, sym, ap, subst, ◌∙◌, take, drop, get_or, set, is_some, arith, slice_get, Result, Ok, Err, IfOk, IfErr}
 use Rattle.std.proofs.lemmas.Bool.Decides.{nat_tests}
 use Rattle.std.proofs.lemmas.List.{take_more, take_all, drop_all, length-append, length-take-le, take-map, drop-take, take-take, map-append, drop-append-le, take-append-le, length-map, length-drop}
+use Rattle.std.proofs.lemmas.Option.{get_or_from_slice_get}
 use Rattle.std.specs.Cmp.Lexicographic.{slice_cmp, nat_list_cmp_total}
 use Rattle.std.specs.FinMap.Entries.{put, is_sorted}
 use Rattle.std.specs.List.{list_all, insert}
@@ -39,52 +40,55 @@ pub step : (log : List Logged) (i : ℕ) (d : Logged) → i < length log → sta
 step log i d h = ap state_after (take_more log i d h) ∙ after_push (take i log) (get_or log i d)
 
 -- one entry of the list, gone through from its end
-module _ (log : List Logged) (i : ℕ) (a : Logged) (h : 0 < i) (k : i ≤ length log) (at : a ≡ get_or log (i - 1) a) where
-  ended : state_after (take i log) ≡ after (action_of a) (state_after (take (i - 1) log))
+module _ (log : List Logged) (i : ℕ) (a : Logged) (h : i < length log) (at : slice_get log (length log - 1 - i) ≡ Some a) where
+  ended : state_after (take (length log - i) log) ≡ after (action_of a) (state_after (take (length log - (i + 1)) log))
   ended =
-      let next : i - 1 + 1 ≡ i = omega arith in
-      ap (λ n. state_after (take n log)) (sym next) ∙ (step log (i - 1) a (omega arith) ∙ ap (λ b. after (action_of b) (state_after (take (i - 1) log))) (sym at))
+      let next : length log - (i + 1) + 1 ≡ length log - i = omega arith in
+      let place : length log - 1 - i ≡ length log - (i + 1) = omega arith in
+      ap (λ n. state_after (take n log)) (sym next)
+      ∙ (step log (length log - (i + 1)) a (omega arith)
+      ∙ ap (λ b. after (action_of b) (state_after (take (length log - (i + 1)) log))) (ap (λ n. get_or log n a) (sym place) ∙ get_or_from_slice_get log (length log - 1 - i) a a at))
 
-  pages_ended : (b : Logged) (pid : ℕ) → a ≡ b → (state_after (take i log)).pages pid ≡ (after (action_of b) (state_after (take (i - 1) log))).pages pid
-  pages_ended b pid e = ap (λ (s : State). s.pages pid) (ended ∙ ap (λ x. after (action_of x) (state_after (take (i - 1) log))) e)
+  pages_ended : (b : Logged) (pid : ℕ) → a ≡ b → (state_after (take (length log - i) log)).pages pid ≡ (after (action_of b) (state_after (take (length log - (i + 1)) log))).pages pid
+  pages_ended b pid e = ap (λ (s : State). s.pages pid) (ended ∙ ap (λ x. after (action_of x) (state_after (take (length log - (i + 1)) log))) e)
 
-  pub page_said : (of pid : ℕ) (page : Option Page) → a ≡ PageBecame of page → of ≡ pid → (state_after (take i log)).pages pid ≡ page
-  page_said of pid page e o = pages_ended (PageBecame of page) pid e ∙ (ap (λ q. put_at (state_after (take (i - 1) log)).pages q page pid) o ∙ put_here (state_after (take (i - 1) log)).pages pid page)
+  pub page_said : (of pid : ℕ) (page : Option Page) → a ≡ PageBecame of page → of ≡ pid → (state_after (take (length log - i) log)).pages pid ≡ page
+  page_said of pid page e o = pages_ended (PageBecame of page) pid e ∙ (ap (λ q. put_at (state_after (take (length log - (i + 1)) log)).pages q page pid) o ∙ put_here (state_after (take (length log - (i + 1)) log)).pages pid page)
 
-  pub page_past : (of pid : ℕ) (page : Option Page) → a ≡ PageBecame of page → of ≢ pid → (state_after (take (i - 1) log)).pages pid ≡ (state_after (take i log)).pages pid
-  page_past of pid page e n = sym (pages_ended (PageBecame of page) pid e ∙ put_elsewhere (state_after (take (i - 1) log)).pages of pid page (λ d. n (sym d)))
+  pub page_past : (of pid : ℕ) (page : Option Page) → a ≡ PageBecame of page → of ≢ pid → (state_after (take (length log - (i + 1)) log)).pages pid ≡ (state_after (take (length log - i) log)).pages pid
+  page_past of pid page e n = sym (pages_ended (PageBecame of page) pid e ∙ put_elsewhere (state_after (take (length log - (i + 1)) log)).pages of pid page (λ d. n (sym d)))
 
-  pub page_other : (b : Logged) (pid : ℕ) → a ≡ b → ((of : ℕ) (page : Option Page) → b ≡ PageBecame of page → ⊥) → (state_after (take (i - 1) log)).pages pid ≡ (state_after (take i log)).pages pid
+  pub page_other : (b : Logged) (pid : ℕ) → a ≡ b → ((of : ℕ) (page : Option Page) → b ≡ PageBecame of page → ⊥) → (state_after (take (length log - (i + 1)) log)).pages pid ≡ (state_after (take (length log - i) log)).pages pid
   page_other (PageBecame of page) pid e n = absurd (n of page refl)
   page_other (RootBecame name root) pid e n = sym (pages_ended (RootBecame name root) pid e)
   page_other GroupBegan pid e n = sym (pages_ended GroupBegan pid e)
   page_other GroupEnded pid e n = sym (pages_ended GroupEnded pid e)
 
-  roots_ended : (b : Logged) (name : Key) → a ≡ b → (state_after (take i log)).roots name ≡ (after (action_of b) (state_after (take (i - 1) log))).roots name
-  roots_ended b name e = ap (λ (s : State). s.roots name) (ended ∙ ap (λ x. after (action_of x) (state_after (take (i - 1) log))) e)
+  roots_ended : (b : Logged) (name : Key) → a ≡ b → (state_after (take (length log - i) log)).roots name ≡ (after (action_of b) (state_after (take (length log - (i + 1)) log))).roots name
+  roots_ended b name e = ap (λ (s : State). s.roots name) (ended ∙ ap (λ x. after (action_of x) (state_after (take (length log - (i + 1)) log))) e)
 
-  pub root_said : (of name : Key) (root : Option ℕ) → a ≡ RootBecame of root → name ≡ of → (state_after (take i log)).roots name ≡ root
-  root_said of name root e o = roots_ended (RootBecame of root) name e ∙ (ap (λ q. put_name (state_after (take (i - 1) log)).roots q root name) (sym o) ∙ put_name_here (state_after (take (i - 1) log)).roots name root)
+  pub root_said : (of name : Key) (root : Option ℕ) → a ≡ RootBecame of root → name ≡ of → (state_after (take (length log - i) log)).roots name ≡ root
+  root_said of name root e o = roots_ended (RootBecame of root) name e ∙ (ap (λ q. put_name (state_after (take (length log - (i + 1)) log)).roots q root name) (sym o) ∙ put_name_here (state_after (take (length log - (i + 1)) log)).roots name root)
 
-  pub root_past : (of name : Key) (root : Option ℕ) → a ≡ RootBecame of root → name ≢ of → (state_after (take (i - 1) log)).roots name ≡ (state_after (take i log)).roots name
-  root_past of name root e n = sym (roots_ended (RootBecame of root) name e ∙ put_name_elsewhere (state_after (take (i - 1) log)).roots of name root n)
+  pub root_past : (of name : Key) (root : Option ℕ) → a ≡ RootBecame of root → name ≢ of → (state_after (take (length log - (i + 1)) log)).roots name ≡ (state_after (take (length log - i) log)).roots name
+  root_past of name root e n = sym (roots_ended (RootBecame of root) name e ∙ put_name_elsewhere (state_after (take (length log - (i + 1)) log)).roots of name root n)
 
-  pub root_other : (b : Logged) (name : Key) → a ≡ b → ((of : Key) (root : Option ℕ) → b ≡ RootBecame of root → ⊥) → (state_after (take (i - 1) log)).roots name ≡ (state_after (take i log)).roots name
+  pub root_other : (b : Logged) (name : Key) → a ≡ b → ((of : Key) (root : Option ℕ) → b ≡ RootBecame of root → ⊥) → (state_after (take (length log - (i + 1)) log)).roots name ≡ (state_after (take (length log - i) log)).roots name
   root_other (RootBecame of root) name e n = absurd (n of root refl)
   root_other (PageBecame of page) name e n = sym (roots_ended (PageBecame of page) name e)
   root_other GroupBegan name e n = sym (roots_ended GroupBegan name e)
   root_other GroupEnded name e n = sym (roots_ended GroupEnded name e)
 
-  group_ended : (b : Logged) → a ≡ b → (state_after (take i log)).in_group ≡ (after (action_of b) (state_after (take (i - 1) log))).in_group
-  group_ended b e = ap (λ (s : State). s.in_group) (ended ∙ ap (λ x. after (action_of x) (state_after (take (i - 1) log))) e)
+  group_ended : (b : Logged) → a ≡ b → (state_after (take (length log - i) log)).in_group ≡ (after (action_of b) (state_after (take (length log - (i + 1)) log))).in_group
+  group_ended b e = ap (λ (s : State). s.in_group) (ended ∙ ap (λ x. after (action_of x) (state_after (take (length log - (i + 1)) log))) e)
 
-  pub group_begun : a ≡ GroupBegan → (state_after (take i log)).in_group ≡ true
+  pub group_begun : a ≡ GroupBegan → (state_after (take (length log - i) log)).in_group ≡ true
   group_begun e = group_ended GroupBegan e
 
-  pub group_over : a ≡ GroupEnded → (state_after (take i log)).in_group ≡ false
+  pub group_over : a ≡ GroupEnded → (state_after (take (length log - i) log)).in_group ≡ false
   group_over e = group_ended GroupEnded e
 
-  pub group_other : (b : Logged) → a ≡ b → (b ≡ GroupBegan → ⊥) → (b ≡ GroupEnded → ⊥) → (state_after (take (i - 1) log)).in_group ≡ (state_after (take i log)).in_group
+  pub group_other : (b : Logged) → a ≡ b → (b ≡ GroupBegan → ⊥) → (b ≡ GroupEnded → ⊥) → (state_after (take (length log - (i + 1)) log)).in_group ≡ (state_after (take (length log - i) log)).in_group
   group_other (PageBecame of page) e n m = sym (group_ended (PageBecame of page) e)
   group_other (RootBecame of root) e n m = sym (group_ended (RootBecame of root) e)
   group_other GroupBegan e n m = absurd (n refl)

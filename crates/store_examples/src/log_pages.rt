@@ -1,6 +1,6 @@
 //! The simplest store that could be, as an example: a list of all that was ever done. It is meant to be read, not used for much:
 //! each read goes through the list.
-ghost use Rattle.std.specs.Prelude.{◌≡◌, ◌+◌, ◌^◌, ◌<◌, ◌≤◌, true, false, is_some, not, length, take, IfOk, IfErr, OnOk};
+ghost use Rattle.std.specs.Prelude.{◌≡◌, ◌+◌, ◌-◌, ◌^◌, ◌<◌, ◌≤◌, true, false, is_some, not, length, take, slice_get, IfOk, IfErr, OnOk};
 ghost use Rattle.std.specs.FinMap.Entries.{put, where_key, is_sorted};
 ghost use Rattle.std.specs.Cmp.Lexicographic.{slice_cmp};
 ghost use Rattle.std.specs.Ordering.{nat_cmp, eq_by_cmp};
@@ -49,12 +49,20 @@ pub struct LogPages {
     ghost kept: { IsLog log.items flushed last_pid next_version },
 }
 
+// The action with so many behind it.
+fn from_end(log: &[Logged], i: usize) -> &Logged
+    requires { i < length log.now }
+    ensures { slice_get log.now (length log.now - 1 - i) ≡ Some result.now }
+{
+    &log[log.len() - 1 - i]
+}
+
 // What a page became last.
 fn page_in(log: &[Logged], pid: Pid) -> Option<&Page>
     ensures { option_copied result ≡ (state_after log.now).pages pid }
 {
-    for i in (0..log.len()).rev() {
-        if let Logged::PageBecame(of, page) = &log[i] {
+    for i in 0..log.len() {
+        if let Logged::PageBecame(of, page) = from_end(log, i) {
             if *of == pid {
                 return page.as_ref();
             }
@@ -67,8 +75,8 @@ fn page_in(log: &[Logged], pid: Pid) -> Option<&Page>
 fn root_in(log: &[Logged], name: &[u8]) -> Option<Pid>
     ensures { result ≡ (state_after log.now).roots name.now }
 {
-    for i in (0..log.len()).rev() {
-        if let Logged::RootBecame(of, root) = &log[i] {
+    for i in 0..log.len() {
+        if let Logged::RootBecame(of, root) = from_end(log, i) {
             if name == of.as_ref() {
                 return *root;
             }
@@ -81,8 +89,8 @@ fn root_in(log: &[Logged], name: &[u8]) -> Option<Pid>
 fn is_open(log: &[Logged]) -> bool
     ensures { result ≡ (state_after log.now).in_group }
 {
-    for i in (0..log.len()).rev() {
-        match &log[i] {
+    for i in 0..log.len() {
+        match from_end(log, i) {
             Logged::GroupBegan => return true,
             Logged::GroupEnded => return false,
             _ => {}
@@ -157,13 +165,11 @@ fn linked(alloc: Global, node: &Node, link: Link) -> Result<Node>
             return Err(e);
         }
     };
-    match made.apply(link) {
-        Ok(()) => Ok(made),
-        Err(e) => {
-            drop(made);
-            Err(e)
-        }
+    if let Err(e) = made.apply(link) {
+        drop(made);
+        return Err(e);
     }
+    Ok(made)
 }
 
 impl LogPages {
@@ -201,29 +207,14 @@ impl LogPages {
     pub fn crash(self, keep: usize) -> LogPages
         ensures { Crashes keep (store_of self) (store_of result) }
     {
-        let LogPages {
-            alloc,
-            mut log,
-            flushed,
-            actions,
-            last_pid,
-            next_version,
-            mark,
-            ..
-        } = self;
-        let kept = kept_of(log.as_slice(), flushed, keep);
-        log.truncate(flushed + kept);
-        LogPages {
-            alloc,
-            log,
-            flushed: flushed + kept,
-            actions,
-            last_pid,
-            next_version,
-            faults: 0,
-            mark,
-            recovered: true,
-        }
+        let mut left = self;
+        let flushed = left.flushed;
+        let kept = kept_of(left.log.as_slice(), flushed, keep);
+        left.flushed = flushed + kept;
+        left.log.truncate(flushed + kept);
+        left.faults = 0;
+        left.recovered = true;
+        left
     }
 
     // Numbers are used up: a fault of the device, while faults can be counted.
@@ -270,19 +261,10 @@ impl LogPages {
             return Err(self.fault());
         }
         let version = Version(self.next_version);
-        let node = match Shared::new(self.alloc, node) {
-            Ok(node) => node,
-            Err(e) => return Err(e),
-        };
-        let page = Some(Page { version, node });
-        match self.write(
-            Logged::PageBecame(pid, page),
-            self.last_pid,
-            self.next_version + 1,
-        ) {
-            Ok(()) => Ok(version),
-            Err(e) => Err(e),
-        }
+        let node = Shared::new(self.alloc, node)?;
+        let action = Logged::PageBecame(pid, Some(Page { version, node }));
+        self.write(action, self.last_pid, self.next_version + 1)?;
+        Ok(version)
     }
 
     // The page of a number, where it has this version; else the version that it has.
@@ -330,15 +312,10 @@ impl Pages for LogPages {
         }
         let pid = Pid(self.last_pid + 1);
         let version = Version(self.next_version);
-        let node = match Shared::new(self.alloc, node) {
-            Ok(node) => node,
-            Err(e) => return Err(e),
-        };
-        let page = Some(Page { version, node });
-        match self.write(Logged::PageBecame(pid, page), pid.0, version.0 + 1) {
-            Ok(()) => Ok((pid, version)),
-            Err(e) => Err(e),
-        }
+        let node = Shared::new(self.alloc, node)?;
+        let action = Logged::PageBecame(pid, Some(Page { version, node }));
+        self.write(action, pid.0, version.0 + 1)?;
+        Ok((pid, version))
     }
 
     fn link(
@@ -354,14 +331,8 @@ impl Pages for LogPages {
                 return Ok(Err(present));
             }
         };
-        let node = match linked(self.alloc, &page.node, link) {
-            Ok(node) => node,
-            Err(e) => return Err(e),
-        };
-        match self.change(pid, node) {
-            Ok(given) => Ok(Ok(given)),
-            Err(e) => Err(e),
-        }
+        let node = linked(self.alloc, &page.node, link)?;
+        Ok(Ok(self.change(pid, node)?))
     }
 
     fn replace(
@@ -374,10 +345,7 @@ impl Pages for LogPages {
             drop(node);
             return Ok(Err(present));
         }
-        match self.change(pid, node) {
-            Ok(given) => Ok(Ok(given)),
-            Err(e) => Err(e),
-        }
+        Ok(Ok(self.change(pid, node)?))
     }
 
     fn free(
@@ -388,14 +356,9 @@ impl Pages for LogPages {
         if let Err(present) = self.page_at(pid, version) {
             return Ok(Err(present));
         }
-        match self.write(
-            Logged::PageBecame(pid, None),
-            self.last_pid,
-            self.next_version,
-        ) {
-            Ok(()) => Ok(Ok(())),
-            Err(e) => Err(e),
-        }
+        let action = Logged::PageBecame(pid, None);
+        self.write(action, self.last_pid, self.next_version)?;
+        Ok(Ok(()))
     }
 
     fn root(&self, name: &[u8]) -> Option<Pid> {
@@ -423,14 +386,9 @@ impl Pages for LogPages {
             return Ok(Err(present));
         }
         let key = IVec::from_slice(self.alloc, name)?;
-        match self.write(
-            Logged::RootBecame(key, new),
-            self.last_pid,
-            self.next_version,
-        ) {
-            Ok(()) => Ok(Ok(())),
-            Err(e) => Err(e),
-        }
+        let action = Logged::RootBecame(key, new);
+        self.write(action, self.last_pid, self.next_version)?;
+        Ok(Ok(()))
     }
 
     fn begin_group(&mut self) -> Result<()> {
