@@ -34,7 +34,8 @@ enum Logged {
     GroupEnded,
 }
 
-/// A store that keeps a list of all that was ever done, and how much of it is flushed.
+/// A store that keeps a list of all that was ever done, and how much of it is flushed. It is slow: each read goes through the
+/// list.
 #[derive(Drop)]
 pub struct LogPages {
     alloc: Global,
