@@ -4,7 +4,7 @@ ghost use Rattle.std.specs.Option.{option_map};
 ghost use Rattle.sled_pages.specs.Order.{Key};
 ghost use Rattle.sled_pages.specs.declared.error.Error.TheVariants.{NoMemory};
 ghost use Rattle.sled_model.specs.Refusal.{must_refuse, ToBegin, must_refuse_of};
-ghost use Rattle.sled_model.specs.declared.call.Whole.TheVariants.{Flush, PopMin, PopMax, Clear, OpenTree, GenerateId};
+ghost use Rattle.sled_model.specs.declared.call.Whole.TheVariants.{Flush, PopMin, PopMax, Clear, OpenTree, DropTree, GenerateId};
 ghost use Rattle.sled_model.specs.declared.call.Call.{Call};
 ghost use Rattle.sled_model.specs.declared.outcome.Outcome.TheVariants as outcome;
 ghost use Rattle.sled_model.specs.declared.outcome.Step.TheVariants as step;
@@ -268,6 +268,7 @@ impl<P: Pages, M: MergeOperator> Machine<P, M> {
             Whole::PopMax(tree) => self.pop_max(tree),
             Whole::Clear(tree) => self.clear(tree),
             Whole::OpenTree(name) => self.open_tree(name),
+            Whole::DropTree(name) => self.drop_tree(name),
             Whole::GenerateId => self.generate_id(),
         }
     }
@@ -319,6 +320,16 @@ impl<P: Pages, M: MergeOperator> Machine<P, M> {
             Err(e) => return Outcome::Refused(e),
         };
         Outcome::Decided(Reply::Tree(tree))
+    }
+
+    fn drop_tree(&mut self, name: &IVec) -> Outcome
+        ensures { MachineStepContract P.store P.flush_number M.meant self.old (step.Whole (DropTree name.now)) result self.new }
+    {
+        let dropped = match self.db.drop_tree(name.as_ref()) {
+            Ok(dropped) => dropped,
+            Err(e) => return Outcome::Refused(e),
+        };
+        Outcome::Decided(Reply::Flag(dropped))
     }
 
     fn generate_id(&mut self) -> Outcome

@@ -37,6 +37,8 @@ pub enum Whole {
     Clear(Tree),
     /// Opens the tree of a name, which is made where the name has none, and replies with it.
     OpenTree(IVec),
+    /// Drops the tree of a name, and replies with whether there was one.
+    DropTree(IVec),
     /// Takes the next id, and replies with it.
     GenerateId,
 }
@@ -142,6 +144,7 @@ impl Whole {
             Whole::PopMax(tree) => Ok(Whole::PopMax(tree.clone()?)),
             Whole::Clear(tree) => Ok(Whole::Clear(tree.clone()?)),
             Whole::OpenTree(name) => Ok(Whole::OpenTree(name.clone()?)),
+            Whole::DropTree(name) => Ok(Whole::DropTree(name.clone()?)),
             Whole::GenerateId => Ok(Whole::GenerateId),
         }
     }
