@@ -57,7 +57,7 @@ often_once : (a b : Store) → ActsAtMostOnce a b → ActsOften a b
 often_once a b (inl e) = subst (λ (s : Store). ActsOften a s) (sym e) NoAction
 often_once a b (inr o) = OneAction o NoAction
 
-acts_then : (r : Option Error) (a b c : Store) → ActsOften a b → effects_until r b c → effects_until r a c
+pub acts_then : (r : Option Error) (a b c : Store) → ActsOften a b → effects_until r b c → effects_until r a c
 acts_then None a b c first rest = often_then first rest
 acts_then (Some e) a b c first rest = (rest.0, often_then first rest.1, rest.2)
 
@@ -123,9 +123,9 @@ loses_same m = loses_once None m m (loses_nothing None m)
 -- ---- the causes of a refusal
 
 -- the two stores count the same faults and have the same readable pages
-record ReadsAlike (a b : Store) : Type 0 where
-  faults : b.faults ≡ a.faults
-  readable : b.is_readable ≡ a.is_readable
+pub record ReadsAlike (a b : Store) : Type 0 where
+  pub faults : b.faults ≡ a.faults
+  pub readable : b.is_readable ≡ a.is_readable
 
 alike_acting : (a b : Store) → ActsAtMostOnce a b → ReadsAlike a b
 alike_acting a b (inl e) = record { faults = ap (λ (s : Store). s.faults) e; readable = ap (λ (s : Store). s.is_readable) e }
@@ -142,7 +142,7 @@ cause_alike s a m b tree call (error.Corruption fault) r t = t
 cause_alike s a m b tree call error.FullQueue r t = t
 cause_alike s a m b tree call error.Closed r t = t
 
-may_alike : (s : State) (a m b : Store) (tree : Tree) (call : Call) (e : Error) → ReadsAlike a m → MayRefuse s m b (ToPoint tree call) e → MayRefuse s a b (ToPoint tree call) e
+pub may_alike : (s : State) (a m b : Store) (tree : Tree) (call : Call) (e : Error) → ReadsAlike a m → MayRefuse s m b (ToPoint tree call) e → MayRefuse s a b (ToPoint tree call) e
 may_alike s a m b tree call e r may = record { is = go (must_refuse s (ToPoint tree call)) may.is }
   where
     go : (o : Option MustRefuse) → may_refuse_as o s m b (ToPoint tree call) e → may_refuse_as o s a b (ToPoint tree call) e

@@ -15,5 +15,6 @@ pub mod Fetching
 pub mod Naming
 pub mod Numbering
 pub mod Planting
+pub mod Importing
 pub mod Dropping
 pub mod Removing

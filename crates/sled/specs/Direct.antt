@@ -14,7 +14,7 @@ use Rattle.sled_model.specs.Whole.{DecidesPoint, RefusesPoint}
 use Rattle.sled_model.specs.Refusal.{ToCall, must_refuse, TellsTurns, turns_limit}
 use Rattle.sled_model.specs.declared.call.Call.{Call}
 use Rattle.sled_model.specs.declared.call.Whole.{Whole}
-use Rattle.sled_model.specs.declared.call.Whole.TheVariants.{OpenTree, DropTree, GenerateId}
+use Rattle.sled_model.specs.declared.call.Whole.TheVariants.{OpenTree, DropTree, GenerateId, Import}
 use Rattle.sled_model.specs.declared.outcome.Outcome.{Outcome}
 use Rattle.sled_model.specs.declared.outcome.Outcome.TheVariants as outcome
 use Rattle.sled_model.specs.declared.tree.Tree.{Tree}
@@ -96,7 +96,13 @@ abbrev pub changes_only : {P M : Type 0} → Whole → DbValue P M → DbValue P
 changes_only (OpenTree name) old new = new ≡ record old { pages = new.pages; trees = new.trees; trees_given = new.trees_given }
 changes_only (DropTree name) old new = new ≡ record old { pages = new.pages; trees = new.trees; operators = new.operators }
 changes_only GenerateId old new = new ≡ record old { pages = new.pages; greatest_id = new.greatest_id }
+changes_only (Import collections) old new = new ≡ record old { pages = new.pages; trees = new.trees; trees_given = new.trees_given }
 changes_only whole old new = new ≡ record old { pages = new.pages }
+
+-- .. and one that is refused: its pages; and an import, which keeps the parts that it did, the list of trees
+abbrev pub changes_refused : {P M : Type 0} → Whole → DbValue P M → DbValue P M → Type 0
+changes_refused (Import collections) old new = new ≡ record old { pages = new.pages; trees = new.trees; trees_given = new.trees_given }
+changes_refused whole old new = new ≡ record old { pages = new.pages }
 
 -- the tree that a decided whole call drops, if it drops one
 abbrev pub lost_of : Whole → Reply → Option Key
@@ -137,6 +143,6 @@ module _ {P M : Type 0} (store : P → Store) (meant : M → Merge) where
     pub refuses : (slots : ℕ → Option CallInFlight) (slots_given : ℕ) → WholeRefuses (state_of store meant old slots slots_given) (store old.pages) (store new.pages) whole e (state_of store meant new slots slots_given) maps
     pub acts : effect_of_whole (kind_of whole) (outcome.Refused e) (store old.pages) (store new.pages)
     pub leaves : LeavesAll store maps None old new
-    pub same : new ≡ record old { pages = new.pages }
+    pub same : changes_refused whole old new
     -- by a test, and then it did nothing
     pub tested : must_refuse (db_state store meant old) (ToCall whole) ≢ None → new ≡ old

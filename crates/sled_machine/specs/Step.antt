@@ -6,10 +6,12 @@ use Rattle.sled_model.specs.Maps.{Map, Maps, Merge, IsLeast, IsGreatest}
 use Rattle.sled_model.specs.Answer.{answer_of}
 use Rattle.sled_model.specs.Refusal.{ToCall, ToStep, must_refuse, turns_limit}
 use Rattle.sled_model.specs.State.{State, NamedTree, CallInFlight, maps_of}
+use Rattle.sled_model.specs.Collections.{Content, contents_of}
+use Rattle.sled_model.specs.Imports.{parts_of}
 use Rattle.sled_model.specs.Transition.{Transition, Kind, Flushing, kind_of}
 use Rattle.sled_pages.specs.declared.error.Error.{Error}
 use Rattle.sled_model.specs.declared.call.Whole.{Whole}
-use Rattle.sled_model.specs.declared.call.Whole.TheVariants.{PopMin, PopMax, Clear, OpenTree, DropTree}
+use Rattle.sled_model.specs.declared.call.Whole.TheVariants.{PopMin, PopMax, Clear, OpenTree, DropTree, Import}
 use Rattle.sled_model.specs.declared.reply.Reply.TheVariants.{Pair, Flag}
 use Rattle.sled_model.specs.declared.tree.Tree.{Tree}
 use Rattle.sled_model.specs.declared.outcome.Step.{Step}
@@ -36,6 +38,7 @@ use Rattle.sled.specs.Direct.{KeepsOrFreesTreePages, effect_of_whole, lost_of}
 use Rattle.sled.specs.Drops.{DropsTree, RefusesDrop}
 use Rattle.sled.specs.Opens.{OpensBySteps, OpenRefusedBySteps}
 use Rattle.sled.specs.Pops.{GivesUpPop, PopsBySteps, PopRefusedBySteps, ClearsBySteps, ClearRefusedBySteps}
+use Rattle.sled.specs.Imports.{ImportsBySteps, ImportRefusedBySteps}
 use Rattle.sled_machine.specs.CrashMaps.{AreCrashMaps, crash_maps_after}
 use Rattle.sled_machine.specs.StepsInSlot.{flight_after}
 use Rattle.sled_machine.specs.Slots.{kept_at}
@@ -211,12 +214,19 @@ drops_tree_as store meant old name (Decided reply) new = (dropped : Bool) × (re
 drops_tree_as store meant old name (Refused e) new = RefusesDrop store meant old name e new
 drops_tree_as store meant old name o new = Unit {0}
 
+-- an import does each of its parts by the steps of an opening or of an insert
+abbrev pub imports_as : {P M : Type 0} → (P → Store) → (M → Merge) → DbValue P M → List Content → Outcome → DbValue P M → Type 0
+imports_as store meant old all (Decided reply) new = ImportsBySteps store meant old (parts_of all) new
+imports_as store meant old all (Refused e) new = ImportRefusedBySteps store meant old all e new
+imports_as store meant old all o new = Unit {0}
+
 abbrev pub way_of_whole : {P M : Type 0} → (P → Store) → (M → Merge) → DbValue P M → Whole → Outcome → DbValue P M → Type 0
 way_of_whole store meant old (PopMin tree) o new = pops_as store meant old tree IsLeast o new
 way_of_whole store meant old (PopMax tree) o new = pops_as store meant old tree IsGreatest o new
 way_of_whole store meant old (Clear tree) o new = clears_as store meant old tree o new
 way_of_whole store meant old (OpenTree name) o new = opens_as store old name o new
 way_of_whole store meant old (DropTree name) o new = drops_tree_as store meant old name o new
+way_of_whole store meant old (Import collections) o new = imports_as store meant old (contents_of collections.items) o new
 way_of_whole store meant old whole o new = Unit {0}
 
 abbrev pub way_as : {P M : Type 0} → (P → Store) → (M → Merge) → DbValue P M → Step → Outcome → DbValue P M → Type 0

@@ -4,7 +4,7 @@ ghost use Rattle.std.specs.Option.{option_map};
 ghost use Rattle.sled_pages.specs.Order.{Key};
 ghost use Rattle.sled_pages.specs.declared.error.Error.TheVariants.{NoMemory};
 ghost use Rattle.sled_model.specs.Refusal.{must_refuse, ToBegin, must_refuse_of};
-ghost use Rattle.sled_model.specs.declared.call.Whole.TheVariants.{Flush, PopMin, PopMax, Clear, OpenTree, DropTree, GenerateId};
+ghost use Rattle.sled_model.specs.declared.call.Whole.TheVariants.{Flush, PopMin, PopMax, Clear, OpenTree, DropTree, GenerateId, Import};
 ghost use Rattle.sled_model.specs.declared.call.Call.{Call};
 ghost use Rattle.sled_model.specs.declared.outcome.Outcome.TheVariants as outcome;
 ghost use Rattle.sled_model.specs.declared.outcome.Step.TheVariants as step;
@@ -12,7 +12,7 @@ ghost use Rattle.sled_model.specs.declared.outcome.Step.TheVariants as step;
 use crate::flights::{finish_at, outcome_of, step_at, turns_of};
 use crate::table::Table;
 use sled::Db;
-use sled_model::{Call, MergeOperator, Outcome, Reply, Slot, Step, Tree, Whole};
+use sled_model::{Call, Collection, MergeOperator, Outcome, Reply, Slot, Step, Tree, Whole};
 use sled_pages::texts::NUMBERS_USED_UP;
 use sled_pages::{Error, IVec, Pages, Result};
 use sled_tree::InFlight;
@@ -270,6 +270,7 @@ impl<P: Pages, M: MergeOperator> Machine<P, M> {
             Whole::OpenTree(name) => self.open_tree(name),
             Whole::DropTree(name) => self.drop_tree(name),
             Whole::GenerateId => self.generate_id(),
+            Whole::Import(collections) => self.import(collections),
         }
     }
 
@@ -340,6 +341,15 @@ impl<P: Pages, M: MergeOperator> Machine<P, M> {
             Err(e) => return Outcome::Refused(e),
         };
         Outcome::Decided(Reply::Number(id))
+    }
+
+    fn import(&mut self, collections: &Vec<Collection>) -> Outcome
+        ensures { MachineStepContract P.store P.flush_number M.meant self.old (step.Whole (Import collections.now)) result self.new }
+    {
+        if let Err(e) = self.db.import(collections.as_slice()) {
+            return Outcome::Refused(e);
+        }
+        Outcome::Decided(Reply::Done)
     }
 
     /// Does steps of the call in the slot until it ends. There are no more than its turns allow. Where no other call left

@@ -9,10 +9,11 @@ use Rattle.sled_model.specs.Answer.{answer_of}
 use Rattle.sled_model.specs.State.{State, NamedTree, default_name, maps_of, after_decision_on}
 use Rattle.sled_model.specs.Refusal.{ToPoint, ToCall, ToSetOperator, must_refuse, MayRefuse}
 use Rattle.sled_model.specs.Ids.{mark_above}
+use Rattle.sled_model.specs.Collections.{contents_of}
 use Rattle.sled_model.specs.declared.call.Call.{Call}
 use Rattle.sled_model.specs.declared.call.Call.TheVariants.{Remove}
 use Rattle.sled_model.specs.declared.call.Whole.{Whole}
-use Rattle.sled_model.specs.declared.call.Whole.TheVariants.{Clear, OpenTree, DropTree, GenerateId}
+use Rattle.sled_model.specs.declared.call.Whole.TheVariants.{Clear, OpenTree, DropTree, GenerateId, Import}
 use Rattle.sled_model.specs.declared.tree.Tree.{Tree}
 use Rattle.sled_model.specs.declared.reply.Reply.{Reply}
 use Rattle.sled_model.specs.declared.reply.Reply.TheVariants.{Pair, Number, Flag}
@@ -128,3 +129,11 @@ pub record GeneratesId (old : State) (reply : Reply) (new : State) (maps : List 
   pub aside : old.greatest_id + 1 ≤ new.mark
   pub is : new ≡ record old { greatest_id = old.greatest_id + 1; mark = mark_above old.greatest_id old.mark }
   pub added : maps ≡ []
+
+-- two whole calls are the same: imports hold the same collections, wherever their vectors lie
+abbrev pub is_same_whole : Whole → Whole → Type 0
+is_same_whole (Import a) (Import b) = contents_of a.items ≡ contents_of b.items
+is_same_whole a b = a ≡ b
+
+pub record IsSameWhole (a b : Whole) : Type 0 where
+  pub is : is_same_whole a b
