@@ -9,3 +9,4 @@ pub mod Queueing
 pub mod Rising
 pub mod Typing
 pub mod Walking
+pub mod Streams
