@@ -6,6 +6,7 @@ pub mod Meant
 pub mod Surviving
 pub mod Entries
 pub mod Queueing
+pub mod Copying
 pub mod Rising
 pub mod Typing
 pub mod Walking

@@ -12,9 +12,11 @@ use Rattle.sled_model.specs.Maps.{Map, Maps, Merge, IsLeast}
 use Rattle.sled_model.specs.State.{State, CallInFlight, maps_of}
 use Rattle.sled_model.specs.Refusal.{Asked, ToStep, must_refuse, must_refuse_of}
 use Rattle.sled_model.specs.Transition.{Configuration, Transition}
+use Rattle.sled_model.specs.Collections.{Content}
+use Rattle.sled_model.specs.Imports.{Part, OpensName, Puts, tree_at}
 use Rattle.sled_model.specs.Whole.{DecidesPoint, RefusesPoint}
 use Rattle.sled_model.specs.declared.call.Call.{Call}
-use Rattle.sled_model.specs.declared.call.Call.TheVariants.{Remove}
+use Rattle.sled_model.specs.declared.call.Call.TheVariants.{Insert, Remove}
 use Rattle.sled_model.specs.declared.event.Event.{Event}
 use Rattle.sled_model.specs.declared.outcome.Step.TheVariants as step
 use Rattle.sled_model.specs.declared.reply.Reply.{Reply}
@@ -29,6 +31,7 @@ use Rattle.sled.specs.Direct.{Conducts, PointDecided, PointRefused}
 use Rattle.sled.specs.Drops.{DropsNamed, DropsTree, MightDrop, refuses_drop_as, RefusesDrop}
 use Rattle.sled.specs.Flights.{call_in_flight_of, BringsEvent, DbStepContract, DbSteps, Ends, GoesOn, DbRunsToEnd, outcome_of, slot_after, maps_added}
 use Rattle.sled.specs.Opens.{Opens, OpensBySteps, OpenRefusedBySteps}
+use Rattle.sled.specs.Imports.{PartBySteps, PartRefusedBySteps, ImportsBySteps, ImportsNone, ImportsMore, ImportRefusedBySteps}
 use Rattle.sled.specs.Pops.{TakesOut, RefusesToTake, IsAtEnd, PopsBySteps, PopRefusedBySteps, IsLongWay, GivesUpPop, ClearsBySteps, ClearsNone, ClearsMore, ClearRefusedBySteps}
 use Rattle.sled.specs.Sound.{IsDb}
 use Rattle.sled.specs.Values.{DbValue, named, numbers_of, db_state, state_of, configuration_of}
@@ -227,6 +230,35 @@ module _ {P M : Type 0} (store : P → Store) (meant : M → Merge) where
       state = λ slots given. same_state new slots given ∙ r.state slots given ∙ sym (same_state old slots given);
       leaves = record { extends = r.leaves.extends; others = r.leaves.others; loses = r.leaves.loses; sound = λ d. plain_sound new (r.leaves.sound (meant_sound old d)) };
     }
+
+  -- ---- imports
+
+  plain_part : (old : DbValue P M) (part : Part) (new : DbValue P M) → PartBySteps store meant old part new → PartBySteps store (λ m. m) (plain old) part (plain new)
+  plain_part old (OpensName name) new h = record { is = plain_opens_by name old new h.is }
+  plain_part old (Puts name key value) new h = record {
+    is = (h.is.0, subst (λ (s : State). PointDecided store (λ m. m) (plain old) (tree_at s name) (Insert key value) h.is.0 (plain new)) (sym (same_db old)) (plain_decided old new (tree_at (db_state store meant old) name) (Insert key value) h.is.0 h.is.1));
+  }
+
+  plain_part_not : (old : DbValue P M) (part : Part) (e : Error) (new : DbValue P M) → PartRefusedBySteps store meant old part e new → PartRefusedBySteps store (λ m. m) (plain old) part e (plain new)
+  plain_part_not old (OpensName name) e new h = record { is = plain_opens_not name old e new h.is }
+  plain_part_not old (Puts name key value) e new h = record {
+    is = elim h.is [
+      | inl same ↦ inl (ap plain same)
+      | inr p ↦ inr (subst (λ (s : State). PointRefused store (λ m. m) (plain old) (tree_at s name) (Insert key value) e (plain new)) (sym (same_db old)) (plain_refused old new (tree_at (db_state store meant old) name) (Insert key value) e p))
+    ];
+  }
+
+  pub plain_imports : {old new : DbValue P M} {parts : List Part} → ImportsBySteps store meant old parts new → ImportsBySteps store (λ m. m) (plain old) parts (plain new)
+  plain_imports ImportsNone = ImportsNone
+  plain_imports (ImportsMore {old = old} {mid = mid} {part = part} one more) = ImportsMore (plain_part old part mid one) (plain_imports more)
+
+  pub plain_imports_not : (all : List Content) (old : DbValue P M) (e : Error) (new : DbValue P M) → ImportRefusedBySteps store meant old all e new → ImportRefusedBySteps store (λ m. m) (plain old) all e (plain new)
+  plain_imports_not all old e new h = record {
+    is = elim h.is [
+      | inl same ↦ inl (ap plain same)
+      | inr (trees, s) ↦ inr (trees, record { done = s.done; next = s.next; later = s.later; all_parts = s.all_parts; mid = plain s.mid; did = plain_imports s.did; refused = plain_part_not s.mid s.next e new s.refused })
+    ];
+  }
 
   -- ---- pops and clears
 
