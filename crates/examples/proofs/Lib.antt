@@ -7,5 +7,6 @@ pub mod Surviving
 pub mod Entries
 pub mod Queueing
 pub mod Rising
+pub mod Counting
 pub mod Typing
 pub mod Walking

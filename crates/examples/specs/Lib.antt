@@ -4,4 +4,5 @@ pub mod Index
 pub mod Queue
 pub mod Ids
 pub mod Typed
+pub mod Counters
 pub mod theory

@@ -1,9 +1,11 @@
 //! Callers that are proved from public contracts alone, as a user would write them: what those contracts say is enough to build
 //! on. `callers` are examples of a machine, `index` of a scan, `recovery` of a crash, `ids` of two runs with a crash between them,
-//! `queue` of a database that takes pairs out, and `typed` of keys and values of a user's own types.
+//! `queue` of a database that takes pairs out, `counters` of a merge operator and of a closure, and `typed` of keys and values of a
+//! user's own types.
 #![tactic(auto)]
 
 mod callers;
+mod counters;
 mod ids;
 mod index;
 mod queue;
@@ -13,6 +15,7 @@ mod typed;
 pub use callers::{
     crash, get, get_in_new, insert_then_get, insert_then_get_in_new, race, reopen, reopen_then_get,
 };
+pub use counters::{Adds, add_to_counter, count, next_ticket};
 pub use ids::run_twice;
 pub use index::entries_under;
 pub use queue::{add, take};
