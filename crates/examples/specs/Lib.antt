@@ -6,4 +6,5 @@ pub mod Ids
 pub mod Copies
 pub mod Typed
 pub mod Events
+pub mod Counters
 pub mod theory

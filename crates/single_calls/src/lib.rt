@@ -4,6 +4,7 @@
 
 mod database;
 mod direct;
+mod fetch;
 mod machine;
 mod pops;
 mod reads;
@@ -13,6 +14,7 @@ pub use database::{
     flush, new_tree, set_merge_operator,
 };
 pub use direct::{compare_and_swap, insert, merge, remove};
+pub use fetch::update_and_fetch;
 pub use machine::{
     abandon, begin, complete, drop_whole, finish, new_machine, run, step, turns, whole,
 };
