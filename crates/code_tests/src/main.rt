@@ -3,6 +3,7 @@
 #![tactic(auto)]
 
 mod callers;
+mod counters;
 mod index;
 mod stores;
 mod streams;
@@ -10,6 +11,7 @@ mod trees;
 mod typed;
 
 use callers::{is_read, survives};
+use counters::counts;
 use index::finds_entries;
 use sled_lines::input::Stopped;
 use std::process::ExitCode;
@@ -54,6 +56,7 @@ fn run(rt: &HostRuntime) -> Result<(), Stopped> {
     )?;
     let what = "a database over the small store reads what it wrote and keeps what it flushed";
     tell(rt, what, small_store_works(alloc))?;
+    tell(rt, "counters count and tickets rise", counts(alloc))?;
     tell_streams(rt)
 }
 
