@@ -3,15 +3,19 @@
 #![tactic(auto)]
 
 mod callers;
+mod counters;
 mod index;
+mod stores;
 mod streams;
 mod trees;
 mod typed;
 
 use callers::{is_read, survives};
+use counters::counts;
 use index::finds_entries;
 use sled_lines::input::Stopped;
 use std::process::ExitCode;
+use stores::small_store_works;
 use streams::{CASES, served};
 use trees::trees_by_name;
 use typed::reads_readings;
@@ -50,6 +54,9 @@ fn run(rt: &HostRuntime) -> Result<(), Stopped> {
         "trees open and are dropped by name",
         trees_by_name(alloc),
     )?;
+    let what = "a database over the small store reads what it wrote and keeps what it flushed";
+    tell(rt, what, small_store_works(alloc))?;
+    tell(rt, "counters count and tickets rise", counts(alloc))?;
     tell_streams(rt)
 }
 

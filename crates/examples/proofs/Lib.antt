@@ -8,5 +8,7 @@ pub mod Entries
 pub mod Queueing
 pub mod Copying
 pub mod Rising
+pub mod Counting
 pub mod Typing
 pub mod Walking
+pub mod Streams

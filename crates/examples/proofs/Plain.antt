@@ -1,14 +1,16 @@
 -- Databases with the meanings of their operators in place of the operators: they stand for the same states, and make the same steps.
-use Rattle.std.proofs.Common.{◌≡◌, ◌≢◌, ℕ, zero, suc, cond, List, [], ◌∷◌, Option, Some, None, option_map, true, false, sym, refl, ap, ◌∙◌, subst, inl, inr}
+use Rattle.std.proofs.Common.{◌≡◌, ◌≢◌, ℕ, zero, suc, Bool, cond, not, nat_eq, filter, List, [], ◌∷◌, Option, Some, None, option_map, true, false, sym, refl, ap, ◌∙◌, subst, inl, inr}
 use Rattle.std.specs.FinMap.Entries.{find}
 use Rattle.std.specs.Ordering.{nat_cmp, eq_by_cmp}
 use Rattle.sled_pages.specs.Order.{Key}
 use Rattle.sled_pages.specs.Store.{Store, now}
-use Rattle.sled_pages.specs.Update.{put_at}
+use Rattle.sled_pages.specs.Node.{without}
+use Rattle.sled_pages.specs.Update.{put_at, put_name}
 use Rattle.sled_pages.specs.declared.error.Error.{Error}
+use Rattle.sled_pages.specs.declared.error.Error.TheVariants as error
 use Rattle.sled_model.specs.Maps.{Map, Maps, Merge, IsLeast}
 use Rattle.sled_model.specs.State.{State, CallInFlight, maps_of}
-use Rattle.sled_model.specs.Refusal.{Asked, ToStep, must_refuse}
+use Rattle.sled_model.specs.Refusal.{Asked, ToStep, must_refuse, must_refuse_of}
 use Rattle.sled_model.specs.Transition.{Configuration, Transition}
 use Rattle.sled_model.specs.Collections.{Content}
 use Rattle.sled_model.specs.Imports.{Part, OpensName, Puts, tree_at}
@@ -26,12 +28,13 @@ use Rattle.sled_tree.specs.declared.flight.InFlight.{InFlight}
 use Rattle.sled_tree.specs.declared.flight.Went.{Went}
 use Rattle.sled_tree.specs.declared.flight.Went.TheVariants.{Moved}
 use Rattle.sled.specs.Direct.{Conducts, PointDecided, PointRefused}
+use Rattle.sled.specs.Drops.{DropsNamed, DropsTree, MightDrop, refuses_drop_as, RefusesDrop}
 use Rattle.sled.specs.Flights.{call_in_flight_of, BringsEvent, DbStepContract, DbSteps, Ends, GoesOn, DbRunsToEnd, outcome_of, slot_after, maps_added}
 use Rattle.sled.specs.Opens.{Opens, OpensBySteps, OpenRefusedBySteps}
 use Rattle.sled.specs.Imports.{PartBySteps, PartRefusedBySteps, ImportsBySteps, ImportsNone, ImportsMore, ImportRefusedBySteps}
 use Rattle.sled.specs.Pops.{TakesOut, RefusesToTake, IsAtEnd, PopsBySteps, PopRefusedBySteps, IsLongWay, GivesUpPop, ClearsBySteps, ClearsNone, ClearsMore, ClearRefusedBySteps}
 use Rattle.sled.specs.Sound.{IsDb}
-use Rattle.sled.specs.Values.{DbValue, named, numbers_of, db_state, configuration_of}
+use Rattle.sled.specs.Values.{DbValue, named, numbers_of, db_state, state_of, configuration_of}
 
 module _ {P M : Type 0} (store : P → Store) (meant : M → Merge) where
   -- the operators by what they mean
@@ -170,6 +173,63 @@ module _ {P M : Type 0} (store : P → Store) (meant : M → Merge) where
       | inr stopped ↦ inr stopped
     ];
   }
+
+  -- ---- trees that are dropped
+
+  same_state : (d : DbValue P M) (slots : ℕ → Option CallInFlight) (given : ℕ) → state_of store (λ o. o) (plain d) slots given ≡ state_of store meant d slots given
+  same_state d slots given = ap (λ (i : Configuration). i.state) (same_configuration d slots given 0)
+
+  still_open : (d : DbValue P M) → must_refuse_of (db_state store meant d) [] ≡ None → must_refuse_of (db_state store (λ o. o) (plain d)) [] ≡ None
+  still_open d free = ap (λ (s : State). must_refuse_of s []) (same_db d) ∙ free
+
+  meanings_without : (n : ℕ) (os : List (ℕ × M)) → meanings (filter (λ o. not (nat_eq o.0 n)) os) ≡ filter (λ o. not (nat_eq o.0 n)) (meanings os)
+  meanings_without n [] = refl
+  meanings_without n (o ∷ os) = elim (not (nat_eq o.0 n)) as (λ b. meanings (cond b (o ∷ filter (λ p. not (nat_eq p.0 n)) os) (filter (λ p. not (nat_eq p.0 n)) os)) ≡ cond b ((o.0, meant o.1) ∷ filter (λ p. not (nat_eq p.0 n)) (meanings os)) (filter (λ p. not (nat_eq p.0 n)) (meanings os))) [
+    | true ↦ ap (λ l. (o.0, meant o.1) ∷ l) (meanings_without n os)
+    | false ↦ meanings_without n os
+  ]
+
+  module _ (old : DbValue P M) (name : Key) where
+    plain_named : (new : DbValue P M) → DropsNamed store meant old name new → DropsNamed store (λ m. m) (plain old) name (plain new)
+    plain_named new d = record {
+      tree = d.tree;
+      there = same_tree old name ∙ d.there;
+      state = λ slots given.
+          same_state new slots given
+          ∙ d.state slots given
+          ∙ (λ i. record (sym (same_state old slots given) i) { trees = put_name (sym (same_db old) i).trees name None });
+      same = ap plain d.same ∙ (λ i. record (plain old) { pages = new.pages; trees = without name old.trees; operators = meanings_without d.tree.number old.operators i });
+      removes = d.removes;
+      extends = subst (λ (s : State). AddsCrashStates (maps_of s ∷ []) (store old.pages) (store new.pages)) (sym (same_db new)) d.extends;
+      others = d.others;
+      loses = d.loses;
+      sound = λ s. plain_sound new (d.sound (meant_sound old s));
+    }
+
+    pub plain_drops : (dropped : Bool) (new : DbValue P M) → DropsTree store meant old name dropped new → DropsTree store (λ m. m) (plain old) name dropped (plain new)
+    plain_drops true new d = record { free = still_open old d.free; off = d.off; is = plain_named new d.is }
+    plain_drops false new d = record { free = still_open old d.free; off = d.off; is = (same_tree old name ∙ d.is.0, ap plain d.is.1) }
+
+    plain_might : MightDrop store meant old name → MightDrop store (λ m. m) (plain old) name
+    plain_might m = record { free = still_open old m.free; off = m.off; tree = m.tree; there = same_tree old name ∙ m.there }
+
+    plain_refuses : (e : Error) (q : P) → refuses_drop_as store meant old name e q → refuses_drop_as store (λ m. m) (plain old) name e q
+    plain_refuses error.Closed q h = h
+    plain_refuses (error.Unsupported text) q h = (still_open old h.0, h.1, h.2, h.3)
+    plain_refuses error.NoMemory q h = (plain_might h.0, h.1)
+    plain_refuses (error.Io fault) q h = (plain_might h.0, h.1)
+    plain_refuses (error.CollectionNotFound text) q h = h
+    plain_refuses (error.ReportableBug text) q h = h
+    plain_refuses (error.Corruption fault) q h = h
+    plain_refuses error.FullQueue q h = h
+
+    pub plain_drops_not : (e : Error) (new : DbValue P M) → RefusesDrop store meant old name e new → RefusesDrop store (λ m. m) (plain old) name e (plain new)
+    plain_drops_not e new r = record {
+      is = plain_refuses e new.pages r.is;
+      same = ap plain r.same;
+      state = λ slots given. same_state new slots given ∙ r.state slots given ∙ sym (same_state old slots given);
+      leaves = record { extends = r.leaves.extends; others = r.leaves.others; loses = r.leaves.loses; sound = λ d. plain_sound new (r.leaves.sound (meant_sound old d)) };
+    }
 
   -- ---- imports
 

@@ -5,4 +5,6 @@ pub mod Queue
 pub mod Ids
 pub mod Copies
 pub mod Typed
+pub mod Events
+pub mod Counters
 pub mod theory

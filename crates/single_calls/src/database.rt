@@ -5,6 +5,7 @@ ghost use Rattle.sled_pages.specs.Store.{now};
 ghost use Rattle.sled_model.specs.Answer.{ReadDecides, decision_of};
 ghost use Rattle.sled.specs.Operators.{OperatorSet};
 ghost use Rattle.sled_model.specs.Refusal.{must_refuse_of};
+ghost use Rattle.sled_model.specs.State.{default_name};
 ghost use Rattle.tree_laws.specs.Contents.{trees_of};
 ghost use Rattle.tree_laws.specs.Crashes.{Flushes, IsValid};
 ghost use Rattle.sled.specs.Calls.{IsHandle, MustBeRefused};
@@ -15,7 +16,7 @@ ghost use Rattle.sled_tree.specs.Passing.{StepsOnPath};
 ghost use Rattle.sled.specs.Flights.{DbStep, DbSound, DbActs, DbFollows, DbLeaksNoPage, DbKnows, KeepsTreePages, DbRunsToEnd};
 ghost use Rattle.sled.specs.Flush.{FlushesDb};
 ghost use Rattle.sled.specs.Opens.{Opens};
-ghost use Rattle.sled.specs.Values.{db_state, default_name, snapshot_of_db};
+ghost use Rattle.sled.specs.Values.{db_state, snapshot_of_db};
 
 use sled::{Collection, Db, empty_pages};
 use sled_machine::Machine;

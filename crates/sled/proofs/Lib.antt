@@ -11,6 +11,7 @@ pub mod Reopening
 pub mod Reading
 pub mod Scanning
 pub mod Popping
+pub mod Fetching
 pub mod Naming
 pub mod Numbering
 pub mod Planting

@@ -19,7 +19,7 @@ use Rattle.sled_pages.specs.declared.page.Page.{Page}
 use Rattle.sled_pages.specs.theory.Facts.{same_name, name_itself, put_name_elsewhere}
 use Rattle.sled_pages.proofs.Rising.{rises_put}
 use Rattle.sled_model.specs.Maps.{Map, Maps, Merge}
-use Rattle.sled_model.specs.State.{NamedTree, CallInFlight, maps_of}
+use Rattle.sled_model.specs.State.{NamedTree, CallInFlight, maps_of, default_name}
 use Rattle.sled_model.specs.Refusal.{IsClosed, first_of, must_refuse, MayRefuse, ToCall, cause_of, may_refuse_as}
 use Rattle.sled_model.specs.Whole.{new_tree, number_opened, state_opened, maps_opened}
 use Rattle.sled_model.specs.declared.call.Whole.TheVariants.{OpenTree}
@@ -43,7 +43,7 @@ use Rattle.sled_tree.specs.declared.flight.InFlight.{InFlight}
 use Rattle.sled_tree.proofs.Facts.{once_made, once_rooted, grows_not}
 use Rattle.sled_tree.proofs.Known.{not_own, known_kept}
 use Rattle.sled_tree.proofs.Splits.{made_below}
-use Rattle.sled.specs.Values.{DbValue, default_name, named, numbers_of, given_to, state_of, snapshot_of_db}
+use Rattle.sled.specs.Values.{DbValue, named, numbers_of, given_to, state_of, snapshot_of_db}
 use Rattle.sled.specs.Sound.{IsDb}
 use Rattle.sled.specs.Flights.{IsStepRefused}
 use Rattle.sled.specs.Opens.{empty_page, MakesLeaf, MakesTree, StopsMaking, planted, or_empty}

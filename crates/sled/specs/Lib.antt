@@ -8,6 +8,7 @@ pub mod Reads
 pub mod Flights
 pub mod Direct
 pub mod Pops
+pub mod Fetch
 pub mod Flush
 pub mod Imports
 pub mod Ids

@@ -12,10 +12,11 @@ use Rattle.sled_pages.specs.Crash.{crash_states}
 use Rattle.sled_pages.specs.Faults.{IsFault}
 use Rattle.sled_pages.specs.declared.error.Error.{Error}
 use Rattle.sled_model.specs.Maps.{Map, Maps}
+use Rattle.sled_model.specs.State.{default_name}
 use Rattle.tree_laws.specs.Contents.{trees_of}
 use Rattle.tree_laws.specs.Crashes.{IsValid, AddsCrashStates, Flushes}
 use Rattle.tree_laws.specs.Paths.{IsClean}
-use Rattle.sled.specs.Values.{DbValue, default_name, numbers_of}
+use Rattle.sled.specs.Values.{DbValue, numbers_of}
 
 abbrev pub or_empty : Option Map → Option Map
 or_empty None = Some []

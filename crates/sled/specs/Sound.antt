@@ -5,10 +5,11 @@ use Rattle.sled_pages.specs.Order.{Key, key_cmp}
 use Rattle.std.specs.Ordering.{nat_cmp}
 use Rattle.sled_pages.specs.Store.{Store}
 use Rattle.sled_model.specs.Maps.{Map, Maps}
+use Rattle.sled_model.specs.State.{default_name}
 use Rattle.tree_laws.specs.Forest.{Forest, IsSized}
 use Rattle.tree_laws.specs.Crashes.{IsCrashConsistent}
 use Rattle.tree_laws.specs.Snapshot.{HasForest, nodes_at}
-use Rattle.sled.specs.Values.{DbValue, default_name, snapshot_of_db, numbers_of}
+use Rattle.sled.specs.Values.{DbValue, snapshot_of_db, numbers_of}
 
 -- The pages are well formed now and in every state that a crash may leave: they have the shape of a forest, and no page has more
 -- than 33 entries, or 17 while it is a merging child. The trees' numbers are those of the roots

@@ -1,5 +1,5 @@
 -- What contracts see of a database, and the state of the model that it stands for.
-use Rattle.std.specs.Prelude.{ℕ, nat_le, nat_lt, ◌&&◌, Bool, not, List, Option, Some, None, option_map, codes}
+use Rattle.std.specs.Prelude.{ℕ, nat_le, nat_lt, ◌&&◌, Bool, not, List, Option, Some, None, option_map}
 use Rattle.std.specs.FinMap.Entries.{find}
 use Rattle.std.specs.Ordering.{nat_cmp}
 use Rattle.sled_pages.specs.Order.{Key, key_cmp}
@@ -20,10 +20,6 @@ pub record DbValue (P M : Type 0) : Type 0 where
   pub trees_given : ℕ
   pub subscribers_given : ℕ
   pub greatest_id : ℕ
-
--- the name of the default tree, which every database has
-unfoldable pub default_name : Key
-default_name = codes "__sled__default"
 
 -- the number of each name's tree
 abbrev pub numbers_of : List (Key × ℕ) → Key → Option ℕ

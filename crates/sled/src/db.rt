@@ -46,9 +46,9 @@ impl<P: Pages, M> Model for Db<P, M> {
 }
 
 impl<P: Pages, M: MergeOperator> Db<P, M> {
-    ghost use Rattle.sled_model.specs.State.{maps_of};
+    ghost use Rattle.sled_model.specs.State.{maps_of, default_name};
     ghost use Rattle.sled.specs.Sound.{IsDb, MapsAscend};
-    ghost use Rattle.sled.specs.Values.{db_state, snapshot_of_db, default_name};
+    ghost use Rattle.sled.specs.Values.{db_state, snapshot_of_db};
     ghost use Rattle.sled_tree.specs.Known.{IsKnown};
     ghost use Rattle.sled_tree.specs.Passing.{StepsOnPath};
     ghost use Rattle.sled.specs.Flights.{DbStep, DbSound, DbActs, DbFollows, DbLeaksNoPage, DbKnows, KeepsTreePages, DbStepContract, DbRunsToEnd, call_in_flight_of};
@@ -109,7 +109,7 @@ impl<P: Pages, M: MergeOperator> Db<P, M> {
     /// let tree = db.default_tree()?;
     /// let found = db.get(&tree, b"ulm")?;
     /// ```
-    #[tactic(auto, unfolding(crate::specs::Values::default_name))]
+    #[tactic(auto, unfolding(sled_model::specs::State::default_name))]
     pub fn default_tree(&self) -> Result<Tree>
         ensures ok { IfOk result (IsHandle self.now default_name) }
         ensures no_group { OnOk result ((now (P.store self.now.pages)).in_group ≡ false) }

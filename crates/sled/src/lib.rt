@@ -12,6 +12,7 @@ mod db;
 mod direct;
 mod drop;
 mod export;
+mod fetch;
 mod ids;
 mod import;
 mod memory;

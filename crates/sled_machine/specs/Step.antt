@@ -1,5 +1,5 @@
 -- One step of the machine.
-use Rattle.std.specs.Prelude.{◌≡◌, ◌≢◌, ℕ, suc, ◌<◌, List, [], length, Option, Some, None}
+use Rattle.std.specs.Prelude.{◌≡◌, ◌≢◌, ℕ, suc, ◌<◌, Bool, List, [], length, Option, Some, None}
 use Rattle.sled_pages.specs.Store.{Store, now}
 use Rattle.sled_pages.specs.Order.{Key}
 use Rattle.sled_model.specs.Maps.{Map, Maps, Merge, IsLeast, IsGreatest}
@@ -11,8 +11,8 @@ use Rattle.sled_model.specs.Imports.{parts_of}
 use Rattle.sled_model.specs.Transition.{Transition, Kind, Flushing, kind_of}
 use Rattle.sled_pages.specs.declared.error.Error.{Error}
 use Rattle.sled_model.specs.declared.call.Whole.{Whole}
-use Rattle.sled_model.specs.declared.call.Whole.TheVariants.{PopMin, PopMax, Clear, OpenTree, Import}
-use Rattle.sled_model.specs.declared.reply.Reply.TheVariants.{Pair}
+use Rattle.sled_model.specs.declared.call.Whole.TheVariants.{PopMin, PopMax, Clear, OpenTree, DropTree, Import}
+use Rattle.sled_model.specs.declared.reply.Reply.TheVariants.{Pair, Flag}
 use Rattle.sled_model.specs.declared.tree.Tree.{Tree}
 use Rattle.sled_model.specs.declared.outcome.Step.{Step}
 use Rattle.sled_model.specs.declared.outcome.Step.TheVariants as step
@@ -35,6 +35,7 @@ use Rattle.sled.specs.Sound.{IsDb}
 use Rattle.sled.specs.Values.{DbValue, db_state, snapshot_of_db}
 use Rattle.sled.specs.Flights.{IsStepRefused, KeepsTreePages, call_in_flight_of, outcome_of}
 use Rattle.sled.specs.Direct.{KeepsOrFreesTreePages, effect_of_whole, lost_of}
+use Rattle.sled.specs.Drops.{DropsTree, RefusesDrop}
 use Rattle.sled.specs.Opens.{OpensBySteps, OpenRefusedBySteps}
 use Rattle.sled.specs.Pops.{GivesUpPop, PopsBySteps, PopRefusedBySteps, ClearsBySteps, ClearRefusedBySteps}
 use Rattle.sled.specs.Imports.{ImportsBySteps, ImportRefusedBySteps}
@@ -207,6 +208,12 @@ opens_as store old name (Decided reply) new = OpensBySteps store name old new
 opens_as store old name (Refused e) new = OpenRefusedBySteps store name old e new
 opens_as store old name o new = Unit {0}
 
+-- a tree is dropped: its root goes and then its pages, and what is refused leaves all as it was
+abbrev pub drops_tree_as : {P M : Type 0} → (P → Store) → (M → Merge) → DbValue P M → Key → Outcome → DbValue P M → Type 0
+drops_tree_as store meant old name (Decided reply) new = (dropped : Bool) × (reply ≡ Flag dropped) × DropsTree store meant old name dropped new
+drops_tree_as store meant old name (Refused e) new = RefusesDrop store meant old name e new
+drops_tree_as store meant old name o new = Unit {0}
+
 -- an import does each of its parts by the steps of an opening or of an insert
 abbrev pub imports_as : {P M : Type 0} → (P → Store) → (M → Merge) → DbValue P M → List Content → Outcome → DbValue P M → Type 0
 imports_as store meant old all (Decided reply) new = ImportsBySteps store meant old (parts_of all) new
@@ -218,6 +225,7 @@ way_of_whole store meant old (PopMin tree) o new = pops_as store meant old tree 
 way_of_whole store meant old (PopMax tree) o new = pops_as store meant old tree IsGreatest o new
 way_of_whole store meant old (Clear tree) o new = clears_as store meant old tree o new
 way_of_whole store meant old (OpenTree name) o new = opens_as store old name o new
+way_of_whole store meant old (DropTree name) o new = drops_tree_as store meant old name o new
 way_of_whole store meant old (Import collections) o new = imports_as store meant old (contents_of collections.items) o new
 way_of_whole store meant old whole o new = Unit {0}
 

@@ -1,9 +1,10 @@
 //! The machine.
-ghost use Rattle.std.specs.Prelude.{◌≡◌, ◌<◌, ◌∷◌, IfOk, IfErr, OnOk, OnErr, None, []};
+ghost use Rattle.std.specs.Prelude.{◌≡◌, ◌<◌, ◌∷◌, IfOk, IfErr, OnOk, OnErr, None, [], Option};
 ghost use Rattle.std.specs.Option.{option_map};
+ghost use Rattle.sled_pages.specs.Order.{Key};
 ghost use Rattle.sled_pages.specs.declared.error.Error.TheVariants.{NoMemory};
 ghost use Rattle.sled_model.specs.Refusal.{must_refuse, ToBegin, must_refuse_of};
-ghost use Rattle.sled_model.specs.declared.call.Whole.TheVariants.{Flush, PopMin, PopMax, Clear, OpenTree, GenerateId, Import};
+ghost use Rattle.sled_model.specs.declared.call.Whole.TheVariants.{Flush, PopMin, PopMax, Clear, OpenTree, DropTree, GenerateId, Import};
 ghost use Rattle.sled_model.specs.declared.call.Call.{Call};
 ghost use Rattle.sled_model.specs.declared.outcome.Outcome.TheVariants as outcome;
 ghost use Rattle.sled_model.specs.declared.outcome.Step.TheVariants as step;
@@ -15,6 +16,7 @@ use sled_model::{Call, Collection, MergeOperator, Outcome, Reply, Slot, Step, Tr
 use sled_pages::texts::NUMBERS_USED_UP;
 use sled_pages::{Error, IVec, Pages, Result};
 use sled_tree::InFlight;
+use std::alloc::AllocError;
 use std::marker::Model;
 
 /// A database and the calls in flight on it.
@@ -46,6 +48,7 @@ impl<P: Pages, M: MergeOperator> Machine<P, M> {
     ghost use Rattle.sled_machine.specs.Values.{slots_of};
     ghost use Rattle.sled.specs.Values.{db_state};
     ghost use Rattle.sled.specs.Operators.{OperatorSet, OperatorNotSet};
+    ghost use Rattle.sled.specs.Fetch.{FetchDecided, FetchRefused};
     ghost use Rattle.sled_machine.specs.Step.{MachineStep, MachineSound, MachineActs, MachineFollows, MachinePasses, MachineSlots, MachineKeepsTreePages, MachineLeaksNoPage, MachineStepContract};
     ghost use Rattle.sled_machine.specs.Run.{MachineRun, MachineSteps};
     ghost use Rattle.sled_machine.specs.Finish.{RunsToEnd, Completes};
@@ -112,6 +115,40 @@ impl<P: Pages, M: MergeOperator> Machine<P, M> {
         ensures same { self.new ≡ record (self.old) { db = self.new.db } }
     {
         self.db.set_merge_operator(tree, operator)
+    }
+
+    /// Sets the value at a key to what the closure makes of the one that stands there, as `update_and_fetch` of the database
+    /// does, and answers the new value. The calls in flight stay as they are.
+    ///
+    /// ```
+    /// // The value is taken out, whatever it is.
+    /// let none = machine.update_and_fetch(&tree, b"ulm", |_| Ok(None))?;
+    /// ```
+    pub fn update_and_fetch<F>(&mut self, tree: &Tree, key: &[u8], f: F) -> Result<Option<IVec>>
+    where
+        F: FnMut(Option<&[u8]>) -> std::result::Result<Option<Vec<u8>>, AllocError>,
+        requires { (shown : _) → F.pre f shown }
+        ensures ok { IfOk result (λ made. (stood : Option Key) × FetchDecided P.store M.meant F.FnMut f self.old.db tree.now key.now stood made self.new.db) }
+        ensures err { IfErr result (λ e. FetchRefused P.store M.meant F.FnMut f self.old.db tree.now key.now e self.new.db) }
+        ensures same { self.new ≡ record (self.old) { db = self.new.db } }
+    {
+        self.db.update_and_fetch(tree, key, f)
+    }
+
+    /// The same, but that it answers the value that stood there before.
+    ///
+    /// ```
+    /// let taken = machine.fetch_and_update(&tree, b"ulm", |_| Ok(None))?;
+    /// ```
+    pub fn fetch_and_update<F>(&mut self, tree: &Tree, key: &[u8], f: F) -> Result<Option<IVec>>
+    where
+        F: FnMut(Option<&[u8]>) -> std::result::Result<Option<Vec<u8>>, AllocError>,
+        requires { (shown : _) → F.pre f shown }
+        ensures ok { IfOk result (λ stood. (made : Option Key) × FetchDecided P.store M.meant F.FnMut f self.old.db tree.now key.now stood made self.new.db) }
+        ensures err { IfErr result (λ e. FetchRefused P.store M.meant F.FnMut f self.old.db tree.now key.now e self.new.db) }
+        ensures same { self.new ≡ record (self.old) { db = self.new.db } }
+    {
+        self.db.fetch_and_update(tree, key, f)
     }
 
     // The tests that come before a call on a tree begins, and a copy of the tree.
@@ -231,6 +268,7 @@ impl<P: Pages, M: MergeOperator> Machine<P, M> {
             Whole::PopMax(tree) => self.pop_max(tree),
             Whole::Clear(tree) => self.clear(tree),
             Whole::OpenTree(name) => self.open_tree(name),
+            Whole::DropTree(name) => self.drop_tree(name),
             Whole::GenerateId => self.generate_id(),
             Whole::Import(collections) => self.import(collections),
         }
@@ -283,6 +321,16 @@ impl<P: Pages, M: MergeOperator> Machine<P, M> {
             Err(e) => return Outcome::Refused(e),
         };
         Outcome::Decided(Reply::Tree(tree))
+    }
+
+    fn drop_tree(&mut self, name: &IVec) -> Outcome
+        ensures { MachineStepContract P.store P.flush_number M.meant self.old (step.Whole (DropTree name.now)) result self.new }
+    {
+        let dropped = match self.db.drop_tree(name.as_ref()) {
+            Ok(dropped) => dropped,
+            Err(e) => return Outcome::Refused(e),
+        };
+        Outcome::Decided(Reply::Flag(dropped))
     }
 
     fn generate_id(&mut self) -> Outcome

@@ -39,6 +39,8 @@ pub enum Whole {
     Clear(Tree),
     /// Opens the tree of a name, which is made where the name has none, and replies with it.
     OpenTree(IVec),
+    /// Drops the tree of a name, and replies with whether there was one.
+    DropTree(IVec),
     /// Takes the next id, and replies with it.
     GenerateId,
     /// Opens the tree of each collection, one after the other, and puts its pairs into it, one after the other. Refused midway, at a
@@ -147,6 +149,7 @@ impl Whole {
             Whole::PopMax(tree) => Ok(Whole::PopMax(tree.clone()?)),
             Whole::Clear(tree) => Ok(Whole::Clear(tree.clone()?)),
             Whole::OpenTree(name) => Ok(Whole::OpenTree(name.clone()?)),
+            Whole::DropTree(name) => Ok(Whole::DropTree(name.clone()?)),
             Whole::GenerateId => Ok(Whole::GenerateId),
             Whole::Import(collections) => Ok(Whole::Import(copied_collections(collections)?)),
         }
