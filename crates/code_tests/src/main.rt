@@ -3,6 +3,7 @@
 #![tactic(auto)]
 
 mod callers;
+mod copies;
 mod counters;
 mod index;
 mod stores;
@@ -11,6 +12,7 @@ mod trees;
 mod typed;
 
 use callers::{is_read, survives};
+use copies::copies_all;
 use counters::counts;
 use index::finds_entries;
 use sled_lines::input::Stopped;
@@ -57,6 +59,11 @@ fn run(rt: &HostRuntime) -> Result<(), Stopped> {
     let what = "a database over the small store reads what it wrote and keeps what it flushed";
     tell(rt, what, small_store_works(alloc))?;
     tell(rt, "counters count and tickets rise", counts(alloc))?;
+    tell(
+        rt,
+        "all trees of a database are copied into a new one",
+        copies_all(alloc),
+    )?;
     tell_streams(rt)
 }
 
