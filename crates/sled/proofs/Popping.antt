@@ -36,7 +36,7 @@ use Rattle.sled.specs.Values.{DbValue, state_of, db_state, configuration_of}
 use Rattle.sled.specs.Sound.{IsDb}
 use Rattle.sled.specs.Flights.{IsStepRefused}
 use Rattle.sled.specs.Reads.{ReadsMap, RefusesReading, refuses_reading_as, stops_reading}
-use Rattle.sled.specs.Direct.{ActsOften, NoAction, OneAction, Conducts, PointDecided, PointRefused, WholeDecided, WholeRefused, effect_of_whole, changes_only, lost_of, LeavesAll}
+use Rattle.sled.specs.Direct.{ActsOften, NoAction, OneAction, Conducts, PointDecided, PointRefused, WholeDecided, WholeRefused, effect_of_whole, changes_only, changes_refused, lost_of, LeavesAll}
 use Rattle.sled.specs.Pops.{TakesOut, RefusesToTake, IsAtEnd, PopsBySteps, PopRefusedBySteps, GivesUpPop, ClearsBySteps, ClearsNone, ClearsMore, ClearRefusedBySteps, IsLongWay}
 use Rattle.sled.proofs.Conducting.{conducts_then, conducts_none, conducts_refused}
 use Rattle.sled.proofs.Testing.{tested_calm}
@@ -197,7 +197,7 @@ module _ (tree : Tree) (whole : Whole) (which : (whole ≡ PopMin tree) ⊎ (who
     refuses = refuses;
     acts = of_pops (λ w. effect_of_whole (kind_of w) (outcome.Refused e) (store old.pages) (store new.pages)) c.acts c.acts;
     leaves = c.leaves;
-    same = c.same;
+    same = of_pops (λ w. changes_refused w old new) c.same c.same;
     tested = tested;
   }
 

@@ -14,7 +14,7 @@ use Rattle.sled_model.specs.Whole.{DecidesPoint, RefusesPoint}
 use Rattle.sled_model.specs.Refusal.{ToCall, must_refuse, TellsTurns, turns_limit}
 use Rattle.sled_model.specs.declared.call.Call.{Call}
 use Rattle.sled_model.specs.declared.call.Whole.{Whole}
-use Rattle.sled_model.specs.declared.call.Whole.TheVariants.{OpenTree, GenerateId}
+use Rattle.sled_model.specs.declared.call.Whole.TheVariants.{PopMin, PopMax, Clear, OpenTree, GenerateId}
 use Rattle.sled_model.specs.declared.outcome.Outcome.{Outcome}
 use Rattle.sled_model.specs.declared.outcome.Outcome.TheVariants as outcome
 use Rattle.sled_model.specs.declared.tree.Tree.{Tree}
@@ -61,11 +61,11 @@ pub record LeavesAll {P M : Type 0} (store : P → Store) (maps : List Maps) (lo
   pub loses : KeepsOrFreesTreePages lost (snapshot_of_db store old) (snapshot_of_db store new)
   pub sound : IsDb store old → IsDb store new
 
--- What a call on a key does and leaves: nothing of the database changes but its pages
+-- What a call on a key does and leaves: nothing of the database changes but its pages and its queues
 pub record Conducts {P M : Type 0} (store : P → Store) (maps : List Maps) (refused : Option Error) (old new : DbValue P M) : Type 0 where
   pub acts : effects_until refused (store old.pages) (store new.pages)
   pub leaves : LeavesAll store maps None old new
-  pub same : new ≡ record old { pages = new.pages }
+  pub same : new ≡ record old { pages = new.pages; queues = new.queues }
 
 -- What a whole call does to the store: a flush makes all durable, and a call that tells something does nothing, but that it may raise
 -- the mark; where one of these is refused, nothing but a fault is counted. Any other does changing actions, one after the other, and
@@ -79,12 +79,22 @@ effect_of_whole kind (outcome.Decided reply) old new = effects_until None old ne
 effect_of_whole kind (outcome.Refused e) old new = effects_until (Some e) old new
 effect_of_whole kind o old new = ⊥
 
--- what a decided whole call may change of the database: its pages; and one that opens a tree the list of trees, one that takes an id
--- the greatest that was given
+-- what a decided whole call may change of the database: its pages; and one that removes keys the queues, one that opens a tree the list
+-- of trees, one that takes an id the greatest that was given
 abbrev pub changes_only : {P M : Type 0} → Whole → DbValue P M → DbValue P M → Type 0
 changes_only (OpenTree name) old new = new ≡ record old { pages = new.pages; trees = new.trees; trees_given = new.trees_given }
 changes_only GenerateId old new = new ≡ record old { pages = new.pages; greatest_id = new.greatest_id }
+changes_only (PopMin tree) old new = new ≡ record old { pages = new.pages; queues = new.queues }
+changes_only (PopMax tree) old new = new ≡ record old { pages = new.pages; queues = new.queues }
+changes_only (Clear tree) old new = new ≡ record old { pages = new.pages; queues = new.queues }
 changes_only whole old new = new ≡ record old { pages = new.pages }
+
+-- .. and one that is refused. A clear may have removed some keys
+abbrev pub changes_refused : {P M : Type 0} → Whole → DbValue P M → DbValue P M → Type 0
+changes_refused (PopMin tree) old new = new ≡ record old { pages = new.pages; queues = new.queues }
+changes_refused (PopMax tree) old new = new ≡ record old { pages = new.pages; queues = new.queues }
+changes_refused (Clear tree) old new = new ≡ record old { pages = new.pages; queues = new.queues }
+changes_refused whole old new = new ≡ record old { pages = new.pages }
 
 -- the tree that a decided whole call drops: none does so yet
 abbrev pub lost_of : Whole → Reply → Option Key
@@ -124,6 +134,6 @@ module _ {P M : Type 0} (store : P → Store) (meant : M → Merge) where
     pub refuses : (slots : ℕ → Option CallInFlight) (slots_given : ℕ) → WholeRefuses (state_of store meant old slots slots_given) (store old.pages) (store new.pages) whole e (state_of store meant new slots slots_given) maps
     pub acts : effect_of_whole (kind_of whole) (outcome.Refused e) (store old.pages) (store new.pages)
     pub leaves : LeavesAll store maps None old new
-    pub same : new ≡ record old { pages = new.pages }
+    pub same : changes_refused whole old new
     -- by a test, and then it did nothing
     pub tested : must_refuse (db_state store meant old) (ToCall whole) ≢ None → new ≡ old

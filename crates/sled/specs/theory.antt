@@ -3,3 +3,4 @@ pub mod Export
 pub mod Direct
 pub mod Operators
 pub mod Drops
+pub mod Watched
