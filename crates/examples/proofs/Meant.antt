@@ -14,7 +14,7 @@ use Rattle.sled_model.specs.declared.outcome.Outcome.{Outcome}
 use Rattle.sled_model.specs.declared.outcome.Outcome.TheVariants as outcome
 use Rattle.sled_model.specs.declared.tree.Tree.{Tree}
 use Rattle.tree_reads.specs.Walk.{once, for_each}
-use Rattle.sled.specs.Flights.{call_in_flight_of}
+use Rattle.sled.specs.Flights.{MeetsNoFullQueue, FindsRoom, call_in_flight_of}
 use Rattle.sled.specs.Values.{db_state}
 use Rattle.sled_machine.specs.CrashMaps.{AreCrashMaps, crash_maps_after}
 use Rattle.sled_machine.specs.Run.{RunsWithCrashMaps, KeepsAll, KeepsMore, MachineSteps, NoCalls, OneCall}
@@ -50,15 +50,15 @@ module _ {P M : Type 0} (store : P → Store) (number : P → ℕ) (meant : M �
 
   module _ (a b : MachineValue P M) where
     plain_follows : (s : Step) (o : Outcome) → follows_stage_as store meant a s o b → follows_stage_as store (λ m. m) (plain_machine a) s o (plain_machine b)
-    plain_follows (step.Step slot) o h = λ f there must fits. let k = h f there (sym (same_tests store meant a.db (ToStep (call_in_flight_of f))) ∙ must) fits in record { went = k.went; next = k.next; outcome = k.outcome; there = k.there; follows = k.follows }
+    plain_follows (step.Step slot) o h = λ f there must fits free. let k = h f there (sym (same_tests store meant a.db (ToStep (call_in_flight_of f))) ∙ must) fits (subst (λ (s : State). MeetsNoFullQueue s f) (same_db store meant a.db) free) in record { went = k.went; next = k.next; outcome = k.outcome; there = k.there; follows = k.follows }
     plain_follows (step.Begin tree call) o h = h
     plain_follows (step.Abandon slot) o h = h
     plain_follows (step.Whole whole) o h = h
 
-    plain_passes : (s : Step) (o : Outcome) → advances_on_path_as store a s o b → advances_on_path_as store (plain_machine a) s o (plain_machine b)
+    plain_passes : (s : Step) (o : Outcome) → advances_on_path_as store meant a s o b → advances_on_path_as store (λ m. m) (plain_machine a) s o (plain_machine b)
     plain_passes (step.Step slot) outcome.Moved h = λ path ahead.
-        let k = h path (record { flight = ahead.flight; here = ahead.here; clean = ahead.clean }) in
-        (k.0, k.1, record { flight = k.2.flight; here = k.2.here; clean = k.2.clean })
+        let k = h path (record { flight = ahead.flight; here = ahead.here; clean = ahead.clean; room = subst (λ (s : State). FindsRoom s ahead.flight) (same_db store meant a.db) ahead.room }) in
+        (k.0, k.1, record { flight = k.2.flight; here = k.2.here; clean = k.2.clean; room = subst (λ (s : State). FindsRoom s k.2.flight) (sym (same_db store meant b.db)) k.2.room })
     plain_passes (step.Step slot) (outcome.Begun i) h = h
     plain_passes (step.Step slot) (outcome.Decided reply) h = h
     plain_passes (step.Step slot) (outcome.Refused e) h = h

@@ -10,7 +10,7 @@ use Rattle.sled_pages.specs.declared.error.Error.{Error}
 use Rattle.sled_pages.specs.declared.error.Error.TheVariants as error
 use Rattle.sled_model.specs.Maps.{Map, Maps, Merge, IsLeast}
 use Rattle.sled_model.specs.State.{State, CallInFlight, maps_of}
-use Rattle.sled_model.specs.Refusal.{Asked, ToStep, must_refuse, must_refuse_of}
+use Rattle.sled_model.specs.Refusal.{Asked, ToStep, must_refuse, must_refuse_of, MeetsFullQueue}
 use Rattle.sled_model.specs.Transition.{Configuration, Transition}
 use Rattle.sled_model.specs.Collections.{Content}
 use Rattle.sled_model.specs.Imports.{Part, OpensName, Puts, tree_at}
@@ -21,6 +21,8 @@ use Rattle.sled_model.specs.declared.event.Event.{Event}
 use Rattle.sled_model.specs.declared.outcome.Step.TheVariants as step
 use Rattle.sled_model.specs.declared.reply.Reply.{Reply}
 use Rattle.sled_model.specs.declared.tree.Tree.{Tree}
+use Rattle.sled_queues.specs.Values.{queue_at}
+use Rattle.sled_queues.specs.Queues.{queues_of}
 use Rattle.tree_laws.specs.Contents.{trees_of}
 use Rattle.tree_laws.specs.Crashes.{AddsCrashStates}
 use Rattle.tree_reads.specs.Walk.{once}
@@ -29,7 +31,7 @@ use Rattle.sled_tree.specs.declared.flight.Went.{Went}
 use Rattle.sled_tree.specs.declared.flight.Went.TheVariants.{Moved}
 use Rattle.sled.specs.Direct.{Conducts, PointDecided, PointRefused}
 use Rattle.sled.specs.Drops.{DropsNamed, DropsTree, MightDrop, refuses_drop_as, RefusesDrop}
-use Rattle.sled.specs.Flights.{call_in_flight_of, BringsEvent, DbStepContract, DbSteps, Ends, GoesOn, DbRunsToEnd, outcome_of, slot_after, maps_added}
+use Rattle.sled.specs.Flights.{call_in_flight_of, BringsEvent, DbStepContract, DbSteps, Ends, GoesOn, DbRunsToEnd, outcome_of, slot_after, maps_added, MeetsNoFullQueue, FindsRoom}
 use Rattle.sled.specs.Opens.{Opens, OpensBySteps, OpenRefusedBySteps}
 use Rattle.sled.specs.Imports.{PartBySteps, PartRefusedBySteps, ImportsBySteps, ImportsNone, ImportsMore, ImportRefusedBySteps}
 use Rattle.sled.specs.Pops.{TakesOut, RefusesToTake, IsAtEnd, PopsBySteps, PopRefusedBySteps, IsLongWay, GivesUpPop, ClearsBySteps, ClearsNone, ClearsMore, ClearRefusedBySteps}
@@ -43,7 +45,7 @@ module _ {P M : Type 0} (store : P → Store) (meant : M → Merge) where
   meanings (o ∷ os) = (o.0, meant o.1) ∷ meanings os
 
   abbrev pub plain : DbValue P M → DbValue P Merge
-  plain d = record { pages = d.pages; name = d.name; trees = d.trees; operators = meanings d.operators; queues = d.queues; trees_given = d.trees_given; subscribers_given = d.subscribers_given; greatest_id = d.greatest_id }
+  plain d = record { pages = d.pages; name = d.name; trees = d.trees; operators = meanings d.operators; queues = d.queues; trees_given = d.trees_given; greatest_id = d.greatest_id }
 
   found : (os : List (ℕ × M)) (n : ℕ) → option_map (λ (m : Merge). m) (find nat_cmp n (meanings os)) ≡ option_map meant (find nat_cmp n os)
   found [] n = refl
@@ -57,14 +59,14 @@ module _ {P M : Type 0} (store : P → Store) (meant : M → Merge) where
     state = record {
       name = d.name;
       trees = λ t. named (numbers_of d.trees t) (trees_of (now (store d.pages)) t) (λ n. found d.operators n i);
-      queues = λ n. find nat_cmp n d.queues;
+      queues = queues_of (queue_at d.queues);
       slots = slots;
       is_open = Rattle.std.proofs.Common.not (now (store d.pages)).in_group;
       greatest_id = d.greatest_id;
       mark = (store d.pages).mark;
       trees_given = d.trees_given;
       slots_given = given;
-      subscribers_given = d.subscribers_given;
+      subscribers_given = d.queues.given;
     };
     store = store d.pages;
     flush_number = number;
@@ -81,14 +83,14 @@ module _ {P M : Type 0} (store : P → Store) (meant : M → Merge) where
 
   -- what holds of a database holds of it whatever its operators are
   pub plain_sound : (d : DbValue P M) → IsDb store d → IsDb store (plain d)
-  plain_sound d s = record { forest = s.forest; is = s.is; sized = s.sized; safe = s.safe; ascends = s.ascends; default = s.default; ungiven = λ n above. none_of (find nat_cmp n (meanings d.operators)) (found d.operators n ∙ ap (option_map meant) (s.ungiven n above)); unwatched = s.unwatched; ids = s.ids }
+  plain_sound d s = record { forest = s.forest; is = s.is; sized = s.sized; safe = s.safe; ascends = s.ascends; default = s.default; ungiven = λ n above. none_of (find nat_cmp n (meanings d.operators)) (found d.operators n ∙ ap (option_map meant) (s.ungiven n above)); calm = s.calm; ids = s.ids }
     where
       none_of : (o : Option Merge) → option_map (λ (m : Merge). m) o ≡ None → o ≡ None
       none_of None e = refl
       none_of (Some m) e = cc
 
   pub meant_sound : (d : DbValue P M) → IsDb store (plain d) → IsDb store d
-  meant_sound d s = record { forest = s.forest; is = s.is; sized = s.sized; safe = s.safe; ascends = s.ascends; default = s.default; ungiven = λ n above. none_of (find nat_cmp n d.operators) (sym (found d.operators n) ∙ ap (option_map (λ (m : Merge). m)) (s.ungiven n above)); unwatched = s.unwatched; ids = s.ids }
+  meant_sound d s = record { forest = s.forest; is = s.is; sized = s.sized; safe = s.safe; ascends = s.ascends; default = s.default; ungiven = λ n above. none_of (find nat_cmp n d.operators) (sym (found d.operators n) ∙ ap (option_map (λ (m : Merge). m)) (s.ungiven n above)); calm = s.calm; ids = s.ids }
     where
       none_of : (o : Option M) → option_map meant o ≡ None → o ≡ None
       none_of None e = refl
@@ -108,11 +110,16 @@ module _ {P M : Type 0} (store : P → Store) (meant : M → Merge) where
           (subst (λ (s : State). Transition (configuration_of store meant old slots given before) (step.Step slot) (outcome_of went) (configuration_of store meant new (put_at slots slot (slot_after went g)) given after) (maps_added went (maps_of s))) (sym (same_db new)) (r.step.steps slots given slot before after here)));
       extends = subst (λ (s : State). AddsCrashStates (maps_added went (maps_of s)) (store old.pages) (store new.pages)) (sym (same_db new)) r.step.extends;
       same = ap plain r.step.same;
+      queues = r.step.queues;
     };
     sound = record { keeps = λ d. plain_sound new (r.sound.keeps (meant_sound old d)) };
     does = record { does = r.does.does; quiet = λ b. r.does.quiet (plain_brings old f went None b); loud = λ event b. r.does.loud event (plain_brings old f went (Some event) b) };
-    follows = λ must fits. r.follows (sym (same_tests old (ToStep (call_in_flight_of f))) ∙ must) fits;
-    passes = r.passes;
+    follows = λ must fits free. r.follows (sym (same_tests old (ToStep (call_in_flight_of f))) ∙ must) fits (subst (λ (s : State). MeetsNoFullQueue s f) (same_db old) free);
+    passes = λ finds. r.passes (subst (λ (s : State). FindsRoom s f) (same_db old) finds);
+    room = record {
+      room = λ moved. subst (λ (s : State). FindsRoom s g) (sym (same_db old)) (r.room.room moved);
+      back = λ must fits view here met. r.room.back (sym (same_tests old (ToStep (call_in_flight_of f))) ∙ must) fits view here (subst (λ (s : State). MeetsFullQueue s f.job.tree f.job.call) (same_db old) met);
+    };
     loses = r.loses;
     leaves = r.leaves;
     knows = record { goes_on = r.knows.goes_on; others = r.knows.others };
@@ -123,7 +130,7 @@ module _ {P M : Type 0} (store : P → Store) (meant : M → Merge) where
   plain_steps (suc n) old new f g went (GoesOn {mid = mid} {h = h} flies db rest) = GoesOn (plain_step old mid f h Moved flies) (plain_sound mid db) (plain_steps n mid new h g went rest)
 
   plain_runs : (old new : DbValue P M) (f g : InFlight) (went : Went) → DbRunsToEnd store meant old f went new g → DbRunsToEnd store (λ m. m) (plain old) f went (plain new) g
-  plain_runs old new f g went r = record { moves = r.moves; flies = plain_steps r.moves old new f g went r.flies; passes = r.passes }
+  plain_runs old new f g went r = record { moves = r.moves; flies = plain_steps r.moves old new f g went r.flies; passes = λ finds. r.passes (subst (λ (s : State). FindsRoom s f) (same_db old) finds) }
 
   -- ---- calls that are made at once
 
@@ -316,7 +323,6 @@ module _ {P M : Type 0} (store : P → Store) (meant : M → Merge) where
     ids = o.ids;
     operators = ap meanings o.operators;
     queues = o.queues;
-    subscribers = o.subscribers;
     no_group = o.no_group;
     name = o.name;
     mark = o.mark;

@@ -42,7 +42,7 @@ pub fn step<P: Pages, M: MergeOperator>(machine: &mut Machine<P, M>, slot: Slot)
     ensures sound { MachineSound P.store machine.old machine.new }
     ensures does { MachineActs P.store M.meant machine.old (step.Step slot) result machine.new }
     ensures follows { MachineFollows P.store M.meant machine.old (step.Step slot) result machine.new }
-    ensures passes { MachinePasses P.store machine.old (step.Step slot) result machine.new }
+    ensures passes { MachinePasses P.store M.meant machine.old (step.Step slot) result machine.new }
     ensures slots { MachineSlots machine.old (step.Step slot) result machine.new }
     ensures loses { MachineKeepsTreePages P.store machine.old (step.Step slot) result machine.new }
     ensures leaves { MachineLeaksNoPage P.store machine.old (step.Step slot) result machine.new }

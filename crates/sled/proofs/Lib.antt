@@ -3,6 +3,7 @@ pub mod Resting
 pub mod Testing
 pub mod Trees
 pub mod Operating
+pub mod Watching
 pub mod Flying
 pub mod Conducting
 pub mod Flushing

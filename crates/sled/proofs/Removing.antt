@@ -41,6 +41,8 @@ use Rattle.sled_tree.specs.theory.StageAction.{is_action_refused_as}
 use Rattle.sled_tree.specs.declared.flight.InFlight.{InFlight}
 use Rattle.sled.specs.declared.TheConstants.{DEFAULT_TREE}
 use Rattle.sled.specs.Values.{DbValue, numbers_of, given_to, named, state_of, db_state, snapshot_of_db}
+use Rattle.sled_queues.specs.Values.{queue_at}
+use Rattle.sled_queues.specs.Queues.{queues_of}
 use Rattle.sled.specs.Sound.{IsDb}
 use Rattle.sled.specs.Flights.{PagesLast, StaysInChain, KeepsTreePages, IsStepRefused}
 use Rattle.sled.specs.Direct.{ActsOften, NoAction, OneAction, ActsAndCounts, WholeDecided, WholeRefused}
@@ -237,7 +239,7 @@ module _ {P M : Type 0} (store : P → Store) (meant : M → Merge) (old : DbVal
         ascends = ascends_without name old.trees db.ascends;
         default = (db.default.0, ap (λ f. f default_name) (numbers_without name old.trees) ∙ put_name_elsewhere (numbers_of old.trees) name default_name None (λ e. off (sym e)) ∙ db.default.1);
         ungiven = λ k above. operators_ungiven number k old.operators (db.ungiven k above);
-        unwatched = db.unwatched;
+        calm = db.calm;
         ids = subst (λ n. old.greatest_id ≤ n) (sym marked) db.ids;
       }
 
@@ -270,14 +272,14 @@ module _ {P M : Type 0} (store : P → Store) (meant : M → Merge) (old : DbVal
       state_new slots slots_given i = record {
         name = old.name;
         trees = trees_new i;
-        queues = λ n. find nat_cmp n old.queues;
+        queues = queues_of (queue_at old.queues);
         slots = slots;
         is_open = not (out i);
         greatest_id = old.greatest_id;
         mark = marked i;
         trees_given = old.trees_given;
         slots_given = slots_given;
-        subscribers_given = old.subscribers_given;
+        subscribers_given = old.queues.given;
       }
         where
           out : (now (store q)).in_group ≡ (now (store old.pages)).in_group

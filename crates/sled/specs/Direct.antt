@@ -14,7 +14,7 @@ use Rattle.sled_model.specs.Whole.{DecidesPoint, RefusesPoint}
 use Rattle.sled_model.specs.Refusal.{ToCall, must_refuse, TellsTurns, turns_limit}
 use Rattle.sled_model.specs.declared.call.Call.{Call}
 use Rattle.sled_model.specs.declared.call.Whole.{Whole}
-use Rattle.sled_model.specs.declared.call.Whole.TheVariants.{OpenTree, DropTree, GenerateId, Import}
+use Rattle.sled_model.specs.declared.call.Whole.TheVariants.{OpenTree, DropTree, GenerateId, Import, PopMin, PopMax, Clear}
 use Rattle.sled_model.specs.declared.outcome.Outcome.{Outcome}
 use Rattle.sled_model.specs.declared.outcome.Outcome.TheVariants as outcome
 use Rattle.sled_model.specs.declared.tree.Tree.{Tree}
@@ -69,11 +69,11 @@ pub record LeavesAll {P M : Type 0} (store : P → Store) (maps : List Maps) (lo
   pub loses : KeepsOrFreesTreePages lost (snapshot_of_db store old) (snapshot_of_db store new)
   pub sound : IsDb store old → IsDb store new
 
--- What a call on a key does and leaves: nothing of the database changes but its pages
+-- What a call on a key does and leaves: nothing of the database changes but its pages and its queues
 pub record Conducts {P M : Type 0} (store : P → Store) (maps : List Maps) (refused : Option Error) (old new : DbValue P M) : Type 0 where
   pub acts : effects_until refused (store old.pages) (store new.pages)
   pub leaves : LeavesAll store maps None old new
-  pub same : new ≡ record old { pages = new.pages }
+  pub same : new ≡ record old { pages = new.pages; queues = new.queues }
 
 -- What a whole call does to the store: a flush makes all durable, and a call that tells something does nothing, but that it may raise
 -- the mark; where one of these is refused, nothing but a fault is counted. One that drops a tree does changing actions, and faults may
@@ -90,18 +90,24 @@ effect_of_whole kind (outcome.Decided reply) old new = effects_until None old ne
 effect_of_whole kind (outcome.Refused e) old new = effects_until (Some e) old new
 effect_of_whole kind o old new = ⊥
 
--- what a decided whole call may change of the database: its pages; and one that opens a tree the list of trees, one that drops a tree
--- that list and the operators, one that takes an id the greatest that was given
+-- what a decided whole call may change of the database: its pages; and one that removes or imports keys the queues, one that opens a
+-- tree the list of trees, one that drops a tree that list and the operators, one that takes an id the greatest that was given
 abbrev pub changes_only : {P M : Type 0} → Whole → DbValue P M → DbValue P M → Type 0
 changes_only (OpenTree name) old new = new ≡ record old { pages = new.pages; trees = new.trees; trees_given = new.trees_given }
 changes_only (DropTree name) old new = new ≡ record old { pages = new.pages; trees = new.trees; operators = new.operators }
 changes_only GenerateId old new = new ≡ record old { pages = new.pages; greatest_id = new.greatest_id }
-changes_only (Import collections) old new = new ≡ record old { pages = new.pages; trees = new.trees; trees_given = new.trees_given }
+changes_only (PopMin tree) old new = new ≡ record old { pages = new.pages; queues = new.queues }
+changes_only (PopMax tree) old new = new ≡ record old { pages = new.pages; queues = new.queues }
+changes_only (Clear tree) old new = new ≡ record old { pages = new.pages; queues = new.queues }
+changes_only (Import collections) old new = new ≡ record old { pages = new.pages; trees = new.trees; trees_given = new.trees_given; queues = new.queues }
 changes_only whole old new = new ≡ record old { pages = new.pages }
 
--- .. and one that is refused: its pages; and an import, which keeps the parts that it did, the list of trees
+-- .. and one that is refused. A clear may have removed some keys, and an import keeps the parts that it did
 abbrev pub changes_refused : {P M : Type 0} → Whole → DbValue P M → DbValue P M → Type 0
-changes_refused (Import collections) old new = new ≡ record old { pages = new.pages; trees = new.trees; trees_given = new.trees_given }
+changes_refused (PopMin tree) old new = new ≡ record old { pages = new.pages; queues = new.queues }
+changes_refused (PopMax tree) old new = new ≡ record old { pages = new.pages; queues = new.queues }
+changes_refused (Clear tree) old new = new ≡ record old { pages = new.pages; queues = new.queues }
+changes_refused (Import collections) old new = new ≡ record old { pages = new.pages; trees = new.trees; trees_given = new.trees_given; queues = new.queues }
 changes_refused whole old new = new ≡ record old { pages = new.pages }
 
 -- the tree that a decided whole call drops, if it drops one

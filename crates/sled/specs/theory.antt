@@ -4,3 +4,4 @@ pub mod Direct
 pub mod Imports
 pub mod Operators
 pub mod Drops
+pub mod Watched

@@ -20,6 +20,7 @@ mod names;
 mod open;
 mod operators;
 mod read;
+mod step;
 mod tree_list;
 mod whole;
 

@@ -206,7 +206,7 @@ impl<P: Pages, M: MergeOperator> Machine<P, M> {
         ensures sound { MachineSound P.store self.old self.new }
         ensures does { MachineActs P.store M.meant self.old (step.Step slot) result self.new }
         ensures follows { MachineFollows P.store M.meant self.old (step.Step slot) result self.new }
-        ensures passes { MachinePasses P.store self.old (step.Step slot) result self.new }
+        ensures passes { MachinePasses P.store M.meant self.old (step.Step slot) result self.new }
         ensures slots { MachineSlots self.old (step.Step slot) result self.new }
         ensures loses { MachineKeepsTreePages P.store self.old (step.Step slot) result self.new }
         ensures leaves { MachineLeaksNoPage P.store self.old (step.Step slot) result self.new }
