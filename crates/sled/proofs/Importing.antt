@@ -109,8 +109,14 @@ module _ {P M : Type 0} (store : P → Store) (meant : M → Merge) where
 
   -- ---- parts one after the other
 
-  grows_pages : (old new : DbValue P M) → new ≡ record old { pages = new.pages } → grows_trees old new
-  grows_pages old new e = e ∙ ap (λ (z : DbValue P M). record old { pages = new.pages; trees = z.trees; trees_given = z.trees_given }) (sym e)
+  grows_pages : (old new : DbValue P M) → new ≡ record old { pages = new.pages; queues = new.queues } → grows_trees old new
+  grows_pages old new e = e ∙ ap (λ (z : DbValue P M). record old { pages = new.pages; queues = new.queues; trees = z.trees; trees_given = z.trees_given }) (sym e)
+
+  grows_opened : (old new : DbValue P M) → new ≡ record old { pages = new.pages; trees = new.trees; trees_given = new.trees_given } → grows_trees old new
+  grows_opened old new e = e ∙ ap (λ (z : DbValue P M). record old { pages = new.pages; queues = z.queues; trees = new.trees; trees_given = new.trees_given }) (sym e)
+
+  grows_not : (old new : DbValue P M) → new ≡ record old { pages = new.pages } → grows_trees old new
+  grows_not old new e = e ∙ ap (λ (z : DbValue P M). record old { pages = new.pages; queues = z.queues; trees = z.trees; trees_given = z.trees_given }) (sym e)
 
   steps_then : {old mid new : DbValue P M} {ps qs : List Part} → ImportsBySteps store meant old ps mid → ImportsBySteps store meant mid qs new → ImportsBySteps store meant old (ps ++ qs) new
   steps_then ImportsNone rest = rest
@@ -125,7 +131,7 @@ module _ {P M : Type 0} (store : P → Store) (meant : M → Merge) where
     does = λ slots given. parts_then (a.does slots given) (b.does slots given);
     acts = acts_then None (store old.pages) (store mid.pages) (store new.pages) a.acts b.acts;
     leaves = leaves_then store meant a.maps b.maps None old mid new a.leaves db b.leaves;
-    same = b.same ∙ ap (λ (z : DbValue P M). record z { pages = new.pages; trees = new.trees; trees_given = new.trees_given }) a.same;
+    same = b.same ∙ ap (λ (z : DbValue P M). record z { pages = new.pages; queues = new.queues; trees = new.trees; trees_given = new.trees_given }) a.same;
     did = steps_then a.did b.did;
   }
 
@@ -146,7 +152,7 @@ module _ {P M : Type 0} (store : P → Store) (meant : M → Merge) where
     refuses = λ slots given. part_alike (State_of new slots given) (store old.pages) (store mid.pages) (store new.pages) b.next e (done_alike old mid ps a) (b.refuses slots given);
     acts = acts_then (Some e) (store old.pages) (store mid.pages) (store new.pages) a.acts b.acts;
     leaves = leaves_then store meant a.maps b.maps None old mid new a.leaves db b.leaves;
-    same = b.same ∙ ap (λ (z : DbValue P M). record z { pages = new.pages; trees = new.trees; trees_given = new.trees_given }) a.same;
+    same = b.same ∙ ap (λ (z : DbValue P M). record z { pages = new.pages; queues = new.queues; trees = new.trees; trees_given = new.trees_given }) a.same;
     steps = record {
       done = ps ++ b.steps.done;
       next = b.steps.next;
@@ -235,13 +241,13 @@ module _ {P M : Type 0} (store : P → Store) (meant : M → Merge) where
         does = λ slots given. let d = w.decides slots given 0 in subst (λ m. DoesParts (State_of old slots given) (OpensName name ∷ []) (State_of new slots given) m) (append-nil w.maps) (OnePart (record { is = (d.is, d.added) }) NoPart);
         acts = w.acts;
         leaves = w.leaves;
-        same = w.same;
+        same = grows_opened old new w.same;
         did = ImportsMore (record { is = s }) ImportsNone;
       }
 
     pub opened_not : (e : Error) → WholeRefused store meant old (OpenTree name) e new → OpenRefusedBySteps store name old e new → PartsStopped store meant old (OpensName name ∷ []) e new
     opened_not e w s = stops_at old new (OpensName name) e (λ slots given. (w.refuses slots given).1) (λ slots given. (w.refuses slots given).0)
-        w.acts (subst (λ m. LeavesAll store m None old new) (w.refuses (λ n. None) 0).2 w.leaves) (grows_pages old new w.same) (record { is = s })
+        w.acts (subst (λ m. LeavesAll store m None old new) (w.refuses (λ n. None) 0).2 w.leaves) (grows_not old new w.same) (record { is = s })
 
   -- ---- a pair is put
 

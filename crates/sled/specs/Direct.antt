@@ -99,7 +99,7 @@ changes_only GenerateId old new = new ≡ record old { pages = new.pages; greate
 changes_only (PopMin tree) old new = new ≡ record old { pages = new.pages; queues = new.queues }
 changes_only (PopMax tree) old new = new ≡ record old { pages = new.pages; queues = new.queues }
 changes_only (Clear tree) old new = new ≡ record old { pages = new.pages; queues = new.queues }
-changes_only (Import collections) old new = new ≡ record old { pages = new.pages; trees = new.trees; trees_given = new.trees_given; queues = new.queues }
+changes_only (Import collections) old new = new ≡ record old { pages = new.pages; queues = new.queues; trees = new.trees; trees_given = new.trees_given }
 changes_only whole old new = new ≡ record old { pages = new.pages }
 
 -- .. and one that is refused. A clear may have removed some keys, and an import keeps the parts that it did
@@ -107,7 +107,7 @@ abbrev pub changes_refused : {P M : Type 0} → Whole → DbValue P M → DbValu
 changes_refused (PopMin tree) old new = new ≡ record old { pages = new.pages; queues = new.queues }
 changes_refused (PopMax tree) old new = new ≡ record old { pages = new.pages; queues = new.queues }
 changes_refused (Clear tree) old new = new ≡ record old { pages = new.pages; queues = new.queues }
-changes_refused (Import collections) old new = new ≡ record old { pages = new.pages; trees = new.trees; trees_given = new.trees_given; queues = new.queues }
+changes_refused (Import collections) old new = new ≡ record old { pages = new.pages; queues = new.queues; trees = new.trees; trees_given = new.trees_given }
 changes_refused whole old new = new ≡ record old { pages = new.pages }
 
 -- the tree that a decided whole call drops, if it drops one

@@ -13,9 +13,9 @@ use Rattle.sled.specs.Values.{DbValue, state_of, db_state}
 use Rattle.sled.specs.Direct.{LeavesAll, PointDecided, PointRefused, effects_until}
 use Rattle.sled.specs.Opens.{OpensBySteps, OpenRefusedBySteps}
 
--- an import changes the pages and the list of trees
+-- an import changes the pages, the queues and the list of trees
 abbrev pub grows_trees : {P M : Type 0} → DbValue P M → DbValue P M → Type 0
-grows_trees old new = new ≡ record old { pages = new.pages; trees = new.trees; trees_given = new.trees_given }
+grows_trees old new = new ≡ record old { pages = new.pages; queues = new.queues; trees = new.trees; trees_given = new.trees_given }
 
 module _ {P M : Type 0} (store : P → Store) (meant : M → Merge) where
   -- An import of these collections was decided, in whatever machine the database is
