@@ -1,5 +1,6 @@
 -- What a session does at a command.
-use Rattle.std.proofs.Common.{◌≡◌, ℕ, false, List, [], ◌++◌, append-nil, Option, Result, Ok, Err, OnOk, refl, sym, subst, inl, inr}
+use Rattle.std.proofs.Common.{◌≡◌, ℕ, false, List, [], ◌++◌, append-nil, Option, Result, Ok, Err, OnOk, refl, sym, subst, ap, ◌∙◌, inl, inr}
+use Rattle.sled_pages.specs.Order.{Key}
 use Rattle.sled_pages.specs.Store.{Store, now}
 use Rattle.sled_pages.specs.declared.error.Error.{Error}
 use Rattle.sled_model.specs.Maps.{Merge}
@@ -7,8 +8,8 @@ use Rattle.sled_model.specs.declared.outcome.Outcome.{Outcome}
 use Rattle.tree_laws.specs.Contents.{trees_of}
 use Rattle.sled.specs.Export.{collections, RefusesExport}
 use Rattle.sled_lines.specs.Print.{Prints, outcome_line, refused_line, dump_text}
-use Rattle.sled_lines.specs.Session.{slot_at, acts_at, performs, obeys, Obeys}
-use Rattle.sled_lines.specs.theory.Session.{ActsAndShows}
+use Rattle.sled_lines.specs.Session.{slot_at, acts_at, performs, current_after, opened_or, obeys, Obeys}
+use Rattle.sled_lines.specs.theory.Session.{ActsAndShows, OpensAndShows}
 use Rattle.sled_lines.specs.declared.session.Act.{Act}
 use Rattle.sled_lines.specs.declared.session.Act.TheVariants as act
 use Rattle.sled_lines.specs.declared.command.Command.{Command}
@@ -18,7 +19,7 @@ use Rattle.sled_lines.specs.declared.session.Session.{Session}
 use Rattle.sled_lines.proofs.Printing.{prints_then, prints_onto}
 
 module _ {P M : Type 0} (store : P → Store) (flush_number : P → ℕ) (meant : M → Merge) where
-  obeys_by : (old : Session P M) (c : Command) (show : Shown) (o : Outcome) (new : Session P M) → performs store flush_number meant old c show o new → new.tree ≡ old.tree → obeys store flush_number meant old c (outcome_line show o) new
+  obeys_by : (old : Session P M) (c : Command) (show : Shown) (o : Outcome) (new : Session P M) → performs store flush_number meant old c show o new → new.tree ≡ current_after c old.tree o → obeys store flush_number meant old c (outcome_line show o) new
   obeys_by old (command.Point call) show o new does tree = (show, o, does, tree, refl)
   obeys_by old (command.Begin call) show o new does tree = (show, o, does, tree, refl)
   obeys_by old (command.Step n) show o new does tree = (show, o, does, tree, refl)
@@ -27,9 +28,10 @@ module _ {P M : Type 0} (store : P → Store) (flush_number : P → ℕ) (meant 
   obeys_by old command.Flush show o new does tree = (show, o, does, tree, refl)
   obeys_by old (command.Crash keep) show o new does tree = absurd does
   obeys_by old command.Dump show o new does tree = absurd does
+  obeys_by old (command.OpenTree name) show o new does tree = (show, o, does, tree, refl)
 
   -- a command came out so, and its line is gathered
-  pub obeyed : (old : Session P M) (c : Command) (show : Shown) (o : Outcome) (new : Session P M) (held : Option (List ℕ)) (gathered gathered_then : List ℕ) → performs store flush_number meant old c show o new → new.tree ≡ old.tree
+  pub obeyed : (old : Session P M) (c : Command) (show : Shown) (o : Outcome) (new : Session P M) (held : Option (List ℕ)) (gathered gathered_then : List ℕ) → performs store flush_number meant old c show o new → new.tree ≡ current_after c old.tree o
       → gathered_then ≡ gathered ++ outcome_line show o → Obeys store flush_number meant old c new held gathered held gathered_then
   obeyed old c show o new held gathered gathered_then does tree is = record {
     text = outcome_line show o;
@@ -39,7 +41,7 @@ module _ {P M : Type 0} (store : P → Store) (flush_number : P → ℕ) (meant 
 
   -- the same of a command that is this one, if its line could be gathered
   pub obeyed_shown : {T E : Type 0} (old : Session P M) (c d : Command) (show : Shown) (o : Outcome) (new : Session P M) (held : Option (List ℕ)) (gathered gathered_then : List ℕ) (r : Result T E) → c ≡ d → performs store flush_number meant old d show o new
-      → new.tree ≡ old.tree → OnOk r (gathered_then ≡ gathered ++ outcome_line show o) → OnOk r (Obeys store flush_number meant old c new held gathered held gathered_then)
+      → new.tree ≡ current_after d old.tree o → OnOk r (gathered_then ≡ gathered ++ outcome_line show o) → OnOk r (Obeys store flush_number meant old c new held gathered held gathered_then)
   obeyed_shown old c d show o new held gathered gathered_then (Ok done) same does tree is = subst (λ x. Obeys store flush_number meant old x new held gathered held gathered_then) (sym same) (obeyed old d show o new held gathered gathered_then does tree is)
   obeyed_shown old c d show o new held gathered gathered_then (Err e) same does tree is = tt
 
@@ -63,6 +65,22 @@ module _ {P M : Type 0} (store : P → Store) (flush_number : P → ℕ) (meant 
       → OnOk r (ActsAndShows store flush_number meant old act.Abandon n new gathered gathered_then) → OnOk r (Obeys store flush_number meant old c new held gathered held gathered_then)
   obeyed_abandon old c n new held gathered gathered_then (Ok done) same did = subst (λ x. Obeys store flush_number meant old x new held gathered held gathered_then) (sym same) (obeyed old (command.Abandon n) did.show did.outcome new held gathered gathered_then (did.acts, did.slots) did.tree did.line)
   obeyed_abandon old c n new held gathered gathered_then (Err e) same did = tt
+
+  -- the tree of a name is opened, and its line is gathered
+  pub opened_shown : (old : Session P M) (name : Key) (show : Shown) (o : Outcome) (middle new : Session P M) (gathered gathered_then : List ℕ) → performs store flush_number meant old (command.OpenTree name) show o middle
+      → middle.tree ≡ old.tree → new ≡ record middle { tree = opened_or middle.tree o } → gathered_then ≡ gathered ++ outcome_line show o → OpensAndShows store flush_number meant old name new gathered gathered_then
+  opened_shown old name show o middle new gathered gathered_then does same follows is = record {
+    show = show;
+    outcome = o;
+    performs = subst (performs store flush_number meant old (command.OpenTree name) show o) (sym follows) does;
+    tree = ap (λ (s : Session P M). s.tree) follows ∙ ap (λ t. opened_or t o) same;
+    line = is;
+  }
+
+  pub obeyed_open : {T E : Type 0} (old : Session P M) (c : Command) (name : Key) (new : Session P M) (held : Option (List ℕ)) (gathered gathered_then : List ℕ) (r : Result T E) → c ≡ command.OpenTree name
+      → OnOk r (OpensAndShows store flush_number meant old name new gathered gathered_then) → OnOk r (Obeys store flush_number meant old c new held gathered held gathered_then)
+  obeyed_open old c name new held gathered gathered_then (Ok done) same did = subst (λ x. Obeys store flush_number meant old x new held gathered held gathered_then) (sym same) (obeyed old (command.OpenTree name) did.show did.outcome new held gathered gathered_then did.performs did.tree did.line)
+  obeyed_open old c name new held gathered gathered_then (Err e) same did = tt
 
   -- all pairs are printed
   pub obeyed_all : (s : Session P M) (held held_then : Option (List ℕ)) (gathered gathered_then text : List ℕ) → (now (store s.machine.db.pages)).in_group ≡ false

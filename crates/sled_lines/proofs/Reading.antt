@@ -149,6 +149,7 @@ is_crash (command.Finish n) keep e = cc
 is_crash (command.Abandon n) keep e = cc
 is_crash command.Flush keep e = cc
 is_crash command.Dump keep e = cc
+is_crash (command.OpenTree name) keep e = cc
 
 took_as : (left after : Option (List ℕ)) (n m : ℕ) (read other : Option Command) → read ≡ other → Took left after n m read → Took left after n m other
 took_as left after n m read other e took = subst (Took left after n m) e took

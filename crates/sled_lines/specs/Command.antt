@@ -8,7 +8,7 @@ use Rattle.sled_lines.specs.Words.{words_of, read_word, read_value, read_number}
 use Rattle.sled_lines.specs.declared.command.Name.{Name}
 use Rattle.sled_lines.specs.declared.command.Name.TheVariants as name
 use Rattle.sled_lines.specs.declared.command.Command.{Command}
-use Rattle.sled_lines.specs.declared.command.Command.TheVariants.{Point, Begin, Step, Finish, Abandon, Flush, Crash, Dump}
+use Rattle.sled_lines.specs.declared.command.Command.TheVariants.{Point, Begin, Step, Finish, Abandon, Flush, Crash, Dump, OpenTree}
 
 -- the name of a call
 abbrev pub call_name_of : List ℕ → Option Name
@@ -29,6 +29,7 @@ other_name_of word =
     else if bytes_eq word (codes "flush") then Some name.Flush
     else if bytes_eq word (codes "crash") then Some name.Crash
     else if bytes_eq word (codes "dump") then Some name.Dump
+    else if bytes_eq word (codes "tree") then Some name.Tree
     else None
 
 -- the name of a command
@@ -106,6 +107,11 @@ abbrev pub alone : Command → List (List ℕ) → Option Command
 alone command [] = Some command
 alone command (word ∷ words) = None
 
+-- the command that opens the tree of a name
+abbrev pub opens : Option (List ℕ) → Option Command
+opens (Some word) = option_map (λ name. OpenTree name) (read_word word)
+opens None = None
+
 -- the command of a name and its arguments
 abbrev pub command_from : Option Name → List (List ℕ) → Option Command
 command_from None arguments = None
@@ -120,6 +126,7 @@ command_from (Some name.Abandon) arguments = numbered (λ n. Abandon n) (one_of 
 command_from (Some name.Flush) arguments = alone Flush arguments
 command_from (Some name.Crash) arguments = numbered (λ n. Crash n) (one_of arguments)
 command_from (Some name.Dump) arguments = alone Dump arguments
+command_from (Some name.Tree) arguments = opens (one_of arguments)
 
 -- the command of some words
 abbrev pub command_of_words : List (List ℕ) → Option Command

@@ -1,5 +1,5 @@
 -- Lines: how outcomes are printed.
-use Rattle.std.specs.Prelude.{ℕ, ◌-◌, ◌^◌, min, sum_by, List, [], ◌∷◌, ◌++◌, length, Option, Some, None, Ok, Err, codes, decimal}
+use Rattle.std.specs.Prelude.{ℕ, true, false, ◌-◌, ◌^◌, min, sum_by, List, [], ◌∷◌, ◌++◌, length, Option, Some, None, Ok, Err, codes, decimal}
 use Rattle.std.specs.List.{flat_map}
 use Rattle.std.specs.Io.KnownBytes.{Appends, append_known}
 use Rattle.sled_pages.specs.Order.{Key}
@@ -8,8 +8,10 @@ use Rattle.sled_pages.specs.declared.error.Error.TheVariants.{CollectionNotFound
 use Rattle.sled_model.specs.Maps.{Map}
 use Rattle.sled_model.specs.declared.call.Call.{Call}
 use Rattle.sled_model.specs.declared.call.Call.TheVariants.{Get, Insert, Remove, CompareAndSwap, Merge}
+use Rattle.sled_model.specs.declared.call.Whole.{Whole}
+use Rattle.sled_model.specs.declared.call.Whole.TheVariants.{GenerateId}
 use Rattle.sled_model.specs.declared.reply.Reply.{Reply}
-use Rattle.sled_model.specs.declared.reply.Reply.TheVariants.{Value, Swapped, Number, Done, Pair, Tree}
+use Rattle.sled_model.specs.declared.reply.Reply.TheVariants.{Value, Swapped, Number, Done, Pair, Tree, Flag}
 use Rattle.sled_model.specs.declared.reply.CompareAndSwapError.{CompareAndSwapError}
 use Rattle.sled_model.specs.declared.outcome.Outcome.{Outcome}
 use Rattle.sled_model.specs.declared.outcome.Outcome.TheVariants.{Begun, Moved, Decided, Refused, Abandoned, NoSuchSlot}
@@ -36,9 +38,18 @@ shown_of (Remove key) = shown.Old
 shown_of (CompareAndSwap key old new) = shown.Value
 shown_of (Merge key bytes) = shown.Value
 
+-- the number in the reply to a whole call is an id, or counts what a flush made durable
+abbrev pub shown_of_whole : Whole → Shown
+shown_of_whole GenerateId = shown.Number
+shown_of_whole whole = shown.Value
+
 abbrev pub name_of : Shown → List ℕ
-name_of shown.Value = codes "value "
 name_of shown.Old = codes "old "
+name_of show = codes "value "
+
+abbrev pub number_name_of : Shown → List ℕ
+number_name_of shown.Number = codes "number "
+number_name_of show = codes "flushed "
 
 -- a value that was not swapped: the one that stands, and the one that was to be set
 abbrev pub conflict_line : CompareAndSwapError → List ℕ
@@ -54,11 +65,13 @@ abbrev pub reply_line : Shown → Reply → List ℕ
 reply_line show (Value bytes) = name_of show ++ word_of bytes ++ end
 reply_line show (Swapped (Ok done)) = codes "swapped" ++ end
 reply_line show (Swapped (Err conflict)) = conflict_line conflict
-reply_line show (Number n) = codes "flushed " ++ decimal n ++ end
+reply_line show (Number n) = number_name_of show ++ decimal n ++ end
 reply_line show Done = codes "done" ++ end
 reply_line show (Pair (Some pair)) = found_line pair.0 pair.1
 reply_line show (Pair None) = codes "found -" ++ end
 reply_line show (Tree tree) = tree_line tree.name
+reply_line show (Flag true) = codes "yes" ++ end
+reply_line show (Flag false) = codes "no" ++ end
 
 -- errors are numbered in the order of their variants
 abbrev pub error_number : Error → ℕ

@@ -7,7 +7,8 @@ use Rattle.sled_model.specs.declared.call.Call.{Call}
 use Rattle.sled_model.specs.declared.call.Whole.TheVariants as whole
 use Rattle.sled_model.specs.declared.outcome.Step.TheVariants as step
 use Rattle.sled_model.specs.declared.outcome.Outcome.{Outcome}
-use Rattle.sled_model.specs.declared.outcome.Outcome.TheVariants.{Begun, Refused, NoSuchSlot}
+use Rattle.sled_model.specs.declared.outcome.Outcome.TheVariants.{Begun, Decided, Refused, NoSuchSlot}
+use Rattle.sled_model.specs.declared.reply.Reply.TheVariants as reply
 use Rattle.sled_model.specs.declared.tree.Tree.{Tree}
 use Rattle.tree_laws.specs.Contents.{trees_of}
 use Rattle.sled.specs.Values.{DbValue}
@@ -15,7 +16,7 @@ use Rattle.sled.specs.Export.{collections, RefusesExport}
 use Rattle.sled_machine.specs.Step.{MachineStepContract}
 use Rattle.sled_machine.specs.Finish.{RunsToEnd, Completes}
 use Rattle.sled_machine.specs.Values.{MachineValue, slots_of}
-use Rattle.sled_lines.specs.Print.{Prints, shown_of, outcome_line, refused_line, dump_text}
+use Rattle.sled_lines.specs.Print.{Prints, shown_of, shown_of_whole, outcome_line, refused_line, dump_text}
 use Rattle.sled_lines.specs.declared.command.Command.{Command}
 use Rattle.sled_lines.specs.declared.command.Command.TheVariants as command
 use Rattle.sled_lines.specs.declared.print.Shown.{Shown}
@@ -58,9 +59,10 @@ performs store flush_number meant old (command.Begin call) show o new = (show �
 performs store flush_number meant old (command.Step n) show o new = acts_at store flush_number meant old.machine act.Step (slot_at old.slots.items n) show o new.machine × (new.slots ≡ old.slots)
 performs store flush_number meant old (command.Finish n) show o new = acts_at store flush_number meant old.machine act.Finish (slot_at old.slots.items n) show o new.machine × (new.slots ≡ old.slots)
 performs store flush_number meant old (command.Abandon n) show o new = acts_at store flush_number meant old.machine act.Abandon (slot_at old.slots.items n) show o new.machine × (new.slots ≡ old.slots)
-performs store flush_number meant old command.Flush show o new = MachineStepContract store flush_number meant old.machine (step.Whole whole.Flush) o new.machine × (new.slots ≡ old.slots)
+performs store flush_number meant old command.Flush show o new = (show ≡ shown_of_whole whole.Flush) × MachineStepContract store flush_number meant old.machine (step.Whole whole.Flush) o new.machine × (new.slots ≡ old.slots)
 performs store flush_number meant old (command.Crash keep) show o new = ⊥
 performs store flush_number meant old command.Dump show o new = ⊥
+performs store flush_number meant old (command.OpenTree name) show o new = (show ≡ shown_of_whole (whole.OpenTree name)) × MachineStepContract store flush_number meant old.machine (step.Whole (whole.OpenTree name)) o new.machine × (new.slots ≡ old.slots)
 
 -- what a dump prints: all pairs of the state now, or why they were refused
 abbrev pub Dumps : {P M : Type 0} → (P → Store) → DbValue P M → List ℕ → Type 0
@@ -68,11 +70,21 @@ Dumps store d text =
     (((now (store d.pages)).in_group ≡ false) × (text ≡ dump_text (collections (trees_of (now (store d.pages))) d.trees)))
     ⊎ ((e : Error) × RefusesExport (store d.pages) e × (text ≡ refused_line e))
 
+-- the tree that was opened, if one was, and else this one
+abbrev pub opened_or : Tree → Outcome → Tree
+opened_or tree (Decided (reply.Tree opened)) = opened
+opened_or tree o = tree
+
+-- the tree that is current after a command came out so
+abbrev pub current_after : Command → Tree → Outcome → Tree
+current_after (command.OpenTree name) tree o = opened_or tree o
+current_after c tree o = tree
+
 -- What a command does to a session, and the text that is printed for it. A crash is nothing that a session does
 abbrev pub obeys : {P M : Type 0} → (P → Store) → (P → ℕ) → (M → Merge) → Session P M → Command → List ℕ → Session P M → Type 0
 obeys store flush_number meant old (command.Crash keep) text new = (new ≡ old) × (text ≡ [])
 obeys store flush_number meant old command.Dump text new = (new ≡ old) × Dumps store old.machine.db text
-obeys store flush_number meant old c text new = (show : Shown) × (o : Outcome) × performs store flush_number meant old c show o new × (new.tree ≡ old.tree) × (text ≡ outcome_line show o)
+obeys store flush_number meant old c text new = (show : Shown) × (o : Outcome) × performs store flush_number meant old c show o new × (new.tree ≡ current_after c old.tree o) × (text ≡ outcome_line show o)
 
 -- a command is run, and its text comes behind what a writer holds and what is gathered for it
 pub record Obeys {P M : Type 0} (store : P → Store) (flush_number : P → ℕ) (meant : M → Merge) (old : Session P M) (c : Command) (new : Session P M) (held : Option (List ℕ)) (gathered : List ℕ) (held_then : Option (List ℕ)) (gathered_then : List ℕ) : Type 0 where

@@ -3,11 +3,11 @@ ghost use Rattle.std.specs.Prelude.{◌≡◌, IfOk, IfErr, option_map};
 ghost use Rattle.std.specs.Option.{option_and_then};
 ghost use Rattle.sled_pages.specs.declared.error.Error.TheVariants.{NoMemory};
 ghost use Rattle.sled_lines.specs.Words.{words_after, read_number};
-ghost use Rattle.sled_lines.specs.Command.{call_name_of, other_name_of, name_of, one_of, two_of, three_of, insert_of, get_of, remove_of, swap_of, call_of, call_of_words, in_slot, alone, command_of};
+ghost use Rattle.sled_lines.specs.Command.{call_name_of, other_name_of, name_of, one_of, two_of, three_of, insert_of, get_of, remove_of, swap_of, call_of, call_of_words, in_slot, opens, alone, command_of};
 
 use crate::words::{first_word, read_number, read_value, read_word};
 use sled_model::Call;
-use sled_pages::Result;
+use sled_pages::{IVec, Result};
 use std::alloc::Global;
 
 /// What a line asks for.
@@ -29,6 +29,8 @@ pub enum Command {
     Crash(u64),
     /// All pairs.
     Dump,
+    /// The tree of a name becomes the current one. It is made where there is none.
+    OpenTree(IVec),
 }
 
 // The first word of a command.
@@ -45,6 +47,7 @@ enum Name {
     Flush,
     Crash,
     Dump,
+    Tree,
 }
 
 fn call_name_of(word: &[u8]) -> Option<Name>
@@ -80,6 +83,8 @@ fn other_name_of(word: &[u8]) -> Option<Name>
         Some(Name::Crash)
     } else if word == b"dump".as_slice() {
         Some(Name::Dump)
+    } else if word == b"tree".as_slice() {
+        Some(Name::Tree)
     } else {
         None
     }
@@ -234,6 +239,20 @@ fn begin_of(alloc: Global, words: Option<&[u8]>) -> Result<Option<Command>>
     Ok(call_of(alloc, name_of(name), arguments)?.map(Command::Begin))
 }
 
+// The command that opens the tree of a name.
+fn tree_of(alloc: Global, arguments: Option<&[u8]>) -> Result<Option<Command>>
+    ensures ok { IfOk result (λ command. command ≡ opens (one_of (words_after arguments.entry))) }
+    ensures err { IfErr result (λ e. e ≡ NoMemory) }
+{
+    let Some(name) = one_of(arguments) else {
+        return Ok(None);
+    };
+    let Some(name) = read_word(alloc, name)? else {
+        return Ok(None);
+    };
+    Ok(Some(Command::OpenTree(name)))
+}
+
 // The number that is the only argument.
 fn number_of(arguments: Option<&[u8]>) -> Option<u64>
     ensures { result ≡ option_and_then read_number (one_of (words_after arguments.entry)) }
@@ -277,5 +296,6 @@ pub fn parse(alloc: Global, line: &[u8]) -> Result<Option<Command>>
         Name::Flush => Ok(alone(Command::Flush, arguments)),
         Name::Crash => Ok(number_of(arguments).map(Command::Crash)),
         Name::Dump => Ok(alone(Command::Dump, arguments)),
+        Name::Tree => tree_of(alloc, arguments),
     }
 }

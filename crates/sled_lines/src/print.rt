@@ -5,20 +5,22 @@ ghost use Rattle.std.specs.Option.{option_copied};
 ghost use Rattle.std.specs.List.{flat_map};
 ghost use Rattle.sled_pages.specs.declared.error.Error.TheVariants.{NoMemory};
 ghost use Rattle.sled_lines.specs.Words.{word_of};
-ghost use Rattle.sled_lines.specs.Print.{end, piece_text, shown_of, name_of, conflict_line, found_line, tree_line, reply_line, error_number, refused_line, slot_line, outcome_line, pair_line, end_line, recovered_line, bad_line};
+ghost use Rattle.sled_lines.specs.Print.{end, piece_text, shown_of, shown_of_whole, name_of, number_name_of, conflict_line, found_line, tree_line, reply_line, error_number, refused_line, slot_line, outcome_line, pair_line, end_line, recovered_line, bad_line};
 
 use crate::words::push_word;
-use sled_model::{Call, CompareAndSwapError, Outcome, Reply};
+use sled_model::{Call, CompareAndSwapError, Outcome, Reply, Whole};
 use sled_pages::{Error, IVec, Result};
 use std::io::Write;
 
-/// What the value in a call's reply is.
+/// What the value or the number in a call's reply is.
 #[derive(Clone, Copy)]
 pub enum Shown {
-    /// The value that stands.
+    /// The value that stands; a number counts what became durable.
     Value,
     /// The value that stood.
     Old,
+    /// The number that was given, as an id.
+    Number,
 }
 
 impl Shown {
@@ -29,6 +31,16 @@ impl Shown {
         match call {
             Call::Get(_) | Call::CompareAndSwap(_, _, _) | Call::Merge(_, _) => Shown::Value,
             Call::Insert(_, _) | Call::Remove(_) => Shown::Old,
+        }
+    }
+
+    /// What the value or the number in the reply to a whole call is.
+    pub fn of_whole(whole: &Whole) -> Shown
+        ensures { result ≡ shown_of_whole whole.now }
+    {
+        match whole {
+            Whole::GenerateId => Shown::Number,
+            _ => Shown::Value,
         }
     }
 }
@@ -148,6 +160,26 @@ fn push_tree<'a>(out: &mut Vec<u8>, name: &'a [u8]) -> Result<()>
     )
 }
 
+// What a value is called.
+fn name_of(shown: Shown) -> &'static [u8]
+    ensures { result.now ≡ name_of shown }
+{
+    match shown {
+        Shown::Old => b"old ",
+        _ => b"value ",
+    }
+}
+
+// What a number is called.
+fn number_name_of(shown: Shown) -> &'static [u8]
+    ensures { result.now ≡ number_name_of shown }
+{
+    match shown {
+        Shown::Number => b"number ",
+        _ => b"flushed ",
+    }
+}
+
 // Adds the line of a reply.
 fn push_reply(out: &mut Vec<u8>, shown: Shown, reply: &Reply) -> Result<()>
     ensures ok { OnOk result (out.new.items ≡ out.old.items ++ reply_line shown reply.now) }
@@ -155,20 +187,19 @@ fn push_reply(out: &mut Vec<u8>, shown: Shown, reply: &Reply) -> Result<()>
 {
     match reply {
         Reply::Value(value) => {
-            match shown {
-                Shown::Value => push_text(out, b"value ")?,
-                Shown::Old => push_text(out, b"old ")?,
-            }
+            push_text(out, name_of(shown))?;
             push_value(out, value.as_ref())?;
             push_text(out, b"\n")
         }
         Reply::Swapped(Ok(())) => push_text(out, b"swapped\n"),
         Reply::Swapped(Err(conflict)) => push_conflict(out, conflict),
-        Reply::Number(number) => push_numbered(out, b"flushed ", *number),
+        Reply::Number(number) => push_numbered(out, number_name_of(shown), *number),
         Reply::Done => push_text(out, b"done\n"),
         Reply::Pair(Some(pair)) => push_found(out, pair.0.as_ref(), pair.1.as_ref()),
         Reply::Pair(None) => push_text(out, b"found -\n"),
         Reply::Tree(tree) => push_tree(out, tree.name.as_ref()),
+        Reply::Flag(true) => push_text(out, b"yes\n"),
+        Reply::Flag(false) => push_text(out, b"no\n"),
     }
 }
 

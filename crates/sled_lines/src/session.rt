@@ -2,28 +2,29 @@
 ghost use Rattle.std.specs.Prelude.{◌≡◌, ◌-◌, ◌^◌, ◌++◌, [], false, length, map, min, sum_by, IfOk, IfErr, OnOk, OnErr};
 ghost use Rattle.std.specs.List.{flat_map};
 ghost use Rattle.sled_pages.specs.Store.{now};
-ghost use Rattle.sled_model.specs.declared.call.Whole.TheVariants.{Flush};
+ghost use Rattle.sled_model.specs.declared.call.Whole.TheVariants.{Flush, OpenTree};
 ghost use Rattle.sled_model.specs.declared.outcome.Step.TheVariants as step;
+ghost use Rattle.sled_model.specs.declared.outcome.Outcome.TheVariants.{Decided};
 ghost use Rattle.tree_laws.specs.Crashes.{IsValid, IsCrashConsistent};
 ghost use Rattle.sled.specs.Operators.{OperatorSet, OperatorNotSet};
 ghost use Rattle.sled_machine.specs.Step.{MachineStepContract};
 ghost use Rattle.sled_machine.specs.Run.{MachineRun, MachineSteps};
 ghost use Rattle.sled_machine.specs.Finish.{Completes};
 ghost use Rattle.sled.specs.Calls.{IsHandle, RefusesHandle};
-ghost use Rattle.sled.specs.Values.{default_name};
-ghost use Rattle.sled_lines.specs.Print.{shown_of, outcome_line, pair_line, collection_lines, dump_text, Prints};
+ghost use Rattle.sled_model.specs.State.{default_name};
+ghost use Rattle.sled_lines.specs.Print.{shown_of, shown_of_whole, outcome_line, pair_line, collection_lines, dump_text, Prints};
 ghost use Rattle.sled_lines.specs.declared.command.Command.TheVariants as command;
 ghost use Rattle.sled_lines.specs.declared.print.Shown.{Shown};
 ghost use Rattle.sled_lines.specs.declared.session.Act.TheVariants as act;
-ghost use Rattle.sled_lines.specs.Session.{slot_at, turns_at, begins_as, acts_at, Obeys};
-ghost use Rattle.sled_lines.specs.theory.Session.{ActsAndShows};
+ghost use Rattle.sled_lines.specs.Session.{slot_at, turns_at, begins_as, acts_at, opened_or, Obeys};
+ghost use Rattle.sled_lines.specs.theory.Session.{ActsAndShows, OpensAndShows};
 
 use crate::command::Command;
 use crate::input::Stopped;
 use crate::print::{Shown, push_end, push_outcome, push_pair};
 use sled::{Collection, Db};
 use sled_machine::Machine;
-use sled_model::{Call, MergeOperator, Outcome, Slot, Step, Tree, Whole};
+use sled_model::{Call, MergeOperator, Outcome, Reply, Slot, Step, Tree, Whole};
 use sled_pages::{Error, IVec, MemPages, Pages};
 use std::alloc::Global;
 use std::io::Write;
@@ -215,6 +216,46 @@ impl<P: Pages, M: MergeOperator> Session<P, M> {
         (Shown::of(&call), self.complete(call))
     }
 
+    // A whole call, and what the value or the number in its reply is.
+    fn whole_shown(&mut self, whole: Whole) -> (Shown, Outcome)
+        ensures shown { result.0 ≡ shown_of_whole whole }
+        ensures reaches { MachineStepContract P.store P.flush_number M.meant self.old.machine (step.Whole whole) result.1 self.new.machine }
+        ensures tree { self.new.tree ≡ self.old.tree }
+        ensures slots { self.new.slots ≡ self.old.slots }
+    {
+        (Shown::of_whole(&whole), self.whole(whole))
+    }
+
+    // The tree of a reply that has one becomes the current one.
+    fn follow_reply(&mut self, reply: Reply)
+        ensures { self.new ≡ record self.old { tree = opened_or self.old.tree (Decided reply) } }
+    {
+        match reply {
+            Reply::Tree(tree) => self.set_tree(tree),
+            other => drop(other),
+        }
+    }
+
+    // The tree that was opened, if one was, becomes the current one.
+    fn follow(&mut self, outcome: Outcome)
+        ensures { self.new ≡ record self.old { tree = opened_or self.old.tree outcome } }
+    {
+        match outcome {
+            Outcome::Decided(reply) => self.follow_reply(reply),
+            other => drop(other),
+        }
+    }
+
+    // Opens the tree of a name, which becomes the current one, and adds the line of how that came out.
+    fn open_tree(&mut self, name: IVec, out: &mut Vec<u8>) -> Result<(), Stopped>
+        ensures { OnOk result (OpensAndShows P.store P.flush_number M.meant self.old name self.new out.old.items out.new.items) }
+    {
+        let (shown, outcome) = self.whole_shown(Whole::OpenTree(name));
+        let pushed = push_outcome(out, shown, &outcome);
+        self.follow(outcome);
+        Ok(pushed?)
+    }
+
     // A call takes a slot, which is printed by its number among those that lines began.
     fn begin(&mut self, call: Call) -> Result<(Shown, Outcome), Stopped>
         ensures begins { IfOk result (λ told. begins_as P.store P.flush_number M.meant self.old.machine self.old.tree call self.old.slots.items told.1 self.new.slots.items self.new.machine) }
@@ -286,9 +327,10 @@ impl<P: Pages, M: MergeOperator> Session<P, M> {
             Command::Step(number) => self.act_and_show(number, Act::Step, out),
             Command::Finish(number) => self.act_and_show(number, Act::Finish, out),
             Command::Abandon(number) => self.act_and_show(number, Act::Abandon, out),
-            Command::Flush => show(out, (Shown::Value, self.flush())),
+            Command::Flush => show(out, self.whole_shown(Whole::Flush)),
             Command::Crash(_) => Ok(()),
             Command::Dump => self.dump(output, out),
+            Command::OpenTree(name) => self.open_tree(name, out),
         }
     }
 }

@@ -1,6 +1,5 @@
 use Rattle.sled_lines.specs.declared.command.Command.TheVariants as command
-use Rattle.sled_lines.specs.declared.print.Shown.TheVariants as shown
-use Rattle.sled_lines.proofs.Obeying.{obeyed_shown, obeyed_step, obeyed_finish, obeyed_abandon}
+use Rattle.sled_lines.proofs.Obeying.{obeyed_shown, obeyed_step, obeyed_finish, obeyed_abandon, obeyed_open}
 use Rattle.sled_lines.proofs.session.Session.run.Goals as goal
 
 pub returns-in-Point : goal.returns-in-Point
@@ -19,4 +18,7 @@ pub returns-in-Abandon : goal.returns-in-Abandon
 returns-in-Abandon g c = obeyed_abandon g.P.Pages.store g.P.Pages.flush_number g.M.MergeOperator.meant _ _ c.in-Abandon.number _ _ _ _ _ c.in-Abandon.is c.act_and_show-in-Abandon.ensures
 
 pub returns-in-Flush : goal.returns-in-Flush
-returns-in-Flush g c = obeyed_shown g.P.Pages.store g.P.Pages.flush_number g.M.MergeOperator.meant _ _ command.Flush shown.Value c.flush.result _ _ _ _ _ c.in-Flush.is (c.flush.ensures.reaches, c.flush.ensures.slots) c.flush.ensures.tree c.show-in-Flush.ensures
+returns-in-Flush g c = obeyed_shown g.P.Pages.store g.P.Pages.flush_number g.M.MergeOperator.meant _ _ command.Flush _ _ _ _ _ _ _ c.in-Flush.is (c.whole_shown.ensures.shown, c.whole_shown.ensures.reaches, c.whole_shown.ensures.slots) c.whole_shown.ensures.tree c.show-in-Flush.ensures
+
+pub returns-in-OpenTree : goal.returns-in-OpenTree
+returns-in-OpenTree g c = obeyed_open g.P.Pages.store g.P.Pages.flush_number g.M.MergeOperator.meant _ _ c.in-OpenTree.name _ _ _ _ _ c.in-OpenTree.is c.open_tree.ensures
