@@ -12,6 +12,7 @@ import sys
 import cases_flights
 import cases_levels
 import cases_merges
+import cases_names
 import cases_owned
 import cases_pops
 import cases_prefixes

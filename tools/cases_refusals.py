@@ -588,7 +588,7 @@ def lines_that_cannot_be_read(s):
 def words_without_a_call_yet(s):
     """Words whose calls are not there yet. Whoever brings a call takes its line out of here."""
     s.line('insert a 1', 'old -')
-    for line in ['tree a', 'batch']:
+    for line in ['batch']:
         s.line(line, f'bad line {len(s.text) + 1}: `{line.split()[0]}` is no command; `help` lists them')
         s.line('get a', 'value 1')
 

@@ -17,9 +17,8 @@ import sys
 from collections import Counter, namedtuple
 from dataclasses import dataclass, replace
 
+DATABASE = b'sledsh'
 TREE = b'__sled__default'
-# What names the default tree: the database, the tree and its number.
-HANDLE = b'sledsh', TREE, 1
 GREATEST = 2**64 - 1
 
 
@@ -192,11 +191,12 @@ class Store:
         self.do(0, view.pid, node and View(view.pid, self.versions, node))
         return True, self.pages.get(view.pid)
 
-    def swap_root(self, old, new):
+    def swap_root(self, name, old, new):
+        """Gives a name another root (none: takes the name out), where it still has this one: whether it was so."""
         self.made()
-        if self.roots.get(TREE) != old:
+        if self.roots.get(name) != old:
             return False
-        self.do(1, TREE, new)
+        self.do(1, name, new)
         return True
 
     def flush(self):
@@ -248,6 +248,39 @@ def operator_of(text):
     return text
 
 
+# Trees.
+
+class Tree:
+    """A tree from its making, or from the opening, to its dropping. Its number is given once."""
+
+    def __init__(self, name, number):
+        self.name, self.number, self.operator = name, number, None
+
+
+def make_tree(store, name):
+    """An empty tree of this name: a leaf without pairs, then its root."""
+    store.swap_root(name, None, store.allocate(Node()).pid)
+
+
+def drop_tree(store, name):
+    """Takes the tree of this name out: the first page of each level is noted, the root goes, and then the pages, leaves first, each
+    level along `next`. What is refused from then on ends a level, and is not told."""
+    firsts, pid = [], store.roots[name]
+    while pid is not None:
+        firsts.append(pid)
+        node = store.read(pid).node
+        pid = None if node.leaf else node.entries[0][1]
+    store.swap_root(name, store.roots[name], None)
+    for pid in firsts[::-1]:
+        try:
+            while pid is not None:
+                view = store.read(pid)
+                store.change(view, None)
+                pid = view.node.next
+        except Refused:
+            store.notes['a level of a dropped tree is not freed to its end'] += 1
+
+
 # Calls in flight.
 
 def decide(call, old):
@@ -266,18 +299,18 @@ def decide(call, old):
     return True, values[1], 'swapped'
 
 
-def fly(store, call):
+def fly(store, tree, call):
     """One call in flight."""
     while True:
-        answer = yield from walk(store, call)
+        answer = yield from walk(store, tree, call)
         if answer is not None:
             return answer
 
 
-def walk(store, call):
+def walk(store, tree, call):
     """From the root to the leaf of the key; no answer where the call starts over."""
     key = call[1]
-    pid, parent, first, unsplit = store.roots[TREE], None, True, 0
+    pid, parent, first, unsplit = store.roots[tree.name], None, True, 0
     while True:
         view = store.read(pid)
         if view is None or view.node.merging:
@@ -294,13 +327,13 @@ def walk(store, call):
             store.notes['walk passes a long page on the right of which its key lies'] += node.ends_before(key)
             store.notes['long page by next'] += unsplit > 0
             yield
-            yield from split(store, view, parent)
+            yield from split(store, view, parent, tree)
             return
         if node.ends_before(key):
             store.notes['next a second time, the unsplit parent kept'] += unsplit == 1
             yield
             if parent is None:
-                yield from hoist(store, pid, node.next, node.hi)
+                yield from hoist(store, tree, pid, node.next, node.hi)
                 return
             pid, first, unsplit = node.next, True, unsplit + 1
             continue
@@ -326,7 +359,7 @@ def walk(store, call):
         return answer
     yield
     if call[0] == 'merge':
-        value = OPERATORS[store.operator](node.get(key), call[2])
+        value = OPERATORS[tree.operator](node.get(key), call[2])
         answer = f'value {word(value)}'
     if store.change(view, node.put(key, value))[0]:
         return answer
@@ -334,20 +367,20 @@ def walk(store, call):
     yield
 
 
-def split(store, view, parent, posting=True):
-    """Splits a page; a merge that wants it split posts no pointer."""
+def split(store, view, parent, tree=None):
+    """Splits a page; a merge that wants it split names no tree and posts no pointer."""
     left, right = view.node.split()
     new = store.allocate(right)
     yield
     ok, _ = store.change(view, replace(left, next=new.pid))
-    store.notes['split' + ('' if posting else ' for a merge') + ('' if ok else ' is stale')] += 1
+    store.notes['split' + ('' if tree else ' for a merge') + ('' if ok else ' is stale')] += 1
     yield
     if not ok:
         store.change(new, None)
         yield
-    elif posting and parent is None:
-        yield from hoist(store, view.pid, new.pid, right.lo)
-    elif posting:
+    elif tree and parent is None:
+        yield from hoist(store, tree, view.pid, new.pid, right.lo)
+    elif tree:
         yield from post(store, parent, right.lo, new.pid)
 
 
@@ -359,11 +392,11 @@ def post(store, parent, at, pid):
     yield
 
 
-def hoist(store, left, right, at):
+def hoist(store, tree, left, right, at):
     """A new root over the old one and the page beside it."""
     new = store.allocate(Node(leaf=False, entries=((b'', left), (at, right))))
     yield
-    ok = store.swap_root(left, new.pid)
+    ok = store.swap_root(tree.name, left, new.pid)
     store.notes['hoist is stale'] += not ok
     yield
     if not ok:
@@ -410,7 +443,7 @@ def merge(store, parent, child):
             yield from merge(store, left, node.child)
             return
         if leads and node.should_split():
-            yield from split(store, left, None, posting=False)
+            yield from split(store, left, None)
             return
         if leads:
             received, now = store.change(left, node.receive(seen.node))
@@ -446,10 +479,10 @@ def above(prefix):
     return (False, left[:-1] + bytes([left[-1] + 1])) if left else None
 
 
-def look(store, target):
+def look(store, tree, target):
     """The leaf in which a key just within an upper bound lies. It goes right, or down by the last pointer within the bound, but
     to no merging child."""
-    pid = store.roots[TREE]
+    pid = store.roots[tree.name]
     while True:
         node = store.read(pid).node
         if node.hi != b'' and is_up_to(target, node.hi):
@@ -464,15 +497,15 @@ def look(store, target):
 class Range:
     """The pairs within two bounds, from both ends. The leaves at which both searches stand are at hand."""
 
-    def __init__(self, store, lo, hi):
-        self.store, self.lo, self.hi, self.leaf, self.last = store, lo, hi, None, None
+    def __init__(self, store, tree, lo, hi):
+        self.store, self.tree, self.lo, self.hi, self.leaf, self.last = store, tree, lo, hi, None, None
         start = (True, b'') if lo is None else lo
         self.ended = hi is not None and (start[1] > hi[1] or start[1] == hi[1] and not (start[0] and hi[0]))
 
     def search(self):
         """The first pair within the lower bound."""
         if self.leaf is None:
-            self.leaf = look(self.store, (True, b'' if self.lo is None else self.lo[1]))
+            self.leaf = look(self.store, self.tree, (True, b'' if self.lo is None else self.lo[1]))
         while True:
             found = next((e for e in self.leaf.entries if is_from(self.lo, e[0])), None)
             if found or self.leaf.next is None:
@@ -484,12 +517,12 @@ class Range:
         if self.hi == (False, b''):
             return None
         if self.last is None:
-            self.last = look(self.store, self.hi)
+            self.last = look(self.store, self.tree, self.hi)
         while True:
             found = next((e for e in self.last.entries[::-1] if is_up_to(self.hi, e[0])), None)
             if found or self.last.lo == b'':
                 return found
-            self.last = look(self.store, (False, self.last.lo))
+            self.last = look(self.store, self.tree, (False, self.last.lo))
 
     def take(self, back=False):
         """The first or the last pair that is still to come. Nothing comes after none, or after a refusal."""
@@ -517,12 +550,13 @@ has K; read K; lt K; gt K; first; last; len; empty; range LO HI; range-back LO H
 keys LO HI; keys-back LO HI; values LO HI; values-back LO HI
 pop-min; pop-max; clear
 owned insert K V; owned set K V; owned remove K; owned del K; owned cas K OLD NEW; owned merge K V; owned pop-min
-owned pop-max; owned clear; owned flush; owned id; names"""
-FORMS = [form.split(' ') for form in re.split('; |\n', FORMS)]
+owned pop-max; owned clear; owned flush; owned id; owned drop NAME
+names; tree NAME; old-tree NAME; drop NAME; id"""
+FORMS = [form.split(' ') for form in re.split('(?<! ); |\n', FORMS)]
 POINT = ('insert', 'get', 'remove', 'cas', 'merge')
 POPS = ('pop-min', 'pop-max', 'clear')
 LOOKS = ('has', 'read', 'lt', 'gt', 'first', 'last', 'len', 'empty', 'range', 'prefix', 'keys', 'values')
-READERS = {'K': value_of, 'V': value_of, 'P': value_of, 'DATABASE': value_of, 'NAME': value_of, 'OLD': optional, 'NEW': optional, 'LO': bound_of, 'HI': bound_of, 'OPERATOR': operator_of}
+READERS = {'K': value_of, 'V': value_of, 'P': value_of, 'DATABASE': value_of, 'NAME': value_of, 'TYPE': value_of, 'OLD': optional, 'NEW': optional, 'LO': bound_of, 'HI': bound_of, 'OPERATOR': operator_of}
 
 
 def fit(form, words):
@@ -535,17 +569,41 @@ def fit(form, words):
         return at, None, f'`{words[at]}` does not follow `{words[0]}`; `help` lists what does'
     if len(words) < len(own):
         return len(has), None, f'`{" ".join(words)}` takes a word more; `help` lists which'
-    parts, words = form[len(own):], words[len(own):]
-    if parts[-1:] == ['..']:
-        parts = parts[:-1] + parts[:1] * (len(words) - 1)
-    if len(parts) != len(words):
-        told = ' '.join(form[len(own):])
-        count = 'one word or more' if '..' in form else ('no words', 'one word', 'two words', 'three words')[len(parts)]
-        return len(own), None, f'`{" ".join(own)}` takes {told}{told and ", "}{count}'
+    takes, lists = form[len(own):], parts_of(words[len(own):]) if ';' in form else [words[len(own):]]
+    places = [places_of(takes[:takes.index(';')] if ';' in takes else takes, len(words)) for words in lists]
+    if None in places:
+        told = ' '.join(takes)
+        return len(own), None, f'`{" ".join(own)}` takes {told}{told and ", "}{count_of(takes)}'
     try:
-        return len(own), own + [READERS.get(part, number_of)(word) for part, word in zip(parts, words)], None
+        values = [[READERS.get(place, number_of)(word) for place, word in zip(*both)] for both in zip(places, lists)]
+        return len(own), own + ([values] if ';' in form else values[0]), None
     except BadLine as why:
         return len(own), None, str(why)
+
+
+def parts_of(words):
+    """The words between those that are `;`."""
+    ends = [at for at, word in enumerate(words) if word == ';']
+    return [words[lo + 1:hi] for lo, hi in zip([-1] + ends, ends + [len(words)])]
+
+
+def places_of(takes, count):
+    """What each of so many words stands for in a form; none where the form takes another number of words. What is repeated is the
+    pairs at the end, of which there may be none, or the only word, of which there is one."""
+    if takes[-3:] == ['K', 'V', '..']:
+        fixed = takes[:-3]
+        return fixed + ['K', 'V'] * ((count - len(fixed)) // 2) if count >= len(fixed) and (count - len(fixed)) % 2 == 0 else None
+    if takes[-1:] == ['..']:
+        return takes[:1] * count or None
+    return takes if len(takes) == count else None
+
+
+def count_of(takes):
+    """How many words a form takes."""
+    counts = 'no words', 'one word', 'two words', 'three words'
+    if 'V ..' not in ' '.join(takes):
+        return 'one word or more' if '..' in takes else counts[len(takes)]
+    return counts[takes.index('K')] + ' and pairs' + ' in each part' * (';' in takes)
 
 
 def read_step(text):
@@ -597,12 +655,31 @@ class Shell:
         self.open()
 
     def open(self):
-        """Opens the pages: an empty store gets a leaf without pairs, and all is flushed. Slots end."""
-        self.slots, self.begun, self.opened, self.handle = {}, 0, False, HANDLE
+        """Opens the pages: where the default tree is missing it is made, and all is flushed. Slots end. Trees get numbers by the
+        order of their names."""
+        self.slots, self.begun, self.opened = {}, 0, False
         if TREE not in self.store.roots:
-            self.store.swap_root(None, self.store.allocate(Node()).pid)
+            make_tree(self.store, TREE)
         self.store.flush()
-        self.greatest_id, self.opened, self.store.operator = self.store.mark, True, None
+        self.greatest_id, self.opened = self.store.mark, True
+        self.trees = {name: Tree(name, number) for number, name in enumerate(sorted(self.store.roots), 1)}
+        self.created = len(self.trees)
+        self.handle = self.value_of(TREE)
+        # what the last line `tree NAME` got, and what it got before
+        self.named = {TREE: (self.handle, self.handle)}
+
+    def value_of(self, name):
+        """What names the tree of this name that is there: the database, its name and its number."""
+        return DATABASE, name, self.trees[name].number
+
+    def there(self, handle):
+        """The tree that this names."""
+        database, name, number = handle
+        if database != DATABASE:
+            raise Refused(2)
+        if name not in self.trees or self.trees[name].number != number:
+            raise Refused(1)
+        return self.trees[name]
 
     def run(self, text):
         """What a line prints, as a list of lines."""
@@ -632,6 +709,8 @@ class Shell:
             return [line for step in words[0] for line in self.perform(step)]
         if name in ('step', 'finish', 'abandon', 'turns'):
             return [self.slot(name, words[0])]
+        if name == 'old-tree':
+            return self.take_old(words[0])
         if not self.opened:
             raise Refused(8)
         if name == 'handle':
@@ -640,23 +719,12 @@ class Shell:
         if name == 'owned':
             self.slots, self.begun = {}, 0
             return self.do(*in_line(words))
-        if (name.partition('-')[0] in POINT + LOOKS + ('begin', 'operator') or name in POPS) and self.handle != HANDLE:
-            raise Refused(2 if self.handle[0] != HANDLE[0] else 1)
-        if name == 'operator':
-            store.operator = words[0]
-            return ['done']
-        if 'merge' in (name, words[0] if name == 'begin' else None) and store.operator is None:
-            raise Refused(2)
-        if name in POINT:
-            return [self.advance([fly(store, (name,) + words), 0], True)]
-        if name.partition('-')[0] in LOOKS:
-            return self.looked(name, *words)
-        if name in POPS:
-            return self.popped(name)
-        if name == 'begin':
-            self.begun += 1
-            self.slots[self.begun] = [fly(store, words), 0]
-            return [f'slot {self.begun}']
+        if name.partition('-')[0] in POINT + LOOKS + ('begin', 'operator', 'pages') or name in POPS:
+            return self.on_tree(self.there(self.handle), name, *words)
+        if name == 'tree':
+            return self.take(words[0])
+        if name == 'drop':
+            return ['yes' if self.drop(words[0]) else 'no']
         if name == 'load':
             reads = [self.reads_of('insert', key, key) for key in some_keys(words[0])]
             return ['yes' if max(reads) <= words[1] and sum(reads) <= words[2] else 'no']
@@ -673,16 +741,71 @@ class Shell:
         if name == 'recovered':
             return ['yes' if store.recovered else 'no']
         if name == 'dump':
-            leaves = self.levels()[-1]
-            pairs = [pair for leaf in leaves for pair in leaf.entries]
-            return [f'pair {word(TREE)} {word(k)} {word(v)}' for k, v in pairs] + [f'end {len(pairs)}']
-        if name != 'pages':
-            raise NotImplementedError(f'what {name} prints is free text')
+            maps = self.maps()
+            pairs = [f'pair {word(name)} {word(k)} {word(v)}' for name in sorted(maps) for k, v in maps[name]]
+            return pairs + [f'end {len(pairs)}']
+        raise NotImplementedError(f'what {name} prints is free text')
+
+    def on_tree(self, tree, name, *words):
+        """A line that asks something of this tree."""
+        if name == 'operator':
+            tree.operator = words[0]
+            return ['done']
+        if 'merge' in (name, words[0] if name == 'begin' else None) and tree.operator is None:
+            raise Refused(2)
+        if name in POINT:
+            return [self.advance(self.flight(tree, name, *words), True)]
+        if name.partition('-')[0] in LOOKS:
+            return self.looked(tree, name, *words)
+        if name in POPS:
+            return self.popped(tree, name)
+        if name == 'begin':
+            self.begun += 1
+            self.slots[self.begun] = self.flight(tree, *words)
+            return [f'slot {self.begun}']
         try:
-            levels = self.levels(True)
+            levels = self.levels(True, tree.name)
         finally:
             self.open()
         return [f'level {len(level)} {max(len(n.entries) for n in level)}' for level in levels] + [f'end {len(levels)}']
+
+    def flight(self, tree, *call):
+        """A call in flight: its steps, how many of them went on, and its tree."""
+        return [fly(self.store, tree, call), 0, tree]
+
+    def open_tree(self, name):
+        """The tree of this name, which is made where there is none."""
+        if name not in self.trees:
+            make_tree(self.store, name)
+            self.created += 1
+            self.trees[name] = Tree(name, self.created)
+        return self.trees[name]
+
+    def take(self, name):
+        """Opens the tree of this name and makes it current."""
+        self.open_tree(name)
+        self.handle = self.value_of(name)
+        _, before = self.named.get(name, (None, None))
+        self.named[name] = before, self.handle
+        return [f'tree {word(name)}']
+
+    def take_old(self, name):
+        """Makes current what the line `tree NAME` before the last one got."""
+        old = self.named.get(name, (None, None))[0] if self.opened else None
+        if old is None:
+            raise BadLine(f'`{word(name)}` has no older tree: fewer than two lines `tree` named it since the opening')
+        self.handle = old
+        return [f'tree {word(name)}']
+
+    def drop(self, name):
+        """Drops the tree of this name: whether there was one."""
+        if name == TREE:
+            raise Refused(2)
+        if name not in self.trees:
+            return False
+        drop_tree(self.store, name)
+        del self.trees[name]
+        return True
 
     def next_id(self):
         """One above the greatest id that was given. Where none is set aside, 4096 more are, or as many as are left."""
@@ -693,33 +816,33 @@ class Shell:
         self.greatest_id += 1
         return self.greatest_id
 
-    def popped(self, name):
+    def popped(self, tree, name):
         """Takes out the pair at an end, or all pairs from the least up. Each is read, and then removed as by a removal."""
         while True:
-            all = Range(self.store, None, None)
+            all = Range(self.store, tree, None, None)
             pair = all.search_back() if name == 'pop-max' else all.search()
             if pair:
-                self.advance([fly(self.store, ('remove', pair[0])), 0], True)
+                self.advance(self.flight(tree, 'remove', pair[0]), True)
             if name != 'clear':
                 return ['found ' + (f'{word(pair[0])} {word(pair[1])}' if pair else '-')]
             if not pair:
                 return ['done']
 
-    def looked(self, name, *words):
+    def looked(self, tree, name, *words):
         """What a read prints that takes no slot."""
         store = self.store
         if name in ('has', 'read'):
-            value = look(store, (True, words[0])).get(words[0])
+            value = look(store, tree, (True, words[0])).get(words[0])
             return [f'value {word(value)}'] if name == 'read' else ['no' if value is None else 'yes']
         if name in ('lt', 'gt', 'first', 'last', 'empty'):
             bounds = {'lt': lambda k: (None, (False, k)), 'gt': lambda k: ((False, k), None)}.get(name, lambda: (None, None))(*words)
-            all = Range(store, *bounds)
+            all = Range(store, tree, *bounds)
             pair = all.search_back() if name in ('lt', 'last') else all.search()
             if name == 'empty':
                 return ['no' if pair else 'yes']
             return ['found ' + (f'{word(pair[0])} {word(pair[1])}' if pair else '-')]
         if name == 'len':
-            leaf = look(store, (True, b''))
+            leaf = look(store, tree, (True, b''))
             count = len(leaf.entries)
             while leaf.next is not None:
                 leaf = store.read(leaf.next).node
@@ -727,7 +850,7 @@ class Shell:
             return [f'number {count}']
         what, _, way = name.partition('-')
         bounds = ((True, words[0]), above(words[0])) if what == 'prefix' else words
-        pairs, printed = Range(store, *bounds), []
+        pairs, printed = Range(store, tree, *bounds), []
         try:
             while (pair := pairs.take(way == 'back' or way == 'ends' and len(printed) % 2 == 1)) is not None:
                 shown = {'keys': pair[:1], 'values': pair[1:]}.get(what, pair)
@@ -744,7 +867,7 @@ class Shell:
     def reads_of(self, *call):
         """How many pages a call reads."""
         self.reads()
-        self.advance([fly(self.store, call), 0], True)
+        self.advance(self.flight(self.there(self.handle), *call), True)
         return self.store.reads
 
     def perform(self, step):
@@ -791,10 +914,11 @@ class Shell:
             del self.slots[number]
         return answer
 
-    @staticmethod
-    def advance(flight, to_its_end):
-        """Does a step of a call in flight, or all of them."""
-        call, answer = flight[0], 'moved'
+    def advance(self, flight, to_its_end):
+        """Does a step of a call in flight, or all of them. A step of a call on a tree that was dropped is refused."""
+        call, answer, tree = flight[0], 'moved', flight[2]
+        if self.trees.get(tree.name) is not tree:
+            raise Refused(1)
         try:
             while answer == 'moved':
                 next(call)
@@ -804,17 +928,22 @@ class Shell:
         except StopIteration as end:
             return end.value
 
-    def pairs(self):
-        """All pairs, also those of pages that cannot be read."""
+    def maps(self):
+        """The pairs of each tree by its name."""
+        return {name: [pair for leaf in self.levels(name=name)[-1] for pair in leaf.entries] for name in sorted(self.store.roots)}
+
+    def contents(self):
+        """The map of each tree by its name, also of pages that cannot be read."""
         store = self.store
         reads, unreadable, store.unreadable = store.reads, store.unreadable, set()
-        pairs = dict(pair for leaf in self.levels()[-1] for pair in leaf.entries)
+        maps = {name: dict(pairs) for name, pairs in self.maps().items()}
         store.reads, store.unreadable = reads, unreadable
-        return pairs
+        return maps
 
-    def levels(self, whole=False):
-        """The pages of each level, from the root down. Only the last one is read as a whole where nothing else is asked."""
-        levels, pid = [], self.store.roots[TREE]
+    def levels(self, whole=False, name=TREE):
+        """The pages of each level of a tree, from the root down. Only the last one is read as a whole where nothing else is
+        asked."""
+        levels, pid = [], self.store.roots[name]
         while pid is not None:
             first = self.store.read(pid).node
             level, node = [first], first

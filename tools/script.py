@@ -7,7 +7,8 @@ answers, what each dump has, and that a crash leaves the pairs of some moment si
 import os
 import re
 import sys
-from oracle import GREATEST, LOOKS, OPERATORS, POPS, Shell, in_line, is_from, is_up_to, read_line, some_keys, word
+from oracle import (DATABASE, GREATEST, LOOKS, OPERATORS, POINT, POPS, TREE, Shell, Tree, in_line, is_from, is_up_to, read_line, some_keys,
+                    word)
 
 DATA = os.path.join(os.path.dirname(os.path.abspath(__file__)), '..', 'crates', 'sledsh', 'data')
 CASES = []
@@ -30,35 +31,84 @@ def key(number):
     return word(bytes([number]))
 
 
-def pair(k, v=None):
+def pair(k, v=None, tree='__sled__default'):
     """What a dump prints of a pair; a key alone has itself as its value."""
-    return f'pair __sled__default {k} {k if v is None else v}'
+    return f'pair {tree} {k} {k if v is None else v}'
 
 
-class Plain:
-    """The pairs as a dictionary, the calls in flight, and what was changed since the last flush."""
+class Map:
+    """A tree as a dictionary, as long as it is there."""
 
-    def __init__(self):
-        self.pairs, self.calls, self.changes, self.operator = {}, {}, [], None
-
-    def answer(self, call):
-        """What a call answers that is decided now."""
-        name, key, *values = call
-        old = self.pairs.get(key)
-        if name == 'get':
-            return f'value {word(old)}'
-        if name == 'cas' and old != values[0]:
-            return f'conflict {word(old)} {word(values[1])}'
-        new = OPERATORS[self.operator](old, values[0]) if name == 'merge' else None if name == 'remove' else values[-1]
-        if new != old:
-            self.changes.append((key, old))
-        self.set(key, new)
-        return 'swapped' if name == 'cas' else f'value {word(new)}' if name == 'merge' else f'old {word(old)}'
+    def __init__(self, is_there=True):
+        self.pairs, self.operator, self.is_there = {}, None, is_there
 
     def set(self, key, value):
         self.pairs.pop(key, None)
         if value is not None:
             self.pairs[key] = value
+
+
+class Plain:
+    """The trees as dictionaries, the calls in flight, and what was changed since the last flush."""
+
+    def __init__(self):
+        self.maps, self.changes = {TREE: Map()}, []
+        self.opened()
+
+    def opened(self):
+        """Slots, operators, and all names but the default one are gone."""
+        self.calls, self.current = {}, self.maps[TREE]
+        self.named = {TREE: (self.current, self.current)}
+        for map in self.maps.values():
+            map.operator = None
+
+    @property
+    def pairs(self):
+        return self.current.pairs
+
+    def set(self, map, key, value):
+        """A change of a pair."""
+        self.changes.append(('set', map, key, map.pairs.get(key)))
+        map.set(key, value)
+
+    def open(self, name):
+        """A tree is opened, and is a new one where there is none of its name."""
+        if name not in self.maps:
+            self.maps[name] = Map()
+            self.changes.append(('open', name))
+        return self.maps[name]
+
+    def drop(self, name):
+        """A tree goes: whether there was one."""
+        if name not in self.maps:
+            return False
+        self.changes.append(('drop', name, self.maps[name]))
+        self.maps.pop(name).is_there = False
+        return True
+
+    def undo(self):
+        """As before the last change."""
+        what, *words = self.changes.pop()
+        if what == 'set':
+            words[0].set(*words[1:])
+        elif what == 'open':
+            del self.maps[words[0]]
+        else:
+            self.maps[words[0]] = words[1]
+            words[1].is_there = True
+
+    def answer(self, call, map):
+        """What a call answers that is decided now."""
+        name, key, *values = call
+        old = map.pairs.get(key)
+        if name == 'get':
+            return f'value {word(old)}'
+        if name == 'cas' and old != values[0]:
+            return f'conflict {word(old)} {word(values[1])}'
+        new = OPERATORS[map.operator](old, values[0]) if name == 'merge' else None if name == 'remove' else values[-1]
+        if new != old:
+            self.set(map, key, new)
+        return 'swapped' if name == 'cas' else f'value {word(new)}' if name == 'merge' else f'old {word(old)}'
 
     def look(self, name, *words):
         """What a read prints that takes no slot."""
@@ -95,14 +145,14 @@ class Plain:
         if key is None:
             return 'found -'
         old = self.pairs[key]
-        self.changes.append((key, old))
-        self.set(key, None)
+        self.set(self.current, key, None)
         return f'found {word(key)} {word(old)}'
 
-    def pops(self, name, printed, pairs):
-        """A call that takes pairs out printed this, and left these pairs. A clear that was refused may have begun."""
+    def pops(self, name, printed, maps):
+        """A call that takes pairs out printed this, and left these trees. A clear that was refused may have begun."""
         keys = sorted(self.pairs)
         if name == 'clear':
+            pairs = next(maps[name] for name, map in self.maps.items() if map is self.current)
             for key in keys[:len(keys) - len(pairs)]:
                 self.pop(key)
             expect(self.pairs == pairs and (printed != 'done' or not pairs), name, printed, pairs)
@@ -110,11 +160,16 @@ class Plain:
             at = -1 if name == 'pop-max' else 0
             expect(printed == self.pop(keys[at] if keys else None), name, printed)
 
-    def is_left(self, pairs, keep):
-        """A crash left these pairs, and kept so many actions: they are those of a moment since the last flush."""
-        while self.pairs != pairs or len(self.changes) > keep:
-            expect(self.changes, 'no moment had these pairs')
-            self.set(*self.changes.pop())
+    def has(self, maps):
+        """Whether these are the trees and their pairs."""
+        return {name: map.pairs for name, map in self.maps.items()} == maps
+
+    def is_left(self, maps, keep):
+        """A crash left these trees, and kept so many actions: they are those of a moment since the last flush."""
+        while not self.has(maps) or len(self.changes) > keep:
+            expect(self.changes, 'no moment had these trees')
+            self.undo()
+        self.changes = []
 
     def meets(self, words, printed, shell):
         """Compares what a line printed with what it must."""
@@ -122,42 +177,62 @@ class Plain:
         if name == 'owned':
             self.calls = {}
             return self.meets(in_line(words[1:]), printed, shell)
+        if name.partition('-')[0] in POINT + LOOKS + ('begin', 'operator') or name in POPS:
+            if last != 'refused E8':
+                expect(self.current.is_there or last in ('refused E1', 'refused E2'), 'the tree is not there', words, last)
+                expect(not self.current.is_there or last != 'refused E1', 'the tree is there', words, last)
+        if name in ('step', 'finish') and words[1] in self.calls and last != 'no slot':
+            expect(self.calls[words[1]][1].is_there == (last != 'refused E1'), words, last)
         if name in POPS:
             if not last.endswith(('E1', 'E2', 'E8')):
-                self.pops(name, last, shell.pairs())
+                self.pops(name, last, shell.contents())
             return
         if last.startswith('refused'):
             return
         if name == 'operator':
-            self.operator = words[1]
-        elif name in ('insert', 'get', 'remove', 'cas', 'merge'):
-            expect(last == self.answer(words), words, last)
+            self.current.operator = words[1]
+        elif name == 'handle':
+            named = words[2] if words[1] == DATABASE and words[3] == shell.trees.get(words[2], Tree(None, None)).number else None
+            self.current = self.maps.get(named) or Map(False)
+        elif name == 'tree':
+            _, before = self.named.get(words[1], (None, None))
+            self.current = self.open(words[1])
+            self.named[words[1]] = before, self.current
+        elif name == 'old-tree':
+            self.current = self.named[words[1]][0]
+        elif name == 'drop':
+            expect(last == ('yes' if self.drop(words[1]) else 'no'), words, last)
+        elif name == 'names':
+            wanted = [f'name {word(name)}' for name in sorted(self.maps)]
+            expect(printed == wanted + [f'end {len(wanted)}'], 'names', printed)
+        elif name in POINT:
+            expect(last == self.answer(words, self.current), words, last)
         elif name.partition('-')[0] in LOOKS:
             expect(printed == self.look(*words), words, printed)
         elif name == 'begin':
-            self.calls[int(last[5:])] = words[1:]
+            self.calls[int(last[5:])] = words[1:], self.current
         elif name in ('step', 'finish') and last not in ('moved', 'no slot'):
-            expect(last == self.answer(self.calls[words[1]]), words, last)
+            expect(last == self.answer(*self.calls[words[1]]), words, last)
         elif name == 'dump':
-            wanted = [pair(word(k), word(v)) for k, v in sorted(self.pairs.items())]
+            wanted = [pair(word(k), word(v), word(name)) for name in sorted(self.maps) for k, v in sorted(self.maps[name].pairs.items())]
             expect(printed == wanted + [f'end {len(wanted)}'], 'dump', printed)
         elif name == 'flush':
             expect(int(last[8:]) >= len(self.changes), words, last)
             self.changes = []
         elif name in ('crash', 'recover'):
-            leaves = shell.levels()[-1]
-            self.is_left({k: v for leaf in leaves for k, v in leaf.entries}, words[1] if name == 'crash' else GREATEST)
-            self.calls, self.changes, self.operator = {}, [], None
+            self.is_left(shell.contents(), words[1] if name == 'crash' else GREATEST)
+            self.opened()
         elif name == 'run':
             for step, line in zip(words[1], printed):
                 # of a list of steps each value is told as one
-                old = line.startswith('value') and step[0] == 'step' and self.calls[step[1]][0] in ('insert', 'remove')
+                old = line.startswith('value') and step[0] == 'step' and self.calls[step[1]][0][0] in ('insert', 'remove')
                 self.meets(step, [line.replace('value', 'old') if old else line], shell)
         elif name == 'load':
             for key in some_keys(words[1]):
-                self.answer(('insert', key, key))
+                self.answer(('insert', key, key), self.current)
         elif name in ('reopen', 'pages'):
-            self.calls, self.changes, self.operator = {}, [], None
+            self.changes = []
+            self.opened()
 
 
 class Script:

@@ -3,15 +3,21 @@
 #![tactic(auto)]
 
 mod callers;
+mod copies;
+mod counters;
 mod index;
+mod stores;
 mod streams;
 mod trees;
 mod typed;
 
 use callers::{is_read, survives};
+use copies::copies_all;
+use counters::counts;
 use index::finds_entries;
 use sled_lines::input::Stopped;
 use std::process::ExitCode;
+use stores::small_store_works;
 use streams::{CASES, served};
 use trees::trees_by_name;
 use typed::reads_readings;
@@ -49,6 +55,14 @@ fn run(rt: &HostRuntime) -> Result<(), Stopped> {
         rt,
         "trees open and are dropped by name",
         trees_by_name(alloc),
+    )?;
+    let what = "a database over the small store reads what it wrote and keeps what it flushed";
+    tell(rt, what, small_store_works(alloc))?;
+    tell(rt, "counters count and tickets rise", counts(alloc))?;
+    tell(
+        rt,
+        "all trees of a database are copied into a new one",
+        copies_all(alloc),
     )?;
     tell_streams(rt)
 }

@@ -21,10 +21,10 @@ key_same : (a b : Key) → key_cmp a b ≡ Equal → a ≡ b
 unfolding key_cmp
 key_same a b e = slice_cmp-IsAntisymmetric nat_cmp-IsAntisymmetric a b e
 
-put_here : (k v : Key) (m : Map) → find key_cmp k (put key_cmp k v m) ≡ Some v
+pub put_here : (k v : Key) (m : Map) → find key_cmp k (put key_cmp k v m) ≡ Some v
 put_here k v m = find-put key_cmp key_total k k v m ∙ ap (λ o. cond (is_eq o) (Some v) (find key_cmp k m)) (tied_itself key_total k)
 
-put_there : (q k v : Key) (m : Map) → q ≢ k → find key_cmp q (put key_cmp k v m) ≡ find key_cmp q m
+pub put_there : (q k v : Key) (m : Map) → q ≢ k → find key_cmp q (put key_cmp k v m) ≡ find key_cmp q m
 put_there q k v m off = find-put key_cmp key_total q k v m ∙ go (key_cmp q k) refl
   where
     go : (o : Ordering) → key_cmp q k ≡ o → cond (is_eq o) (Some v) (find key_cmp q m) ≡ find key_cmp q m

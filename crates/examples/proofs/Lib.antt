@@ -6,6 +6,9 @@ pub mod Meant
 pub mod Surviving
 pub mod Entries
 pub mod Queueing
+pub mod Copying
 pub mod Rising
+pub mod Counting
 pub mod Typing
 pub mod Walking
+pub mod Streams

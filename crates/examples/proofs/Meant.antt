@@ -3,23 +3,24 @@ use Rattle.std.proofs.Common.{◌≡◌, ◌≢◌, ℕ, List, [], ◌∷◌, Op
 use Rattle.sled_pages.specs.Order.{Key}
 use Rattle.sled_pages.specs.Store.{Store}
 use Rattle.sled_model.specs.Maps.{Map, Maps, Merge, IsLeast, IsGreatest}
+use Rattle.sled_model.specs.Collections.{Content, contents_of}
 use Rattle.sled_model.specs.State.{State, maps_of}
 use Rattle.sled_model.specs.Refusal.{Asked, ToCall, ToStep, must_refuse}
 use Rattle.sled_model.specs.Transition.{Configuration, Transition}
-use Rattle.sled_model.specs.declared.call.Whole.TheVariants.{Flush, PopMin, PopMax, Clear, OpenTree, GenerateId}
+use Rattle.sled_model.specs.declared.call.Whole.TheVariants.{Flush, PopMin, PopMax, Clear, OpenTree, DropTree, GenerateId, Import}
 use Rattle.sled_model.specs.declared.outcome.Step.{Step}
 use Rattle.sled_model.specs.declared.outcome.Step.TheVariants as step
 use Rattle.sled_model.specs.declared.outcome.Outcome.{Outcome}
 use Rattle.sled_model.specs.declared.outcome.Outcome.TheVariants as outcome
 use Rattle.sled_model.specs.declared.tree.Tree.{Tree}
 use Rattle.tree_reads.specs.Walk.{once, for_each}
-use Rattle.sled.specs.Flights.{call_in_flight_of}
+use Rattle.sled.specs.Flights.{MeetsNoFullQueue, FindsRoom, call_in_flight_of}
 use Rattle.sled.specs.Values.{db_state}
 use Rattle.sled_machine.specs.CrashMaps.{AreCrashMaps, crash_maps_after}
 use Rattle.sled_machine.specs.Run.{RunsWithCrashMaps, KeepsAll, KeepsMore, MachineSteps, NoCalls, OneCall}
-use Rattle.sled_machine.specs.Step.{MachineStep, MachineStepContract, effect_of_machine_step, follows_stage_as, advances_on_path_as, starts_as, leaks_no_page_at, gives_up_as, tested_as, pops_as, clears_as, opens_as, way_as}
+use Rattle.sled_machine.specs.Step.{MachineStep, MachineStepContract, effect_of_machine_step, follows_stage_as, advances_on_path_as, starts_as, leaks_no_page_at, gives_up_as, tested_as, pops_as, clears_as, opens_as, drops_tree_as, way_as, imports_as}
 use Rattle.sled_machine.specs.Values.{MachineValue, configuration_of, slots_of}
-use Rattle.examples.proofs.Plain.{plain, same_configuration, same_db, same_tests, plain_sound, meant_sound, plain_gives_up, plain_opens_by, plain_opens_not, plain_pops, plain_stops, plain_clears, plain_clear_stops}
+use Rattle.examples.proofs.Plain.{plain, same_configuration, same_db, same_tests, plain_sound, meant_sound, plain_gives_up, plain_opens_by, plain_opens_not, plain_drops, plain_drops_not, plain_pops, plain_stops, plain_clears, plain_clear_stops, plain_imports, plain_imports_not}
 
 module _ {P M : Type 0} (store : P → Store) (number : P → ℕ) (meant : M → Merge) where
   abbrev pub plain_machine : MachineValue P M → MachineValue P Merge
@@ -49,15 +50,15 @@ module _ {P M : Type 0} (store : P → Store) (number : P → ℕ) (meant : M �
 
   module _ (a b : MachineValue P M) where
     plain_follows : (s : Step) (o : Outcome) → follows_stage_as store meant a s o b → follows_stage_as store (λ m. m) (plain_machine a) s o (plain_machine b)
-    plain_follows (step.Step slot) o h = λ f there must fits. let k = h f there (sym (same_tests store meant a.db (ToStep (call_in_flight_of f))) ∙ must) fits in record { went = k.went; next = k.next; outcome = k.outcome; there = k.there; follows = k.follows }
+    plain_follows (step.Step slot) o h = λ f there must fits free. let k = h f there (sym (same_tests store meant a.db (ToStep (call_in_flight_of f))) ∙ must) fits (subst (λ (s : State). MeetsNoFullQueue s f) (same_db store meant a.db) free) in record { went = k.went; next = k.next; outcome = k.outcome; there = k.there; follows = k.follows }
     plain_follows (step.Begin tree call) o h = h
     plain_follows (step.Abandon slot) o h = h
     plain_follows (step.Whole whole) o h = h
 
-    plain_passes : (s : Step) (o : Outcome) → advances_on_path_as store a s o b → advances_on_path_as store (plain_machine a) s o (plain_machine b)
+    plain_passes : (s : Step) (o : Outcome) → advances_on_path_as store meant a s o b → advances_on_path_as store (λ m. m) (plain_machine a) s o (plain_machine b)
     plain_passes (step.Step slot) outcome.Moved h = λ path ahead.
-        let k = h path (record { flight = ahead.flight; here = ahead.here; clean = ahead.clean }) in
-        (k.0, k.1, record { flight = k.2.flight; here = k.2.here; clean = k.2.clean })
+        let k = h path (record { flight = ahead.flight; here = ahead.here; clean = ahead.clean; room = subst (λ (s : State). FindsRoom s ahead.flight) (same_db store meant a.db) ahead.room }) in
+        (k.0, k.1, record { flight = k.2.flight; here = k.2.here; clean = k.2.clean; room = subst (λ (s : State). FindsRoom s k.2.flight) (sym (same_db store meant b.db)) k.2.room })
     plain_passes (step.Step slot) (outcome.Begun i) h = h
     plain_passes (step.Step slot) (outcome.Decided reply) h = h
     plain_passes (step.Step slot) (outcome.Refused e) h = h
@@ -95,7 +96,9 @@ module _ {P M : Type 0} (store : P → Store) (number : P → ℕ) (meant : M �
     plain_turns (step.Whole Flush) (outcome.Refused e) h = h
     plain_turns (step.Whole (Clear tree)) (outcome.Refused e) h = h
     plain_turns (step.Whole (OpenTree name)) (outcome.Refused e) h = h
+    plain_turns (step.Whole (DropTree name)) (outcome.Refused e) h = h
     plain_turns (step.Whole GenerateId) (outcome.Refused e) h = h
+    plain_turns (step.Whole (Import collections)) (outcome.Refused e) h = h
     plain_turns (step.Whole whole) (outcome.Begun slot) h = h
     plain_turns (step.Whole whole) outcome.Moved h = h
     plain_turns (step.Whole whole) (outcome.Decided reply) h = h
@@ -114,7 +117,9 @@ module _ {P M : Type 0} (store : P → Store) (number : P → ℕ) (meant : M �
     plain_tested (step.Whole (PopMax tree)) (outcome.Refused e) h = plain_untouched (ToCall (PopMax tree)) h
     plain_tested (step.Whole (Clear tree)) (outcome.Refused e) h = plain_untouched (ToCall (Clear tree)) h
     plain_tested (step.Whole (OpenTree name)) (outcome.Refused e) h = plain_untouched (ToCall (OpenTree name)) h
+    plain_tested (step.Whole (DropTree name)) (outcome.Refused e) h = plain_untouched (ToCall (DropTree name)) h
     plain_tested (step.Whole GenerateId) (outcome.Refused e) h = plain_untouched (ToCall GenerateId) h
+    plain_tested (step.Whole (Import collections)) (outcome.Refused e) h = plain_untouched (ToCall (Import collections)) h
     plain_tested (step.Whole whole) (outcome.Begun slot) h = h
     plain_tested (step.Whole whole) outcome.Moved h = h
     plain_tested (step.Whole whole) (outcome.Decided reply) h = h
@@ -148,13 +153,31 @@ module _ {P M : Type 0} (store : P → Store) (number : P → ℕ) (meant : M �
     plain_opens_as name outcome.Abandoned h = h
     plain_opens_as name outcome.NoSuchSlot h = h
 
+    plain_drops_as : (name : Key) (o : Outcome) → drops_tree_as store meant a.db name o b.db → drops_tree_as store (λ m. m) (plain store meant a.db) name o (plain store meant b.db)
+    plain_drops_as name (outcome.Decided reply) h = (h.0, h.1, plain_drops store meant a.db name h.0 b.db h.2)
+    plain_drops_as name (outcome.Refused e) h = plain_drops_not store meant a.db name e b.db h
+    plain_drops_as name (outcome.Begun slot) h = h
+    plain_drops_as name outcome.Moved h = h
+    plain_drops_as name outcome.Abandoned h = h
+    plain_drops_as name outcome.NoSuchSlot h = h
+
+    plain_imports_as : (all : List Content) (o : Outcome) → imports_as store meant a.db all o b.db → imports_as store (λ m. m) (plain store meant a.db) all o (plain store meant b.db)
+    plain_imports_as all (outcome.Decided reply) h = plain_imports store meant h
+    plain_imports_as all (outcome.Refused e) h = plain_imports_not store meant all a.db e b.db h
+    plain_imports_as all (outcome.Begun slot) h = h
+    plain_imports_as all outcome.Moved h = h
+    plain_imports_as all outcome.Abandoned h = h
+    plain_imports_as all outcome.NoSuchSlot h = h
+
     plain_way : (s : Step) (o : Outcome) → way_as store meant a.db s o b.db → way_as store (λ m. m) (plain store meant a.db) s o (plain store meant b.db)
     plain_way (step.Whole Flush) o h = h
     plain_way (step.Whole (PopMin tree)) o h = plain_pops_as tree IsLeast o h
     plain_way (step.Whole (PopMax tree)) o h = plain_pops_as tree IsGreatest o h
     plain_way (step.Whole (Clear tree)) o h = plain_clears_as tree o h
     plain_way (step.Whole (OpenTree name)) o h = plain_opens_as name o h
+    plain_way (step.Whole (DropTree name)) o h = plain_drops_as name o h
     plain_way (step.Whole GenerateId) o h = h
+    plain_way (step.Whole (Import collections)) o h = plain_imports_as (contents_of collections.items) o h
     plain_way (step.Begin tree call) o h = h
     plain_way (step.Step slot) o h = h
     plain_way (step.Abandon slot) o h = h

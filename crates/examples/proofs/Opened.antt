@@ -8,11 +8,11 @@ use Rattle.sled_pages.specs.State.{nodes_of}
 use Rattle.sled_pages.specs.Store.{Store, now}
 use Rattle.sled_pages.specs.declared.error.Error.{Error}
 use Rattle.sled_model.specs.Maps.{Map, Maps, Merge}
-use Rattle.sled_model.specs.State.{NamedTree}
+use Rattle.sled_model.specs.State.{NamedTree, default_name}
 use Rattle.tree_laws.specs.Contents.{trees_of, pairs_under}
 use Rattle.sled.specs.Opens.{or_empty, with_default, RefusesOpen, Opens}
 use Rattle.sled.specs.Sound.{IsDb}
-use Rattle.sled.specs.Values.{DbValue, default_name, numbers_of, named}
+use Rattle.sled.specs.Values.{DbValue, numbers_of, named}
 use Rattle.sled_model.specs.declared.outcome.Outcome.{Outcome}
 use Rattle.examples.specs.Reads.{ReadsAs, found_in, maps_now}
 

@@ -1,22 +1,28 @@
 -- Databases with the meanings of their operators in place of the operators: they stand for the same states, and make the same steps.
-use Rattle.std.proofs.Common.{◌≡◌, ◌≢◌, ℕ, zero, suc, cond, List, [], ◌∷◌, Option, Some, None, option_map, true, false, sym, refl, ap, ◌∙◌, subst, inl, inr}
+use Rattle.std.proofs.Common.{◌≡◌, ◌≢◌, ℕ, zero, suc, Bool, cond, not, nat_eq, filter, List, [], ◌∷◌, Option, Some, None, option_map, true, false, sym, refl, ap, ◌∙◌, subst, inl, inr}
 use Rattle.std.specs.FinMap.Entries.{find}
 use Rattle.std.specs.Ordering.{nat_cmp, eq_by_cmp}
 use Rattle.sled_pages.specs.Order.{Key}
 use Rattle.sled_pages.specs.Store.{Store, now}
-use Rattle.sled_pages.specs.Update.{put_at}
+use Rattle.sled_pages.specs.Node.{without}
+use Rattle.sled_pages.specs.Update.{put_at, put_name}
 use Rattle.sled_pages.specs.declared.error.Error.{Error}
+use Rattle.sled_pages.specs.declared.error.Error.TheVariants as error
 use Rattle.sled_model.specs.Maps.{Map, Maps, Merge, IsLeast}
 use Rattle.sled_model.specs.State.{State, CallInFlight, maps_of}
-use Rattle.sled_model.specs.Refusal.{Asked, ToStep, must_refuse}
+use Rattle.sled_model.specs.Refusal.{Asked, ToStep, must_refuse, must_refuse_of, MeetsFullQueue}
 use Rattle.sled_model.specs.Transition.{Configuration, Transition}
+use Rattle.sled_model.specs.Collections.{Content}
+use Rattle.sled_model.specs.Imports.{Part, OpensName, Puts, tree_at}
 use Rattle.sled_model.specs.Whole.{DecidesPoint, RefusesPoint}
 use Rattle.sled_model.specs.declared.call.Call.{Call}
-use Rattle.sled_model.specs.declared.call.Call.TheVariants.{Remove}
+use Rattle.sled_model.specs.declared.call.Call.TheVariants.{Insert, Remove}
 use Rattle.sled_model.specs.declared.event.Event.{Event}
 use Rattle.sled_model.specs.declared.outcome.Step.TheVariants as step
 use Rattle.sled_model.specs.declared.reply.Reply.{Reply}
 use Rattle.sled_model.specs.declared.tree.Tree.{Tree}
+use Rattle.sled_queues.specs.Values.{queue_at}
+use Rattle.sled_queues.specs.Queues.{queues_of}
 use Rattle.tree_laws.specs.Contents.{trees_of}
 use Rattle.tree_laws.specs.Crashes.{AddsCrashStates}
 use Rattle.tree_reads.specs.Walk.{once}
@@ -24,11 +30,13 @@ use Rattle.sled_tree.specs.declared.flight.InFlight.{InFlight}
 use Rattle.sled_tree.specs.declared.flight.Went.{Went}
 use Rattle.sled_tree.specs.declared.flight.Went.TheVariants.{Moved}
 use Rattle.sled.specs.Direct.{Conducts, PointDecided, PointRefused}
-use Rattle.sled.specs.Flights.{call_in_flight_of, BringsEvent, DbStepContract, DbSteps, Ends, GoesOn, DbRunsToEnd, outcome_of, slot_after, maps_added}
+use Rattle.sled.specs.Drops.{DropsNamed, DropsTree, MightDrop, refuses_drop_as, RefusesDrop}
+use Rattle.sled.specs.Flights.{call_in_flight_of, BringsEvent, DbStepContract, DbSteps, Ends, GoesOn, DbRunsToEnd, outcome_of, slot_after, maps_added, MeetsNoFullQueue, FindsRoom}
 use Rattle.sled.specs.Opens.{Opens, OpensBySteps, OpenRefusedBySteps}
+use Rattle.sled.specs.Imports.{PartBySteps, PartRefusedBySteps, ImportsBySteps, ImportsNone, ImportsMore, ImportRefusedBySteps}
 use Rattle.sled.specs.Pops.{TakesOut, RefusesToTake, IsAtEnd, PopsBySteps, PopRefusedBySteps, IsLongWay, GivesUpPop, ClearsBySteps, ClearsNone, ClearsMore, ClearRefusedBySteps}
 use Rattle.sled.specs.Sound.{IsDb}
-use Rattle.sled.specs.Values.{DbValue, named, numbers_of, db_state, configuration_of}
+use Rattle.sled.specs.Values.{DbValue, named, numbers_of, db_state, state_of, configuration_of}
 
 module _ {P M : Type 0} (store : P → Store) (meant : M → Merge) where
   -- the operators by what they mean
@@ -37,7 +45,7 @@ module _ {P M : Type 0} (store : P → Store) (meant : M → Merge) where
   meanings (o ∷ os) = (o.0, meant o.1) ∷ meanings os
 
   abbrev pub plain : DbValue P M → DbValue P Merge
-  plain d = record { pages = d.pages; name = d.name; trees = d.trees; operators = meanings d.operators; queues = d.queues; trees_given = d.trees_given; subscribers_given = d.subscribers_given; greatest_id = d.greatest_id }
+  plain d = record { pages = d.pages; name = d.name; trees = d.trees; operators = meanings d.operators; queues = d.queues; trees_given = d.trees_given; greatest_id = d.greatest_id }
 
   found : (os : List (ℕ × M)) (n : ℕ) → option_map (λ (m : Merge). m) (find nat_cmp n (meanings os)) ≡ option_map meant (find nat_cmp n os)
   found [] n = refl
@@ -51,14 +59,14 @@ module _ {P M : Type 0} (store : P → Store) (meant : M → Merge) where
     state = record {
       name = d.name;
       trees = λ t. named (numbers_of d.trees t) (trees_of (now (store d.pages)) t) (λ n. found d.operators n i);
-      queues = λ n. find nat_cmp n d.queues;
+      queues = queues_of (queue_at d.queues);
       slots = slots;
       is_open = Rattle.std.proofs.Common.not (now (store d.pages)).in_group;
       greatest_id = d.greatest_id;
       mark = (store d.pages).mark;
       trees_given = d.trees_given;
       slots_given = given;
-      subscribers_given = d.subscribers_given;
+      subscribers_given = d.queues.given;
     };
     store = store d.pages;
     flush_number = number;
@@ -75,14 +83,14 @@ module _ {P M : Type 0} (store : P → Store) (meant : M → Merge) where
 
   -- what holds of a database holds of it whatever its operators are
   pub plain_sound : (d : DbValue P M) → IsDb store d → IsDb store (plain d)
-  plain_sound d s = record { forest = s.forest; is = s.is; sized = s.sized; safe = s.safe; ascends = s.ascends; default = s.default; ungiven = λ n above. none_of (find nat_cmp n (meanings d.operators)) (found d.operators n ∙ ap (option_map meant) (s.ungiven n above)); unwatched = s.unwatched; ids = s.ids }
+  plain_sound d s = record { forest = s.forest; is = s.is; sized = s.sized; safe = s.safe; ascends = s.ascends; default = s.default; ungiven = λ n above. none_of (find nat_cmp n (meanings d.operators)) (found d.operators n ∙ ap (option_map meant) (s.ungiven n above)); calm = s.calm; ids = s.ids }
     where
       none_of : (o : Option Merge) → option_map (λ (m : Merge). m) o ≡ None → o ≡ None
       none_of None e = refl
       none_of (Some m) e = cc
 
   pub meant_sound : (d : DbValue P M) → IsDb store (plain d) → IsDb store d
-  meant_sound d s = record { forest = s.forest; is = s.is; sized = s.sized; safe = s.safe; ascends = s.ascends; default = s.default; ungiven = λ n above. none_of (find nat_cmp n d.operators) (sym (found d.operators n) ∙ ap (option_map (λ (m : Merge). m)) (s.ungiven n above)); unwatched = s.unwatched; ids = s.ids }
+  meant_sound d s = record { forest = s.forest; is = s.is; sized = s.sized; safe = s.safe; ascends = s.ascends; default = s.default; ungiven = λ n above. none_of (find nat_cmp n d.operators) (sym (found d.operators n) ∙ ap (option_map (λ (m : Merge). m)) (s.ungiven n above)); calm = s.calm; ids = s.ids }
     where
       none_of : (o : Option M) → option_map meant o ≡ None → o ≡ None
       none_of None e = refl
@@ -102,11 +110,16 @@ module _ {P M : Type 0} (store : P → Store) (meant : M → Merge) where
           (subst (λ (s : State). Transition (configuration_of store meant old slots given before) (step.Step slot) (outcome_of went) (configuration_of store meant new (put_at slots slot (slot_after went g)) given after) (maps_added went (maps_of s))) (sym (same_db new)) (r.step.steps slots given slot before after here)));
       extends = subst (λ (s : State). AddsCrashStates (maps_added went (maps_of s)) (store old.pages) (store new.pages)) (sym (same_db new)) r.step.extends;
       same = ap plain r.step.same;
+      queues = r.step.queues;
     };
     sound = record { keeps = λ d. plain_sound new (r.sound.keeps (meant_sound old d)) };
     does = record { does = r.does.does; quiet = λ b. r.does.quiet (plain_brings old f went None b); loud = λ event b. r.does.loud event (plain_brings old f went (Some event) b) };
-    follows = λ must fits. r.follows (sym (same_tests old (ToStep (call_in_flight_of f))) ∙ must) fits;
-    passes = r.passes;
+    follows = λ must fits free. r.follows (sym (same_tests old (ToStep (call_in_flight_of f))) ∙ must) fits (subst (λ (s : State). MeetsNoFullQueue s f) (same_db old) free);
+    passes = λ finds. r.passes (subst (λ (s : State). FindsRoom s f) (same_db old) finds);
+    room = record {
+      room = λ moved. subst (λ (s : State). FindsRoom s g) (sym (same_db old)) (r.room.room moved);
+      back = λ must fits view here met. r.room.back (sym (same_tests old (ToStep (call_in_flight_of f))) ∙ must) fits view here (subst (λ (s : State). MeetsFullQueue s f.job.tree f.job.call) (same_db old) met);
+    };
     loses = r.loses;
     leaves = r.leaves;
     knows = record { goes_on = r.knows.goes_on; others = r.knows.others };
@@ -117,7 +130,7 @@ module _ {P M : Type 0} (store : P → Store) (meant : M → Merge) where
   plain_steps (suc n) old new f g went (GoesOn {mid = mid} {h = h} flies db rest) = GoesOn (plain_step old mid f h Moved flies) (plain_sound mid db) (plain_steps n mid new h g went rest)
 
   plain_runs : (old new : DbValue P M) (f g : InFlight) (went : Went) → DbRunsToEnd store meant old f went new g → DbRunsToEnd store (λ m. m) (plain old) f went (plain new) g
-  plain_runs old new f g went r = record { moves = r.moves; flies = plain_steps r.moves old new f g went r.flies; passes = r.passes }
+  plain_runs old new f g went r = record { moves = r.moves; flies = plain_steps r.moves old new f g went r.flies; passes = λ finds. r.passes (subst (λ (s : State). FindsRoom s f) (same_db old) finds) }
 
   -- ---- calls that are made at once
 
@@ -165,6 +178,92 @@ module _ {P M : Type 0} (store : P → Store) (meant : M → Merge) where
     is = elim h.is [
       | inl same ↦ inl (ap plain same)
       | inr stopped ↦ inr stopped
+    ];
+  }
+
+  -- ---- trees that are dropped
+
+  same_state : (d : DbValue P M) (slots : ℕ → Option CallInFlight) (given : ℕ) → state_of store (λ o. o) (plain d) slots given ≡ state_of store meant d slots given
+  same_state d slots given = ap (λ (i : Configuration). i.state) (same_configuration d slots given 0)
+
+  still_open : (d : DbValue P M) → must_refuse_of (db_state store meant d) [] ≡ None → must_refuse_of (db_state store (λ o. o) (plain d)) [] ≡ None
+  still_open d free = ap (λ (s : State). must_refuse_of s []) (same_db d) ∙ free
+
+  meanings_without : (n : ℕ) (os : List (ℕ × M)) → meanings (filter (λ o. not (nat_eq o.0 n)) os) ≡ filter (λ o. not (nat_eq o.0 n)) (meanings os)
+  meanings_without n [] = refl
+  meanings_without n (o ∷ os) = elim (not (nat_eq o.0 n)) as (λ b. meanings (cond b (o ∷ filter (λ p. not (nat_eq p.0 n)) os) (filter (λ p. not (nat_eq p.0 n)) os)) ≡ cond b ((o.0, meant o.1) ∷ filter (λ p. not (nat_eq p.0 n)) (meanings os)) (filter (λ p. not (nat_eq p.0 n)) (meanings os))) [
+    | true ↦ ap (λ l. (o.0, meant o.1) ∷ l) (meanings_without n os)
+    | false ↦ meanings_without n os
+  ]
+
+  module _ (old : DbValue P M) (name : Key) where
+    plain_named : (new : DbValue P M) → DropsNamed store meant old name new → DropsNamed store (λ m. m) (plain old) name (plain new)
+    plain_named new d = record {
+      tree = d.tree;
+      there = same_tree old name ∙ d.there;
+      state = λ slots given.
+          same_state new slots given
+          ∙ d.state slots given
+          ∙ (λ i. record (sym (same_state old slots given) i) { trees = put_name (sym (same_db old) i).trees name None });
+      same = ap plain d.same ∙ (λ i. record (plain old) { pages = new.pages; trees = without name old.trees; operators = meanings_without d.tree.number old.operators i });
+      removes = d.removes;
+      extends = subst (λ (s : State). AddsCrashStates (maps_of s ∷ []) (store old.pages) (store new.pages)) (sym (same_db new)) d.extends;
+      others = d.others;
+      loses = d.loses;
+      sound = λ s. plain_sound new (d.sound (meant_sound old s));
+    }
+
+    pub plain_drops : (dropped : Bool) (new : DbValue P M) → DropsTree store meant old name dropped new → DropsTree store (λ m. m) (plain old) name dropped (plain new)
+    plain_drops true new d = record { free = still_open old d.free; off = d.off; is = plain_named new d.is }
+    plain_drops false new d = record { free = still_open old d.free; off = d.off; is = (same_tree old name ∙ d.is.0, ap plain d.is.1) }
+
+    plain_might : MightDrop store meant old name → MightDrop store (λ m. m) (plain old) name
+    plain_might m = record { free = still_open old m.free; off = m.off; tree = m.tree; there = same_tree old name ∙ m.there }
+
+    plain_refuses : (e : Error) (q : P) → refuses_drop_as store meant old name e q → refuses_drop_as store (λ m. m) (plain old) name e q
+    plain_refuses error.Closed q h = h
+    plain_refuses (error.Unsupported text) q h = (still_open old h.0, h.1, h.2, h.3)
+    plain_refuses error.NoMemory q h = (plain_might h.0, h.1)
+    plain_refuses (error.Io fault) q h = (plain_might h.0, h.1)
+    plain_refuses (error.CollectionNotFound text) q h = h
+    plain_refuses (error.ReportableBug text) q h = h
+    plain_refuses (error.Corruption fault) q h = h
+    plain_refuses error.FullQueue q h = h
+
+    pub plain_drops_not : (e : Error) (new : DbValue P M) → RefusesDrop store meant old name e new → RefusesDrop store (λ m. m) (plain old) name e (plain new)
+    plain_drops_not e new r = record {
+      is = plain_refuses e new.pages r.is;
+      same = ap plain r.same;
+      state = λ slots given. same_state new slots given ∙ r.state slots given ∙ sym (same_state old slots given);
+      leaves = record { extends = r.leaves.extends; others = r.leaves.others; loses = r.leaves.loses; sound = λ d. plain_sound new (r.leaves.sound (meant_sound old d)) };
+    }
+
+  -- ---- imports
+
+  plain_part : (old : DbValue P M) (part : Part) (new : DbValue P M) → PartBySteps store meant old part new → PartBySteps store (λ m. m) (plain old) part (plain new)
+  plain_part old (OpensName name) new h = record { is = plain_opens_by name old new h.is }
+  plain_part old (Puts name key value) new h = record {
+    is = (h.is.0, subst (λ (s : State). PointDecided store (λ m. m) (plain old) (tree_at s name) (Insert key value) h.is.0 (plain new)) (sym (same_db old)) (plain_decided old new (tree_at (db_state store meant old) name) (Insert key value) h.is.0 h.is.1));
+  }
+
+  plain_part_not : (old : DbValue P M) (part : Part) (e : Error) (new : DbValue P M) → PartRefusedBySteps store meant old part e new → PartRefusedBySteps store (λ m. m) (plain old) part e (plain new)
+  plain_part_not old (OpensName name) e new h = record { is = plain_opens_not name old e new h.is }
+  plain_part_not old (Puts name key value) e new h = record {
+    is = elim h.is [
+      | inl same ↦ inl (ap plain same)
+      | inr p ↦ inr (subst (λ (s : State). PointRefused store (λ m. m) (plain old) (tree_at s name) (Insert key value) e (plain new)) (sym (same_db old)) (plain_refused old new (tree_at (db_state store meant old) name) (Insert key value) e p))
+    ];
+  }
+
+  pub plain_imports : {old new : DbValue P M} {parts : List Part} → ImportsBySteps store meant old parts new → ImportsBySteps store (λ m. m) (plain old) parts (plain new)
+  plain_imports ImportsNone = ImportsNone
+  plain_imports (ImportsMore {old = old} {mid = mid} {part = part} one more) = ImportsMore (plain_part old part mid one) (plain_imports more)
+
+  pub plain_imports_not : (all : List Content) (old : DbValue P M) (e : Error) (new : DbValue P M) → ImportRefusedBySteps store meant old all e new → ImportRefusedBySteps store (λ m. m) (plain old) all e (plain new)
+  plain_imports_not all old e new h = record {
+    is = elim h.is [
+      | inl same ↦ inl (ap plain same)
+      | inr (trees, s) ↦ inr (trees, record { done = s.done; next = s.next; later = s.later; all_parts = s.all_parts; mid = plain s.mid; did = plain_imports s.did; refused = plain_part_not s.mid s.next e new s.refused })
     ];
   }
 
@@ -224,7 +323,6 @@ module _ {P M : Type 0} (store : P → Store) (meant : M → Merge) where
     ids = o.ids;
     operators = ap meanings o.operators;
     queues = o.queues;
-    subscribers = o.subscribers;
     no_group = o.no_group;
     name = o.name;
     mark = o.mark;

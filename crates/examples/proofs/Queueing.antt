@@ -1,5 +1,5 @@
 -- What adding a job and taking one out do to the jobs that wait.
-use Rattle.std.proofs.Common.{◌≡◌, ℕ, Bool, true, false, not, cond, ◌&&◌, T, [], ◌∷◌, ◌++◌, Option, Some, None, option_map, is_some, Less, Equal, Greater, is_eq, sym, refl, ap, ◌∙◌, subst}
+use Rattle.std.proofs.Common.{◌≡◌, Bool, true, false, not, cond, ◌&&◌, T, [], ◌∷◌, ◌++◌, Option, Some, None, option_map, is_some, Less, Equal, Greater, is_eq, sym, refl, ap, ◌∙◌, subst}
 use Rattle.std.specs.FinMap.Entries.{find, put, by_order, is_sorted, below_all}
 use Rattle.std.specs.List.{AllByRecursion}
 use Rattle.std.specs.Ordering.{is_lt, eq_by_cmp}
@@ -45,7 +45,7 @@ last : (k v : Key) (m : Map) → AllByRecursion (λ e. Below e.0 k) m → put ke
 last k v [] a = refl
 last k v (x ∷ xs) a = ap (λ o. by_order o ((k, v) ∷ x ∷ xs) ((x.0, v) ∷ xs) (x ∷ put key_cmp k v xs)) (above x.0 k a.0) ∙ ap (λ r. x ∷ r) (last k v xs a.1)
 
-inserted : (merge : Option Merge) (k v : Key) (m : Map) → AllByRecursion (λ e. Below e.0 k) m → (answer_of merge (Insert k v) m).map ≡ m ++ (k, v) ∷ []
+pub inserted : (merge : Option Merge) (k v : Key) (m : Map) → AllByRecursion (λ e. Below e.0 k) m → (answer_of merge (Insert k v) m).map ≡ m ++ (k, v) ∷ []
 inserted merge k v m a = ap (λ o. map_after (decision_of merge (Insert k v) o).effect k m) (absent k m a) ∙ last k v m a
 
 -- the keys behind the first are above it

@@ -1,16 +1,17 @@
 -- No id comes twice: over the steps of a machine, and after a crash.
-use Rattle.std.proofs.Common.{◌≡◌, ℕ, zero, suc, ◌+◌, ◌≤◌, List, [], ◌∷◌, ◌++◌, Option, Some, None, refl, ap, ◌∙◌, arith}
+use Rattle.std.proofs.Common.{◌≡◌, ℕ, zero, suc, ◌+◌, ◌≤◌, List, [], ◌∷◌, ◌++◌, Option, Some, None, refl, ap, ◌∙◌, inl, inr, arith}
 use Rattle.sled_pages.specs.Order.{Key}
 use Rattle.sled_pages.specs.Store.{Store}
 use Rattle.sled_pages.specs.Crash.{Crashes}
 use Rattle.sled_model.specs.Maps.{Maps, Merge}
 use Rattle.sled_model.specs.Answer.{answer_of}
+use Rattle.sled_model.specs.Imports.{Part, OpensName, Puts, DoesPart, DoesParts, NoPart, OnePart}
 use Rattle.sled_model.specs.State.{State, NamedTree, after_decision_on}
 use Rattle.sled_model.specs.Transition.{Configuration, transition_as}
-use Rattle.sled_model.specs.Whole.{after_pop, RemovesLeast, RemovesNone, RemovesOne, state_opened}
+use Rattle.sled_model.specs.Whole.{after_pop, RemovesLeast, RemovesNone, RemovesOne, state_opened, state_dropped}
 use Rattle.sled_model.specs.declared.call.Call.TheVariants.{Remove}
 use Rattle.sled_model.specs.declared.call.Whole.{Whole}
-use Rattle.sled_model.specs.declared.call.Whole.TheVariants.{Flush, PopMin, PopMax, Clear, OpenTree, GenerateId}
+use Rattle.sled_model.specs.declared.call.Whole.TheVariants.{Flush, PopMin, PopMax, Clear, OpenTree, DropTree, GenerateId, Import}
 use Rattle.sled_model.specs.declared.outcome.Step.{Step}
 use Rattle.sled_model.specs.declared.outcome.Step.TheVariants as step
 use Rattle.sled_model.specs.declared.outcome.Outcome.{Outcome}
@@ -46,6 +47,19 @@ opened : (o : Option NamedTree) (s : State) (name : Key) → (state_opened o s n
 opened (Some t) s name = refl
 opened None s name = refl
 
+dropped : (o : Option NamedTree) (s : State) (name : Key) → (state_dropped o s name).greatest_id ≡ s.greatest_id
+dropped (Some t) s name = refl
+dropped None s name = refl
+
+-- no part of an import gives an id
+part_done : (a b : State) (part : Part) (maps : List Maps) → DoesPart a part b maps → b.greatest_id ≡ a.greatest_id
+part_done a b (OpensName name) maps d = ap (λ (s : State). s.greatest_id) d.is.0 ∙ opened (a.trees name) a name
+part_done a b (Puts name key value) maps d = ap (λ (s : State). s.greatest_id) d.is.is
+
+parts_done : {a b : State} {parts : List Part} {maps : List Maps} → DoesParts a parts b maps → b.greatest_id ≡ a.greatest_id
+parts_done NoPart = refl
+parts_done (OnePart {a = a} {m = m} {part = part} {added = added} one more) = parts_done more ∙ part_done a m part added one
+
 -- an id was given
 one_given : (low high : ℕ) (reply : Reply) → reply ≡ told.Number (low + 1) → high ≡ low + 1 → RiseBetween low (id_of (step.Whole GenerateId) (outcome.Decided reply)) high
 one_given low high (told.Number id) r h = let e = number_is r in (omega arith, omega arith)
@@ -57,6 +71,7 @@ one_given low high (told.Swapped v) r h = omega arith
 one_given low high told.Done r h = omega arith
 one_given low high (told.Pair p) r h = omega arith
 one_given low high (told.Tree t) r h = omega arith
+one_given low high (told.Flag b) r h = omega arith
 
 whole_rises : (a b : Configuration) (w : Whole) (o : Outcome) (maps : List Maps) → transition_as a (step.Whole w) o b maps → RiseBetween a.state.greatest_id (id_of (step.Whole w) o) b.state.greatest_id
 whole_rises a b Flush (outcome.Decided reply) maps t = stays a.state b.state t.2
@@ -64,13 +79,20 @@ whole_rises a b (PopMin tree) (outcome.Decided reply) maps t = at_most _ _ (ap (
 whole_rises a b (PopMax tree) (outcome.Decided reply) maps t = at_most _ _ (ap (λ (s : State). s.greatest_id) t.is ∙ popped a.state tree.name t.named t.found)
 whole_rises a b (Clear tree) (outcome.Decided reply) maps t = at_most _ _ (removed tree a.state b.state t.1.parts maps t.1.removes)
 whole_rises a b (OpenTree name) (outcome.Decided reply) maps t = at_most _ _ (ap (λ (s : State). s.greatest_id) t.is ∙ opened (a.state.trees name) a.state name)
+whole_rises a b (DropTree name) (outcome.Decided reply) maps t = at_most _ _ (ap (λ (s : State). s.greatest_id) t.is ∙ dropped (a.state.trees name) a.state name)
 whole_rises a b GenerateId (outcome.Decided reply) maps t = one_given a.state.greatest_id b.state.greatest_id reply t.replies (ap (λ (s : State). s.greatest_id) t.is)
+whole_rises a b (Import collections) (outcome.Decided reply) maps t = at_most _ _ (parts_done t.1.does)
 whole_rises a b Flush (outcome.Refused e) maps t = stays a.state b.state t.1
 whole_rises a b (PopMin tree) (outcome.Refused e) maps t = stays a.state b.state t.1
 whole_rises a b (PopMax tree) (outcome.Refused e) maps t = stays a.state b.state t.1
 whole_rises a b (Clear tree) (outcome.Refused e) maps t = at_most _ _ (removed tree a.state b.state t.parts maps t.removes)
 whole_rises a b (OpenTree name) (outcome.Refused e) maps t = stays a.state b.state t.1
+whole_rises a b (DropTree name) (outcome.Refused e) maps t = stays a.state b.state t.1
 whole_rises a b GenerateId (outcome.Refused e) maps t = stays a.state b.state t.1
+whole_rises a b (Import collections) (outcome.Refused e) maps t = elim t.is [
+  | inl none ↦ stays a.state b.state none.1
+  | inr parts ↦ at_most _ _ (parts_done parts.does)
+]
 whole_rises a b w (outcome.Begun slot) maps t = absurd t
 whole_rises a b w outcome.Moved maps t = absurd t
 whole_rises a b w outcome.Abandoned maps t = absurd t
@@ -98,7 +120,7 @@ step_rises a b (step.Abandon slot) (outcome.Decided reply) maps t = absurd t
 step_rises a b (step.Abandon slot) (outcome.Refused e) maps t = absurd t
 
 -- two lists one after the other
-rise_on : (low mid high : ℕ) (xs ys : List ℕ) → RiseBetween low xs mid → RiseBetween mid ys high → RiseBetween low (xs ++ ys) high
+pub rise_on : (low mid high : ℕ) (xs ys : List ℕ) → RiseBetween low xs mid → RiseBetween mid ys high → RiseBetween low (xs ++ ys) high
 rise_on low mid high [] ys x y = lower low mid ys x y
   where
     lower : (low mid : ℕ) (ys : List ℕ) → low ≤ mid → RiseBetween mid ys high → RiseBetween low ys high

@@ -3,5 +3,8 @@ pub mod Survive
 pub mod Index
 pub mod Queue
 pub mod Ids
+pub mod Copies
 pub mod Typed
+pub mod Events
+pub mod Counters
 pub mod theory

@@ -10,7 +10,7 @@ use Rattle.std.proofs.Common.{Bor}
 use Rattle.ordered_keys.specs.Keys.{HasShape, spelled, parts_cmp}
 use Rattle.ordered_keys.specs.declared.part.Kind.{Kind}
 use Rattle.ordered_keys.specs.declared.part.Part.{Part}
-use Rattle.sled_pages.specs.Order.{Key}
+use Rattle.sled_pages.specs.Order.{Key, key_cmp}
 use Rattle.sled_model.specs.Maps.{Map, Maps}
 
 -- how the values of a type are spelled as byte strings: what is a value of it, the bytes, and the order of the values
@@ -22,6 +22,10 @@ pub record Spelling (A : Type 0) : Type 1 where
 -- a type whose values are keys of this shape, by their parts
 abbrev pub by_parts : {A : Type 0} → List Kind → (A → List Part) → Spelling A
 by_parts shape parts = record { is_value = λ a. HasShape shape (parts a); bytes = λ a. spelled (parts a); order = λ a b. parts_cmp (parts a) (parts b) }
+
+-- byte strings, which are their own bytes
+abbrev pub as_it_is : Spelling Key
+as_it_is = record { is_value = λ b. Unit {0}; bytes = λ b. b; order = key_cmp }
 
 -- the pairs of a tree, none where there is no tree
 abbrev pub pairs_in : Option Map → Map

@@ -6,7 +6,7 @@ ghost use Rattle.sled_pages.specs.Memory.{store_of};
 ghost use Rattle.tree_laws.specs.Contents.{trees_of};
 ghost use Rattle.tree_laws.specs.Crashes.{IsValid};
 ghost use Rattle.sled_model.specs.declared.call.Call.TheVariants as call;
-ghost use Rattle.sled.specs.Values.{default_name};
+ghost use Rattle.sled_model.specs.State.{default_name};
 ghost use Rattle.sled.specs.Opens.{IsOnePage};
 ghost use Rattle.examples.specs.Reads.{ReadsAs, HasTurns, PutsOne, maps_now, later, found_in};
 

@@ -5,17 +5,17 @@ ghost use Rattle.sled_pages.specs.Store.{now};
 ghost use Rattle.sled_model.specs.Answer.{ReadDecides, decision_of};
 ghost use Rattle.sled.specs.Operators.{OperatorSet};
 ghost use Rattle.sled_model.specs.Refusal.{must_refuse_of};
+ghost use Rattle.sled_model.specs.State.{default_name};
 ghost use Rattle.tree_laws.specs.Contents.{trees_of};
 ghost use Rattle.tree_laws.specs.Crashes.{Flushes, IsValid};
 ghost use Rattle.sled.specs.Calls.{IsHandle, MustBeRefused};
 ghost use Rattle.sled.specs.Drops.{DropsTree};
 ghost use Rattle.sled.specs.Export.{collections};
 ghost use Rattle.sled_tree.specs.Known.{IsKnown};
-ghost use Rattle.sled_tree.specs.Passing.{StepsOnPath};
-ghost use Rattle.sled.specs.Flights.{DbStep, DbSound, DbActs, DbFollows, DbLeaksNoPage, DbKnows, KeepsTreePages, DbRunsToEnd};
+ghost use Rattle.sled.specs.Flights.{DbStep, DbSound, DbActs, DbFollows, DbPasses, DbFindsRoom, DbLeaksNoPage, DbKnows, KeepsTreePages, DbRunsToEnd};
 ghost use Rattle.sled.specs.Flush.{FlushesDb};
 ghost use Rattle.sled.specs.Opens.{Opens};
-ghost use Rattle.sled.specs.Values.{db_state, default_name, snapshot_of_db};
+ghost use Rattle.sled.specs.Values.{db_state, snapshot_of_db};
 
 use sled::{Collection, Db, empty_pages};
 use sled_machine::Machine;
@@ -97,7 +97,8 @@ pub fn advance<P: Pages, M: MergeOperator>(db: &mut Db<P, M>, flight: &mut InFli
     ensures sound { DbSound P.store db.old db.new }
     ensures does { DbActs P.store M.meant db.old flight.old result db.new }
     ensures follows { DbFollows P.store M.meant db.old flight.old result db.new flight.new }
-    ensures passes { StepsOnPath (now (P.store db.old.pages)) flight.old result (now (P.store db.new.pages)) flight.new }
+    ensures passes { DbPasses P.store M.meant db.old flight.old result db.new flight.new }
+    ensures room { DbFindsRoom P.store M.meant db.old flight.old result db.new flight.new }
     ensures loses { KeepsTreePages None (snapshot_of_db P.store db.old) (snapshot_of_db P.store db.new) }
     ensures leaves { DbLeaksNoPage P.store db.old flight.old result db.new flight.new }
     ensures knows { DbKnows P.store db.old flight.old result db.new flight.new }

@@ -4,6 +4,8 @@
 
 mod database;
 mod direct;
+mod fetch;
+mod imports;
 mod machine;
 mod pops;
 mod reads;
@@ -13,6 +15,10 @@ pub use database::{
     flush, new_tree, set_merge_operator,
 };
 pub use direct::{compare_and_swap, insert, merge, remove};
-pub use machine::{abandon, begin, complete, finish, new_machine, run, step, turns, whole};
+pub use fetch::update_and_fetch;
+pub use imports::import;
+pub use machine::{
+    abandon, begin, complete, drop_whole, finish, new_machine, run, step, turns, whole,
+};
 pub use pops::{clear, pop_max, pop_min};
 pub use reads::{contains_key, get_lt, len, range};

@@ -2,6 +2,7 @@
 ghost use Rattle.std.specs.Prelude.{◌≡◌, IfOk, IfErr, OnErr, []};
 ghost use Rattle.std.specs.Option.{option_map};
 ghost use Rattle.sled_pages.specs.declared.error.Error.TheVariants.{NoMemory};
+ghost use Rattle.sled_model.specs.declared.call.Whole.TheVariants.{DropTree};
 ghost use Rattle.sled_model.specs.declared.outcome.Outcome.TheVariants as outcome;
 ghost use Rattle.sled_model.specs.declared.outcome.Step.TheVariants as step;
 ghost use Rattle.sled_machine.specs.Values.{slots_of};
@@ -12,7 +13,7 @@ ghost use Rattle.sled_machine.specs.Finish.{RunsToEnd, Completes};
 use sled::Db;
 use sled_machine::Machine;
 use sled_model::{Call, MergeOperator, Outcome, Slot, Step, Tree, Whole};
-use sled_pages::{Pages, Result};
+use sled_pages::{IVec, Pages, Result};
 
 /// A machine over a database, on which no call is in flight.
 pub fn new_machine<P: Pages, M: MergeOperator>(db: Db<P, M>) -> Machine<P, M>
@@ -41,7 +42,7 @@ pub fn step<P: Pages, M: MergeOperator>(machine: &mut Machine<P, M>, slot: Slot)
     ensures sound { MachineSound P.store machine.old machine.new }
     ensures does { MachineActs P.store M.meant machine.old (step.Step slot) result machine.new }
     ensures follows { MachineFollows P.store M.meant machine.old (step.Step slot) result machine.new }
-    ensures passes { MachinePasses P.store machine.old (step.Step slot) result machine.new }
+    ensures passes { MachinePasses P.store M.meant machine.old (step.Step slot) result machine.new }
     ensures slots { MachineSlots machine.old (step.Step slot) result machine.new }
     ensures loses { MachineKeepsTreePages P.store machine.old (step.Step slot) result machine.new }
     ensures leaves { MachineLeaksNoPage P.store machine.old (step.Step slot) result machine.new }
@@ -86,6 +87,13 @@ pub fn whole<P: Pages, M: MergeOperator>(machine: &mut Machine<P, M>, whole: Who
     ensures { MachineStepContract P.store P.flush_number M.meant machine.old (step.Whole whole) result machine.new }
 {
     machine.whole(whole)
+}
+
+/// The tree of a name is dropped, in one step.
+pub fn drop_whole<P: Pages, M: MergeOperator>(machine: &mut Machine<P, M>, name: IVec) -> Outcome
+    ensures { MachineStepContract P.store P.flush_number M.meant machine.old (step.Whole (DropTree name)) result machine.new }
+{
+    machine.whole(Whole::DropTree(name))
 }
 
 /// A list of steps, one after the other.

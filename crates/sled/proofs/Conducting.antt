@@ -33,7 +33,8 @@ use Rattle.sled.specs.Calls.{MustBeRefused, must_be_refused_as}
 use Rattle.sled.specs.Flights.{call_in_flight_of, maps_added, PagesLast, KeepsTreePages, effect_of_step, IsStepRefused, DbStepContract, DbSteps, Ends, GoesOn, DbRunsToEnd}
 use Rattle.sled.specs.Direct.{ActsOften, NoAction, OneAction, effects_until, StaysInChainOrWent, KeepsOrFreesTreePages, Conducts, begun_flight, PointDecided, PointRefused, LeavesAll}
 use Rattle.sled.proofs.Operating.{fails_first, passes_plain}
-use Rattle.sled.proofs.Flying.{loses_nothing, quiet_untold, everywhere, went_on}
+use Rattle.sled.proofs.Flying.{loses_nothing, quiet_untold, everywhere, moved_state}
+use Rattle.sled.proofs.Watching.{root_act}
 
 none_some : {P X : Type 0} {x : X} → None ≡ Some x → P
 none_some e = cc
@@ -57,7 +58,7 @@ often_once : (a b : Store) → ActsAtMostOnce a b → ActsOften a b
 often_once a b (inl e) = subst (λ (s : Store). ActsOften a s) (sym e) NoAction
 often_once a b (inr o) = OneAction o NoAction
 
-acts_then : (r : Option Error) (a b c : Store) → ActsOften a b → effects_until r b c → effects_until r a c
+pub acts_then : (r : Option Error) (a b c : Store) → ActsOften a b → effects_until r b c → effects_until r a c
 acts_then None a b c first rest = often_then first rest
 acts_then (Some e) a b c first rest = (rest.0, often_then first rest.1, rest.2)
 
@@ -123,9 +124,9 @@ loses_same m = loses_once None m m (loses_nothing None m)
 -- ---- the causes of a refusal
 
 -- the two stores count the same faults and have the same readable pages
-record ReadsAlike (a b : Store) : Type 0 where
-  faults : b.faults ≡ a.faults
-  readable : b.is_readable ≡ a.is_readable
+pub record ReadsAlike (a b : Store) : Type 0 where
+  pub faults : b.faults ≡ a.faults
+  pub readable : b.is_readable ≡ a.is_readable
 
 alike_acting : (a b : Store) → ActsAtMostOnce a b → ReadsAlike a b
 alike_acting a b (inl e) = record { faults = ap (λ (s : Store). s.faults) e; readable = ap (λ (s : Store). s.is_readable) e }
@@ -142,7 +143,7 @@ cause_alike s a m b tree call (error.Corruption fault) r t = t
 cause_alike s a m b tree call error.FullQueue r t = t
 cause_alike s a m b tree call error.Closed r t = t
 
-may_alike : (s : State) (a m b : Store) (tree : Tree) (call : Call) (e : Error) → ReadsAlike a m → MayRefuse s m b (ToPoint tree call) e → MayRefuse s a b (ToPoint tree call) e
+pub may_alike : (s : State) (a m b : Store) (tree : Tree) (call : Call) (e : Error) → ReadsAlike a m → MayRefuse s m b (ToPoint tree call) e → MayRefuse s a b (ToPoint tree call) e
 may_alike s a m b tree call e r may = record { is = go (must_refuse s (ToPoint tree call)) may.is }
   where
     go : (o : Option MustRefuse) → may_refuse_as o s m b (ToPoint tree call) e → may_refuse_as o s a b (ToPoint tree call) e
@@ -188,7 +189,7 @@ module _ {P M : Type 0} (store : P → Store) (meant : M → Merge) where
   conducts_then k l r old mid new a db b = record {
     acts = acts_then r (store old.pages) (store mid.pages) (store new.pages) a.acts b.acts;
     leaves = leaves_then k l None old mid new a.leaves db b.leaves;
-    same = b.same ∙ ap (λ (z : DbValue P M). record z { pages = new.pages }) a.same;
+    same = b.same ∙ ap (λ (z : DbValue P M). record z { pages = new.pages; queues = new.queues }) a.same;
   }
 
   -- a call that does nothing, and one that is refused at its begin for no fault
@@ -223,13 +224,9 @@ module _ {P M : Type 0} (store : P → Store) (meant : M → Merge) where
   walk_sound zero old new f g went (Ends flies off) d = flies.sound.keeps d
   walk_sound (suc n) old new f g went (GoesOn {mid = mid} {h = h} flies db rest) d = walk_sound n mid new h g went rest db
 
-  walk_same : (n : ℕ) (old new : DbValue P M) (f g : InFlight) (went : Went) → DbSteps store meant n old f went new g → new ≡ record old { pages = new.pages }
+  walk_same : (n : ℕ) (old new : DbValue P M) (f g : InFlight) (went : Went) → DbSteps store meant n old f went new g → new ≡ record old { pages = new.pages; queues = new.queues }
   walk_same zero old new f g went (Ends flies off) = flies.step.same
-  walk_same (suc n) old new f g went (GoesOn {mid = mid} {h = h} flies db rest) = walk_same n mid new h g went rest ∙ ap (λ (z : DbValue P M). record z { pages = new.pages }) flies.step.same
-
-  -- a step that goes on changes no state
-  moved_state : (old mid : DbValue P M) (f h : InFlight) → DbStepContract store meant old f Moved mid h → db_state store meant mid ≡ db_state store meant old
-  moved_state old mid f h flies = ap no_slots (went_on store meant old mid f h flies).is
+  walk_same (suc n) old new f g went (GoesOn {mid = mid} {h = h} flies db rest) = walk_same n mid new h g went rest ∙ ap (λ (z : DbValue P M). record z { pages = new.pages; queues = new.queues }) flies.step.same
 
   decided_now : (old new : DbValue P M) (f g : InFlight) (reply : Reply) → DbStepContract store meant old f (Decided reply) new g → DecidesPoint (db_state store meant old) f.job.tree f.job.call reply (db_state store meant new)
   decided_now old new f g reply flies = subst (λ (z : CallInFlight). DecidesPoint (db_state store meant old) z.tree z.call reply (db_state store meant new)) (sym (some_is step.here)) (record { free = step.free; named = step.tree; there = step.there; replies = step.replies; is = ap no_slots step.is })
@@ -246,13 +243,13 @@ module _ {P M : Type 0} (store : P → Store) (meant : M → Merge) where
   walk_decides : (n : ℕ) (old new : DbValue P M) (f g : InFlight) (reply : Reply) → DbSteps store meant n old f (Decided reply) new g → DecidesPoint (db_state store meant old) f.job.tree f.job.call reply (db_state store meant new)
   walk_decides zero old new f g reply (Ends flies off) = decided_now old new f g reply flies
   walk_decides (suc n) old new f g reply (GoesOn {mid = mid} {h = h} flies db rest) =
-      subst (λ (s : State). DecidesPoint s f.job.tree f.job.call reply (db_state store meant new)) (moved_state old mid f h flies)
+      subst (λ (s : State). DecidesPoint s f.job.tree f.job.call reply (db_state store meant new)) (moved_state store meant old mid f h flies)
       (subst (λ (j : Job). DecidesPoint (db_state store meant mid) j.tree j.call reply (db_state store meant new)) (flies.knows.goes_on refl).0 (walk_decides n mid new h g reply rest))
 
   walk_refuses : (n : ℕ) (old new : DbValue P M) (f g : InFlight) (e : Error) → DbSteps store meant n old f (Refused e) new g → RefusesPoint (db_state store meant old) (store old.pages) (store new.pages) f.job.tree f.job.call e (db_state store meant new)
   walk_refuses zero old new f g e (Ends flies off) = refused_now old new f g e flies
   walk_refuses (suc n) old new f g e (GoesOn {mid = mid} {h = h} flies db rest) =
-      let r = subst (λ (s : State). RefusesPoint s (store mid.pages) (store new.pages) f.job.tree f.job.call e (db_state store meant new)) (moved_state old mid f h flies)
+      let r = subst (λ (s : State). RefusesPoint s (store mid.pages) (store new.pages) f.job.tree f.job.call e (db_state store meant new)) (moved_state store meant old mid f h flies)
       (subst (λ (j : Job). RefusesPoint (db_state store meant mid) (store mid.pages) (store new.pages) j.tree j.call e (db_state store meant new)) (flies.knows.goes_on refl).0 (walk_refuses n mid new h g e rest)) in record {
         may = may_alike (db_state store meant old) (store old.pages) (store mid.pages) (store new.pages) f.job.tree f.job.call e (alike_acting (store old.pages) (store mid.pages) flies.does.does) r.may;
         is = r.is;
@@ -288,7 +285,7 @@ module _ {P M : Type 0} (store : P → Store) (meant : M → Merge) where
       conducts = begun_conducts (Refused e) flies;
       steps = inr (g, flies);
       turns = λ tells path clean. elim (cases_lt (length path) turns_limit) [
-        | inl fits ↦ absurd ((flies.passes path clean (unused (length path) fits)).unlimited tells)
+        | inl fits ↦ absurd ((flies.passes (record { is = λ view here. root_act here }) path clean (unused (length path) fits)).unlimited tells)
         | inr many ↦ many
       ];
     }

@@ -15,6 +15,8 @@ use Rattle.tree_laws.specs.Crashes.{Flushes}
 use Rattle.tree_laws.specs.Forest.{IsSized}
 use Rattle.tree_laws.specs.Snapshot.{Snapshot, HasForest, nodes_at}
 use Rattle.tree_laws.proofs.Crashing.{flushes_same, flushes_valid_law, flushes_left, flushes_now}
+use Rattle.sled_queues.specs.Values.{queue_at}
+use Rattle.sled_queues.specs.Queues.{queues_of}
 use Rattle.sled.specs.Values.{DbValue, named, numbers_of, given_to, state_of, snapshot_of_db}
 use Rattle.sled.specs.Sound.{IsDb}
 use Rattle.sled.specs.Flush.{FlushesDb, only_faults, RefusesFlush}
@@ -39,14 +41,14 @@ module _ {P M : Type 0} (store : P → Store) (meant : M → Merge) (old : DbVal
   same_state q s slots given i = record {
     name = old.name;
     trees = λ t. named (numbers_of old.trees t) (trees_of (s.now_is i) t) (λ n. option_map meant (find nat_cmp n old.operators));
-    queues = λ n. find nat_cmp n old.queues;
+    queues = queues_of (queue_at old.queues);
     slots = slots;
     is_open = not (s.now_is i).in_group;
     greatest_id = old.greatest_id;
     mark = s.mark i;
     trees_given = old.trees_given;
     slots_given = given;
-    subscribers_given = old.subscribers_given;
+    subscribers_given = old.queues.given;
   }
 
   pub same_moment : (q : P) → SameNow (store old.pages) (store q) → snapshot_of_db store (record old { pages = q }) ≡ snapshot_of_db store old
@@ -65,7 +67,7 @@ module _ {P M : Type 0} (store : P → Store) (meant : M → Merge) (old : DbVal
       ascends = db.ascends;
       default = db.default;
       ungiven = db.ungiven;
-      unwatched = db.unwatched;
+      calm = db.calm;
       ids = subst (λ (z : Store). old.greatest_id ≤ z.mark) (sym e) db.ids;
     }
 
@@ -92,7 +94,7 @@ module _ {P M : Type 0} (store : P → Store) (meant : M → Merge) (old : DbVal
       ascends = db.ascends;
       default = db.default;
       ungiven = db.ungiven;
-      unwatched = db.unwatched;
+      calm = db.calm;
       ids = subst (λ m. old.greatest_id ≤ m) (sym rests.mark) db.ids;
     }
 

@@ -1,29 +1,40 @@
 -- One step of a call in flight.
-use Rattle.std.proofs.Common.{◌≡◌, ◌≢◌, ℕ, zero, suc, ◌+◌, ◌-◌, ◌<◌, ◌≤◌, Bool, true, false, not, cond, List, [], ◌∷◌, length, Option, Some, None, option_map, sym, refl, ap, ◌∙◌, subst, inl, inr, arith}
+use Rattle.std.proofs.Common.{◌≡◌, ◌≢◌, ℕ, zero, suc, ◌+◌, ◌-◌, ◌<◌, ◌≤◌, Bool, true, false, not, cond, List, [], ◌∷◌, length, Option, Some, None, option_map, MatchOption, sym, refl, ap, ◌∙◌, subst, inl, inr, arith}
 use Rattle.std.specs.FinMap.Entries.{find}
 use Rattle.std.specs.Ordering.{nat_cmp}
 use Rattle.std.specs.Str.{bytes_eq}
-use Rattle.sled_pages.specs.Order.{Key}
+use Rattle.sled_pages.specs.Order.{Key, key_cmp}
 use Rattle.sled_pages.specs.In.{In}
 use Rattle.sled_pages.specs.Update.{put_at, put_name}
 use Rattle.sled_pages.specs.State.{nodes_of}
-use Rattle.sled_pages.specs.Store.{Store, now}
+use Rattle.sled_pages.specs.Store.{Store, now, version_now}
 use Rattle.sled_pages.specs.declared.page.Page.{Page}
 use Rattle.sled_pages.specs.declared.error.Fault.{Fault}
 use Rattle.sled_pages.specs.declared.error.Error.{Error}
 use Rattle.sled_pages.specs.declared.error.Error.TheVariants as error
 use Rattle.sled_model.specs.Maps.{Map, Merge}
-use Rattle.sled_model.specs.Answer.{Answer, answer_of}
-use Rattle.sled_model.specs.State.{State, NamedTree, Queue, CallInFlight, maps_of, queues_after, after_decision}
-use Rattle.sled_model.specs.Refusal.{MustRefuse, IsClosed, IsForeign, IsDropped, HasNoOperator, must_refuse, MayRefuse, ToStep, ToPoint, TellsTurns, cause_of, may_refuse_as, turns_limit}
+use Rattle.sled_pages.specs.Node.{value_at, after_link}
+use Rattle.sled_pages.specs.declared.link.Link.{Link}
+use Rattle.sled_pages.specs.declared.node.Node.{Node}
+use Rattle.sled_pages.specs.declared.page.View.{View}
+use Rattle.sled_model.specs.Event.{key_of_event}
+use Rattle.sled_model.specs.Answer.{Answer, answer_of, decision_of, event_of, key_of}
+use Rattle.sled_model.specs.State.{State, NamedTree, Queue, CallInFlight, maps_of, matches, queues_after, after_decision}
+use Rattle.sled_model.specs.Refusal.{MustRefuse, IsClosed, IsForeign, IsDropped, HasNoOperator, must_refuse, MayRefuse, MeetsFullQueue, ToStep, ToPoint, TellsTurns, cause_of, may_refuse_as, turns_limit}
 use Rattle.sled_model.specs.declared.event.Event.{Event}
+use Rattle.sled_model.specs.declared.decision.Effect.{Effect}
+use Rattle.sled_model.specs.declared.decision.Effect.TheVariants as effect
 use Rattle.sled_model.specs.declared.reply.Reply.{Reply}
+use Rattle.sled_queues.specs.Values.{WaitingValue, QueuesValue, queue_at}
+use Rattle.sled_queues.specs.Queues.{queue_of, queues_of, held, Becomes, IsCalm}
+use Rattle.sled_queues.specs.Tells.{waits_for}
+use Rattle.sled_queues.proofs.Lawful.{delivers_law}
 use Rattle.sled_model.specs.declared.TheConstants.{MAX_LOOPS}
 use Rattle.tree_laws.specs.Forest.{Tree, Forest, contents}
 use Rattle.tree_laws.specs.Contents.{trees_of}
 use Rattle.tree_laws.specs.Crashes.{IsValid, IsCrashConsistent, AddsCrashStates}
 use Rattle.tree_laws.specs.theory.Crashes.{AddsAction}
-use Rattle.tree_laws.specs.Snapshot.{Snapshot, nodes_at, HasForest}
+use Rattle.tree_laws.specs.Snapshot.{Snapshot, snapshot_of, nodes_at, HasForest, IsActing}
 use Rattle.tree_laws.specs.theory.Snapshot.{KeepsForest}
 use Rattle.tree_laws.proofs.Crashing.{adds_extends, adds_unseen, extends_same, extends_again, valid_law}
 use Rattle.tree_laws.proofs.Reading.{one_law}
@@ -35,23 +46,37 @@ use Rattle.sled_tree.specs.declared.flight.Next.TheVariants as next
 use Rattle.sled_tree.specs.declared.flight.Went.{Went}
 use Rattle.sled_tree.specs.declared.flight.Went.TheVariants.{Moved, Decided, Refused}
 use Rattle.tree_laws.specs.Stages.{owned}
+use Rattle.tree_laws.specs.declared.flight.Stage.{Stage}
+use Rattle.tree_laws.specs.declared.flight.Stage.TheVariants as stage
+use Rattle.tree_laws.proofs.Known.{answers}
 use Rattle.sled_tree.specs.Stages.{Knows}
 use Rattle.sled_tree.specs.Known.{IsKnown}
-use Rattle.sled_tree.specs.Passing.{IsOnPath, StepsOnPath}
-use Rattle.sled_tree.specs.Follows.{FollowsOn}
+use Rattle.sled_tree.specs.Passing.{IsUnchanged, IsOnPath, StepsOnPath}
+use Rattle.sled_tree.specs.Change.{link_of, decision_at}
+use Rattle.sled_tree.specs.Follows.{Follows, FollowsOn, TakesWay}
+use Rattle.sled_tree.specs.theory.Linking.{begun_again, StepsBy}
 use Rattle.sled_tree.specs.StageAction.{ActsOnce, ActsAtMostOnce, LeaksNoPage}
 use Rattle.sled_tree.specs.theory.StageAction.{StageActionBy, KeepsContents, DecidesAs, Only, is_action_refused_as, FlightStepBy}
 use Rattle.sled.specs.Values.{DbValue, numbers_of, given_to, named, state_of, db_state, snapshot_of_db}
 use Rattle.sled.specs.Sound.{IsDb}
 use Rattle.sled.specs.Calls.{MustBeRefused, must_be_refused_as}
-use Rattle.sled.specs.Flights.{call_in_flight_of, PagesLast, StaysInChain, KeepsTreePages, IsStepRefused, DbStepContract, DbSteps, Ends, GoesOn, has_turns, TakesAtMost, DbRunsToEnd}
+use Rattle.sled.specs.Flights.{call_in_flight_of, MeetsNoFullQueue, FindsRoom, DbFindsRoom, PagesLast, StaysInChain, KeepsTreePages, IsStepRefused, DbStepContract, DbSteps, Ends, GoesOn, has_turns, TakesAtMost, DbRunsToEnd}
+use Rattle.sled.specs.theory.Watched.{HasRoomFor, MeetsFullFor, told, told_by, StepsOver, TurnsBack, MeetsFullThere, AdvancesOver}
 use Rattle.sled_tree.proofs.Known.{not_own, known_kept}
+use Rattle.sled_tree.proofs.Deciding.{IsReading, decided_law, change_law}
+use Rattle.sled_tree.proofs.Facts.{restarts, by_these}
+use Rattle.sled_tree.proofs.Facts.{refused as refused_action}
+use Rattle.sled_tree.proofs.Replying.{links_law}
+use Rattle.sled.proofs.Watching.{same_queues, room_full, event_key, decided_moved, refused_moved, root_act}
 use Rattle.sled.proofs.Resting.{Rests, rests_refused, now_rests, rests_extends, rests_left}
 use Rattle.sled.proofs.Testing.{tree_tested, limit_is, tested_calm}
 use Rattle.sled.proofs.Trees.{trees_at, trees_same, trees_put, maps_are, current, numbered}
 
 none_some : {P X : Type 0} {x : X} → None ≡ Some x → P
 none_some e = cc
+
+some_is : {X : Type 0} {x y : X} → Some x ≡ Some y → x ≡ y
+some_is e = cc
 
 -- a page is there where its node is
 page_gone : (s : Rattle.sled_pages.specs.State.State) (p : ℕ) → nodes_of s p ≡ None → s.pages p ≡ None
@@ -146,13 +171,30 @@ cause_is s f (error.Corruption fault) a b t = absurd t
 cause_is s f error.FullQueue a b t = absurd t
 cause_is s f error.Closed a b t = absurd t
 
--- no queue is there, so none is filled
-no_queue : (queues : List (ℕ × Queue)) (n : ℕ) (event : Option Event) (k : ℕ) → queues ≡ [] → find nat_cmp k queues ≡ queues_after n event (λ i. find nat_cmp i queues) k
-no_queue queues n event k e = subst (λ (z : List (ℕ × Queue)). find nat_cmp k z ≡ queues_after n event (λ i. find nat_cmp i z) k) (sym e) (go event)
+-- a page that a change was linked to stood at the version that was read
+linked_page : (j : Course) (a b : Store) (view : View) (reply : Reply) → Follows j a (stage.Act view) (next.Decided reply) b → (node : Node) × ((now a).pages view.pid ≡ Some (record { version = view.version; node = node }))
+linked_page j a b view reply f = elim f.is [
+  | inl l ↦ go (decision_at l.operator j.call view.node.content).reply (link_of (decision_at l.operator j.call view.node.content).effect (key_of j.call)) l.is
+  | inr r ↦ unlike r.1
+]
   where
-    go : (event : Option Event) → None ≡ queues_after n event (λ i. None) k
-    go None = refl
-    go (Some e) = refl
+    unlike : {X : Type 0} {e : Error} → next.Decided reply ≡ next.Refused e → X
+    unlike e = cc
+
+    off : {X : Type 0} → next.Decided reply ≡ next.Go stage.Root → X
+    off e = cc
+
+    go : (d : Reply) (l : Option Link) → MatchOption l ((b ≡ a) × (next.Decided reply ≡ next.Go stage.Root)) (λ link. TakesWay (after_link link) view.pid view.version a b (next.Decided reply) (λ _. next.Decided d) (λ _. next.Go stage.Root)) → (node : Node) × ((now a).pages view.pid ≡ Some (record { version = view.version; node = node }))
+    go d None e = off e.1
+    go d (Some l) (inl t) = (t.1.is.0, t.1.is.1)
+    go d (Some l) (inr t) = off t.2
+
+-- an action is counted
+acts_not : {X : Type 0} (a b : Store) → b ≡ a → ActsOnce a b → X
+acts_not a b same o = absurd (more a.actions b.actions (ap (λ (s : Store). s.actions) same) (ap (λ (s : Store). s.actions) o.is))
+  where
+    more : (n m : ℕ) → m ≡ n → m ≡ n + 1 → ⊥
+    more n m e h = omega arith
 
 -- a call that is refused before it touches a page
 module _ {P M : Type 0} (store : P → Store) (meant : M → Merge) (old : DbValue P M) where
@@ -162,11 +204,13 @@ module _ {P M : Type 0} (store : P → Store) (meant : M → Merge) (old : DbVal
       steps = λ slots given slot before after here. record { is = (record { flying = call_in_flight_of f; here = here; may = may slots given; limit = limit; is = refl }, refl) };
       extends = extends_same (store old.pages);
       same = refl;
+      queues = same_queues old.queues old.queues refl;
     };
     sound = record { keeps = λ d. d };
     does = record { does = quiet_untold e (store old.pages) off; quiet = λ q. refl; loud = λ event b. absurd (silent b.reply b.decided) };
-    follows = λ must fits. absurd (stopped must fits);
-    passes = record { is = tt };
+    follows = λ must fits free. absurd (stopped must fits);
+    passes = λ finds. record { is = tt };
+    room = record { room = λ e. absurd (apart e); back = λ must fits view here met. absurd (stopped must fits) };
     loses = loses_nothing None (snapshot_of_db store old);
     leaves = λ v is. tt;
     knows = record { goes_on = λ e. absurd (apart e); others = λ h off k. (k, λ e. absurd (apart e)) };
@@ -211,19 +255,19 @@ module _ {P M : Type 0} (store : P → Store) (meant : M → Merge) (old : DbVal
   at = snapshot_of_db store old
 
   -- the state over other pages
-  pub state_over : (p : P) (slots after : ℕ → Option CallInFlight) (given : ℕ) → ((name : Key) → trees_of (now (store p)) name ≡ trees_of (now (store old.pages)) name) → (now (store p)).in_group ≡ (now (store old.pages)).in_group → (store p).mark ≡ (store old.pages).mark
-      → state_of store meant (record old { pages = p }) after given ≡ record (state_of store meant old slots given) { slots = after }
-  state_over p slots after given trees no_group mark = λ i. record {
+  pub state_over : (p : P) (new : QueuesValue) → Becomes (queue_at old.queues) old.queues.given new → (slots after : ℕ → Option CallInFlight) (given : ℕ) → ((name : Key) → trees_of (now (store p)) name ≡ trees_of (now (store old.pages)) name) → (now (store p)).in_group ≡ (now (store old.pages)).in_group → (store p).mark ≡ (store old.pages).mark
+      → state_of store meant (record old { pages = p; queues = new }) after given ≡ record (state_of store meant old slots given) { slots = after }
+  state_over p new keeps slots after given trees no_group mark = λ i. record {
     name = old.name;
     trees = λ t. named (numbers_of old.trees t) (trees t i) (λ n. option_map meant (find nat_cmp n old.operators));
-    queues = λ n. find nat_cmp n old.queues;
+    queues = queues_of (keeps.held i);
     slots = after;
     is_open = not (no_group i);
     greatest_id = old.greatest_id;
     mark = mark i;
     trees_given = old.trees_given;
     slots_given = given;
-    subscribers_given = old.subscribers_given;
+    subscribers_given = keeps.count i;
   }
 
   same_store : (slots after : ℕ → Option CallInFlight) (given : ℕ) → state_of store meant old after given ≡ record (state_of store meant old slots given) { slots = after }
@@ -247,16 +291,91 @@ module _ {P M : Type 0} (store : P → Store) (meant : M → Merge) (old : DbVal
         ∙ ap (λ m. named (Some f.job.tree.number) m (λ n. option_map meant (find nat_cmp n old.operators)))
         (trees_at (store old.pages) (numbers_of old.trees) (given_to old.trees_given) db.forest db.is f.job.tree.name ∙ ap (option_map (λ _. contents (nodes_at at) db.forest f.job.tree.name)) named_now)
 
-    module _ (q : P) (known : IsKnown at f) where
+    -- the event by the map now was told, if there is one
+    pub record Told (queues : QueuesValue) : Type 0 where
+      pub is : queues_of (queue_at queues) ≡ queues_after f.job.tree.number (answer_of operator f.job.call tree_now.map).event (queues_of (queue_at old.queues))
+      pub calm : IsCalm (queue_at queues)
+      pub count : queues.given ≡ old.queues.given
+
+    told_now : (queues : QueuesValue) (event : Option Event) → (answer_of operator f.job.call tree_now.map).event ≡ event → told f.job.tree.number event old.queues queues → Told queues
+    told_now queues None is t = record {
+      is = ap queues_of t.held ∙ sym (ap (λ e. queues_after f.job.tree.number e (queues_of (queue_at old.queues))) is);
+      calm = subst IsCalm (sym t.held) db.calm;
+      count = t.count;
+    }
+    told_now queues (Some event) is t =
+        let d = delivers_law (queue_at old.queues) db.calm f.job.tree.number event in record {
+          is = ap queues_of t.held ∙ d.shown ∙ sym (ap (λ e. queues_after f.job.tree.number e (queues_of (queue_at old.queues))) is);
+          calm = subst IsCalm (sym t.held) d.calm;
+          count = t.count;
+        }
+
+    -- a full queue that waits for the call's key, and the same in the model
+    meets_for : MeetsFullQueue (db_state store meant old) f.job.tree f.job.call → MeetsFullFor f old.queues
+    meets_for t = go (queue_at old.queues t.subscriber) refl t.waits
+      where
+        number : t.tree.number ≡ f.job.tree.number
+        number = ap (λ (z : NamedTree). z.number) (some_is (sym t.there ∙ there))
+
+        key : key_of_event t.event ≡ key_of f.job.call
+        key = event_key (decision_of t.tree.merge f.job.call (find key_cmp (key_of f.job.call) t.tree.map)).effect (key_of f.job.call) t.event t.brings
+
+        longer : (w : WaitingValue) → 1024 ≤ length w.events → 1024 ≤ held w
+        longer w h = omega arith
+
+        go : (o : Option WaitingValue) → queue_at old.queues t.subscriber ≡ o → option_map queue_of o ≡ Some t.queue → MeetsFullFor f old.queues
+        go None is e = none_some e
+        go (Some w) is e = record {
+          subscriber = t.subscriber;
+          queue = w;
+          there = is;
+          matching = subst (λ k. waits_for f.job.tree.number k w ≡ true) key (subst (λ n. waits_for n (key_of_event t.event) w ≡ true) number (subst (λ (z : Queue). matches t.tree.number t.event z ≡ true) (sym (some_is e)) t.matching));
+          full = longer w (subst (λ (z : Queue). 1024 ≤ length z.events) (sym (some_is e)) t.full);
+        }
+
+    -- what the call comes to at a leaf that stands as it was read is what it comes to by the map
+    module _ (view : View) (knows : Knows at db.forest (course_of f) (stage.Act view)) (node : Node) (page : (now (store old.pages)).pages view.pid ≡ Some (record { version = view.version; node = node })) where
+      read_event : (answer_of operator f.job.call tree_now.map).event ≡ event_of (decision_at operator f.job.call view.node.content).effect (key_of f.job.call)
+      read_event = ap (λ v. event_of (decision_of operator f.job.call v).effect (key_of f.job.call))
+          (answers db.is f.job.tree.name f.job.tree.number (key_of f.job.call) view node (subst (λ aim. IsActing at db.forest f.job.tree.name f.job.tree.number aim view) knows.2 knows.0.0) (record { named = named_now; page = page }))
+
+      some_event : (event : Event) × (event_of (decision_at operator f.job.call view.node.content).effect (key_of f.job.call) ≡ Some event)
+      some_event = go (decision_at operator f.job.call view.node.content).effect (links_law operator f.job.call (value_at view.node.content (key_of f.job.call)) knows.1)
+        where
+          go : (e : Effect) → e ≢ effect.Nothing → (event : Event) × (event_of e (key_of f.job.call) ≡ Some event)
+          go effect.Nothing off = absurd (off refl)
+          go (effect.Set v) off = (_, refl)
+          go effect.Remove off = (_, refl)
+
+      meets_here : MeetsFullFor f old.queues → MeetsFullQueue (db_state store meant old) f.job.tree f.job.call
+      meets_here full = record {
+        tree = tree_now;
+        there = there;
+        event = some_event.0;
+        brings = read_event ∙ some_event.1;
+        subscriber = full.subscriber;
+        queue = queue_of full.queue;
+        waits = ap (option_map queue_of) full.there;
+        matching = subst (λ k. waits_for f.job.tree.number k full.queue ≡ true) (sym (event_key (decision_at operator f.job.call view.node.content).effect (key_of f.job.call) some_event.0 some_event.1)) full.matching;
+        full = calmly full.queue.events full.queue.coming (db.calm.none full.subscriber full.queue full.there) full.full;
+      }
+        where
+          calmly : (xs ys : List Event) → ys ≡ [] → 1024 ≤ length xs + length ys → 1024 ≤ length xs
+          calmly xs ys none h = let l = ap length none in omega (arith, l, h)
+
+    module _ (q : P) (queues : QueuesValue) (known : IsKnown at f) where
       abbrev after : Snapshot
       after = snapshot_of_db store (record old { pages = q })
 
       abbrev new : DbValue P M
-      new = record old { pages = q }
+      new = record old { pages = q; queues = queues }
 
       -- the database is as it should be
-      is_db : (v : Forest) {mine own : List ℕ} → KeepsForest mine own at db.forest after v → IsCrashConsistent (store q) → (store q).mark ≡ (store old.pages).mark → IsDb store new
-      is_db v a safe mark = record { forest = v; is = a.is; sized = a.sized db.sized; safe = safe; ascends = db.ascends; default = db.default; ungiven = db.ungiven; unwatched = db.unwatched; ids = subst (λ m. old.greatest_id ≤ m) (sym mark) db.ids }
+      is_db : (v : Forest) {mine own : List ℕ} → KeepsForest mine own at db.forest after v → IsCrashConsistent (store q) → (store q).mark ≡ (store old.pages).mark → IsCalm (queue_at queues) → IsDb store new
+      is_db v a safe mark calm = record { forest = v; is = a.is; sized = a.sized db.sized; safe = safe; ascends = db.ascends; default = db.default; ungiven = db.ungiven; calm = calm; ids = subst (λ m. old.greatest_id ≤ m) (sym mark) db.ids }
+
+      calm_still : Becomes (queue_at old.queues) old.queues.given queues → IsCalm (queue_at queues)
+      calm_still keeps = subst IsCalm (sym keeps.held) db.calm
 
       -- no group is open
       no_group : (now (store old.pages)).in_group ≡ false
@@ -271,7 +390,7 @@ module _ {P M : Type 0} (store : P → Store) (meant : M → Merge) (old : DbVal
       whole v a (inr o) = valid_law o.action (store old.pages) (store q) (once_adds o) db.safe (λ no_group. well v a)
 
       -- the call goes on
-      module _ (fits : f.turns < turns_limit) (g : InFlight) (job : g.job ≡ f.job) (aim : g.aim ≡ f.aim) (turns : g.turns ≡ f.turns + 1) (moves : StageActionBy (Only operator) (course_of f) (store old.pages) f.stage (next.Go g.stage) (store q)) (further : StepsOnPath (now (store old.pages)) f Moved (now (store q)) g) (follows : FollowsOn (store old.pages) f Moved (store q) g) where
+      module _ (fits : f.turns < turns_limit) (g : InFlight) (job : g.job ≡ f.job) (aim : g.aim ≡ f.aim) (turns : g.turns ≡ f.turns + 1) (moves : StageActionBy (Only operator) (course_of f) (store old.pages) f.stage (next.Go g.stage) (store q)) (further : FindsRoom (db_state store meant old) f → StepsOnPath (now (store old.pages)) f Moved (now (store q)) g) (follows : MeetsNoFullQueue (db_state store meant old) f → FollowsOn (store old.pages) f Moved (store q) g) (keeps : Becomes (queue_at old.queues) old.queues.given queues) (room : DbFindsRoom store meant old f Moved new g) where
         moved : (v : Forest) × KeepsForest (owned f.stage) (owned g.stage) at db.forest after v × (Knows after v (course_of f) g.stage × KeepsContents at db.forest after v) × LeaksNoPage (owned f.stage) (owned g.stage) (now (store old.pages)) (now (store q)) v
         moved = moves.is (numbers_of old.trees) (given_to old.trees_given) db.forest db.is named_now (known.is db.forest db.is)
 
@@ -284,8 +403,8 @@ module _ {P M : Type 0} (store : P → Store) (meant : M → Merge) (old : DbVal
         moved_extends : AddsCrashStates [] (store old.pages) (store q)
         moved_extends = extends_unseen (store old.pages) (store q) moves.touches no_group (moved_touches.no_group ∙ no_group) (well moved.0 moved.1) moved_trees
 
-        pub moved_db : IsDb store (record old { pages = q })
-        moved_db = is_db moved.0 moved.1 (whole moved.0 moved.1 moves.touches) moved_touches.mark
+        pub moved_db : IsDb store new
+        moved_db = is_db moved.0 moved.1 (whole moved.0 moved.1 moves.touches) moved_touches.mark (calm_still keeps)
 
         flying_more : call_in_flight_of g ≡ record (call_in_flight_of f) { turns = f.turns + 1 }
         flying_more = λ i. record { tree = (job i).tree; call = (job i).call; turns = turns i; waiting = []; rest = None }
@@ -317,7 +436,7 @@ module _ {P M : Type 0} (store : P → Store) (meant : M → Merge) (old : DbVal
                   here = here;
                   free = must;
                   fits = fits;
-                  is = state_over q slots (put_at slots slot (Some (call_in_flight_of g))) given (λ t i. moved_trees i t) moved_touches.no_group moved_touches.mark
+                  is = state_over q queues keeps slots (put_at slots slot (Some (call_in_flight_of g))) given (λ t i. moved_trees i t) moved_touches.no_group moved_touches.mark
                       ∙ ap (λ (z : CallInFlight). record (state_of store meant old slots given) { slots = put_at slots slot (Some z) }) flying_more;
                 },
                 refl,
@@ -325,11 +444,13 @@ module _ {P M : Type 0} (store : P → Store) (meant : M → Merge) (old : DbVal
             };
             extends = moved_extends;
             same = refl;
+            queues = keeps;
           };
           sound = record { keeps = λ d. moved_db };
           does = record { does = moves.touches; quiet = λ k. absurd (apart k.reply k.decided); loud = λ event k. absurd (apart k.reply k.decided) };
-          follows = λ must fits. follows;
+          follows = λ must fits free. follows free;
           passes = further;
+          room = room;
           loses = loses_acting at after db.forest moved.0 db.is moved.1;
           leaves = λ u is. subst (λ (z : Forest). LeaksNoPage (owned f.stage) (owned g.stage) (now (store old.pages)) (now (store q)) z) (one_law (nodes_at after) after.state.roots moved.0 u moved.1.is.formed is.formed) moved.3;
           knows = record {
@@ -341,13 +462,13 @@ module _ {P M : Type 0} (store : P → Store) (meant : M → Merge) (old : DbVal
             apart : (r : Reply) → Moved ≡ Decided r → ⊥
             apart r e = cc
 
-      -- the call is refused by the store
-      module _ (fits : f.turns < turns_limit) (g : InFlight) (e : Error) (moves : StageActionBy (Only operator) (course_of f) (store old.pages) f.stage (next.Refused e) (store q)) (follows : FollowsOn (store old.pages) f (Refused e) (store q) g) where
+      -- the call is refused, and the store does what it does where it refuses an action
+      module _ (fits : f.turns < turns_limit) (g : InFlight) (e d : Error) (moves : StageActionBy (Only operator) (course_of f) (store old.pages) f.stage (next.Refused d) (store q)) (quietly : IsStepRefused e (store old.pages) (store q)) (cause : (slots : ℕ → Option CallInFlight) (given : ℕ) → cause_of (state_of store meant old slots given) (store old.pages) (store q) (ToStep (call_in_flight_of f)) e) (follows : MeetsNoFullQueue (db_state store meant old) f → FollowsOn (store old.pages) f (Refused e) (store q) g) (keeps : Becomes (queue_at old.queues) old.queues.given queues) (room : DbFindsRoom store meant old f (Refused e) new g) where
         refused : (v : Forest) × KeepsForest (owned f.stage) [] at db.forest after v × KeepsContents at db.forest after v × Unit {0}
         refused = moves.is (numbers_of old.trees) (given_to old.trees_given) db.forest db.is named_now (known.is db.forest db.is)
 
         rests : Rests (store old.pages) (store q)
-        rests = rests_refused e (store old.pages) (store q) moves.touches
+        rests = rests_refused d (store old.pages) (store q) moves.touches
 
         refused_extends : AddsCrashStates [] (store old.pages) (store q)
         refused_extends = rests_extends rests
@@ -355,8 +476,8 @@ module _ {P M : Type 0} (store : P → Store) (meant : M → Merge) (old : DbVal
         refused_calm : (now (store q)).in_group ≡ (now (store old.pages)).in_group
         refused_calm = ap (λ (s : Rattle.sled_pages.specs.State.State). s.in_group) (now_rests rests)
 
-        pub refused_db : IsDb store (record old { pages = q })
-        refused_db = is_db refused.0 refused.1 (record { whole = λ x i. db.safe.whole x (subst (In x) (rests_left rests) i) }) rests.mark
+        pub refused_db : IsDb store new
+        refused_db = is_db refused.0 refused.1 (record { whole = λ x i. db.safe.whole x (subst (In x) (rests_left rests) i) }) rests.mark (calm_still keeps)
 
         pub flies_refused : DbStepContract store meant old f (Refused e) new g
         flies_refused = record {
@@ -366,20 +487,22 @@ module _ {P M : Type 0} (store : P → Store) (meant : M → Merge) (old : DbVal
                 record {
                   flying = call_in_flight_of f;
                   here = here;
-                  may = may_refuse store meant old f must slots given (store old.pages) (store q) e (cause_is (state_of store meant old slots given) (call_in_flight_of f) e (store old.pages) (store q) moves.touches);
+                  may = may_refuse store meant old f must slots given (store old.pages) (store q) e (cause slots given);
                   limit = λ none all. absurd (below f.turns fits all);
-                  is = state_over q slots (put_at slots slot None) given (λ t. ap (λ (s : Rattle.sled_pages.specs.State.State). trees_of s t) (now_rests rests)) refused_calm rests.mark;
+                  is = state_over q queues keeps slots (put_at slots slot None) given (λ t. ap (λ (s : Rattle.sled_pages.specs.State.State). trees_of s t) (now_rests rests)) refused_calm rests.mark;
                 },
                 refl,
               );
             };
             extends = refused_extends;
             same = refl;
+            queues = keeps;
           };
           sound = record { keeps = λ d. refused_db };
-          does = record { does = refuses_quietly e (store old.pages) (store q) moves.touches; quiet = λ k. absurd (apart k.reply k.decided); loud = λ event k. absurd (apart k.reply k.decided) };
-          follows = λ must fits. follows;
-          passes = record { is = tt };
+          does = record { does = quietly; quiet = λ k. absurd (apart k.reply k.decided); loud = λ event k. absurd (apart k.reply k.decided) };
+          follows = λ must fits free. follows free;
+          passes = λ finds. record { is = tt };
+          room = room;
           loses = loses_acting at after db.forest refused.0 db.is refused.1;
           leaves = λ v is. tt;
           knows = record { goes_on = λ e. absurd (off e); others = λ h a k. (known_kept db.is refused.1 h k a.off, λ e. absurd (off e)) };
@@ -395,7 +518,7 @@ module _ {P M : Type 0} (store : P → Store) (meant : M → Merge) (old : DbVal
             below n h e = omega arith
 
       -- the call is decided
-      module _ (fits : f.turns < turns_limit) (g : InFlight) (reply : Reply) (moves : StageActionBy (Only operator) (course_of f) (store old.pages) f.stage (next.Decided reply) (store q)) (follows : FollowsOn (store old.pages) f (Decided reply) (store q) g) where
+      module _ (fits : f.turns < turns_limit) (g : InFlight) (reply : Reply) (moves : StageActionBy (Only operator) (course_of f) (store old.pages) f.stage (next.Decided reply) (store q)) (follows : MeetsNoFullQueue (db_state store meant old) f → FollowsOn (store old.pages) f (Decided reply) (store q) g) (tells : Told queues) (room : DbFindsRoom store meant old f (Decided reply) new g) where
         done : (v : Forest) × KeepsForest (owned f.stage) [] at db.forest after v × DecidesAs operator (course_of f) reply (store old.pages) (store q) at db.forest after v × LeaksNoPage (owned f.stage) [] (now (store old.pages)) (now (store q)) v
         done = let d = moves.is (numbers_of old.trees) (given_to old.trees_given) db.forest db.is named_now (known.is db.forest db.is) in (d.0, d.1, d.2 operator refl, d.3)
 
@@ -413,8 +536,8 @@ module _ {P M : Type 0} (store : P → Store) (meant : M → Merge) (old : DbVal
         done_extends : AddsCrashStates (trees_of (now (store q)) ∷ []) (store old.pages) (store q)
         done_extends = extends_seen (store old.pages) (store q) moves.touches (done_touches.no_group ∙ no_group) (well done.0 done.1)
 
-        pub decided_db : IsDb store (record old { pages = q })
-        decided_db = is_db done.0 done.1 (whole done.0 done.1 moves.touches) done_touches.mark
+        pub decided_db : IsDb store new
+        decided_db = is_db done.0 done.1 (whole done.0 done.1 moves.touches) done_touches.mark tells.calm
 
         -- the trees of the state, where that of the call is another
         named_trees : (t : Key) → named (numbers_of old.trees t) (trees_of (now (store q)) t) (λ n. option_map meant (find nat_cmp n old.operators))
@@ -438,14 +561,14 @@ module _ {P M : Type 0} (store : P → Store) (meant : M → Merge) (old : DbVal
         done_state slots given slot = λ i. record {
           name = old.name;
           trees = λ t. named_trees t i;
-          queues = λ n. no_queue old.queues f.job.tree.number answer.event n db.unwatched i;
+          queues = tells.is i;
           slots = put_at slots slot None;
           is_open = not (done_touches.no_group i);
           greatest_id = old.greatest_id;
           mark = done_touches.mark i;
           trees_given = old.trees_given;
           slots_given = given;
-          subscribers_given = old.subscribers_given;
+          subscribers_given = tells.count i;
         }
 
         same_maps : maps_of (db_state store meant new) ≡ trees_of (now (store q))
@@ -471,6 +594,7 @@ module _ {P M : Type 0} (store : P → Store) (meant : M → Merge) (old : DbVal
             };
             extends = subst (λ m. AddsCrashStates (m ∷ []) (store old.pages) (store q)) (sym same_maps) done_extends;
             same = refl;
+            queues = tells.count;
           };
           sound = record { keeps = λ d. decided_db };
           does = record {
@@ -478,16 +602,14 @@ module _ {P M : Type 0} (store : P → Store) (meant : M → Merge) (old : DbVal
             quiet = λ k. done.2.quiet (brought k.tree k.there ∙ k.is);
             loud = λ event k. done.2.loud (λ none. none_some (sym none ∙ brought k.tree k.there ∙ k.is));
           };
-          follows = λ must fits. follows;
-          passes = record { is = tt };
+          follows = λ must fits free. follows free;
+          passes = λ finds. record { is = tt };
+          room = room;
           loses = loses_acting at after db.forest done.0 db.is done.1;
           leaves = λ u is. subst (λ (z : Forest). LeaksNoPage (owned f.stage) [] (now (store old.pages)) (now (store q)) z) (one_law (nodes_at after) after.state.roots done.0 u done.1.is.formed is.formed) done.3;
           knows = record { goes_on = λ e. absurd (off e); others = λ h a k. (known_kept db.is done.1 h k a.off, λ e. absurd (off e)) };
         }
           where
-            some_is : {X : Type 0} {x y : X} → Some x ≡ Some y → x ≡ y
-            some_is e = cc
-
             -- the event by the map now
             brought : (t : NamedTree) → (db_state store meant old).trees f.job.tree.name ≡ Some t → answer.event ≡ (answer_of t.merge f.job.call t.map).event
             brought t there_too = ap (λ (t : NamedTree). (answer_of t.merge f.job.call t.map).event) (some_is (sym there ∙ there_too))
@@ -495,30 +617,153 @@ module _ {P M : Type 0} (store : P → Store) (meant : M → Merge) (old : DbVal
             off : Decided reply ≡ Moved → ⊥
             off e = cc
 
-      -- one step of the call, whatever comes of it
-      pub flies_on : (fits : f.turns < turns_limit) (went : Went) (g : InFlight) → FlightStepBy (Only operator) (store old.pages) f went (store q) g → StepsOnPath (now (store old.pages)) f went (now (store q)) g → FollowsOn (store old.pages) f went (store q) g → DbStepContract store meant old f went new g
-      flies_on fits Moved g a further follows = flies_moved fits g a.is.0 a.is.1 a.is.2 a.is.3 further follows
-      flies_on fits (Decided reply) g a further follows = flies_decided fits g reply a.is follows
-      flies_on fits (Refused e) g a further follows = flies_refused fits g e a.is follows
+      -- one step of the call over the pages, and what it told
+      module _ (fits : f.turns < turns_limit) (g : InFlight) where
+        abbrev Flown : Went → Type 0
+        Flown went = DbStepContract store meant old f went new g × IsDb store new
 
-      pub db_on : (fits : f.turns < turns_limit) (went : Went) (g : InFlight) → FlightStepBy (Only operator) (store old.pages) f went (store q) g → StepsOnPath (now (store old.pages)) f went (now (store q)) g → FollowsOn (store old.pages) f went (store q) g → IsDb store (record old { pages = q })
-      db_on fits Moved g a further follows = moved_db fits g a.is.0 a.is.1 a.is.2 a.is.3 further follows
-      db_on fits (Decided reply) g a further follows = decided_db fits g reply a.is follows
-      db_on fits (Refused e) g a further follows = refused_db fits g e a.is follows
+        no_room : {X : Type 0} → HasRoomFor f old.queues → MeetsFullFor f old.queues → X
+        no_room = room_full f.job.tree.number (key_of f.job.call) (queue_at old.queues)
+
+        -- the event of a change that was linked is the one by the map now
+        linked_event : (view : View) → f.stage ≡ stage.Act view → (reply : Reply) → FollowsOn (store old.pages) f (Decided reply) (store q) g → (answer_of operator f.job.call tree_now.map).event ≡ event_of (decision_at operator f.job.call view.node.content).effect (key_of f.job.call)
+        linked_event view here reply follows =
+            let p = linked_page (course_of f) (store old.pages) (store q) view reply (subst (λ z. Follows (course_of f) (store old.pages) z (next.Decided reply) (store q)) here follows.is) in
+            read_event view (subst (Knows at db.forest (course_of f)) here (known.is db.forest db.is)) p.0 p.1
+
+        told_decided : (reply : Reply) → StepsBy operator (store old.pages) f (Decided reply) (store q) g → told_by operator f f.stage old.queues queues → Told queues
+        told_decided reply steps t = elim (decided_law (course_of f) (store old.pages) (store q) f.stage reply steps.follows.is) [
+          | inl quiet ↦ told_now queues None (silent quiet.1 (answer_of operator f.job.call tree_now.map).event refl) (read_tells f.stage quiet.0 t)
+          | inr here ↦ told_now queues _ (linked_event here.0 here.1 reply steps.follows) (subst (λ z. told_by operator f z old.queues queues) here.1 t)
+        ]
+          where
+            read_tells : (s : Stage) → IsReading s → told_by operator f s old.queues queues → Becomes (queue_at old.queues) old.queues.given queues
+            read_tells (stage.Act view) r t = absurd r
+            read_tells other r t = t
+
+            silent : store q ≡ store old.pages → (o : Option Event) → (answer_of operator f.job.call tree_now.map).event ≡ o → (answer_of operator f.job.call tree_now.map).event ≡ None
+            silent same None e = e
+            silent same (Some event) e =
+                let d = steps.advances.is.is (numbers_of old.trees) (given_to old.trees_given) db.forest db.is named_now (known.is db.forest db.is) in
+                acts_not (store old.pages) (store q) same ((d.2 operator refl).loud (λ none. none_some (sym none ∙ e)))
+
+        over : (went : Went) → StepsOver operator (store old.pages) old.queues f went (store q) queues g → Flown went
+        over Moved s = (
+          flies_moved fits g s.steps.advances.is.0 s.steps.advances.is.1 s.steps.advances.is.2 s.steps.advances.is.3 (λ finds. s.steps.passes) (λ free. s.steps.follows) s.tells room,
+          moved_db fits g s.steps.advances.is.0 s.steps.advances.is.1 s.steps.advances.is.2 s.steps.advances.is.3 (λ finds. s.steps.passes) (λ free. s.steps.follows) s.tells room,
+        )
+          where
+            room : DbFindsRoom store meant old f Moved new g
+            room = record {
+              room = λ moved. record { is = λ view here met. no_room (s.room refl view here) (meets_for (subst (λ (j : Job). MeetsFullQueue (db_state store meant old) j.tree j.call) s.steps.advances.is.0 met)) };
+              back = λ must fits view here met. s.back view here (meets_for met);
+            }
+        over (Decided reply) s = (
+          flies_decided fits g reply s.steps.advances.is (λ free. s.steps.follows) (told_decided reply s.steps s.tells) room,
+          decided_db fits g reply s.steps.advances.is (λ free. s.steps.follows) (told_decided reply s.steps s.tells) room,
+        )
+          where
+            room : DbFindsRoom store meant old f (Decided reply) new g
+            room = record { room = λ moved. decided_moved moved; back = λ must fits view here met. s.back view here (meets_for met) }
+        over (Refused e) s = (
+          flies_refused fits g e e s.steps.advances.is (refuses_quietly e (store old.pages) (store q) s.steps.advances.is.touches) (λ slots given. cause_is (state_of store meant old slots given) (call_in_flight_of f) e (store old.pages) (store q) s.steps.advances.is.touches) (λ free. s.steps.follows) s.tells room,
+          refused_db fits g e e s.steps.advances.is (refuses_quietly e (store old.pages) (store q) s.steps.advances.is.touches) (λ slots given. cause_is (state_of store meant old slots given) (call_in_flight_of f) e (store old.pages) (store q) s.steps.advances.is.touches) (λ free. s.steps.follows) s.tells room,
+        )
+          where
+            room : DbFindsRoom store meant old f (Refused e) new g
+            room = record { room = λ moved. refused_moved moved; back = λ must fits view here met. s.back view here (meets_for met) }
+
+        -- a full queue sends the call back
+        turned : TurnsBack (store old.pages) old.queues f Moved (store q) queues (begun_again f) → DbStepContract store meant old f Moved new (begun_again f) × IsDb store new
+        turned t = (
+          flies_moved fits (begun_again f) refl refl refl moves further follows (same_queues old.queues queues t.queues) room,
+          moved_db fits (begun_again f) refl refl refl moves further follows (same_queues old.queues queues t.queues) room,
+        )
+          where
+            knows : Knows at db.forest (course_of f) (stage.Act t.view)
+            knows = subst (Knows at db.forest (course_of f)) t.here (known.is db.forest db.is)
+
+            moves : StageActionBy (Only operator) (course_of f) (store old.pages) f.stage (next.Go stage.Root) (store q)
+            moves = subst (λ b. StageActionBy (Only operator) (course_of f) (store old.pages) f.stage (next.Go stage.Root) b) (sym t.same)
+                (subst (λ z. StageActionBy (Only operator) (course_of f) (store old.pages) z (next.Go stage.Root) (store old.pages)) (sym t.here)
+                (by_these (course_of f) (store old.pages) (store old.pages) (stage.Act t.view) (next.Go stage.Root) (restarts (course_of f) (store old.pages) (stage.Act t.view) (λ q i. i))))
+
+            further : FindsRoom (db_state store meant old) f → StepsOnPath (now (store old.pages)) f Moved (now (store q)) (begun_again f)
+            further finds = record {
+              is = λ path on.
+                  let k = subst (λ z. IsOnPath (now (store old.pages)) (course_of f) z path) t.here on in
+                  absurd (finds.is t.view t.here (meets_here t.view knows t.view.node k.1 t.full));
+            }
+
+            -- another call was there first, since by the map now there is no event for a full queue
+            stale_at : MeetsNoFullQueue (db_state store meant old) f → version_now (store old.pages) t.view.pid ≡ Some t.view.version → ⊥
+            stale_at free same = go ((now (store old.pages)).pages t.view.pid) refl same
+              where
+                go : (o : Option Page) → (now (store old.pages)).pages t.view.pid ≡ o → option_map (λ (p : Page). p.version) o ≡ Some t.view.version → ⊥
+                go None is e = none_some e
+                go (Some p) is e = free (meets_here t.view knows p.node (is ∙ ap (λ v. Some (record { version = v; node = p.node })) (some_is e)) t.full)
+
+            follows : MeetsNoFullQueue (db_state store meant old) f → FollowsOn (store old.pages) f Moved (store q) (begun_again f)
+            follows free = record {
+              is = subst (λ b. Follows (course_of f) (store old.pages) f.stage (next.Go stage.Root) b) (sym t.same) (subst (λ z. Follows (course_of f) (store old.pages) z (next.Go stage.Root) (store old.pages)) (sym t.here) (record {
+                is = inl (record { operator = operator; is = go (link_of (decision_at operator f.job.call t.view.node.content).effect (key_of f.job.call)) });
+              }));
+            }
+              where
+                go : (l : Option Link) → MatchOption l ((store old.pages ≡ store old.pages) × (next.Go stage.Root ≡ next.Go stage.Root)) (λ link. TakesWay (after_link link) t.view.pid t.view.version (store old.pages) (store old.pages) (next.Go stage.Root) (λ _. next.Decided (decision_at operator f.job.call t.view.node.content).reply) (λ _. next.Go stage.Root))
+                go None = (refl, refl)
+                go (Some l) = inr (version_now (store old.pages) t.view.pid, record { is = (refl, refl, stale_at free) }, refl)
+
+            room : DbFindsRoom store meant old f Moved new (begun_again f)
+            room = record { room = λ moved. record { is = λ view here. root_act here }; back = λ must fits view here met. (refl, t.same) }
+
+        -- .. or refuses it
+        met_full : MeetsFullThere operator (store old.pages) old.queues f (Refused error.FullQueue) (store q) queues g → Flown (Refused error.FullQueue)
+        met_full t = (
+          flies_refused fits g error.FullQueue error.NoMemory moves came.0 (λ slots given. met slots given) (λ free. absurd (free there_now)) (same_queues old.queues queues t.queues) room,
+          refused_db fits g error.FullQueue error.NoMemory moves came.0 (λ slots given. met slots given) (λ free. absurd (free there_now)) (same_queues old.queues queues t.queues) room,
+        )
+          where
+            came : (store q ≡ store old.pages) × IsUnchanged (now (store q)) t.view
+            came = change_law (course_of f) (store old.pages) (store q) f.stage t.view (subst (λ z. Follows (course_of f) (store old.pages) f.stage (next.Go z) (store q)) t.here t.steps.follows.is)
+
+            moves : StageActionBy (Only operator) (course_of f) (store old.pages) f.stage (next.Refused error.NoMemory) (store q)
+            moves = by_these (course_of f) (store old.pages) (store q) f.stage (next.Refused error.NoMemory) (refused_action (course_of f) (store old.pages) (store q) f.stage error.NoMemory (record { is = came.0 }))
+
+            knows : Knows at db.forest (course_of f) (stage.Act t.view)
+            knows =
+                let m = t.steps.advances.is.3.is (numbers_of old.trees) (given_to old.trees_given) db.forest db.is named_now (known.is db.forest db.is) in
+                subst (Knows at db.forest (course_of f)) t.here (go (store q) came.0 m.0 m.1.is m.2.0)
+              where
+                go : (b : Store) → b ≡ store old.pages → (v : Forest) → HasForest (snapshot_of b (numbers_of old.trees) (given_to old.trees_given)) v → Knows (snapshot_of b (numbers_of old.trees) (given_to old.trees_given)) v (course_of f) g.stage → Knows at db.forest (course_of f) g.stage
+                go b same v is k =
+                    let has = subst (λ (z : Store). HasForest (snapshot_of z (numbers_of old.trees) (given_to old.trees_given)) v) same is in
+                    subst (λ (w : Forest). Knows at w (course_of f) g.stage) (one_law (nodes_at at) at.state.roots v db.forest has.formed db.is.formed) (subst (λ (z : Store). Knows (snapshot_of z (numbers_of old.trees) (given_to old.trees_given)) v (course_of f) g.stage) same k)
+
+            there_now : MeetsFullQueue (db_state store meant old) f.job.tree f.job.call
+            there_now = meets_here t.view knows t.view.node (subst (λ (z : Store). IsUnchanged (now z) t.view) came.0 came.1) t.full
+
+            met : (slots : ℕ → Option CallInFlight) (given : ℕ) → MeetsFullQueue (state_of store meant old slots given) f.job.tree f.job.call
+            met slots given = let m = there_now in record { tree = m.tree; there = m.there; event = m.event; brings = m.brings; subscriber = m.subscriber; queue = m.queue; waits = m.waits; matching = m.matching; full = m.full }
+
+            room : DbFindsRoom store meant old f (Refused error.FullQueue) new g
+            room = record { room = λ moved. refused_moved moved; back = λ must fits view here met. absurd (t.off view here) }
+
+        -- one step of the call, whatever comes of it
+        pub flown : (went : Went) → AdvancesOver operator (store old.pages) old.queues f went (store q) queues g → Flown went
+        flown went a = elim a.is [
+          | inl s ↦ over went s
+          | inr (inl t) ↦ subst (λ w. Flown w) (sym t.out) (subst (λ (h : InFlight). DbStepContract store meant old f Moved new h × IsDb store new) (sym t.is) (turned (record { view = t.view; here = t.here; full = t.full; out = refl; same = t.same; queues = t.queues; is = refl })))
+          | inr (inr t) ↦ subst (λ w. Flown w) (sym t.out) (met_full (record { off = t.off; steps = t.steps; view = t.view; here = t.here; full = t.full; out = refl; queues = t.queues }))
+        ]
 
 -- the same, where a method knows the database by its fields
 module _ {P M : Type 0} (store : P → Store) (meant : M → Merge) (inside old : DbValue P M) (e : inside ≡ old) (db : IsDb store inside) (f : InFlight) where
-  pub flies_as : (q : P) (fits : f.turns < turns_limit) (went : Went) (g : InFlight) → must_refuse (db_state store meant old) (ToStep (call_in_flight_of f)) ≡ None → IsKnown (snapshot_of_db store old) f
-      → FlightStepBy (Only (option_map meant (find nat_cmp f.job.tree.number inside.operators))) (store inside.pages) f went (store q) g → StepsOnPath (now (store inside.pages)) f went (now (store q)) g → FollowsOn (store inside.pages) f went (store q) g → DbStepContract store meant old f went (record inside { pages = q }) g
-  flies_as q fits went g must known a further follows =
-      subst (λ (z : DbValue P M). must_refuse (db_state store meant z) (ToStep (call_in_flight_of f)) ≡ None → IsKnown (snapshot_of_db store z) f → DbStepContract store meant z f went (record inside { pages = q }) g)
-      e (λ must known. flies_on store meant inside db f must q known fits went g a further follows) must known
-
-  pub db_as : (q : P) (fits : f.turns < turns_limit) (went : Went) (g : InFlight) → must_refuse (db_state store meant old) (ToStep (call_in_flight_of f)) ≡ None → IsKnown (snapshot_of_db store old) f
-      → FlightStepBy (Only (option_map meant (find nat_cmp f.job.tree.number inside.operators))) (store inside.pages) f went (store q) g → StepsOnPath (now (store inside.pages)) f went (now (store q)) g → FollowsOn (store inside.pages) f went (store q) g → IsDb store (record inside { pages = q })
-  db_as q fits went g must known a further follows =
-      subst (λ (z : DbValue P M). must_refuse (db_state store meant z) (ToStep (call_in_flight_of f)) ≡ None → IsKnown (snapshot_of_db store z) f → IsDb store (record inside { pages = q }))
-      e (λ must known. db_on store meant inside db f must q known fits went g a further follows) must known
+  pub flown_as : (q : P) (queues : QueuesValue) (fits : f.turns < turns_limit) (went : Went) (g : InFlight) → must_refuse (db_state store meant old) (ToStep (call_in_flight_of f)) ≡ None → IsKnown (snapshot_of_db store old) f
+      → AdvancesOver (option_map meant (find nat_cmp f.job.tree.number inside.operators)) (store inside.pages) inside.queues f went (store q) queues g → DbStepContract store meant old f went (record inside { pages = q; queues = queues }) g × IsDb store (record inside { pages = q; queues = queues })
+  flown_as q queues fits went g must known a =
+      subst (λ (z : DbValue P M). must_refuse (db_state store meant z) (ToStep (call_in_flight_of f)) ≡ None → IsKnown (snapshot_of_db store z) f → DbStepContract store meant z f went (record inside { pages = q; queues = queues }) g × IsDb store (record inside { pages = q; queues = queues }))
+      e (λ must known. flown store meant inside db f must q queues known fits g went a) must known
 
 -- below the limit
 pub below_limit : (f : InFlight) → f.turns ≤ MAX_LOOPS → f.turns ≢ MAX_LOOPS → f.turns < turns_limit
@@ -526,15 +771,16 @@ below_limit f h off = let l = limit_is in omega arith
 
 -- ---- a call that goes on
 
-some_is : {X : Type 0} {x y : X} → Some x ≡ Some y → x ≡ y
-some_is e = cc
-
 abbrev pub everywhere : InFlight → ℕ → Option CallInFlight
 everywhere f n = Some (call_in_flight_of f)
 
 module _ {P M : Type 0} (store : P → Store) (meant : M → Merge) (old new : DbValue P M) (f g : InFlight) (flies : DbStepContract store meant old f Moved new g) where
   pub went_on : Rattle.sled_model.specs.Transition.Move (state_of store meant old (everywhere f) 0) 0 (state_of store meant new (put_at (everywhere f) 0 (Some (call_in_flight_of g))) 0)
   went_on = (flies.step.steps (everywhere f) 0 0 0 0 refl).is.0
+
+  -- a step that goes on changes no state
+  pub moved_state : db_state store meant new ≡ db_state store meant old
+  moved_state = ap (λ (s : State). record s { slots = λ n. None; slots_given = 0 }) went_on.is
 
   -- the tests pass still
   pub still_tested : must_refuse (db_state store meant old) (ToStep (call_in_flight_of f)) ≡ None → must_refuse (db_state store meant new) (ToStep (call_in_flight_of g)) ≡ None
@@ -595,12 +841,12 @@ module _ {P M : Type 0} (store : P → Store) (meant : M → Merge) (old new : D
 
 -- over a clean path a call goes on at most once a page
 module _ {P M : Type 0} (store : P → Store) (meant : M → Merge) where
-  prompt : (n : ℕ) (old new : DbValue P M) (f g : InFlight) (went : Went) → DbSteps store meant n old f went new g → (path : List ℕ) → IsOnPath (now (store old.pages)) (course_of f) f.stage path → f.turns + length path < turns_limit → TakesAtMost n went path
-  prompt zero old new f g went (Ends flies off) path on fits = record { fits = omega arith; unlimited = ends_with_turns store meant old new f g went flies (omega arith) }
-  prompt (suc n) old new f g went (GoesOn {mid = mid} {h = h} flies db rest) path on fits =
-      let p = flies.passes.is path on in
+  prompt : (n : ℕ) (old new : DbValue P M) (f g : InFlight) (went : Went) → DbSteps store meant n old f went new g → FindsRoom (db_state store meant old) f → (path : List ℕ) → IsOnPath (now (store old.pages)) (course_of f) f.stage path → f.turns + length path < turns_limit → TakesAtMost n went path
+  prompt zero old new f g went (Ends flies off) finds path on fits = record { fits = omega arith; unlimited = ends_with_turns store meant old new f g went flies (omega arith) }
+  prompt (suc n) old new f g went (GoesOn {mid = mid} {h = h} flies db rest) finds path on fits =
+      let p = (flies.passes finds).is path on in
       let turns = (turn_taken store meant old mid f h flies).1 in
-      let k = prompt n mid new h g went rest p.0 p.2 (fewer f.turns h.turns (length path) (length p.0) turns p.1 fits) in record {
+      let k = prompt n mid new h g went rest (subst (λ s. FindsRoom s h) (sym (moved_state store meant old mid f h flies)) (flies.room.room refl)) p.0 p.2 (fewer f.turns h.turns (length path) (length p.0) turns p.1 fits) in record {
         fits = more n (length p.0) (length path) p.1 k.fits;
         unlimited = k.unlimited;
       }

@@ -3,6 +3,7 @@ pub mod Resting
 pub mod Testing
 pub mod Trees
 pub mod Operating
+pub mod Watching
 pub mod Flying
 pub mod Conducting
 pub mod Flushing
@@ -11,8 +12,10 @@ pub mod Reopening
 pub mod Reading
 pub mod Scanning
 pub mod Popping
+pub mod Fetching
 pub mod Naming
 pub mod Numbering
 pub mod Planting
+pub mod Importing
 pub mod Dropping
 pub mod Removing

@@ -20,6 +20,8 @@ use Rattle.tree_laws.specs.Crashes.{IsCrashConsistent}
 use Rattle.tree_laws.specs.Forest.{IsSized}
 use Rattle.tree_laws.specs.Snapshot.{Snapshot, snapshot_of, HasForest, nodes_at}
 use Rattle.tree_laws.proofs.Crashing.{extends_nothing, same_left}
+use Rattle.sled_queues.specs.Values.{queue_at}
+use Rattle.sled_queues.specs.Queues.{queues_of}
 use Rattle.sled.specs.Values.{DbValue, named, numbers_of, given_to, state_of, snapshot_of_db}
 use Rattle.sled.specs.Sound.{IsDb}
 use Rattle.sled.specs.Direct.{KeepsOrFreesTreePages, LeavesAll, effect_of_whole, WholeDecided, WholeRefused}
@@ -57,7 +59,7 @@ module _ {P M : Type 0} (store : P → Store) (meant : M → Merge) (old : DbVal
       ascends = db.ascends;
       default = db.default;
       ungiven = db.ungiven;
-      unwatched = db.unwatched;
+      calm = db.calm;
       ids = subst (λ (s : Store). id ≤ s.mark) (sym e) aside;
     }
 
@@ -65,14 +67,14 @@ module _ {P M : Type 0} (store : P → Store) (meant : M → Merge) (old : DbVal
     state_taken slots given i = record {
       name = old.name;
       trees = λ t. named (numbers_of old.trees t) (trees_of (now (e i)) t) (λ n. option_map meant (find nat_cmp n old.operators));
-      queues = λ n. find nat_cmp n old.queues;
+      queues = queues_of (queue_at old.queues);
       slots = slots;
       is_open = not (now (e i)).in_group;
       greatest_id = id;
       mark = (e i).mark;
       trees_given = old.trees_given;
       slots_given = given;
-      subscribers_given = old.subscribers_given;
+      subscribers_given = old.queues.given;
     }
 
     left_taken : crash_states (store q) ≡ crash_states (store old.pages)
@@ -116,7 +118,7 @@ module _ {P M : Type 0} (store : P → Store) (meant : M → Merge) (old : DbVal
       ascends = db.ascends;
       default = db.default;
       ungiven = db.ungiven;
-      unwatched = db.unwatched;
+      calm = db.calm;
       ids = subst (λ m. old.greatest_id ≤ m) (sym r.mark) db.ids;
     };
   }

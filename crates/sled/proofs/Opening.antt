@@ -20,6 +20,7 @@ use Rattle.sled_pages.specs.declared.node.Node.{Node}
 use Rattle.sled_pages.specs.declared.node.Data.TheVariants as kind
 use Rattle.sled_pages.specs.declared.page.Page.{Page}
 use Rattle.sled_model.specs.Maps.{Map, Maps}
+use Rattle.sled_model.specs.State.{default_name}
 use Rattle.tree_laws.specs.Forest.{Tree, Forest, Place, WellFormed, IsSized, contents}
 use Rattle.tree_laws.specs.Contents.{trees_of}
 use Rattle.tree_laws.specs.Crashes.{IsValid, IsCrashConsistent, AddsCrashStates, Flushes}
@@ -32,7 +33,9 @@ use Rattle.tree_laws.proofs.Order.{key_same}
 use Rattle.tree_laws.proofs.Roots.{plant_law}
 use Rattle.tree_laws.proofs.Fuel.{contents_law}
 use Rattle.sled.specs.declared.TheConstants.{DEFAULT_TREE}
-use Rattle.sled.specs.Values.{DbValue, default_name, numbers_of, given_to, snapshot_of_db}
+use Rattle.sled.specs.Values.{DbValue, numbers_of, given_to, snapshot_of_db}
+use Rattle.sled_queues.specs.Values.{WaitingValue, Waitings}
+use Rattle.sled_queues.specs.Queues.{Becomes, no_queues}
 use Rattle.sled.specs.Sound.{IsDb}
 use Rattle.sled.specs.Opens.{or_empty, with_tree, planted, MakesTree, StopsMaking, numbered, IsOnePage, CanBeOpened, RefusesTree, Opens}
 use Rattle.sled.specs.theory.Opens.{HasTree, AreNumbered}
@@ -434,7 +437,7 @@ module _ (s : Store) {trees : List (Key × ℕ)} (all : AreNumbered (now s) tree
       within : (n m given : ℕ) → 0 < n → n ≤ 0 + m → given ≡ m → given_to given n ≡ true
       within n m given p q e = grind (arith, nat_tests)
 
-  pub opened_db : {P M : Type 0} (store : P → Store) (d : DbValue P M) → d.trees ≡ trees → d.trees_given ≡ length trees → d.operators ≡ [] → d.queues ≡ [] → d.greatest_id ≡ (store d.pages).mark → AreGiven s → (a : Store) → HasTree default_name a s → store d.pages ≡ after_flush s → IsDb store d
+  pub opened_db : {P M : Type 0} (store : P → Store) (d : DbValue P M) → d.trees ≡ trees → d.trees_given ≡ length trees → d.operators ≡ [] → Becomes no_queues 0 d.queues → d.greatest_id ≡ (store d.pages).mark → AreGiven s → (a : Store) → HasTree default_name a s → store d.pages ≡ after_flush s → IsDb store d
   opened_db store d same count operators queues ids are a h e =
       let well = h.again.well in record {
         forest = well.forest;
@@ -444,12 +447,15 @@ module _ (s : Store) {trees : List (Key × ℕ)} (all : AreNumbered (now s) tree
         ascends = ap (is_sorted key_cmp) same ∙ ascends;
         default = subst (λ ts. (n : ℕ) × (numbers_of ts default_name ≡ Some n)) (sym same) (none_no (numbers_of trees default_name) (is_number default_name ∙ there));
         ungiven = λ n above. ap (find nat_cmp n) operators;
-        unwatched = queues;
+        calm = record { none = λ n w there. unqueued (sym (ap (λ (q : Waitings). q n) queues.held) ∙ there) };
         ids = at_most d.greatest_id (store d.pages).mark ids;
       }
     where
       at_most : (x y : ℕ) → x ≡ y → x ≤ y
       at_most x y e = omega arith
+
+      unqueued : {X : Type 0} {w : WaitingValue} → None ≡ Some w → X
+      unqueued e = cc
 
       at : snapshot_of_db store d ≡ snapshot_of s (numbers_of trees) (given_to d.trees_given)
       at = λ i. snapshot_of (e i) (numbers_of (same i)) (given_to d.trees_given)
@@ -470,8 +476,8 @@ module _ (s : Store) {trees : List (Key × ℕ)} (all : AreNumbered (now s) tree
 
 -- the database that is opened
 pub opens : {P M : Type 0} (store : P → Store) (a s : Store) (called : Key) (d : DbValue P M) → HasTree default_name a s → AreNumbered (now s) d.trees → store d.pages ≡ after_flush s
-    → d.trees_given ≡ length d.trees → d.greatest_id ≡ (store d.pages).mark → d.operators ≡ [] → d.queues ≡ [] → d.subscribers_given ≡ 0 → d.name ≡ called → Opens store a called d
-opens store a s called d h all e given ids operators queues subscribers name = record {
+    → d.trees_given ≡ length d.trees → d.greatest_id ≡ (store d.pages).mark → d.operators ≡ [] → Becomes no_queues 0 d.queues → d.name ≡ called → Opens store a called d
+opens store a s called d h all e given ids operators queues name = record {
   middle = s;
   grows = h.grows;
   flushes = subst (λ (z : Store). Flushes s z) (sym e) (flushes_same s);
@@ -486,7 +492,6 @@ opens store a s called d h all e given ids operators queues subscribers name = r
   ids = ids ∙ mark;
   operators = operators;
   queues = queues;
-  subscribers = subscribers;
   no_group = ap (λ (z : Store). (now z).in_group) e ∙ h.again.no_group;
   name = name;
   mark = mark;

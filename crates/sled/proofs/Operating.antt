@@ -231,7 +231,7 @@ module _ {P M : Type 0} (store : P → Store) (meant : M → Merge) (old : DbVal
       beyond n above e within = omega arith
 
   pub set_db : IsDb store after
-  set_db = record { forest = db.forest; is = db.is; sized = db.sized; safe = db.safe; ascends = db.ascends; default = db.default; ungiven = set_ungiven; unwatched = db.unwatched; ids = db.ids }
+  set_db = record { forest = db.forest; is = db.is; sized = db.sized; safe = db.safe; ascends = db.ascends; default = db.default; ungiven = set_ungiven; calm = db.calm; ids = db.ids }
 
 -- the same, where a method knows the database by its fields
 pub set_told : {P M E : Type 0} (store : P → Store) (meant : M → Merge) (inside old : DbValue P M) (e : inside ≡ old) (db : IsDb store inside) (tree : Tree) (operator : M) (r : Result (Unit {0}) E) (operators : List (ℕ × M))
@@ -250,4 +250,4 @@ set_db_told store meant inside old e db tree operator (Err x) operators must is 
 
 -- what holds of a database holds of it without its operators
 pub bare_db : {P M N : Type 0} (store : P → Store) (d : DbValue P M) → IsDb store d → IsDb store (without_operators {N = N} d)
-bare_db store d s = record { forest = s.forest; is = s.is; sized = s.sized; safe = s.safe; ascends = s.ascends; default = s.default; ungiven = λ n above. refl; unwatched = s.unwatched; ids = s.ids }
+bare_db store d s = record { forest = s.forest; is = s.is; sized = s.sized; safe = s.safe; ascends = s.ascends; default = s.default; ungiven = λ n above. refl; calm = s.calm; ids = s.ids }

@@ -19,7 +19,7 @@ use Rattle.sled_pages.specs.declared.page.Page.{Page}
 use Rattle.sled_pages.specs.theory.Facts.{same_name, name_itself, put_name_elsewhere}
 use Rattle.sled_pages.proofs.Rising.{rises_put}
 use Rattle.sled_model.specs.Maps.{Map, Maps, Merge}
-use Rattle.sled_model.specs.State.{NamedTree, CallInFlight, maps_of}
+use Rattle.sled_model.specs.State.{NamedTree, CallInFlight, maps_of, default_name}
 use Rattle.sled_model.specs.Refusal.{IsClosed, first_of, must_refuse, MayRefuse, ToCall, cause_of, may_refuse_as}
 use Rattle.sled_model.specs.Whole.{new_tree, number_opened, state_opened, maps_opened}
 use Rattle.sled_model.specs.declared.call.Whole.TheVariants.{OpenTree}
@@ -43,7 +43,9 @@ use Rattle.sled_tree.specs.declared.flight.InFlight.{InFlight}
 use Rattle.sled_tree.proofs.Facts.{once_made, once_rooted, grows_not}
 use Rattle.sled_tree.proofs.Known.{not_own, known_kept}
 use Rattle.sled_tree.proofs.Splits.{made_below}
-use Rattle.sled.specs.Values.{DbValue, default_name, named, numbers_of, given_to, state_of, snapshot_of_db}
+use Rattle.sled.specs.Values.{DbValue, named, numbers_of, given_to, state_of, snapshot_of_db}
+use Rattle.sled_queues.specs.Values.{queue_at}
+use Rattle.sled_queues.specs.Queues.{queues_of}
 use Rattle.sled.specs.Sound.{IsDb}
 use Rattle.sled.specs.Flights.{IsStepRefused}
 use Rattle.sled.specs.Opens.{empty_page, MakesLeaf, MakesTree, StopsMaking, planted, or_empty}
@@ -56,6 +58,7 @@ use Rattle.sled.proofs.Numbering.{leaves_rests}
 use Rattle.sled.proofs.Opening.{grown, calm_then, unseen, absent, planted_absent, tree_made}
 use Rattle.sled.proofs.Resting.{Rests, rests_only_faults, rests_now, rests_extends, now_rests}
 use Rattle.sled.proofs.Trees.{trees_at, maps_are}
+use Rattle.sled.proofs.Watching.{same_queues}
 
 none_some : {P X : Type 0} {x : X} → None ≡ Some x → P
 none_some e = cc
@@ -224,13 +227,13 @@ module _ {P M : Type 0} (store : P → Store) (meant : M → Merge) (old : DbVal
           ascends = db.ascends;
           default = db.default;
           ungiven = db.ungiven;
-          unwatched = db.unwatched;
+          calm = db.calm;
           ids = subst (λ m. old.greatest_id ≤ m) (sym left_mark) db.ids;
         }
 
         left_state : (slots : ℕ → Option CallInFlight) (given : ℕ) → state_of store meant left slots given ≡ state_of store meant old slots given
         unfolding well
-        left_state slots given = state_over store meant old db q slots slots given
+        left_state slots given = state_over store meant old db q old.queues (same_queues old.queues old.queues refl) slots slots given
             (λ t. ap (λ (s : PageState). trees_of s t) (now_rests rests) ∙ ap (λ (m : Maps). m t) (unseen name well no_group are leaf.given no_root leaf.is))
             (ap (λ (s : PageState). s.in_group) (now_rests rests) ∙ calm_then name well no_group are leaf.given no_root leaf.is ∙ sym no_group)
             left_mark
@@ -364,7 +367,7 @@ module _ {P M : Type 0} (store : P → Store) (meant : M → Merge) (old : DbVal
         ascends = rises_put key_cmp key_total name next old.trees db.ascends;
         default = (db.default.0, ap (λ (f : Key → Option ℕ). f default_name) (numbers_put old.trees name next) ∙ put_name_elsewhere (numbers_of old.trees) name default_name (Some next) (λ e. none_some (sym unknown ∙ ap (numbers_of old.trees) (sym e) ∙ db.default.1)) ∙ db.default.1);
         ungiven = λ n above. db.ungiven n (above_too n above);
-        unwatched = db.unwatched;
+        calm = db.calm;
         ids = subst (λ m. old.greatest_id ≤ m) (sym mark) db.ids;
       }
         where
@@ -406,14 +409,14 @@ module _ {P M : Type 0} (store : P → Store) (meant : M → Merge) (old : DbVal
       state_more slots given = λ i. record {
         name = old.name;
         trees = λ t. trees_more t i;
-        queues = λ n. find nat_cmp n old.queues;
+        queues = queues_of (queue_at old.queues);
         slots = slots;
         is_open = not (calm i);
         greatest_id = old.greatest_id;
         mark = mark i;
         trees_given = next;
         slots_given = given;
-        subscribers_given = old.subscribers_given;
+        subscribers_given = old.queues.given;
       }
         where
           calm : (now (store q)).in_group ≡ (now (store old.pages)).in_group

@@ -16,9 +16,9 @@ use Rattle.sled_pages.specs.declared.texts.TheConstants.{WALK_PASSED_TURNS}
 use Rattle.sled_model.specs.Maps.{Map, Maps, Merge, IsLeast, IsGreatest}
 use Rattle.sled_model.specs.Answer.{answer_of, map_after}
 use Rattle.sled_model.specs.State.{State, NamedTree, CallInFlight, maps_of, after_decision_on}
-use Rattle.sled_model.specs.Refusal.{MustRefuse, IsClosed, IsForeign, IsDropped, HasNoOperator, first_of, must_refuse, must_refuse_of, MayRefuse, EndMeetsFullQueue, TellsTurns, ToPoint, ToCall, cause_of, may_refuse_as, MeetsFullQueue, tells, turns_limit}
+use Rattle.sled_model.specs.Refusal.{MustRefuse, IsClosed, IsForeign, IsDropped, HasNoOperator, first_of, must_refuse, must_refuse_of, MayRefuse, EndMeetsFullQueue, TellsTurns, ToPoint, ToCall, cause_of, may_refuse_as}
 use Rattle.sled_model.specs.Transition.{Configuration, WholeDecides, WholeRefuses, kind_of}
-use Rattle.sled_model.specs.Whole.{Pops, RemovesLeast, RemovesNone, RemovesOne, after_pop, Clears, StopsClearing}
+use Rattle.sled_model.specs.Whole.{Pops, RemovesLeast, RemovesNone, RemovesOne}
 use Rattle.sled_model.specs.declared.outcome.Outcome.TheVariants as outcome
 use Rattle.sled_model.specs.declared.call.Call.TheVariants.{Remove}
 use Rattle.sled_model.specs.declared.call.Whole.{Whole}
@@ -36,7 +36,7 @@ use Rattle.sled.specs.Values.{DbValue, state_of, db_state, configuration_of}
 use Rattle.sled.specs.Sound.{IsDb}
 use Rattle.sled.specs.Flights.{IsStepRefused}
 use Rattle.sled.specs.Reads.{ReadsMap, RefusesReading, refuses_reading_as, stops_reading}
-use Rattle.sled.specs.Direct.{ActsOften, NoAction, OneAction, Conducts, PointDecided, PointRefused, WholeDecided, WholeRefused, effect_of_whole, changes_only, lost_of, LeavesAll}
+use Rattle.sled.specs.Direct.{ActsOften, NoAction, OneAction, Conducts, PointDecided, PointRefused, WholeDecided, WholeRefused, effect_of_whole, changes_only, lost_of, LeavesAll, changes_refused}
 use Rattle.sled.specs.Pops.{TakesOut, RefusesToTake, IsAtEnd, PopsBySteps, PopRefusedBySteps, GivesUpPop, ClearsBySteps, ClearsNone, ClearsMore, ClearRefusedBySteps, IsLongWay}
 use Rattle.sled.proofs.Conducting.{conducts_then, conducts_none, conducts_refused}
 use Rattle.sled.proofs.Testing.{tested_calm}
@@ -197,7 +197,7 @@ module _ (tree : Tree) (whole : Whole) (which : (whole ≡ PopMin tree) ⊎ (who
     refuses = refuses;
     acts = of_pops (λ w. effect_of_whole (kind_of w) (outcome.Refused e) (store old.pages) (store new.pages)) c.acts c.acts;
     leaves = c.leaves;
-    same = c.same;
+    same = of_pops (λ w. changes_refused w old new) c.same c.same;
     tested = tested;
   }
 
@@ -463,11 +463,11 @@ removes_more tree zero a b (m ∷ maps) run named pair rest there is = elim run 
 removes_more tree (suc n) a b [] run named pair rest there is = elim run [ ]
 
 -- no action counts a fault, and none changes which pages can be read
-often_faults : {a b : Store} → ActsOften a b → b.faults ≡ a.faults
+pub often_faults : {a b : Store} → ActsOften a b → b.faults ≡ a.faults
 often_faults NoAction = refl
 often_faults (OneAction o r) = often_faults r ∙ ap (λ (s : Store). s.faults) o.is
 
-often_readable : {a b : Store} → ActsOften a b → b.is_readable ≡ a.is_readable
+pub often_readable : {a b : Store} → ActsOften a b → b.is_readable ≡ a.is_readable
 often_readable NoAction = refl
 often_readable (OneAction o r) = often_readable r ∙ ap (λ (s : Store). s.is_readable) o.is
 

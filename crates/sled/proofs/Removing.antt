@@ -1,10 +1,10 @@
 -- A tree that is dropped, as the database's.
-use Rattle.std.proofs.Common.{◌≡◌, ◌≢◌, ℕ, suc, ◌+◌, ◌≤◌, le_of_eq, Bool, true, false, not, cond, filter, nat_eq, List, [], ◌∷◌, ◌++◌, length, map, Option, Some, None, option_map, sym, refl, ap, ◌∙◌, subst, inl, inr, append_assoc, append-nil, arith}
+use Rattle.std.proofs.Common.{◌≡◌, ◌≢◌, ℕ, suc, ◌+◌, ◌<◌, ◌≤◌, le_of_eq, Bool, true, false, not, cond, filter, nat_eq, List, [], ◌∷◌, ◌++◌, length, get_or, map, Option, Some, None, is_some, option_map, sym, refl, ap, ◌∙◌, subst, inl, inr, ◌⊎◌, append_assoc, append-nil, arith}
 use Rattle.std.proofs.Math.Path.{fun_ext}
 use Rattle.std.proofs.lemmas.Bool.{ne_eqb}
 use Rattle.std.specs.FinMap.{nat_cmp-IsAntisymmetric}
 use Rattle.std.specs.FinMap.Entries.{find, find-where_key, is_sorted}
-use Rattle.std.specs.List.{AllByRecursion, IsDistinct}
+use Rattle.std.specs.List.{AllByRecursion, IsDistinct, concat}
 use Rattle.std.specs.Ordering.{nat_cmp, eq_by_cmp}
 use Rattle.std.specs.Str.{bytes_eq}
 use Rattle.sled_pages.specs.In.{In}
@@ -20,8 +20,11 @@ use Rattle.sled_pages.specs.declared.page.Page.{Page}
 use Rattle.sled_pages.specs.declared.error.Error.{Error}
 use Rattle.sled_pages.specs.declared.error.Error.TheVariants as error
 use Rattle.sled_model.specs.Maps.{Map, Maps, Merge}
-use Rattle.sled_model.specs.State.{CallInFlight, maps_of}
-use Rattle.sled_model.specs.Refusal.{must_refuse_of, first_of, IsClosed}
+use Rattle.sled_model.specs.State.{CallInFlight, maps_of, default_name}
+use Rattle.sled_model.specs.Refusal.{must_refuse, must_refuse_of, ToCall, cause_of_drop, may_refuse_as, first_of, IsClosed}
+use Rattle.sled_model.specs.Whole.{state_dropped, maps_dropped}
+use Rattle.sled_model.specs.declared.call.Whole.TheVariants.{DropTree}
+use Rattle.sled_model.specs.declared.reply.Reply.TheVariants.{Flag}
 use Rattle.tree_laws.specs.Forest.{Tree, Forest, Place, place, IsSized, contents}
 use Rattle.tree_laws.specs.Contents.{trees_of}
 use Rattle.tree_laws.specs.Crashes.{AddsCrashStates}
@@ -33,15 +36,20 @@ use Rattle.tree_laws.proofs.Crashing.{adds_acted, adds_extends, extends_then}
 use Rattle.tree_laws.proofs.Mapped.{drops_law, well_law}
 use Rattle.tree_laws.proofs.Reading.{one_law}
 use Rattle.sled_tree.specs.Known.{IsKnown}
+use Rattle.sled_tree.specs.StageAction.{ActsOnce}
 use Rattle.sled_tree.specs.theory.StageAction.{is_action_refused_as}
 use Rattle.sled_tree.specs.declared.flight.InFlight.{InFlight}
 use Rattle.sled.specs.declared.TheConstants.{DEFAULT_TREE}
-use Rattle.sled.specs.Values.{DbValue, default_name, numbers_of, given_to, named, state_of, db_state, snapshot_of_db}
+use Rattle.sled.specs.Values.{DbValue, numbers_of, given_to, named, state_of, db_state, snapshot_of_db}
+use Rattle.sled_queues.specs.Values.{queue_at}
+use Rattle.sled_queues.specs.Queues.{queues_of}
 use Rattle.sled.specs.Sound.{IsDb}
-use Rattle.sled.specs.Flights.{PagesLast, StaysInChain, KeepsTreePages}
-use Rattle.sled.specs.Drops.{RemovesTree, DropsTree, MightDrop, refuses_drop_as, RefusesDrop}
-use Rattle.sled.specs.theory.Drops.{FreesPages, FreesNone, FreesOne, Counts, DropsRoot}
+use Rattle.sled.specs.Flights.{PagesLast, StaysInChain, KeepsTreePages, IsStepRefused}
+use Rattle.sled.specs.Direct.{ActsOften, NoAction, OneAction, ActsAndCounts, WholeDecided, WholeRefused}
+use Rattle.sled.specs.Drops.{IsBeginning, RemovesTree, DropsNamed, DropsTree, MightDrop, refuses_drop_as, RefusesDrop}
+use Rattle.sled.specs.theory.Drops.{FreesPages, FreesNone, FreesOne, Counts, FreesLevels, DropsRoot}
 use Rattle.sled.proofs.Dropping.{known_on, off_chains, lasts_goes, lasts_then, number_given, Leaves, leaves_all}
+use Rattle.sled.proofs.Conducting.{loses_once, leaves_none}
 use Rattle.sled.proofs.Flushing.{same_state}
 use Rattle.sled.proofs.Opening.{default_is}
 use Rattle.sled.proofs.Numbering.{leaves_rests}
@@ -59,8 +67,7 @@ false_true e = cc
 
 -- ---- the actions, as a list
 
-pub record Freed (was : Forest) (t : Tree) (a b : Store) : Type 0 where
-  pub freed : List ℕ
+pub record Freed (was : Forest) (t : Tree) (freed : List ℕ) (a b : Store) : Type 0 where
   pub each : (p : ℕ) → In p freed → (h : ℕ) × In p (was.chain (place t h))
   pub there : (p : ℕ) → In p freed → (page : Page) × ((now a).pages p ≡ Some page)
   pub once : IsDistinct nat_eq freed
@@ -91,10 +98,9 @@ all_off : (p : ℕ) (xs : List ℕ) → ((y : ℕ) → In y xs → y ≢ p) → 
 all_off p [] off = tt
 all_off p (y ∷ ys) off = (ne_eqb p y (λ e. off y (inl refl) (sym e)), all_off p ys (λ z i. off z (inr i)))
 
-freed_of : {was : Forest} {t : Tree} {a b : Store} → FreesPages was t a b → Freed was t a b
+freed_of : {was : Forest} {t : Tree} {ps : List ℕ} {a b : Store} → FreesPages was t ps a b → Freed was t ps a b
 unfolding IsDistinct
 freed_of {a = a} FreesNone = record {
-  freed = [];
   each = λ p i. absurd i;
   there = λ p i. absurd i;
   once = tt;
@@ -102,17 +108,15 @@ freed_of {a = a} FreesNone = record {
   counts = le_of_eq refl;
   is = λ i. record a { recent = sym (append-nil a.recent) i; actions = no_more a.actions i };
 }
-freed_of {was} {t} {a = a} (FreesOne p h page chained live rest) = let r = freed_of rest in record {
-  freed = p ∷ r.freed;
+freed_of {was} {t} {a = a} (FreesOne {ps = ps} p h page chained live rest) = let r = freed_of rest in record {
   each = λ q i. elim i [ inl e ↦ (h, subst (λ z. In z (was.chain (place t h))) (sym e) chained) | inr j ↦ r.each q j ];
   there = λ q i. elim i [ inl e ↦ (page, ap (now a).pages e ∙ live) | inr j ↦ let l = r.there q j in (l.0, was_there p a q l.0 l.1) ];
-  once = (all_off p r.freed (λ q j. let l = r.there q j in off_freed p a q l.0 l.1), r.once);
+  once = (all_off p ps (λ q j. let l = r.there q j in off_freed p a q l.0 l.1), r.once);
   faults = r.faults;
   counts = r.counts;
-  is = r.is ∙ (λ i. record a { recent = append_assoc a.recent (PageBecomes p None ∷ []) (map (λ z. PageBecomes z None) r.freed) i; actions = one_more a.actions (length r.freed) i; faults = r.faults });
+  is = r.is ∙ (λ i. record a { recent = append_assoc a.recent (PageBecomes p None ∷ []) (map (λ z. PageBecomes z None) ps) i; actions = one_more a.actions (length ps) i; faults = r.faults });
 }
 freed_of {a = a} (Counts rest) = let r = freed_of rest in record {
-  freed = r.freed;
   each = r.each;
   there = r.there;
   once = r.once;
@@ -204,8 +208,11 @@ module _ {P M : Type 0} (store : P → Store) (meant : M → Merge) (old : DbVal
       mid_grows : GrowsByReceiving (nodes_at m) (nodes_at (snapshot_of mid numbers given)) w
       mid_grows = record { grows = λ x p a b i was is. inl (le_of_eq (ap (λ (z : Node). count z.content) (some_is (sym is ∙ same_nodes p ∙ was)))) }
 
+      levels : FreesLevels w name (drops.is w db.is.formed db.is.below).0 mid (store q)
+      levels = (drops.is w db.is.formed db.is.below).1
+
       rest : Leaves numbers given w law.after name (λ p h i. (law.left h).stray p i) mid (store q)
-      rest = leaves_all numbers given w law.after name (λ p h i. (law.left h).stray p i) (drops.is w db.is.formed) mid_is mid_sized mid_out
+      rest = leaves_all numbers given w law.after name (λ p h i. (law.left h).stray p i) levels.freed mid_is mid_sized mid_out
 
       at_new : snapshot_of_db store new ≡ snapshot_of (store q) numbers given
       at_new = ap (λ ns. snapshot_of (store q) ns given) (numbers_without name old.trees)
@@ -232,7 +239,7 @@ module _ {P M : Type 0} (store : P → Store) (meant : M → Merge) (old : DbVal
         ascends = ascends_without name old.trees db.ascends;
         default = (db.default.0, ap (λ f. f default_name) (numbers_without name old.trees) ∙ put_name_elsewhere (numbers_of old.trees) name default_name None (λ e. off (sym e)) ∙ db.default.1);
         ungiven = λ k above. operators_ungiven number k old.operators (db.ungiven k above);
-        unwatched = db.unwatched;
+        calm = db.calm;
         ids = subst (λ n. old.greatest_id ≤ n) (sym marked) db.ids;
       }
 
@@ -265,14 +272,14 @@ module _ {P M : Type 0} (store : P → Store) (meant : M → Merge) (old : DbVal
       state_new slots slots_given i = record {
         name = old.name;
         trees = trees_new i;
-        queues = λ n. find nat_cmp n old.queues;
+        queues = queues_of (queue_at old.queues);
         slots = slots;
         is_open = not (out i);
         greatest_id = old.greatest_id;
         mark = marked i;
         trees_given = old.trees_given;
         slots_given = slots_given;
-        subscribers_given = old.subscribers_given;
+        subscribers_given = old.queues.given;
       }
         where
           out : (now (store q)).in_group ≡ (now (store old.pages)).in_group
@@ -302,13 +309,14 @@ module _ {P M : Type 0} (store : P → Store) (meant : M → Merge) (old : DbVal
 
       removes_new : RemovesTree name m (store old.pages) (store q)
       removes_new =
-          let r = freed_of (drops.is w db.is.formed) in record {
-            freed = r.freed;
+          let r = freed_of levels.freed in record {
+            levels = levels.levels;
+            begins = λ u was h. subst (λ (f : Forest). IsBeginning (get_or levels.levels h []) (f.chain (place name h))) (one_law (nodes_at m) m.state.roots w u db.is.formed was.formed) (levels.begins h);
             each = λ u was p i. subst (λ (f : Forest). (h : ℕ) × In p (f.chain (place name h))) (one_law (nodes_at m) m.state.roots w u db.is.formed was.formed) (r.each p i);
             once = r.once;
             faults = r.faults;
             counts = r.counts;
-            is = r.is ∙ (λ i. record (store old.pages) { recent = append_assoc (store old.pages).recent (RootBecomes name None ∷ []) (map (λ z. PageBecomes z None) r.freed) i; actions = one_more (store old.pages).actions (length r.freed) i; faults = r.faults });
+            is = r.is ∙ (λ i. record (store old.pages) { recent = append_assoc (store old.pages).recent (RootBecomes name None ∷ []) (map (λ z. PageBecomes z None) (concat levels.levels)) i; actions = one_more (store old.pages).actions (length (concat levels.levels)) i; faults = r.faults });
           }
 
       pub dropped_tree : DropsTree store meant old name true new
@@ -336,7 +344,7 @@ module _ {P M : Type 0} (store : P → Store) (meant : M → Merge) (old : DbVal
       might : MightDrop store meant old name
       might = record { free = ap (λ b. first_of (cond (not b) None (Some IsClosed)) None) no_group; off = off; tree = _; there = named_there }
 
-      refused_as : (e : Error) → is_action_refused_as e (store old.pages) (store q) → refuses_drop_as store meant old name e (store old.pages) (store q)
+      refused_as : (e : Error) → is_action_refused_as e (store old.pages) (store q) → refuses_drop_as store meant old name e q
       refused_as error.NoMemory t = (might, t)
       refused_as (error.Io fault) t = (might, t)
       refused_as (error.CollectionNotFound text) t = absurd t
@@ -355,7 +363,7 @@ module _ {P M : Type 0} (store : P → Store) (meant : M → Merge) (old : DbVal
       }
 
   -- by a test
-  pub untouched_drop : (e : Error) → refuses_drop_as store meant old name e (store old.pages) (store old.pages) → RefusesDrop store meant old name e old
+  pub untouched_drop : (e : Error) → refuses_drop_as store meant old name e old.pages → RefusesDrop store meant old name e old
   untouched_drop e t = record {
     is = t;
     same = refl;
@@ -383,7 +391,7 @@ pub numbered_as : (found : Option ℕ) (number : ℕ) (name : Key) (trees all : 
 numbered_as found number name trees all e same is = ap (find key_cmp name) (sym same) ∙ sym e ∙ is
 
 module _ {P M : Type 0} (store : P → Store) (meant : M → Merge) (inside old : DbValue P M) (same : inside ≡ old) (db : IsDb store inside) (name : Key) where
-  pub untouched_as : (e : Error) → refuses_drop_as store meant inside name e (store inside.pages) (store inside.pages) → RefusesDrop store meant old name e old
+  pub untouched_as : (e : Error) → refuses_drop_as store meant inside name e inside.pages → RefusesDrop store meant old name e old
   untouched_as e t = subst (λ (z : DbValue P M). RefusesDrop store meant z name e z) same (untouched_drop store meant inside db name e t)
 
   pub open_as : (now (store inside.pages)).in_group ≡ false → must_refuse_of (db_state store meant inside) [] ≡ None
@@ -403,3 +411,130 @@ module _ {P M : Type 0} (store : P → Store) (meant : M → Merge) (inside old 
 
       pub dropped_db_as : IsDb store (record inside { pages = q; trees = trees; operators = operators })
       dropped_db_as = subst (λ (z : DbValue P M). IsDb store z) is_new (dropped_db store meant inside db name number numbered no_group off q drops)
+
+-- ---- a drop as a whole call
+
+acts_once : (p : ℕ) (a : Store) → ActsOnce a (after_action (PageBecomes p None) a)
+acts_once p a = record {
+  action = PageBecomes p None;
+  pids = a.pids;
+  versions = a.versions;
+  is = refl;
+  pids_stay = λ q e. e;
+  versions_stay = λ v e. e;
+  no_group = ap (λ (s : State). s.in_group) (now_acted (PageBecomes p None) a);
+}
+
+frees_often : (freed : List ℕ) (a : Store) → ActsOften a (record a { recent = a.recent ++ map (λ p. PageBecomes p None) freed; actions = a.actions + length freed })
+frees_often [] a = subst (λ (z : Store). ActsOften a z) (λ i. record a { recent = sym (append-nil a.recent) i; actions = no_more a.actions i }) NoAction
+frees_often (p ∷ ps) a = OneAction (acts_once p a) (
+    subst (λ (z : Store). ActsOften (after_action (PageBecomes p None) a) z) (λ i. record a { recent = append_assoc a.recent (PageBecomes p None ∷ []) (map (λ z. PageBecomes z None) ps) i; actions = one_more a.actions (length ps) i }) (frees_often ps (after_action (PageBecomes p None) a))
+    )
+
+removes_often : (name : Key) (freed : List ℕ) (a : Store) → ActsOften a (record a { recent = a.recent ++ RootBecomes name None ∷ map (λ p. PageBecomes p None) freed; actions = a.actions + suc (length freed) })
+removes_often name freed a = OneAction
+    (record {
+      action = RootBecomes name None;
+      pids = a.pids;
+      versions = a.versions;
+      is = refl;
+      pids_stay = λ q e. e;
+      versions_stay = λ v e. e;
+      no_group = ap (λ (s : State). s.in_group) (now_acted (RootBecomes name None) a);
+    })
+    (subst (λ (z : Store). ActsOften (after_action (RootBecomes name None) a) z) (λ i. record a { recent = append_assoc a.recent (RootBecomes name None ∷ []) (map (λ z. PageBecomes z None) freed) i; actions = one_more a.actions (length freed) i }) (frees_often freed (after_action (RootBecomes name None) a)))
+
+removes_acts : (name : Key) (m : Snapshot) (a b : Store) → RemovesTree name m a b → ActsAndCounts a b
+removes_acts name m a b r = record {
+  last = record a { recent = a.recent ++ RootBecomes name None ∷ map (λ p. PageBecomes p None) (concat r.levels); actions = a.actions + suc (length (concat r.levels)) };
+  acts = removes_often name (concat r.levels) a;
+  counts = subst (λ n. a.faults ≤ n) (sym (ap (λ (s : Store). s.faults) r.is)) r.counts;
+  is = r.is ∙ (λ i. record a { recent = a.recent ++ RootBecomes name None ∷ map (λ p. PageBecomes p None) (concat r.levels); actions = a.actions + suc (length (concat r.levels)); faults = sym (ap (λ (s : Store). s.faults) r.is) i });
+}
+
+module _ {P M : Type 0} (store : P → Store) (meant : M → Merge) (old new : DbValue P M) (name : Key) where
+  dropped_whole : must_refuse_of (db_state store meant old) [] ≡ None → name ≢ default_name → DropsNamed store meant old name new → WholeDecided store meant old (DropTree name) (Flag true) new
+  dropped_whole free off d = record {
+    maps = maps_of (db_state store meant new) ∷ [];
+    decides = λ slots given number. record {
+      free = ap (λ o. first_of o None) free;
+      off = off;
+      replies = ap (λ o. Flag (is_some o)) (sym d.there);
+      is = d.state slots given ∙ ap (λ o. state_dropped o (state_of store meant old slots given) name) (sym d.there);
+      added = ap (λ o. maps_dropped o (state_of store meant new slots given)) (sym d.there);
+    };
+    acts = removes_acts name (snapshot_of_db store old) (store old.pages) (store new.pages) d.removes;
+    leaves = record { extends = d.extends; others = d.others; loses = loses_once (Some name) (snapshot_of_db store old) (snapshot_of_db store new) d.loses; sound = d.sound };
+    same = d.same ∙ (λ i. record old { pages = new.pages; trees = sym (ap (λ (z : DbValue P M). z.trees) d.same) i; operators = sym (ap (λ (z : DbValue P M). z.operators) d.same) i });
+  }
+
+  nothing_dropped : must_refuse_of (db_state store meant old) [] ≡ None → name ≢ default_name → (db_state store meant old).trees name ≡ None → WholeDecided store meant old (DropTree name) (Flag false) old
+  nothing_dropped free off none = record {
+    maps = [];
+    decides = λ slots given number. record {
+      free = ap (λ o. first_of o None) free;
+      off = off;
+      replies = ap (λ o. Flag (is_some o)) (sym none);
+      is = ap (λ o. state_dropped o (state_of store meant old slots given) name) (sym none);
+      added = ap (λ o. maps_dropped o (state_of store meant old slots given)) (sym none);
+    };
+    acts = record { last = store old.pages; acts = NoAction; counts = le_of_eq refl; is = refl };
+    leaves = leaves_none store meant old;
+    same = refl;
+  }
+
+  pub drop_decided : (dropped : Bool) → DropsTree store meant old name dropped new → WholeDecided store meant old (DropTree name) (Flag dropped) new
+  drop_decided true d = dropped_whole d.free d.off d.is
+  drop_decided false d = subst (λ (z : DbValue P M). WholeDecided store meant old (DropTree name) (Flag false) z) (sym d.is.1) (nothing_dropped d.free d.off d.is.0)
+
+  -- no test refuses an open database
+  must_not : must_refuse_of (db_state store meant old) [] ≡ None → (slots : ℕ → Option CallInFlight) (given : ℕ) → must_refuse (state_of store meant old slots given) (ToCall (DropTree name)) ≡ None
+  must_not free slots given = ap (λ o. first_of o None) free
+
+  undropped : (e : Error) → RefusesDrop store meant old name e new → must_refuse_of (db_state store meant old) [] ≡ None → cause_of_drop (db_state store meant old) (store old.pages) (store new.pages) name e → IsStepRefused e (store old.pages) (store new.pages)
+      → WholeRefused store meant old (DropTree name) e new
+  undropped e r free cause acts = record {
+    maps = [];
+    refuses = λ slots given. (record { is = subst (λ o. may_refuse_as o (state_of store meant old slots given) (store old.pages) (store new.pages) (ToCall (DropTree name)) e) (sym (must_not free slots given)) (at e cause slots given) }, r.state slots given, refl);
+    acts = acts;
+    leaves = r.leaves;
+    same = r.same;
+    tested = λ must. absurd (must (must_not free (λ n. None) 0));
+  }
+    where
+      at : (e : Error) → cause_of_drop (db_state store meant old) (store old.pages) (store new.pages) name e → (slots : ℕ → Option CallInFlight) (given : ℕ) → cause_of_drop (state_of store meant old slots given) (store old.pages) (store new.pages) name e
+      at error.NoMemory k slots given = k
+      at (error.Io fault) k slots given = k
+      at (error.Unsupported text) k slots given = k
+      at (error.CollectionNotFound text) k slots given = absurd k
+      at (error.ReportableBug text) k slots given = absurd k
+      at (error.Corruption fault) k slots given = absurd k
+      at error.FullQueue k slots given = absurd k
+      at error.Closed k slots given = absurd k
+
+  there_is : MightDrop store meant old name → (db_state store meant old).trees name ≢ None
+  there_is m none = none_some (sym none ∙ m.there)
+
+  pub drop_refused : (e : Error) → RefusesDrop store meant old name e new → WholeRefused store meant old (DropTree name) e new
+  drop_refused error.NoMemory r = let k = r.is in undropped error.NoMemory r k.0.free (k.0.off, there_is k.0) k.1
+  drop_refused (error.Io fault) r = let k = r.is in undropped (error.Io fault) r k.0.free (k.0.off, there_is k.0, faulted k.1) k.1
+    where
+      more : (store new.pages).faults ≡ (store old.pages).faults + 1 → (store old.pages).faults < (store new.pages).faults
+      more e = omega arith
+
+      faulted : IsStepRefused (error.Io fault) (store old.pages) (store new.pages) → ((store old.pages).faults < (store new.pages).faults) ⊎ ((pid : ℕ) × ((store old.pages).is_readable pid ≡ false))
+      faulted (inl e) = inl (more (ap (λ (s : Store). s.faults) e))
+      faulted (inr (e, p)) = inr p
+  drop_refused (error.Unsupported text) r = let k = r.is in undropped (error.Unsupported text) r k.0 (k.1, k.2) (ap store k.3)
+  drop_refused (error.CollectionNotFound text) r = absurd r.is
+  drop_refused (error.ReportableBug text) r = absurd r.is
+  drop_refused (error.Corruption fault) r = absurd r.is
+  drop_refused error.FullQueue r = absurd r.is
+  drop_refused error.Closed r = record {
+    maps = [];
+    refuses = λ slots given. (record { is = subst (λ o. may_refuse_as o (state_of store meant old slots given) (store old.pages) (store new.pages) (ToCall (DropTree name)) error.Closed) (sym (ap (λ b. first_of (first_of (cond (not b) None (Some IsClosed)) None) None) r.is.0)) refl }, r.state slots given, refl);
+    acts = ap store r.is.1;
+    leaves = r.leaves;
+    same = r.same;
+    tested = λ must. r.same ∙ ap (λ q. record old { pages = q }) r.is.1;
+  }

@@ -9,16 +9,17 @@ use Rattle.sled_pages.specs.declared.error.Error.{Error}
 use Rattle.sled_model.specs.Maps.{Maps, Merge}
 use Rattle.sled_model.specs.Answer.{key_of}
 use Rattle.sled_model.specs.State.{CallInFlight, maps_of}
-use Rattle.sled_model.specs.Transition.{WholeDecides, WholeRefuses, Kind, Flushing, Telling, kind_of}
+use Rattle.sled_model.specs.Transition.{WholeDecides, WholeRefuses, Kind, Flushing, Telling, Dropping, kind_of}
 use Rattle.sled_model.specs.Whole.{DecidesPoint, RefusesPoint}
 use Rattle.sled_model.specs.Refusal.{ToCall, must_refuse, TellsTurns, turns_limit}
 use Rattle.sled_model.specs.declared.call.Call.{Call}
 use Rattle.sled_model.specs.declared.call.Whole.{Whole}
-use Rattle.sled_model.specs.declared.call.Whole.TheVariants.{OpenTree, GenerateId}
+use Rattle.sled_model.specs.declared.call.Whole.TheVariants.{OpenTree, DropTree, GenerateId, Import, PopMin, PopMax, Clear}
 use Rattle.sled_model.specs.declared.outcome.Outcome.{Outcome}
 use Rattle.sled_model.specs.declared.outcome.Outcome.TheVariants as outcome
 use Rattle.sled_model.specs.declared.tree.Tree.{Tree}
 use Rattle.sled_model.specs.declared.reply.Reply.{Reply}
+use Rattle.sled_model.specs.declared.reply.Reply.TheVariants.{Flag}
 use Rattle.tree_laws.specs.Forest.{Place, Forest}
 use Rattle.tree_laws.specs.Snapshot.{Snapshot, nodes_at, HasForest}
 use Rattle.tree_laws.specs.Paths.{IsClean}
@@ -38,6 +39,13 @@ use Rattle.sled.specs.Flush.{only_faults}
 pub data ActsOften : Store → Store → Type 0 where
   NoAction : {s : Store} → ActsOften s s
   OneAction : {a b c : Store} → ActsOnce a b → ActsOften b c → ActsOften a c
+
+-- changing actions, one after the other, and faults that are counted between them
+pub record ActsAndCounts (old new : Store) : Type 0 where
+  pub last : Store
+  pub acts : ActsOften old last
+  pub counts : last.faults ≤ new.faults
+  pub is : new ≡ record last { faults = new.faults }
 
 -- what a call does to the store. One that is refused does no more after what it was refused
 abbrev pub effects_until : Option Error → Store → Store → Type 0
@@ -61,33 +69,50 @@ pub record LeavesAll {P M : Type 0} (store : P → Store) (maps : List Maps) (lo
   pub loses : KeepsOrFreesTreePages lost (snapshot_of_db store old) (snapshot_of_db store new)
   pub sound : IsDb store old → IsDb store new
 
--- What a call on a key does and leaves: nothing of the database changes but its pages
+-- What a call on a key does and leaves: nothing of the database changes but its pages and its queues
 pub record Conducts {P M : Type 0} (store : P → Store) (maps : List Maps) (refused : Option Error) (old new : DbValue P M) : Type 0 where
   pub acts : effects_until refused (store old.pages) (store new.pages)
   pub leaves : LeavesAll store maps None old new
-  pub same : new ≡ record old { pages = new.pages }
+  pub same : new ≡ record old { pages = new.pages; queues = new.queues }
 
 -- What a whole call does to the store: a flush makes all durable, and a call that tells something does nothing, but that it may raise
--- the mark; where one of these is refused, nothing but a fault is counted. Any other does changing actions, one after the other, and
--- after the last of them nothing; where it is refused then at most a fault is counted
+-- the mark; where one of these is refused, nothing but a fault is counted. One that drops a tree does changing actions, and faults may
+-- be counted between them, since a refusal after the root went is not told; where it is refused it does no action. Any other does
+-- changing actions, one after the other, and after the last of them nothing; where it is refused then at most a fault is counted
 abbrev pub effect_of_whole : Kind → Outcome → Store → Store → Type 0
 effect_of_whole Flushing (outcome.Decided reply) old new = new ≡ after_flush old
 effect_of_whole Flushing (outcome.Refused e) old new = only_faults e old new
 effect_of_whole Telling (outcome.Decided reply) old new = new ≡ record old { mark = new.mark }
 effect_of_whole Telling (outcome.Refused e) old new = only_faults e old new
+effect_of_whole Dropping (outcome.Decided reply) old new = ActsAndCounts old new
+effect_of_whole Dropping (outcome.Refused e) old new = IsStepRefused e old new
 effect_of_whole kind (outcome.Decided reply) old new = effects_until None old new
 effect_of_whole kind (outcome.Refused e) old new = effects_until (Some e) old new
 effect_of_whole kind o old new = ⊥
 
--- what a decided whole call may change of the database: its pages; and one that opens a tree the list of trees, one that takes an id
--- the greatest that was given
+-- what a decided whole call may change of the database: its pages; and one that removes or imports keys the queues, one that opens a
+-- tree the list of trees, one that drops a tree that list and the operators, one that takes an id the greatest that was given
 abbrev pub changes_only : {P M : Type 0} → Whole → DbValue P M → DbValue P M → Type 0
 changes_only (OpenTree name) old new = new ≡ record old { pages = new.pages; trees = new.trees; trees_given = new.trees_given }
+changes_only (DropTree name) old new = new ≡ record old { pages = new.pages; trees = new.trees; operators = new.operators }
 changes_only GenerateId old new = new ≡ record old { pages = new.pages; greatest_id = new.greatest_id }
+changes_only (PopMin tree) old new = new ≡ record old { pages = new.pages; queues = new.queues }
+changes_only (PopMax tree) old new = new ≡ record old { pages = new.pages; queues = new.queues }
+changes_only (Clear tree) old new = new ≡ record old { pages = new.pages; queues = new.queues }
+changes_only (Import collections) old new = new ≡ record old { pages = new.pages; queues = new.queues; trees = new.trees; trees_given = new.trees_given }
 changes_only whole old new = new ≡ record old { pages = new.pages }
 
--- the tree that a decided whole call drops: none does so yet
+-- .. and one that is refused. A clear may have removed some keys, and an import keeps the parts that it did
+abbrev pub changes_refused : {P M : Type 0} → Whole → DbValue P M → DbValue P M → Type 0
+changes_refused (PopMin tree) old new = new ≡ record old { pages = new.pages; queues = new.queues }
+changes_refused (PopMax tree) old new = new ≡ record old { pages = new.pages; queues = new.queues }
+changes_refused (Clear tree) old new = new ≡ record old { pages = new.pages; queues = new.queues }
+changes_refused (Import collections) old new = new ≡ record old { pages = new.pages; queues = new.queues; trees = new.trees; trees_given = new.trees_given }
+changes_refused whole old new = new ≡ record old { pages = new.pages }
+
+-- the tree that a decided whole call drops, if it drops one
 abbrev pub lost_of : Whole → Reply → Option Key
+lost_of (DropTree name) (Flag true) = Some name
 lost_of whole reply = None
 
 -- a call as it begins
@@ -124,6 +149,6 @@ module _ {P M : Type 0} (store : P → Store) (meant : M → Merge) where
     pub refuses : (slots : ℕ → Option CallInFlight) (slots_given : ℕ) → WholeRefuses (state_of store meant old slots slots_given) (store old.pages) (store new.pages) whole e (state_of store meant new slots slots_given) maps
     pub acts : effect_of_whole (kind_of whole) (outcome.Refused e) (store old.pages) (store new.pages)
     pub leaves : LeavesAll store maps None old new
-    pub same : new ≡ record old { pages = new.pages }
+    pub same : changes_refused whole old new
     -- by a test, and then it did nothing
     pub tested : must_refuse (db_state store meant old) (ToCall whole) ≢ None → new ≡ old

@@ -1,6 +1,6 @@
 -- Dropping a tree.
-use Rattle.std.specs.Prelude.{◌≡◌, ◌≢◌, ℕ, suc, ◌+◌, ◌≤◌, ◌⊎◌, Bool, true, false, not, nat_eq, filter, List, [], ◌∷◌, ◌++◌, length, map, Option, Some, None}
-use Rattle.std.specs.List.{IsDistinct}
+use Rattle.std.specs.Prelude.{◌≡◌, ◌≢◌, ℕ, suc, ◌+◌, ◌≤◌, Bool, true, false, not, nat_eq, filter, List, [], ◌∷◌, ◌++◌, length, get_or, map, Option, Some, None}
+use Rattle.std.specs.List.{IsDistinct, concat}
 use Rattle.sled_pages.specs.In.{In}
 use Rattle.sled_pages.specs.Order.{Key}
 use Rattle.sled_pages.specs.Update.{put_name}
@@ -11,27 +11,33 @@ use Rattle.sled_pages.specs.declared.error.Error.{Error}
 use Rattle.sled_pages.specs.declared.error.Error.TheVariants.{Unsupported, Io, NoMemory, Closed}
 use Rattle.sled_pages.specs.declared.texts.TheConstants.{CORE_STRUCTURES}
 use Rattle.sled_model.specs.Maps.{Merge}
-use Rattle.sled_model.specs.State.{NamedTree, CallInFlight, maps_of}
+use Rattle.sled_model.specs.State.{NamedTree, CallInFlight, maps_of, default_name}
 use Rattle.sled_model.specs.Refusal.{must_refuse_of}
 use Rattle.tree_laws.specs.Forest.{Forest, place}
 use Rattle.tree_laws.specs.Crashes.{AddsCrashStates}
 use Rattle.tree_laws.specs.Snapshot.{Snapshot, HasForest}
 use Rattle.sled_tree.specs.Known.{IsKnown}
 use Rattle.sled_tree.specs.declared.flight.InFlight.{InFlight}
-use Rattle.sled.specs.Values.{DbValue, default_name, db_state, state_of, snapshot_of_db}
+use Rattle.sled.specs.Values.{DbValue, db_state, state_of, snapshot_of_db}
 use Rattle.sled.specs.Sound.{IsDb}
-use Rattle.sled.specs.Flights.{KeepsTreePages}
+use Rattle.sled.specs.Flights.{IsStepRefused, KeepsTreePages}
 use Rattle.sled.specs.Direct.{LeavesAll}
 
--- The root of the name goes, which decides, and then these pages do, each once, each of which stood in a chain of the tree; and faults
--- may be counted. Nothing else of the store changes. How many pages those are is not said, since a refusal there is not told
+-- these pages are the first ones of the chain, in its order
+abbrev pub IsBeginning : List ℕ → List ℕ → Type 0
+IsBeginning pages chain = (rest : List ℕ) × (chain ≡ pages ++ rest)
+
+-- The root of the name goes, which decides, and then pages do that stood in the chains of the tree, each once: level by level from the
+-- leaves up, and of each level a beginning of its chain. Faults may be counted, and nothing else of the store changes. Where a
+-- level ends early is not said, since a refusal there is not told
 pub record RemovesTree (name : Key) (m : Snapshot) (old new : Store) : Type 0 where
-  pub freed : List ℕ
-  pub each : (w : Forest) → HasForest m w → (p : ℕ) → In p freed → (h : ℕ) × In p (w.chain (place name h))
-  pub once : IsDistinct nat_eq freed
+  pub levels : List (List ℕ)
+  pub begins : (w : Forest) → HasForest m w → (h : ℕ) → IsBeginning (get_or levels h []) (w.chain (place name h))
+  pub each : (w : Forest) → HasForest m w → (p : ℕ) → In p (concat levels) → (h : ℕ) × In p (w.chain (place name h))
+  pub once : IsDistinct nat_eq (concat levels)
   pub faults : ℕ
   pub counts : old.faults ≤ faults
-  pub is : new ≡ record old { recent = old.recent ++ RootBecomes name None ∷ map (λ p. PageBecomes p None) freed; actions = old.actions + suc (length freed); faults = faults }
+  pub is : new ≡ record old { recent = old.recent ++ RootBecomes name None ∷ map (λ p. PageBecomes p None) (concat levels); actions = old.actions + suc (length (concat levels)); faults = faults }
 
 module _ {P M : Type 0} (store : P → Store) (meant : M → Merge) (old : DbValue P M) (name : Key) where
   -- There is a tree of this name, and it goes, with its number and its operator
@@ -67,17 +73,18 @@ module _ {P M : Type 0} (store : P → Store) (meant : M → Merge) (old : DbVal
     pub tree : NamedTree
     pub there : (db_state store meant old).trees name ≡ Some tree
 
-  abbrev pub refuses_drop_as : Error → Store → Store → Type 0
-  refuses_drop_as Closed a b = ((now a).in_group ≡ true) × (b ≡ a)
-  refuses_drop_as (Unsupported text) a b = (must_refuse_of (db_state store meant old) [] ≡ None) × (text.now ≡ CORE_STRUCTURES.now) × (name ≡ default_name) × (b ≡ a)
-  refuses_drop_as NoMemory a b = MightDrop × (b ≡ a)
-  refuses_drop_as (Io fault) a b = MightDrop × ((b ≡ record a { faults = a.faults + 1 }) ⊎ ((b ≡ a) × ((pid : ℕ) × (a.is_readable pid ≡ false))))
-  refuses_drop_as e a b = ⊥
+  -- of the pages after it
+  abbrev pub refuses_drop_as : Error → P → Type 0
+  refuses_drop_as Closed q = ((now (store old.pages)).in_group ≡ true) × (q ≡ old.pages)
+  refuses_drop_as (Unsupported text) q = (must_refuse_of (db_state store meant old) [] ≡ None) × (text.now ≡ CORE_STRUCTURES.now) × (name ≡ default_name) × (q ≡ old.pages)
+  refuses_drop_as NoMemory q = MightDrop × (store q ≡ store old.pages)
+  refuses_drop_as (Io fault) q = MightDrop × IsStepRefused (Io fault) (store old.pages) (store q)
+  refuses_drop_as e q = ⊥
 
   -- The database is closed; or the name is the default tree's; or the store refuses, or memory is wanting, before the root goes. Nothing
   -- changes, but that a fault may be counted
   pub record RefusesDrop (e : Error) (new : DbValue P M) : Type 0 where
-    pub is : refuses_drop_as e (store old.pages) (store new.pages)
+    pub is : refuses_drop_as e new.pages
     pub same : new ≡ record old { pages = new.pages }
     pub state : (slots : ℕ → Option CallInFlight) (slots_given : ℕ) → state_of store meant new slots slots_given ≡ state_of store meant old slots slots_given
     pub leaves : LeavesAll store [] None old new

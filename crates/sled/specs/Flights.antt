@@ -2,24 +2,28 @@
 use Rattle.std.specs.Prelude.{◌≡◌, ◌≢◌, ℕ, zero, suc, ◌+◌, ◌<◌, ◌≤◌, ◌⊎◌, true, false, List, [], ◌∷◌, length, Option, Some, None}
 use Rattle.sled_pages.specs.In.{In}
 use Rattle.sled_pages.specs.declared.error.Error.{Error}
-use Rattle.sled_pages.specs.declared.error.Error.TheVariants.{Io}
+use Rattle.sled_pages.specs.declared.error.Error.TheVariants.{Io, NoMemory}
 use Rattle.sled_pages.specs.declared.node.Node.{Node}
+use Rattle.sled_pages.specs.declared.page.View.{View}
 use Rattle.sled_pages.specs.Store.{Store, now}
 use Rattle.sled_pages.specs.Update.{put_at}
 use Rattle.sled_model.specs.Maps.{Maps, Merge}
 use Rattle.sled_model.specs.Answer.{answer_of}
-use Rattle.sled_model.specs.State.{NamedTree, CallInFlight, maps_of}
-use Rattle.sled_model.specs.Refusal.{ToStep, must_refuse, TellsTurns, turns_limit}
+use Rattle.sled_model.specs.State.{State, NamedTree, CallInFlight, maps_of}
+use Rattle.sled_model.specs.Refusal.{ToStep, must_refuse, MeetsFullQueue, TellsTurns, turns_limit}
 use Rattle.sled_model.specs.Transition.{Transition}
 use Rattle.sled_model.specs.declared.event.Event.{Event}
 use Rattle.sled_model.specs.declared.reply.Reply.{Reply}
 use Rattle.sled_model.specs.declared.outcome.Outcome.{Outcome}
 use Rattle.sled_model.specs.declared.outcome.Outcome.TheVariants as outcome
 use Rattle.sled_model.specs.declared.outcome.Step.TheVariants as step
+use Rattle.sled_queues.specs.Values.{QueuesValue, queue_at}
+use Rattle.sled_queues.specs.Queues.{Becomes}
 use Rattle.tree_laws.specs.Forest.{Tree, Place, Forest}
 use Rattle.tree_laws.specs.Crashes.{AddsCrashStates}
 use Rattle.tree_laws.specs.Snapshot.{Snapshot, nodes_at, HasForest}
 use Rattle.tree_laws.specs.Stages.{owned}
+use Rattle.tree_laws.specs.declared.flight.Stage.TheVariants as stage
 use Rattle.sled_tree.specs.Known.{IsKnown, AreApart}
 use Rattle.sled_tree.specs.StageAction.{ActsOnce, ActsAtMostOnce, leaks_no_page_as}
 use Rattle.sled_tree.specs.Follows.{FollowsOn}
@@ -94,13 +98,28 @@ effect_of_step Moved old new = ActsAtMostOnce old new
 effect_of_step (Decided reply) old new = ActsAtMostOnce old new
 effect_of_step (Refused e) old new = IsStepRefused e old new
 
+-- a call has no full queue in its way: an event that it would bring by the map now has room in every queue that waits for it
+abbrev pub MeetsNoFullQueue : State → InFlight → Type 0
+MeetsNoFullQueue s f = MeetsFullQueue s f.job.tree f.job.call → ⊥
+
+-- .. or it is not to link its change yet
+pub record FindsRoom (s : State) (f : InFlight) : Type 0 where
+  pub is : (view : View) → f.stage ≡ stage.Act view → MeetsNoFullQueue s f
+
+-- a step fills the queues where it decides the call, and else leaves them as they are. It gives no subscriber a number
+abbrev pub keeps_queues : Went → QueuesValue → QueuesValue → Type 0
+keeps_queues Moved old new = Becomes (queue_at old) old.given new
+keeps_queues (Decided reply) old new = new.given ≡ old.given
+keeps_queues (Refused e) old new = Becomes (queue_at old) old.given new
+
 -- One step of a call in flight: in whatever slot the call is, the machine makes this step; what a crash may leave grows by the map
--- after the call, if it was decided; and nothing of the database changes but its pages
+-- after the call, if it was decided; and nothing of the database changes but its pages and its queues
 pub record DbStep {P M : Type 0} (store : P → Store) (meant : M → Merge) (old : DbValue P M) (f : InFlight) (went : Went) (new : DbValue P M) (g : InFlight) : Type 0 where
   pub steps : (slots : ℕ → Option CallInFlight) (slots_given slot before after : ℕ) → slots slot ≡ Some (call_in_flight_of f)
       → Transition (configuration_of store meant old slots slots_given before) (step.Step slot) (outcome_of went) (configuration_of store meant new (put_at slots slot (slot_after went g)) slots_given after) (maps_added went (maps_of (db_state store meant new)))
   pub extends : AddsCrashStates (maps_added went (maps_of (db_state store meant new))) (store old.pages) (store new.pages)
-  pub same : new ≡ record old { pages = new.pages }
+  pub same : new ≡ record old { pages = new.pages; queues = new.queues }
+  pub queues : keeps_queues went old.queues new.queues
 
 -- The pages stay well formed, now and after every crash
 pub record DbSound {P M : Type 0} (store : P → Store) (old new : DbValue P M) : Type 0 where
@@ -113,9 +132,27 @@ pub record DbActs {P M : Type 0} (store : P → Store) (meant : M → Merge) (ol
   pub quiet : BringsEvent store meant old f went None → store new.pages ≡ store old.pages
   pub loud : (event : Event) → BringsEvent store meant old f went (Some event) → ActsOnce (store old.pages) (store new.pages)
 
--- where the tests pass and a turn is left, the step does what the call's stage is to do, and leads where that leads
+-- where the tests pass, a turn is left and no full queue is in the way, the step does what the call's stage is to do, and leads where that
+-- leads
 abbrev pub DbFollows : {P M : Type 0} → (P → Store) → (M → Merge) → DbValue P M → InFlight → Went → DbValue P M → InFlight → Type 0
-DbFollows store meant old f went new g = must_refuse (db_state store meant old) (ToStep (call_in_flight_of f)) ≡ None → f.turns < turns_limit → FollowsOn (store old.pages) f went (store new.pages) g
+DbFollows store meant old f went new g = must_refuse (db_state store meant old) (ToStep (call_in_flight_of f)) ≡ None → f.turns < turns_limit → MeetsNoFullQueue (db_state store meant old) f → FollowsOn (store old.pages) f went (store new.pages) g
+
+-- on a clean path the call goes one page further, or ends, but for one that is to link its change and meets a full queue
+abbrev pub DbPasses : {P M : Type 0} → (P → Store) → (M → Merge) → DbValue P M → InFlight → Went → DbValue P M → InFlight → Type 0
+DbPasses store meant old f went new g = FindsRoom (db_state store meant old) f → StepsOnPath (now (store old.pages)) f went (now (store new.pages)) g
+
+-- the call begins again at the root, if there was memory
+abbrev pub turned_back : Went → InFlight → Type 0
+turned_back Moved g = g.stage ≡ stage.Root
+turned_back (Decided reply) g = ⊥
+turned_back (Refused e) g = e ≡ NoMemory
+
+-- What a full queue does to a call: it does not come to its link; and where it is to link its change, the queue having been filled
+-- since, it does nothing and begins again
+pub record DbFindsRoom {P M : Type 0} (store : P → Store) (meant : M → Merge) (old : DbValue P M) (f : InFlight) (went : Went) (new : DbValue P M) (g : InFlight) : Type 0 where
+  pub room : went ≡ Moved → FindsRoom (db_state store meant old) g
+  pub back : must_refuse (db_state store meant old) (ToStep (call_in_flight_of f)) ≡ None → f.turns < turns_limit → (view : View) → f.stage ≡ stage.Act view
+      → MeetsFullQueue (db_state store meant old) f.job.tree f.job.call → turned_back went g × (store new.pages ≡ store old.pages)
 
 -- no page of the call's own is left behind, but by a call that is refused
 abbrev pub DbLeaksNoPage : {P M : Type 0} → (P → Store) → DbValue P M → InFlight → Went → DbValue P M → InFlight → Type 0
@@ -133,8 +170,8 @@ pub record DbStepContract {P M : Type 0} (store : P → Store) (meant : M → Me
   pub sound : DbSound store old new
   pub does : DbActs store meant old f went new
   pub follows : DbFollows store meant old f went new g
-  -- on a clean path the call goes one page further, or ends
-  pub passes : StepsOnPath (now (store old.pages)) f went (now (store new.pages)) g
+  pub passes : DbPasses store meant old f went new g
+  pub room : DbFindsRoom store meant old f went new g
   -- no page of a tree is lost
   pub loses : KeepsTreePages None (snapshot_of_db store old) (snapshot_of_db store new)
   pub leaves : DbLeaksNoPage store old f went new g
@@ -156,8 +193,9 @@ pub record TakesAtMost (moves : ℕ) (went : Went) (path : List ℕ) : Type 0 wh
   pub fits : moves ≤ length path
   pub unlimited : has_turns went
 
--- All steps of a call in flight to its end. Over a clean path of fewer pages than it has turns left it goes on at most once a page
+-- All steps of a call in flight to its end. Over a clean path of fewer pages than it has turns left it goes on at most once a page, but for
+-- one that is to link its change and meets a full queue
 pub record DbRunsToEnd {P M : Type 0} (store : P → Store) (meant : M → Merge) (old : DbValue P M) (f : InFlight) (went : Went) (new : DbValue P M) (g : InFlight) : Type 0 where
   pub moves : ℕ
   pub flies : DbSteps store meant moves old f went new g
-  pub passes : (path : List ℕ) → IsOnPath (now (store old.pages)) (course_of f) f.stage path → f.turns + length path < turns_limit → TakesAtMost moves went path
+  pub passes : FindsRoom (db_state store meant old) f → (path : List ℕ) → IsOnPath (now (store old.pages)) (course_of f) f.stage path → f.turns + length path < turns_limit → TakesAtMost moves went path

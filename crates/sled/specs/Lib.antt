@@ -8,7 +8,9 @@ pub mod Reads
 pub mod Flights
 pub mod Direct
 pub mod Pops
+pub mod Fetch
 pub mod Flush
+pub mod Imports
 pub mod Ids
 pub mod Operators
 pub mod Drops

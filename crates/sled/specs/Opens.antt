@@ -12,10 +12,12 @@ use Rattle.sled_pages.specs.Crash.{crash_states}
 use Rattle.sled_pages.specs.Faults.{IsFault}
 use Rattle.sled_pages.specs.declared.error.Error.{Error}
 use Rattle.sled_model.specs.Maps.{Map, Maps}
+use Rattle.sled_model.specs.State.{default_name}
 use Rattle.tree_laws.specs.Contents.{trees_of}
 use Rattle.tree_laws.specs.Crashes.{IsValid, AddsCrashStates, Flushes}
 use Rattle.tree_laws.specs.Paths.{IsClean}
-use Rattle.sled.specs.Values.{DbValue, default_name, numbers_of}
+use Rattle.sled.specs.Values.{DbValue, numbers_of}
+use Rattle.sled_queues.specs.Queues.{Becomes, no_queues}
 
 abbrev pub or_empty : Option Map → Option Map
 or_empty None = Some []
@@ -115,8 +117,7 @@ pub record Opens {P M : Type 0} (store : P → Store) (before : Store) (called :
   -- the ids up to the mark count as given, no tree has an operator, nobody has subscribed, no group is open, and no fault was met
   pub ids : d.greatest_id ≡ before.mark
   pub operators : d.operators ≡ []
-  pub queues : d.queues ≡ []
-  pub subscribers : d.subscribers_given ≡ 0
+  pub queues : Becomes no_queues 0 d.queues
   pub no_group : (now (store d.pages)).in_group ≡ false
   pub name : d.name ≡ called
   pub mark : (store d.pages).mark ≡ before.mark

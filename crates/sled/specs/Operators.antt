@@ -18,7 +18,6 @@ without_operators d = record {
   operators = [];
   queues = d.queues;
   trees_given = d.trees_given;
-  subscribers_given = d.subscribers_given;
   greatest_id = d.greatest_id;
 }
 

@@ -1,14 +1,17 @@
 -- What holds of a database between two calls.
-use Rattle.std.specs.Prelude.{◌≡◌, ◌≤◌, ℕ, true, [], Some, ◌<◌, None}
+use Rattle.std.specs.Prelude.{◌≡◌, ◌≤◌, ℕ, true, Some, ◌<◌, None}
 use Rattle.std.specs.FinMap.Entries.{is_sorted, find}
 use Rattle.sled_pages.specs.Order.{Key, key_cmp}
 use Rattle.std.specs.Ordering.{nat_cmp}
 use Rattle.sled_pages.specs.Store.{Store}
 use Rattle.sled_model.specs.Maps.{Map, Maps}
+use Rattle.sled_model.specs.State.{default_name}
 use Rattle.tree_laws.specs.Forest.{Forest, IsSized}
 use Rattle.tree_laws.specs.Crashes.{IsCrashConsistent}
 use Rattle.tree_laws.specs.Snapshot.{HasForest, nodes_at}
-use Rattle.sled.specs.Values.{DbValue, default_name, snapshot_of_db, numbers_of}
+use Rattle.sled.specs.Values.{DbValue, snapshot_of_db, numbers_of}
+use Rattle.sled_queues.specs.Values.{queue_at}
+use Rattle.sled_queues.specs.Queues.{IsCalm}
 
 -- The pages are well formed now and in every state that a crash may leave: they have the shape of a forest, and no page has more
 -- than 33 entries, or 17 while it is a merging child. The trees' numbers are those of the roots
@@ -22,8 +25,8 @@ pub record IsDb {P M : Type 0} (store : P → Store) (d : DbValue P M) : Type 0 
   pub default : (n : ℕ) × (numbers_of d.trees default_name ≡ Some n)
   -- no number that was not given has an operator
   pub ungiven : (n : ℕ) → d.trees_given < n → find nat_cmp n d.operators ≡ None
-  -- nobody has subscribed yet
-  pub unwatched : d.queues ≡ []
+  -- no event is prepared for a subscriber that does not wait yet
+  pub calm : IsCalm (queue_at d.queues)
   -- the ids that were given were set aside
   pub ids : d.greatest_id ≤ (store d.pages).mark
 

@@ -1,29 +1,26 @@
 -- What contracts see of a database, and the state of the model that it stands for.
-use Rattle.std.specs.Prelude.{ℕ, nat_le, nat_lt, ◌&&◌, Bool, not, List, Option, Some, None, option_map, codes}
+use Rattle.std.specs.Prelude.{ℕ, nat_le, nat_lt, ◌&&◌, Bool, not, List, Option, Some, None, option_map}
 use Rattle.std.specs.FinMap.Entries.{find}
 use Rattle.std.specs.Ordering.{nat_cmp}
 use Rattle.sled_pages.specs.Order.{Key, key_cmp}
 use Rattle.sled_pages.specs.Store.{Store, now}
 use Rattle.sled_model.specs.Maps.{Map, Merge}
-use Rattle.sled_model.specs.State.{State, NamedTree, Queue, CallInFlight}
+use Rattle.sled_model.specs.State.{State, NamedTree, CallInFlight}
 use Rattle.sled_model.specs.Transition.{Configuration}
+use Rattle.sled_queues.specs.Values.{QueuesValue, queue_at}
+use Rattle.sled_queues.specs.Queues.{queues_of}
 use Rattle.tree_laws.specs.Contents.{trees_of}
 use Rattle.tree_laws.specs.Snapshot.{Snapshot, snapshot_of}
 
--- the pages, the database's name, the trees' numbers by name, the operators by tree number, the queues by subscriber, and the counters
+-- the pages, the database's name, the trees' numbers by name, the operators by tree number, the queues of subscribers, and the counters
 pub record DbValue (P M : Type 0) : Type 0 where
   pub pages : P
   pub name : Key
   pub trees : List (Key × ℕ)
   pub operators : List (ℕ × M)
-  pub queues : List (ℕ × Queue)
+  pub queues : QueuesValue
   pub trees_given : ℕ
-  pub subscribers_given : ℕ
   pub greatest_id : ℕ
-
--- the name of the default tree, which every database has
-unfoldable pub default_name : Key
-default_name = codes "__sled__default"
 
 -- the number of each name's tree
 abbrev pub numbers_of : List (Key × ℕ) → Key → Option ℕ
@@ -44,14 +41,14 @@ abbrev pub state_of : {P M : Type 0} → (P → Store) → (M → Merge) → DbV
 state_of store meant d slots slots_given = record {
   name = d.name;
   trees = λ t. named (numbers_of d.trees t) (trees_of (now (store d.pages)) t) (λ n. option_map meant (find nat_cmp n d.operators));
-  queues = λ n. find nat_cmp n d.queues;
+  queues = queues_of (queue_at d.queues);
   slots = slots;
   is_open = not (now (store d.pages)).in_group;
   greatest_id = d.greatest_id;
   mark = (store d.pages).mark;
   trees_given = d.trees_given;
   slots_given = slots_given;
-  subscribers_given = d.subscribers_given;
+  subscribers_given = d.queues.given;
 }
 
 -- the state with no call in flight

@@ -1,5 +1,7 @@
 pub mod Opens
 pub mod Export
 pub mod Direct
+pub mod Imports
 pub mod Operators
 pub mod Drops
+pub mod Watched

@@ -10,11 +10,13 @@ ghost use Rattle.sled.specs.Calls.{IsHandle, RefusesHandle, MustBeRefused};
 
 use crate::DEFAULT_TREE;
 use crate::operators::operator_of;
+use crate::step::advance_over;
 use crate::tree_list::number_of;
 use sled_model::{Call, MAX_LOOPS, MergeOperator, Tree};
 use sled_pages::texts::{HANDLE_OF_ANOTHER_DATABASE, NO_MERGE_OPERATOR, WALK_PASSED_TURNS};
 use sled_pages::{Error, IVec, Pages, Result};
-use sled_tree::{InFlight, Went, advance};
+use sled_queues::Queues;
+use sled_tree::{InFlight, Went};
 use std::alloc::Global;
 use std::marker::Model;
 
@@ -28,30 +30,29 @@ pub struct Db<P: Pages, M = Box<dyn MergeOperator + Send>> {
     pub(crate) trees: Vec<(IVec, u64)>,
     // the merge operators, by the number of the tree
     pub(crate) operators: Vec<(u64, M)>,
+    pub(crate) queues: Queues,
     pub(crate) trees_given: u64,
     pub(crate) greatest_id: u64,
 }
 
 impl<P: Pages, M> Model for Db<P, M> {
-    ghost use Rattle.std.specs.Prelude.{[]};
     ghost use Rattle.sled.specs.Values.{DbValue};
 
     ghost Value = { DbValue P M };
 
     ghost use Rattle.sled.specs.Sound.{IsDb};
 
-    ghost view = { λ d. record { pages = d.pages; name = d.name; trees = d.trees.items; operators = d.operators.items; queues = []; trees_given = d.trees_given; subscribers_given = 0; greatest_id = d.greatest_id } };
+    ghost view = { λ d. record { pages = d.pages; name = d.name; trees = d.trees.items; operators = d.operators.items; queues = d.queues; trees_given = d.trees_given; greatest_id = d.greatest_id } };
 
-    ghost invariant = { λ d. IsDb P.store (record { pages = d.pages; name = d.name; trees = d.trees.items; operators = d.operators.items; queues = []; trees_given = d.trees_given; subscribers_given = 0; greatest_id = d.greatest_id }) };
+    ghost invariant = { λ d. IsDb P.store (record { pages = d.pages; name = d.name; trees = d.trees.items; operators = d.operators.items; queues = d.queues; trees_given = d.trees_given; greatest_id = d.greatest_id }) };
 }
 
 impl<P: Pages, M: MergeOperator> Db<P, M> {
-    ghost use Rattle.sled_model.specs.State.{maps_of};
+    ghost use Rattle.sled_model.specs.State.{maps_of, default_name};
     ghost use Rattle.sled.specs.Sound.{IsDb, MapsAscend};
-    ghost use Rattle.sled.specs.Values.{db_state, snapshot_of_db, default_name};
+    ghost use Rattle.sled.specs.Values.{db_state, snapshot_of_db};
     ghost use Rattle.sled_tree.specs.Known.{IsKnown};
-    ghost use Rattle.sled_tree.specs.Passing.{StepsOnPath};
-    ghost use Rattle.sled.specs.Flights.{DbStep, DbSound, DbActs, DbFollows, DbLeaksNoPage, DbKnows, KeepsTreePages, DbStepContract, DbRunsToEnd, call_in_flight_of};
+    ghost use Rattle.sled.specs.Flights.{DbStep, DbSound, DbActs, DbFollows, DbPasses, DbFindsRoom, DbLeaksNoPage, DbKnows, KeepsTreePages, DbStepContract, DbRunsToEnd, call_in_flight_of};
     ghost use Rattle.sled.specs.Flush.{FlushesDb, RefusesFlush};
 
     /// What holds of every database: its pages are well formed now and in every state that a crash may leave, its trees are
@@ -109,7 +110,7 @@ impl<P: Pages, M: MergeOperator> Db<P, M> {
     /// let tree = db.default_tree()?;
     /// let found = db.get(&tree, b"ulm")?;
     /// ```
-    #[tactic(auto, unfolding(crate::specs::Values::default_name))]
+    #[tactic(auto, unfolding(sled_model::specs::State::default_name))]
     pub fn default_tree(&self) -> Result<Tree>
         ensures ok { IfOk result (IsHandle self.now default_name) }
         ensures no_group { OnOk result ((now (P.store self.now.pages)).in_group ≡ false) }
@@ -188,7 +189,8 @@ impl<P: Pages, M: MergeOperator> Db<P, M> {
         ensures sound { DbSound P.store self.old self.new }
         ensures does { DbActs P.store M.meant self.old flight.old result self.new }
         ensures follows { DbFollows P.store M.meant self.old flight.old result self.new flight.new }
-        ensures passes { StepsOnPath (now (P.store self.old.pages)) flight.old result (now (P.store self.new.pages)) flight.new }
+        ensures passes { DbPasses P.store M.meant self.old flight.old result self.new flight.new }
+        ensures room { DbFindsRoom P.store M.meant self.old flight.old result self.new flight.new }
         ensures loses { KeepsTreePages None (snapshot_of_db P.store self.old) (snapshot_of_db P.store self.new) }
         ensures leaves { DbLeaksNoPage P.store self.old flight.old result self.new flight.new }
         ensures knows { DbKnows P.store self.old flight.old result self.new flight.new }
@@ -209,7 +211,13 @@ impl<P: Pages, M: MergeOperator> Db<P, M> {
             return Went::Refused(Error::ReportableBug(WALK_PASSED_TURNS));
         }
         let operator = operator_of(self.operators.as_slice(), flight.job.tree.number);
-        advance(&mut self.pages, self.alloc, operator, flight)
+        advance_over(
+            &mut self.pages,
+            &mut self.queues,
+            self.alloc,
+            operator,
+            flight,
+        )
     }
 
     /// Steps of a call in flight until it ends. The tests are made once, since no step of a call changes what they look at.

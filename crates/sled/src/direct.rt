@@ -133,7 +133,7 @@ impl<P: Pages, M: MergeOperator> Db<P, M> {
     }
 
     // The same of a call that passed the tests.
-    fn make(&mut self, tree: &Tree, call: Call) -> Result<Reply>
+    pub(crate) fn make(&mut self, tree: &Tree, call: Call) -> Result<Reply>
         requires { must_refuse (db_state P.store M.meant self.old) (ToPoint tree.now call) ≡ None }
         ensures ok { IfOk result (λ reply. PointDecided P.store M.meant self.old tree.now call reply self.new) }
         ensures err { IfErr result (λ e. PointRefused P.store M.meant self.old tree.now call e self.new) }

@@ -3,13 +3,13 @@
 //! The removal of the tree's root decides: from then on no walk finds the tree, and no call in flight on it goes on, since its
 //! number is gone. Its pages are freed after that. A refusal there leaves pages that no tree has, and so do a page that
 //! was received by the one before it, and the pages that calls in flight made for themselves: those are not looked for.
-ghost use Rattle.std.specs.Prelude.{◌≡◌, not, nat_eq, filter, IfOk, IfErr, OnOk, Some, None, [], ◌∷◌};
+ghost use Rattle.std.specs.Prelude.{◌≡◌, not, nat_eq, filter, length, IfOk, IfErr, OnOk, Some, None};
 ghost use Rattle.sled_pages.specs.Node.{without};
 ghost use Rattle.sled_pages.specs.State.{nodes_of};
 ghost use Rattle.sled_pages.specs.Store.{now};
 ghost use Rattle.tree_laws.specs.Contents.{page_numbers};
 ghost use Rattle.sled_tree.specs.theory.StageAction.{is_action_refused_as};
-ghost use Rattle.sled.specs.theory.Drops.{first_pages_down, FreesPage, FreesFrom, DropsRoot};
+ghost use Rattle.sled.specs.theory.Drops.{first_pages_down, FreesPage, FreesLevel, FreesFrom, DropsRoot};
 ghost use Rattle.sled.specs.theory.Export.{RefusesRead};
 
 use crate::DEFAULT_TREE;
@@ -62,7 +62,7 @@ fn free_page<P: Pages>(alloc: Global, pages: &mut P, pid: Pid) -> Option<Pid>
 
 // Frees the pages of a level, from its first on, up to a refusal.
 fn free_level<P: Pages>(alloc: Global, pages: &mut P, first: Pid)
-    ensures { FreesFrom (first ∷ []) (P.store pages.old) (P.store pages.new) }
+    ensures { FreesLevel first (P.store pages.old) (P.store pages.new) }
 {
     let mut cursor = Some(first);
     for page in 0..u64::MAX {
@@ -75,7 +75,7 @@ fn free_level<P: Pages>(alloc: Global, pages: &mut P, first: Pid)
 
 // Frees the pages of the levels that begin with these, the last level first.
 fn free_levels<P: Pages>(alloc: Global, pages: &mut P, firsts: &[Pid])
-    ensures { FreesFrom firsts.now (P.store pages.old) (P.store pages.new) }
+    ensures { FreesFrom firsts.now (length firsts.now) (P.store pages.old) (P.store pages.new) }
 {
     for level in 0..firsts.len() {
         free_level(alloc, pages, firsts[firsts.len() - 1 - level]);

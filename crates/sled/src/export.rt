@@ -11,7 +11,7 @@ ghost use Rattle.sled.specs.Export.{RefusesExport, collection, collections};
 ghost use Rattle.sled.specs.theory.Export.{RefusesRead};
 
 use crate::db::Db;
-use sled_model::MergeOperator;
+use sled_model::{Collection, MergeOperator};
 use sled_pages::{Data, Error, IVec, Node, Pages, Pid, Result};
 use std::alloc::Global;
 
@@ -134,9 +134,6 @@ pub(crate) fn pairs_under<P: Pages>(
     let leaf = first_leaf(alloc, pages, root)?;
     pairs_along(alloc, pages, leaf)
 }
-
-/// What an export has of a tree: the type of collection, which is `tree`, the tree's name, and its pairs.
-pub type Collection = (Vec<u8>, Vec<u8>, Vec<(IVec, IVec)>);
 
 // The collection of the tree of this name.
 fn collection_of<P: Pages>(alloc: Global, pages: &P, name: &IVec) -> Result<Collection>

@@ -12,22 +12,24 @@ mod db;
 mod direct;
 mod drop;
 mod export;
+mod fetch;
 mod ids;
+mod import;
 mod memory;
 mod names;
 mod open;
 mod operators;
 mod read;
+mod step;
 mod tree_list;
 mod whole;
 
 pub use db::Db;
 pub use direct::CompareAndSwapResult;
-pub use export::Collection;
 pub use memory::{crash_pages, empty_pages};
 pub use sled_model::{
-    Call, CompareAndSwapError, Decision, Effect, Event, MAX_LOOPS, MergeOperator, Outcome,
-    QUEUE_LIMIT, Reply, Slot, Step, Tree, Whole,
+    Call, Collection, CompareAndSwapError, Decision, Effect, Event, MAX_LOOPS, MergeOperator,
+    Outcome, QUEUE_LIMIT, Reply, Slot, Step, Tree, Whole,
 };
 pub use sled_pages::{
     Data, Error, Fault, IVec, Index, Leaf, Link, MemPages, Node, Page, Pages, Pid, Result, Shared,

@@ -15,6 +15,7 @@ use crate::tree_list::{number_of, put_tree, reserve_one};
 use sled_model::{MergeOperator, Tree};
 use sled_pages::texts::NUMBERS_USED_UP;
 use sled_pages::{Data, Error, IVec, Leaf, Node, Pages, Pid, Result, law_given};
+use sled_queues::Queues;
 use std::alloc::Global;
 
 // A leaf without pairs that covers every key.
@@ -141,6 +142,7 @@ impl<P: Pages> Db<P> {
             name,
             trees,
             operators: Vec::new(alloc),
+            queues: Queues::new(alloc),
             trees_given,
             greatest_id,
         })

@@ -63,6 +63,7 @@ impl<P: Pages, M: MergeOperator> Db<P, M> {
             name,
             trees,
             operators,
+            queues,
             trees_given,
             greatest_id,
         } = self;
@@ -73,6 +74,7 @@ impl<P: Pages, M: MergeOperator> Db<P, M> {
             name,
             trees,
             operators: Vec::new(alloc),
+            queues,
             trees_given,
             greatest_id,
         }

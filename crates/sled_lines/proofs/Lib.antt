@@ -6,3 +6,4 @@ mod Reading
 mod Printing
 mod Obeying
 mod Living
+mod Serving

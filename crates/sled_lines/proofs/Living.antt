@@ -4,8 +4,8 @@ use Rattle.sled_pages.specs.Store.{Store}
 use Rattle.sled_model.specs.Maps.{Merge}
 use Rattle.sled_lines.specs.Print.{Prints, bad_line}
 use Rattle.sled_lines.specs.Session.{Obeys}
-use Rattle.sled_lines.specs.Serve.{lines_of}
-use Rattle.sled_lines.specs.theory.Serve.{crash_of, BeginsSo, Took, Lives, AtEnd, AtBadLine, AtCrash, Obeying, Place, LivesOn, LivesFrom}
+use Rattle.sled_lines.specs.Serve.{lines_of, crash_of, Lives, AtEnd, AtBadLine, AtCrash, Obeying}
+use Rattle.sled_lines.specs.theory.Serve.{BeginsSo, Took, Place, LivesOn, LivesFrom}
 use Rattle.sled_lines.specs.declared.command.Command.{Command}
 use Rattle.sled_lines.specs.declared.command.Command.TheVariants as command
 use Rattle.sled_lines.specs.declared.serve.End.{End}

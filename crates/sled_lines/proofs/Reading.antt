@@ -8,8 +8,8 @@ use Rattle.std.proofs.lemmas.List.Splits.{slice_split-cons_yes, slice_split-cons
 use Rattle.std.specs.Str.{bytes_eq}
 use Rattle.sled_lines.specs.declared.command.Command.{Command}
 use Rattle.sled_lines.specs.Command.{command_of}
-use Rattle.sled_lines.specs.Serve.{without_last, lines_of, first_bad, bad_left}
-use Rattle.sled_lines.specs.theory.Serve.{crash_of, BeginsSo, Took, Takes, IsToDo, Reads}
+use Rattle.sled_lines.specs.Serve.{without_last, lines_of, first_bad, bad_left, crash_of}
+use Rattle.sled_lines.specs.theory.Serve.{BeginsSo, Took, Takes, IsToDo, Reads}
 use Rattle.sled_lines.specs.declared.command.Command.TheVariants as command
 use Rattle.sled_lines.specs.declared.serve.Line.{Line}
 use Rattle.sled_lines.specs.declared.serve.Line.TheVariants as line

@@ -1,5 +1,5 @@
 -- Lines: how outcomes are printed.
-use Rattle.std.specs.Prelude.{ℕ, ◌-◌, ◌^◌, min, sum_by, List, [], ◌∷◌, ◌++◌, length, Option, Some, None, Ok, Err, codes, decimal}
+use Rattle.std.specs.Prelude.{ℕ, true, false, ◌-◌, ◌^◌, min, sum_by, List, [], ◌∷◌, ◌++◌, length, Option, Some, None, Ok, Err, codes, decimal}
 use Rattle.std.specs.List.{flat_map}
 use Rattle.std.specs.Io.KnownBytes.{Appends, append_known}
 use Rattle.sled_pages.specs.Order.{Key}
@@ -11,7 +11,7 @@ use Rattle.sled_model.specs.declared.call.Call.TheVariants.{Get, Insert, Remove,
 use Rattle.sled_model.specs.declared.call.Whole.{Whole}
 use Rattle.sled_model.specs.declared.call.Whole.TheVariants.{GenerateId}
 use Rattle.sled_model.specs.declared.reply.Reply.{Reply}
-use Rattle.sled_model.specs.declared.reply.Reply.TheVariants.{Value, Swapped, Number, Done, Pair, Tree}
+use Rattle.sled_model.specs.declared.reply.Reply.TheVariants.{Value, Swapped, Number, Done, Pair, Tree, Flag}
 use Rattle.sled_model.specs.declared.reply.CompareAndSwapError.{CompareAndSwapError}
 use Rattle.sled_model.specs.declared.outcome.Outcome.{Outcome}
 use Rattle.sled_model.specs.declared.outcome.Outcome.TheVariants.{Begun, Moved, Decided, Refused, Abandoned, NoSuchSlot}
@@ -70,6 +70,8 @@ reply_line show Done = codes "done" ++ end
 reply_line show (Pair (Some pair)) = found_line pair.0 pair.1
 reply_line show (Pair None) = codes "found -" ++ end
 reply_line show (Tree tree) = tree_line tree.name
+reply_line show (Flag true) = codes "yes" ++ end
+reply_line show (Flag false) = codes "no" ++ end
 
 -- errors are numbered in the order of their variants
 abbrev pub error_number : Error → ℕ

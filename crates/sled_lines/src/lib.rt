@@ -3,6 +3,7 @@
 
 pub mod command;
 pub mod input;
+pub mod operator;
 pub mod print;
 pub mod serve;
 pub mod session;

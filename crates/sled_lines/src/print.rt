@@ -198,6 +198,8 @@ fn push_reply(out: &mut Vec<u8>, shown: Shown, reply: &Reply) -> Result<()>
         Reply::Pair(Some(pair)) => push_found(out, pair.0.as_ref(), pair.1.as_ref()),
         Reply::Pair(None) => push_text(out, b"found -\n"),
         Reply::Tree(tree) => push_tree(out, tree.name.as_ref()),
+        Reply::Flag(true) => push_text(out, b"yes\n"),
+        Reply::Flag(false) => push_text(out, b"no\n"),
     }
 }
 

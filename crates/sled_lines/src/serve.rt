@@ -2,15 +2,16 @@
 ghost use Rattle.std.specs.Prelude.{◌≡◌, ◌≤◌, false, [], IfOk, OnOk, IfSome};
 ghost use Rattle.std.specs.Io.KnownBytes.{Keeps};
 ghost use Rattle.sled_pages.specs.Store.{now};
-ghost use Rattle.sled_pages.specs.Memory.{store_of};
+ghost use Rattle.sled_pages.specs.Memory.{store_of, empty_store};
 ghost use Rattle.tree_laws.specs.Crashes.{IsValid, IsCrashConsistent};
 ghost use Rattle.sled_lines.specs.Print.{Prints, bad_line};
-ghost use Rattle.sled_lines.specs.Serve.{IsStatus, bad_left};
+ghost use Rattle.sled_lines.specs.Serve.{IsStatus, bad_left, crash_of, recovered_text, Served, served_as};
 ghost use Rattle.sled_lines.specs.Session.{Obeys};
-ghost use Rattle.sled_lines.specs.theory.Serve.{crash_of, Reads, Takes, IsToDo, Ends, LivesFrom, place, Ran};
+ghost use Rattle.sled_lines.specs.theory.Serve.{Reads, Takes, IsToDo, Ends, LivesFrom, LivedFrom, ServesFrom, place, Ran};
 
 use crate::command::{Command, parse};
 use crate::input::{Stopped, read_line, without_end};
+use crate::operator::NoOperator;
 use crate::print::{push_bad_line, push_recovered};
 use crate::session::{Session, write};
 use sled::{Db, crash_pages, empty_pages};
@@ -104,7 +105,8 @@ fn next_line<R: BufRead, W: Write>(
 
 // Prints which line could not be read.
 fn tell_bad<W: Write>(number: u64, output: &mut W, out: &mut Vec<u8>) -> Result<(), Stopped>
-    ensures { OnOk result (Prints (W.contents output.old) out.old.items (W.contents output.new) out.new.items (bad_line number)) }
+    ensures prints { OnOk result (Prints (W.contents output.old) out.old.items (W.contents output.new) out.new.items (bad_line number)) }
+    ensures written { OnOk result (out.new.items ≡ []) }
 {
     push_bad_line(out, number)?;
     write(output, out)
@@ -117,13 +119,14 @@ fn answer<P: Pages, M: MergeOperator, W: Write>(
     output: &mut W,
     out: &mut Vec<u8>,
 ) -> Result<(), Stopped>
-    ensures { OnOk result (Obeys P.store P.flush_number M.meant session.old command session.new (W.contents output.old) out.old.items (W.contents output.new) out.new.items) }
+    ensures obeys { OnOk result (Obeys P.store P.flush_number M.meant session.old command session.new (W.contents output.old) out.old.items (W.contents output.new) out.new.items) }
+    ensures written { OnOk result (out.new.items ≡ []) }
 {
     session.run(command, output, out)?;
     write(output, out)
 }
 
-// Runs lines up to a crash or the last of them.
+// Runs lines up to a crash or the last of them. All that they print is written.
 fn lines<P: Pages, M: MergeOperator, R: BufRead, W: Write>(
     alloc: Global,
     session: &mut Session<P, M>,
@@ -131,6 +134,8 @@ fn lines<P: Pages, M: MergeOperator, R: BufRead, W: Write>(
     output: &mut W,
     buffers: &mut Buffers,
 ) -> Result<End, Stopped>
+    requires { buffers.old.out.items ≡ [] }
+    ensures written { OnOk result (buffers.new.out.items ≡ []) }
     ensures bad { IfOk result (Ends (bad_left buffers.old.number (R.remaining input.old)) (bad_left buffers.new.number (R.remaining input.new)) buffers.new.number) }
     ensures lives { IfOk result (λ end. LivesFrom P.store P.flush_number M.meant session.old (place buffers.old (R.remaining input.old) (W.contents output.old)) end session.new (place buffers.new (R.remaining input.new) (W.contents output.new))) }
 {
@@ -149,11 +154,14 @@ fn lines<P: Pages, M: MergeOperator, R: BufRead, W: Write>(
 }
 
 // Prints whether the pages of a session are what a crash left.
-fn tell_recovered<W: Write>(
-    session: &Session,
+fn tell_recovered<P: Pages, M: MergeOperator, W: Write>(
+    session: &Session<P, M>,
     output: &mut W,
     out: &mut Vec<u8>,
-) -> Result<(), Stopped> {
+) -> Result<(), Stopped>
+    ensures prints { OnOk result (Prints (W.contents output.old) out.old.items (W.contents output.new) out.new.items (recovered_text (P.store session.now.machine.db.pages).recovered)) }
+    ensures written { OnOk result (out.new.items ≡ []) }
+{
     if session.db().was_recovered() {
         push_recovered(out)?;
     }
@@ -171,11 +179,14 @@ fn live<R: BufRead, W: Write>(
 ) -> Result<(End, MemPages), Stopped>
     requires well { IsValid (now (store_of pages)) }
     requires no_group { (now (store_of pages)).in_group ≡ false }
+    requires none { buffers.old.out.items ≡ [] }
     ensures whole { IfOk result (λ ended. IsCrashConsistent (store_of ended.1)) }
     ensures bad { IfOk result (λ ended. Ends (bad_left buffers.old.number (R.remaining input.old)) (bad_left buffers.new.number (R.remaining input.new)) buffers.new.number ended.0) }
+    ensures lived { IfOk result (λ ended. LivedFrom (store_of pages) (place buffers.old (R.remaining input.old) (W.contents output.old)) ended.0 (store_of ended.1) (place buffers.new (R.remaining input.new) (W.contents output.new))) }
+    ensures written { OnOk result (buffers.new.out.items ≡ []) }
 {
     let db = match Db::open(alloc, pages, DATABASE) {
-        Ok(db) => db,
+        Ok(db) => db.with_operators::<NoOperator>(),
         Err(refused) => {
             drop(refused);
             return Err(Stopped);
@@ -208,15 +219,17 @@ fn run_from<R: BufRead, W: Write>(
     output: &mut W,
     buffers: &mut Buffers,
 ) -> Result<bool, Stopped>
-    ensures { IfOk result (Ran (bad_left buffers.old.number (R.remaining input.old))) }
+    requires { buffers.old.out.items ≡ [] }
+    ensures bad { IfOk result (Ran (bad_left buffers.old.number (R.remaining input.old))) }
+    ensures serves { IfOk result (λ read. ServesFrom empty_store (place buffers.old (R.remaining input.old) (W.contents output.old)) read (place buffers.new (R.remaining input.new) (W.contents output.new))) }
+    ensures written { OnOk result (buffers.new.out.items ≡ []) }
 {
     let mut pages = empty_pages(alloc);
     for _ in 0..u64::MAX {
         let (end, left) = live(alloc, pages, input, output, buffers)?;
         match end {
             End::Crash(keep) => {
-                let keep = usize::try_from(keep).unwrap_or(usize::MAX);
-                pages = crash_pages(left, keep)?;
+                pages = crash_pages(left, keep as usize)?;
             }
             End::NoLine => {
                 drop(left);
@@ -234,7 +247,8 @@ fn run_from<R: BufRead, W: Write>(
 
 // Whether every line could be read.
 fn run<R: BufRead, W: Write>(alloc: Global, input: &mut R, output: &mut W) -> Result<bool, Stopped>
-    ensures { IfOk result (Ran (bad_left 0 (R.remaining input.old))) }
+    ensures bad { IfOk result (Ran (bad_left 0 (R.remaining input.old))) }
+    ensures serves { IfOk result (λ read. IfSome (R.remaining input.old) (λ text. Served text (W.contents output.old) (W.contents output.new) read)) }
 {
     let mut buffers = Buffers {
         line: Vec::new(alloc),
@@ -252,6 +266,7 @@ fn run<R: BufRead, W: Write>(alloc: Global, input: &mut R, output: &mut W) -> Re
 pub fn serve<R: BufRead, W: Write>(alloc: Global, input: &mut R, output: &mut W) -> u8
     ensures status { result ≤ 2 }
     ensures bad { IfSome (bad_left 0 (R.remaining input.old)) (λ bad. IsStatus bad result) }
+    ensures serves { IfSome (R.remaining input.old) (λ text. served_as text (W.contents output.old) (W.contents output.new) result) }
 {
     match run(alloc, input, output) {
         Ok(true) => 0,

@@ -11,7 +11,7 @@ ghost use Rattle.sled_machine.specs.Step.{MachineStepContract};
 ghost use Rattle.sled_machine.specs.Run.{MachineRun, MachineSteps};
 ghost use Rattle.sled_machine.specs.Finish.{Completes};
 ghost use Rattle.sled.specs.Calls.{IsHandle, RefusesHandle};
-ghost use Rattle.sled.specs.Values.{default_name};
+ghost use Rattle.sled_model.specs.State.{default_name};
 ghost use Rattle.sled_lines.specs.Print.{shown_of, shown_of_whole, outcome_line, pair_line, collection_lines, dump_text, Prints};
 ghost use Rattle.sled_lines.specs.declared.command.Command.TheVariants as command;
 ghost use Rattle.sled_lines.specs.declared.print.Shown.{Shown};

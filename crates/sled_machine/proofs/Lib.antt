@@ -4,4 +4,5 @@ pub mod Steps
 pub mod Machines
 pub mod Runs
 pub mod Wholes
+pub mod Fetched
 pub mod Finishing

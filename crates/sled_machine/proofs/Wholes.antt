@@ -1,11 +1,11 @@
 -- Whole calls but the flush: what the database says of one is what the machine promises.
-use Rattle.std.proofs.Common.{◌≡◌, ℕ, List, ◌++◌, Option, Some, None, sym, refl, ap, subst, [], ◌∷◌}
+use Rattle.std.proofs.Common.{◌≡◌, ℕ, List, ◌++◌, Option, None, sym, refl, ap, subst}
 use Rattle.sled_pages.specs.Order.{Key}
 use Rattle.sled_pages.specs.Store.{Store}
 use Rattle.sled_pages.specs.declared.error.Error.{Error}
 use Rattle.sled_model.specs.Maps.{Maps, Merge}
 use Rattle.sled_model.specs.State.{maps_of}
-use Rattle.sled_model.specs.Transition.{Kind, Flushing, Telling, Changing, InParts, kind_of}
+use Rattle.sled_model.specs.Transition.{Kind, Flushing, Telling, Changing, InParts, Dropping, kind_of}
 use Rattle.sled_model.specs.declared.call.Whole.{Whole}
 use Rattle.sled_model.specs.declared.reply.Reply.{Reply}
 use Rattle.sled_model.specs.declared.outcome.Outcome.TheVariants as outcome
@@ -25,24 +25,28 @@ IsOther Flushing = ⊥
 IsOther Telling = Unit {0}
 IsOther Changing = Unit {0}
 IsOther InParts = Unit {0}
+IsOther Dropping = Unit {0}
 
 kept_other : (k : Kind) → IsOther k → (added : List Maps) (after : Maps) (kept : List Maps) → crash_maps_after_whole k added after kept ≡ kept ++ added
 kept_other Flushing off added after kept = absurd off
 kept_other Telling off added after kept = refl
 kept_other Changing off added after kept = refl
 kept_other InParts off added after kept = refl
+kept_other Dropping off added after kept = refl
 
 loses_other : (k : Kind) → IsOther k → (lost : Option Key) (a b : Snapshot) → KeepsOrFreesTreePages lost a b → whole_keeps_tree_pages k lost a b
 loses_other Flushing off lost a b l = absurd off
 loses_other Telling off lost a b l = l
 loses_other Changing off lost a b l = l
 loses_other InParts off lost a b l = l
+loses_other Dropping off lost a b l = l
 
 tested_other : (k : Kind) → IsOther k → (T : Type 0) → T → whole_tested k T
 tested_other Flushing off T t = absurd off
 tested_other Telling off T t = t
 tested_other Changing off T t = t
 tested_other InParts off T t = t
+tested_other Dropping off T t = t
 
 module _ {P M : Type 0} (store : P → Store) (number : P → ℕ) (meant : M → Merge) (v : MachineValue P M) (w : Whole) (off : IsOther (kind_of w)) (db : DbValue P M) where
   decided : (reply : Reply) → WholeDecided store meant v.db w reply db → way_of_whole store meant v.db w (outcome.Decided reply) db → MachineStepContract store number meant v (step.Whole w) (outcome.Decided reply) (record v { db = db })

@@ -3,7 +3,7 @@ use Rattle.std.specs.Prelude.{List, [], ◌∷◌, ◌++◌, map}
 use Rattle.sled_pages.specs.Store.{Store}
 use Rattle.sled_pages.specs.Crash.{crash_states}
 use Rattle.sled_model.specs.Maps.{Maps}
-use Rattle.sled_model.specs.Transition.{Kind, Flushing, Telling, Changing, InParts, kind_of}
+use Rattle.sled_model.specs.Transition.{Kind, Flushing, Telling, Changing, InParts, Dropping, kind_of}
 use Rattle.sled_model.specs.declared.outcome.Step.{Step}
 use Rattle.sled_model.specs.declared.outcome.Step.TheVariants as step
 use Rattle.sled_model.specs.declared.outcome.Outcome.{Outcome}
@@ -20,6 +20,7 @@ crash_maps_after_whole Flushing added after kept = after ∷ []
 crash_maps_after_whole Telling added after kept = kept ++ added
 crash_maps_after_whole Changing added after kept = kept ++ added
 crash_maps_after_whole InParts added after kept = kept ++ added
+crash_maps_after_whole Dropping added after kept = kept ++ added
 
 -- The list of maps after a step: it goes on by those that the step added, at its end. A flush that was decided makes all durable,
 -- and leaves the maps now alone

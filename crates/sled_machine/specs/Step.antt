@@ -1,16 +1,18 @@
 -- One step of the machine.
-use Rattle.std.specs.Prelude.{◌≡◌, ◌≢◌, ℕ, suc, ◌<◌, List, [], length, Option, Some, None, ◌∷◌}
-use Rattle.sled_pages.specs.Store.{Store, now, after_flush}
+use Rattle.std.specs.Prelude.{◌≡◌, ◌≢◌, ℕ, suc, ◌<◌, Bool, List, [], length, Option, Some, None}
+use Rattle.sled_pages.specs.Store.{Store, now}
 use Rattle.sled_pages.specs.Order.{Key}
 use Rattle.sled_model.specs.Maps.{Map, Maps, Merge, IsLeast, IsGreatest}
 use Rattle.sled_model.specs.Answer.{answer_of}
 use Rattle.sled_model.specs.Refusal.{ToCall, ToStep, must_refuse, turns_limit}
 use Rattle.sled_model.specs.State.{State, NamedTree, CallInFlight, maps_of}
+use Rattle.sled_model.specs.Collections.{Content, contents_of}
+use Rattle.sled_model.specs.Imports.{parts_of}
 use Rattle.sled_model.specs.Transition.{Transition, Kind, Flushing, kind_of}
 use Rattle.sled_pages.specs.declared.error.Error.{Error}
 use Rattle.sled_model.specs.declared.call.Whole.{Whole}
-use Rattle.sled_model.specs.declared.call.Whole.TheVariants.{PopMin, PopMax, Clear, OpenTree}
-use Rattle.sled_model.specs.declared.reply.Reply.TheVariants.{Pair}
+use Rattle.sled_model.specs.declared.call.Whole.TheVariants.{PopMin, PopMax, Clear, OpenTree, DropTree, Import}
+use Rattle.sled_model.specs.declared.reply.Reply.TheVariants.{Pair, Flag}
 use Rattle.sled_model.specs.declared.tree.Tree.{Tree}
 use Rattle.sled_model.specs.declared.outcome.Step.{Step}
 use Rattle.sled_model.specs.declared.outcome.Step.TheVariants as step
@@ -31,11 +33,12 @@ use Rattle.sled_tree.specs.declared.flight.Went.{Went}
 use Rattle.tree_reads.specs.Walk.{once, for_each}
 use Rattle.sled.specs.Sound.{IsDb}
 use Rattle.sled.specs.Values.{DbValue, db_state, snapshot_of_db}
-use Rattle.sled.specs.Flights.{IsStepRefused, KeepsTreePages, call_in_flight_of, outcome_of}
-use Rattle.sled.specs.Flush.{only_faults}
-use Rattle.sled.specs.Direct.{effects_until, KeepsOrFreesTreePages, effect_of_whole, lost_of}
+use Rattle.sled.specs.Flights.{IsStepRefused, KeepsTreePages, call_in_flight_of, outcome_of, MeetsNoFullQueue, FindsRoom}
+use Rattle.sled.specs.Direct.{KeepsOrFreesTreePages, effect_of_whole, lost_of}
+use Rattle.sled.specs.Drops.{DropsTree, RefusesDrop}
 use Rattle.sled.specs.Opens.{OpensBySteps, OpenRefusedBySteps}
 use Rattle.sled.specs.Pops.{GivesUpPop, PopsBySteps, PopRefusedBySteps, ClearsBySteps, ClearRefusedBySteps}
+use Rattle.sled.specs.Imports.{ImportsBySteps, ImportRefusedBySteps}
 use Rattle.sled_machine.specs.CrashMaps.{AreCrashMaps, crash_maps_after}
 use Rattle.sled_machine.specs.StepsInSlot.{flight_after}
 use Rattle.sled_machine.specs.Slots.{kept_at}
@@ -89,27 +92,29 @@ pub record FollowsAt {P M : Type 0} (store : P → Store) (old : MachineValue P 
   pub there : kept_at new.flights slot ≡ flight_after went next
   pub follows : FollowsOn (store old.db.pages) f went (store new.db.pages) next
 
--- a step of a slot follows from the stage of its call, where the tests pass and a turn is left
+-- a step of a slot follows from the stage of its call, where the tests pass, a turn is left and no full queue is in the way
 abbrev pub follows_stage_as : {P M : Type 0} → (P → Store) → (M → Merge) → MachineValue P M → Step → Outcome → MachineValue P M → Type 0
-follows_stage_as store meant old (step.Step slot) o new = (f : InFlight) → kept_at old.flights slot ≡ Some f → must_refuse (db_state store meant old.db) (ToStep (call_in_flight_of f)) ≡ None → f.turns < turns_limit → FollowsAt store old f slot o new
+follows_stage_as store meant old (step.Step slot) o new = (f : InFlight) → kept_at old.flights slot ≡ Some f → must_refuse (db_state store meant old.db) (ToStep (call_in_flight_of f)) ≡ None → f.turns < turns_limit → MeetsNoFullQueue (db_state store meant old.db) f → FollowsAt store old f slot o new
 follows_stage_as store meant old s o new = Unit {0}
 
 pub record MachineFollows {P M : Type 0} (store : P → Store) (meant : M → Merge) (old : MachineValue P M) (s : Step) (o : Outcome) (new : MachineValue P M) : Type 0 where
   pub is : follows_stage_as store meant old s o new
 
--- the call in the slot has this path of pages ahead of it, and nothing to repair on it
-pub record IsPathAhead {P M : Type 0} (store : P → Store) (m : MachineValue P M) (slot : ℕ) (path : List ℕ) : Type 0 where
+-- the call in the slot has this path of pages ahead of it, nothing to repair on it, and no full queue in its way if it is to link its
+-- change
+pub record IsPathAhead {P M : Type 0} (store : P → Store) (meant : M → Merge) (m : MachineValue P M) (slot : ℕ) (path : List ℕ) : Type 0 where
   pub flight : InFlight
   pub here : kept_at m.flights slot ≡ Some flight
   pub clean : IsOnPath (now (store m.db.pages)) (course_of flight) flight.stage path
+  pub room : FindsRoom (db_state store meant m.db) flight
 
 -- a step of a slot that goes on along a clean path has a page less ahead of it
-abbrev pub advances_on_path_as : {P M : Type 0} → (P → Store) → MachineValue P M → Step → Outcome → MachineValue P M → Type 0
-advances_on_path_as store old (step.Step slot) Moved new = (path : List ℕ) → IsPathAhead store old slot path → (rest : List ℕ) × (length path ≡ suc (length rest)) × IsPathAhead store new slot rest
-advances_on_path_as store old s o new = Unit {0}
+abbrev pub advances_on_path_as : {P M : Type 0} → (P → Store) → (M → Merge) → MachineValue P M → Step → Outcome → MachineValue P M → Type 0
+advances_on_path_as store meant old (step.Step slot) Moved new = (path : List ℕ) → IsPathAhead store meant old slot path → (rest : List ℕ) × (length path ≡ suc (length rest)) × IsPathAhead store meant new slot rest
+advances_on_path_as store meant old s o new = Unit {0}
 
-pub record MachinePasses {P M : Type 0} (store : P → Store) (old : MachineValue P M) (s : Step) (o : Outcome) (new : MachineValue P M) : Type 0 where
-  pub is : advances_on_path_as store old s o new
+pub record MachinePasses {P M : Type 0} (store : P → Store) (meant : M → Merge) (old : MachineValue P M) (s : Step) (o : Outcome) (new : MachineValue P M) : Type 0 where
+  pub is : advances_on_path_as store meant old s o new
 
 -- the slot that a step is about; a whole call is about none, and nor is a call that does not begin
 abbrev pub slot_of : Step → Outcome → Option ℕ
@@ -205,11 +210,25 @@ opens_as store old name (Decided reply) new = OpensBySteps store name old new
 opens_as store old name (Refused e) new = OpenRefusedBySteps store name old e new
 opens_as store old name o new = Unit {0}
 
+-- a tree is dropped: its root goes and then its pages, and what is refused leaves all as it was
+abbrev pub drops_tree_as : {P M : Type 0} → (P → Store) → (M → Merge) → DbValue P M → Key → Outcome → DbValue P M → Type 0
+drops_tree_as store meant old name (Decided reply) new = (dropped : Bool) × (reply ≡ Flag dropped) × DropsTree store meant old name dropped new
+drops_tree_as store meant old name (Refused e) new = RefusesDrop store meant old name e new
+drops_tree_as store meant old name o new = Unit {0}
+
+-- an import does each of its parts by the steps of an opening or of an insert
+abbrev pub imports_as : {P M : Type 0} → (P → Store) → (M → Merge) → DbValue P M → List Content → Outcome → DbValue P M → Type 0
+imports_as store meant old all (Decided reply) new = ImportsBySteps store meant old (parts_of all) new
+imports_as store meant old all (Refused e) new = ImportRefusedBySteps store meant old all e new
+imports_as store meant old all o new = Unit {0}
+
 abbrev pub way_of_whole : {P M : Type 0} → (P → Store) → (M → Merge) → DbValue P M → Whole → Outcome → DbValue P M → Type 0
 way_of_whole store meant old (PopMin tree) o new = pops_as store meant old tree IsLeast o new
 way_of_whole store meant old (PopMax tree) o new = pops_as store meant old tree IsGreatest o new
 way_of_whole store meant old (Clear tree) o new = clears_as store meant old tree o new
 way_of_whole store meant old (OpenTree name) o new = opens_as store old name o new
+way_of_whole store meant old (DropTree name) o new = drops_tree_as store meant old name o new
+way_of_whole store meant old (Import collections) o new = imports_as store meant old (contents_of collections.items) o new
 way_of_whole store meant old whole o new = Unit {0}
 
 abbrev pub way_as : {P M : Type 0} → (P → Store) → (M → Merge) → DbValue P M → Step → Outcome → DbValue P M → Type 0
@@ -225,7 +244,7 @@ pub record MachineStepContract {P M : Type 0} (store : P → Store) (flush_numbe
   pub sound : MachineSound store old new
   pub does : MachineActs store meant old s o new
   pub follows : MachineFollows store meant old s o new
-  pub passes : MachinePasses store old s o new
+  pub passes : MachinePasses store meant old s o new
   pub slots : MachineSlots old s o new
   pub loses : MachineKeepsTreePages store old s o new
   pub leaves : MachineLeaksNoPage store old s o new

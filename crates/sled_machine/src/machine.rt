@@ -1,9 +1,10 @@
 //! The machine.
-ghost use Rattle.std.specs.Prelude.{◌≡◌, ◌<◌, ◌∷◌, IfOk, IfErr, OnOk, OnErr, None, []};
+ghost use Rattle.std.specs.Prelude.{◌≡◌, ◌<◌, ◌∷◌, IfOk, IfErr, OnOk, OnErr, None, [], Option};
 ghost use Rattle.std.specs.Option.{option_map};
+ghost use Rattle.sled_pages.specs.Order.{Key};
 ghost use Rattle.sled_pages.specs.declared.error.Error.TheVariants.{NoMemory};
 ghost use Rattle.sled_model.specs.Refusal.{must_refuse, ToBegin, must_refuse_of};
-ghost use Rattle.sled_model.specs.declared.call.Whole.TheVariants.{Flush, PopMin, PopMax, Clear, OpenTree, GenerateId};
+ghost use Rattle.sled_model.specs.declared.call.Whole.TheVariants.{Flush, PopMin, PopMax, Clear, OpenTree, DropTree, GenerateId, Import};
 ghost use Rattle.sled_model.specs.declared.call.Call.{Call};
 ghost use Rattle.sled_model.specs.declared.outcome.Outcome.TheVariants as outcome;
 ghost use Rattle.sled_model.specs.declared.outcome.Step.TheVariants as step;
@@ -11,10 +12,11 @@ ghost use Rattle.sled_model.specs.declared.outcome.Step.TheVariants as step;
 use crate::flights::{finish_at, outcome_of, step_at, turns_of};
 use crate::table::Table;
 use sled::Db;
-use sled_model::{Call, MergeOperator, Outcome, Reply, Slot, Step, Tree, Whole};
+use sled_model::{Call, Collection, MergeOperator, Outcome, Reply, Slot, Step, Tree, Whole};
 use sled_pages::texts::NUMBERS_USED_UP;
 use sled_pages::{Error, IVec, Pages, Result};
 use sled_tree::InFlight;
+use std::alloc::AllocError;
 use std::marker::Model;
 
 /// A database and the calls in flight on it.
@@ -46,6 +48,7 @@ impl<P: Pages, M: MergeOperator> Machine<P, M> {
     ghost use Rattle.sled_machine.specs.Values.{slots_of};
     ghost use Rattle.sled.specs.Values.{db_state};
     ghost use Rattle.sled.specs.Operators.{OperatorSet, OperatorNotSet};
+    ghost use Rattle.sled.specs.Fetch.{FetchDecided, FetchRefused};
     ghost use Rattle.sled_machine.specs.Step.{MachineStep, MachineSound, MachineActs, MachineFollows, MachinePasses, MachineSlots, MachineKeepsTreePages, MachineLeaksNoPage, MachineStepContract};
     ghost use Rattle.sled_machine.specs.Run.{MachineRun, MachineSteps};
     ghost use Rattle.sled_machine.specs.Finish.{RunsToEnd, Completes};
@@ -114,6 +117,40 @@ impl<P: Pages, M: MergeOperator> Machine<P, M> {
         self.db.set_merge_operator(tree, operator)
     }
 
+    /// Sets the value at a key to what the closure makes of the one that stands there, as `update_and_fetch` of the database
+    /// does, and answers the new value. The calls in flight stay as they are.
+    ///
+    /// ```
+    /// // The value is taken out, whatever it is.
+    /// let none = machine.update_and_fetch(&tree, b"ulm", |_| Ok(None))?;
+    /// ```
+    pub fn update_and_fetch<F>(&mut self, tree: &Tree, key: &[u8], f: F) -> Result<Option<IVec>>
+    where
+        F: FnMut(Option<&[u8]>) -> std::result::Result<Option<Vec<u8>>, AllocError>,
+        requires { (shown : _) → F.pre f shown }
+        ensures ok { IfOk result (λ made. (stood : Option Key) × FetchDecided P.store M.meant F.FnMut f self.old.db tree.now key.now stood made self.new.db) }
+        ensures err { IfErr result (λ e. FetchRefused P.store M.meant F.FnMut f self.old.db tree.now key.now e self.new.db) }
+        ensures same { self.new ≡ record (self.old) { db = self.new.db } }
+    {
+        self.db.update_and_fetch(tree, key, f)
+    }
+
+    /// The same, but that it answers the value that stood there before.
+    ///
+    /// ```
+    /// let taken = machine.fetch_and_update(&tree, b"ulm", |_| Ok(None))?;
+    /// ```
+    pub fn fetch_and_update<F>(&mut self, tree: &Tree, key: &[u8], f: F) -> Result<Option<IVec>>
+    where
+        F: FnMut(Option<&[u8]>) -> std::result::Result<Option<Vec<u8>>, AllocError>,
+        requires { (shown : _) → F.pre f shown }
+        ensures ok { IfOk result (λ stood. (made : Option Key) × FetchDecided P.store M.meant F.FnMut f self.old.db tree.now key.now stood made self.new.db) }
+        ensures err { IfErr result (λ e. FetchRefused P.store M.meant F.FnMut f self.old.db tree.now key.now e self.new.db) }
+        ensures same { self.new ≡ record (self.old) { db = self.new.db } }
+    {
+        self.db.fetch_and_update(tree, key, f)
+    }
+
     // The tests that come before a call on a tree begins, and a copy of the tree.
     fn admit(&self, tree: &Tree, call: &Call) -> Result<Tree>
         ensures ok { IfOk result (λ copy. copy ≡ tree.now) }
@@ -169,7 +206,7 @@ impl<P: Pages, M: MergeOperator> Machine<P, M> {
         ensures sound { MachineSound P.store self.old self.new }
         ensures does { MachineActs P.store M.meant self.old (step.Step slot) result self.new }
         ensures follows { MachineFollows P.store M.meant self.old (step.Step slot) result self.new }
-        ensures passes { MachinePasses P.store self.old (step.Step slot) result self.new }
+        ensures passes { MachinePasses P.store M.meant self.old (step.Step slot) result self.new }
         ensures slots { MachineSlots self.old (step.Step slot) result self.new }
         ensures loses { MachineKeepsTreePages P.store self.old (step.Step slot) result self.new }
         ensures leaves { MachineLeaksNoPage P.store self.old (step.Step slot) result self.new }
@@ -231,7 +268,9 @@ impl<P: Pages, M: MergeOperator> Machine<P, M> {
             Whole::PopMax(tree) => self.pop_max(tree),
             Whole::Clear(tree) => self.clear(tree),
             Whole::OpenTree(name) => self.open_tree(name),
+            Whole::DropTree(name) => self.drop_tree(name),
             Whole::GenerateId => self.generate_id(),
+            Whole::Import(collections) => self.import(collections),
         }
     }
 
@@ -284,6 +323,16 @@ impl<P: Pages, M: MergeOperator> Machine<P, M> {
         Outcome::Decided(Reply::Tree(tree))
     }
 
+    fn drop_tree(&mut self, name: &IVec) -> Outcome
+        ensures { MachineStepContract P.store P.flush_number M.meant self.old (step.Whole (DropTree name.now)) result self.new }
+    {
+        let dropped = match self.db.drop_tree(name.as_ref()) {
+            Ok(dropped) => dropped,
+            Err(e) => return Outcome::Refused(e),
+        };
+        Outcome::Decided(Reply::Flag(dropped))
+    }
+
     fn generate_id(&mut self) -> Outcome
         ensures { MachineStepContract P.store P.flush_number M.meant self.old (step.Whole GenerateId) result self.new }
     {
@@ -292,6 +341,15 @@ impl<P: Pages, M: MergeOperator> Machine<P, M> {
             Err(e) => return Outcome::Refused(e),
         };
         Outcome::Decided(Reply::Number(id))
+    }
+
+    fn import(&mut self, collections: &Vec<Collection>) -> Outcome
+        ensures { MachineStepContract P.store P.flush_number M.meant self.old (step.Whole (Import collections.now)) result self.new }
+    {
+        if let Err(e) = self.db.import(collections.as_slice()) {
+            return Outcome::Refused(e);
+        }
+        Outcome::Decided(Reply::Done)
     }
 
     /// Does steps of the call in the slot until it ends. There are no more than its turns allow. Where no other call left

@@ -3,8 +3,10 @@ pub mod Event
 pub mod Answer
 pub mod State
 pub mod Ids
+pub mod Collections
 pub mod Queues
 pub mod Refusal
 pub mod Whole
+pub mod Imports
 pub mod Transition
 pub mod theory

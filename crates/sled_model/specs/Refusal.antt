@@ -1,20 +1,21 @@
 -- Which refusals there may be, and which there must be.
-use Rattle.std.specs.Prelude.{◌≡◌, ℕ, ◌<◌, ◌≤◌, ◌⊎◌, true, false, Bool, not, ◌&&◌, nat_eq, length, List, [], ◌∷◌, Option, Some, None, is_some, if◌then◌else◌}
+use Rattle.std.specs.Prelude.{◌≡◌, ◌≢◌, ℕ, ◌<◌, ◌≤◌, ◌⊎◌, true, false, Bool, not, ◌&&◌, nat_eq, length, List, [], ◌∷◌, Option, Some, None, is_some, if◌then◌else◌}
 use Rattle.std.specs.Str.{bytes_eq}
 use Rattle.sled_pages.specs.Order.{Key}
 use Rattle.sled_pages.specs.Store.{Store}
 use Rattle.sled_pages.specs.declared.error.Error.{Error}
 use Rattle.sled_pages.specs.declared.error.Error.TheVariants.{CollectionNotFound, Unsupported, ReportableBug, Io, NoMemory, FullQueue, Closed}
-use Rattle.sled_pages.specs.declared.texts.TheConstants.{HANDLE_OF_ANOTHER_DATABASE, NO_MERGE_OPERATOR, NUMBERS_USED_UP, IDS_USED_UP, WALK_PASSED_TURNS}
+use Rattle.sled_pages.specs.declared.texts.TheConstants.{HANDLE_OF_ANOTHER_DATABASE, NO_MERGE_OPERATOR, NUMBERS_USED_UP, IDS_USED_UP, CORE_STRUCTURES, WALK_PASSED_TURNS, UNKNOWN_COLLECTION_TYPE}
 use Rattle.sled_model.specs.Maps.{Map, IsLeast, IsGreatest}
 use Rattle.sled_model.specs.Answer.{answer_of}
-use Rattle.sled_model.specs.State.{State, NamedTree, CallInFlight, Queue, matches}
+use Rattle.sled_model.specs.State.{State, NamedTree, CallInFlight, Queue, default_name, matches}
 use Rattle.sled_model.specs.Ids.{greatest_of_all}
+use Rattle.sled_model.specs.Collections.{Content, contents_of, are_trees}
 use Rattle.sled_model.specs.declared.call.Call.{Call}
 use Rattle.sled_model.specs.declared.call.Call.TheVariants.{Get, Insert, Remove, CompareAndSwap}
 use Rattle.sled_model.specs.declared.call.Call.TheVariants as call
 use Rattle.sled_model.specs.declared.call.Whole.{Whole}
-use Rattle.sled_model.specs.declared.call.Whole.TheVariants.{Flush, PopMin, PopMax, Clear, OpenTree, GenerateId}
+use Rattle.sled_model.specs.declared.call.Whole.TheVariants.{Flush, PopMin, PopMax, Clear, OpenTree, DropTree, GenerateId, Import}
 use Rattle.sled_model.specs.declared.event.Event.{Event}
 use Rattle.sled_model.specs.declared.tree.Tree.{Tree}
 
@@ -38,7 +39,9 @@ trees_asked (ToCall (PopMin tree)) = tree ∷ []
 trees_asked (ToCall (PopMax tree)) = tree ∷ []
 trees_asked (ToCall (Clear tree)) = tree ∷ []
 trees_asked (ToCall (OpenTree name)) = []
+trees_asked (ToCall (DropTree name)) = []
 trees_asked (ToCall GenerateId) = []
+trees_asked (ToCall (Import collections)) = []
 
 -- why a call must be refused: the database is closed, the tree is another database's, it was dropped, or it has no operator
 pub data MustRefuse : Type 0 where
@@ -142,10 +145,26 @@ cause_of_id s a b NoMemory = (s.mark ≤ s.greatest_id) × (s.mark < greatest_of
 cause_of_id s a b (Io fault) = (s.mark ≤ s.greatest_id) × (s.mark < greatest_of_all) × (a.faults < b.faults)
 cause_of_id s a b e = ⊥
 
+-- why a tree is not dropped: it is the default tree; or it is another that there is, and before its root goes there was no memory, the
+-- store counted a fault, or some page is not readable
+abbrev pub cause_of_drop : State → Store → Store → Key → Error → Type 0
+cause_of_drop s a b name (Unsupported text) = (text.now ≡ CORE_STRUCTURES.now) × (name ≡ default_name)
+cause_of_drop s a b name NoMemory = (name ≢ default_name) × (s.trees name ≢ None)
+cause_of_drop s a b name (Io fault) = (name ≢ default_name) × (s.trees name ≢ None) × ((a.faults < b.faults) ⊎ ((pid : ℕ) × (a.is_readable pid ≡ false)))
+cause_of_drop s a b name e = ⊥
+
+-- why an import is refused before its first part: some collection is of another type than `tree`, or there is no memory
+abbrev pub cause_of_import : List Content → Error → Type 0
+cause_of_import all NoMemory = Unit {0}
+cause_of_import all (Unsupported text) = (text.now ≡ UNKNOWN_COLLECTION_TYPE.now) × (are_trees all ≡ false)
+cause_of_import all e = ⊥
+
 -- The causes of a refusal that is none of those tests: slots and trees are numbered up to the greatest u64; the call has no turns
 -- left; the store counted a fault, or some page is not readable; a queue is full. a is the store before, b the store after
 abbrev pub cause_of : State → Store → Store → Asked → Error → Type 0
 cause_of s a b (ToCall GenerateId) e = cause_of_id s a b e
+cause_of s a b (ToCall (DropTree name)) e = cause_of_drop s a b name e
+cause_of s a b (ToCall (Import collections)) e = cause_of_import (contents_of collections.items) e
 cause_of s a b asked NoMemory = Unit {0}
 cause_of s a b (ToBegin tree call) (Unsupported text) = (text.now ≡ NUMBERS_USED_UP.now) × (s.slots_given ≡ 18446744073709551615)
 cause_of s a b (ToStep f) (Io fault) = (a.faults < b.faults) ⊎ ((pid : ℕ) × (a.is_readable pid ≡ false))

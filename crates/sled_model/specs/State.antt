@@ -1,5 +1,5 @@
 -- The state of a database with calls in flight.
-use Rattle.std.specs.Prelude.{ℕ, Bool, List, [], ◌∷◌, ◌++◌, nat_eq, ◌&&◌, Option, Some, None, option_map, if◌then◌else◌}
+use Rattle.std.specs.Prelude.{ℕ, Bool, List, [], ◌∷◌, ◌++◌, nat_eq, ◌&&◌, Option, Some, None, option_map, codes, if◌then◌else◌}
 use Rattle.std.specs.List.{starts_with}
 use Rattle.std.specs.declared.ops.Bound.{Bound}
 use Rattle.sled_pages.specs.Order.{Key}
@@ -10,6 +10,10 @@ use Rattle.sled_model.specs.Answer.{Answer}
 use Rattle.sled_model.specs.declared.call.Call.{Call}
 use Rattle.sled_model.specs.declared.event.Event.{Event}
 use Rattle.sled_model.specs.declared.tree.Tree.{Tree}
+
+-- the name of the default tree, which every database has
+unfoldable pub default_name : Key
+default_name = codes "__sled__default"
 
 -- a tree of the database: its number, its map, and its merge operator if it has one
 pub record NamedTree : Type 0 where

@@ -9,8 +9,10 @@ use Rattle.sled_model.specs.State.{State, NamedTree, CallInFlight, maps_of, call
 use Rattle.sled_model.specs.Refusal.{ToBegin, ToStep, ToCall, must_refuse, MayRefuse, TellsTurns, turns_limit}
 use Rattle.sled_model.specs.declared.call.Call.{Call}
 use Rattle.sled_model.specs.declared.call.Whole.{Whole}
-use Rattle.sled_model.specs.declared.call.Whole.TheVariants.{Flush, PopMin, PopMax, Clear, OpenTree, GenerateId}
-use Rattle.sled_model.specs.Whole.{Pops, Clears, StopsClearing, OpensTree, GeneratesId}
+use Rattle.sled_model.specs.declared.call.Whole.TheVariants.{Flush, PopMin, PopMax, Clear, OpenTree, DropTree, GenerateId, Import}
+use Rattle.sled_model.specs.Whole.{Pops, Clears, StopsClearing, OpensTree, DropsTreeOf, GeneratesId}
+use Rattle.sled_model.specs.Collections.{contents_of}
+use Rattle.sled_model.specs.Imports.{Imports, StopsImporting}
 use Rattle.sled_model.specs.declared.tree.Tree.{Tree}
 use Rattle.sled_model.specs.declared.reply.Reply.{Reply}
 use Rattle.sled_model.specs.declared.reply.Reply.TheVariants.{Number, Done}
@@ -71,12 +73,13 @@ pub record Abandon (old : State) (slot : ℕ) (new : State) : Type 0 where
   pub is : new ≡ record old { slots = put_at old.slots slot None }
 
 -- what a whole call is about: to make durable what was decided, to tell something and change no map, to change maps in one
--- step, or to change them part by part
+-- step, to change them part by part, or to drop a tree
 pub data Kind : Type 0 where
   Flushing : Kind
   Telling : Kind
   Changing : Kind
   InParts : Kind
+  Dropping : Kind
 
 abbrev pub kind_of : Whole → Kind
 kind_of Flush = Flushing
@@ -84,7 +87,9 @@ kind_of (PopMin tree) = Changing
 kind_of (PopMax tree) = Changing
 kind_of (Clear tree) = InParts
 kind_of (OpenTree name) = Changing
+kind_of (DropTree name) = Dropping
 kind_of GenerateId = Telling
+kind_of (Import collections) = InParts
 
 -- a whole call is decided. A flush answers the store's number
 abbrev pub WholeDecides : Configuration → Whole → Reply → State → List Maps → Type 0
@@ -93,11 +98,14 @@ WholeDecides old (PopMin tree) reply new maps = Pops IsLeast old.state (PopMin t
 WholeDecides old (PopMax tree) reply new maps = Pops IsGreatest old.state (PopMax tree) tree reply new maps
 WholeDecides old (Clear tree) reply new maps = (reply ≡ Done) × Clears old.state tree new maps
 WholeDecides old (OpenTree name) reply new maps = OpensTree old.state name reply new maps
+WholeDecides old (DropTree name) reply new maps = DropsTreeOf old.state name reply new maps
 WholeDecides old GenerateId reply new maps = GeneratesId old.state reply new maps
+WholeDecides old (Import collections) reply new maps = (reply ≡ Done) × Imports old.state (contents_of collections.items) new maps
 
 -- a whole call is refused, and nothing changes, but for the parts that a call in parts has done
 abbrev pub WholeRefuses : State → Store → Store → Whole → Error → State → List Maps → Type 0
 WholeRefuses old a b (Clear tree) e new maps = StopsClearing old a b tree e new maps
+WholeRefuses old a b (Import collections) e new maps = StopsImporting old a b (contents_of collections.items) e new maps
 WholeRefuses old a b whole e new maps = MayRefuse old a b (ToCall whole) e × (new ≡ old) × (maps ≡ [])
 
 -- One step: what was done, how it came out, the state after it, and the maps that it added: those after each call that

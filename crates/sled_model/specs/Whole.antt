@@ -1,21 +1,22 @@
 -- What whole calls make of the state.
-use Rattle.std.specs.Prelude.{◌≡◌, ℕ, zero, suc, ◌+◌, ◌≤◌, ◌⊎◌, List, [], ◌∷◌, Option, Some, None}
+use Rattle.std.specs.Prelude.{◌≡◌, ◌≢◌, ℕ, zero, suc, ◌+◌, ◌≤◌, ◌⊎◌, List, [], ◌∷◌, Option, Some, None, is_some}
 use Rattle.sled_pages.specs.Order.{Key}
 use Rattle.sled_pages.specs.Store.{Store}
 use Rattle.sled_pages.specs.Update.{put_name}
 use Rattle.sled_pages.specs.declared.error.Error.{Error}
 use Rattle.sled_model.specs.Maps.{Map, Maps, Merge}
 use Rattle.sled_model.specs.Answer.{answer_of}
-use Rattle.sled_model.specs.State.{State, NamedTree, maps_of, after_decision_on}
+use Rattle.sled_model.specs.State.{State, NamedTree, default_name, maps_of, after_decision_on}
 use Rattle.sled_model.specs.Refusal.{ToPoint, ToCall, ToSetOperator, must_refuse, MayRefuse}
 use Rattle.sled_model.specs.Ids.{mark_above}
+use Rattle.sled_model.specs.Collections.{contents_of}
 use Rattle.sled_model.specs.declared.call.Call.{Call}
 use Rattle.sled_model.specs.declared.call.Call.TheVariants.{Remove}
 use Rattle.sled_model.specs.declared.call.Whole.{Whole}
-use Rattle.sled_model.specs.declared.call.Whole.TheVariants.{Clear, OpenTree, GenerateId}
+use Rattle.sled_model.specs.declared.call.Whole.TheVariants.{Clear, OpenTree, DropTree, GenerateId, Import}
 use Rattle.sled_model.specs.declared.tree.Tree.{Tree}
 use Rattle.sled_model.specs.declared.reply.Reply.{Reply}
-use Rattle.sled_model.specs.declared.reply.Reply.TheVariants.{Pair, Number}
+use Rattle.sled_model.specs.declared.reply.Reply.TheVariants.{Pair, Number, Flag}
 use Rattle.sled_model.specs.declared.reply.Reply.TheVariants as told
 
 -- A call on a tree, made at once and in no slot, replies, changes the tree's map and fills the queues by the answer on the map now
@@ -103,6 +104,24 @@ pub record OpensTree (old : State) (name : Key) (reply : Reply) (new : State) (m
   pub is : new ≡ state_opened (old.trees name) old name
   pub added : maps ≡ maps_opened (old.trees name) new
 
+-- the state after a name was dropped, which had this tree
+abbrev pub state_dropped : Option NamedTree → State → Key → State
+state_dropped (Some t) s name = record s { trees = put_name s.trees name None }
+state_dropped None s name = s
+
+-- the maps that this added: where there was a tree those without it, and else none
+abbrev pub maps_dropped : Option NamedTree → State → List Maps
+maps_dropped (Some t) new = maps_of new ∷ []
+maps_dropped None new = []
+
+-- A name is dropped, which is not the default tree's: the reply is whether it had a tree, and it has none from now on
+pub record DropsTreeOf (old : State) (name : Key) (reply : Reply) (new : State) (maps : List Maps) : Type 0 where
+  pub free : must_refuse old (ToCall (DropTree name)) ≡ None
+  pub off : name ≢ default_name
+  pub replies : reply ≡ Flag (is_some (old.trees name))
+  pub is : new ≡ state_dropped (old.trees name) old name
+  pub added : maps ≡ maps_dropped (old.trees name) new
+
 -- An id is taken: it is one above the greatest that was given, and set aside
 pub record GeneratesId (old : State) (reply : Reply) (new : State) (maps : List Maps) : Type 0 where
   pub free : must_refuse old (ToCall GenerateId) ≡ None
@@ -110,3 +129,11 @@ pub record GeneratesId (old : State) (reply : Reply) (new : State) (maps : List 
   pub aside : old.greatest_id + 1 ≤ new.mark
   pub is : new ≡ record old { greatest_id = old.greatest_id + 1; mark = mark_above old.greatest_id old.mark }
   pub added : maps ≡ []
+
+-- two whole calls are the same: imports hold the same collections, wherever their vectors lie
+abbrev pub is_same_whole : Whole → Whole → Type 0
+is_same_whole (Import a) (Import b) = contents_of a.items ≡ contents_of b.items
+is_same_whole a b = a ≡ b
+
+pub record IsSameWhole (a b : Whole) : Type 0 where
+  pub is : is_same_whole a b

@@ -3,8 +3,10 @@ ghost use Rattle.std.specs.Prelude.{◌≡◌, IfOk, IfErr};
 ghost use Rattle.sled_pages.specs.declared.error.Error.TheVariants.{NoMemory};
 ghost use Rattle.sled_model.specs.Answer.{key_of};
 ghost use Rattle.sled_model.specs.Refusal.{needs_operator};
+ghost use Rattle.sled_model.specs.Whole.{IsSameWhole};
 ghost use Rattle.sled_model.specs.declared.call.Call.TheVariants.{Insert, CompareAndSwap, Merge};
 
+use crate::collection::{Collection, copied_collections};
 use crate::reply::clone_value;
 use crate::tree::Tree;
 use sled_pages::{IVec, Result};
@@ -37,8 +39,13 @@ pub enum Whole {
     Clear(Tree),
     /// Opens the tree of a name, which is made where the name has none, and replies with it.
     OpenTree(IVec),
+    /// Drops the tree of a name, and replies with whether there was one.
+    DropTree(IVec),
     /// Takes the next id, and replies with it.
     GenerateId,
+    /// Opens the tree of each collection, one after the other, and puts its pairs into it, one after the other. Refused midway, at a
+    /// key that is present or for another cause, what was done stays. All types are looked at first.
+    Import(Vec<Collection>),
 }
 
 impl Call {
@@ -133,7 +140,7 @@ fn copied_swap(key: &IVec, old: &Option<IVec>, new: &Option<IVec>) -> Result<Cal
 impl Whole {
     /// The same call. Refused with `NoMemory` alone.
     pub fn clone(&self) -> Result<Whole>
-        ensures ok { IfOk result (λ copy. copy ≡ self.now) }
+        ensures ok { IfOk result (λ copy. IsSameWhole copy self.now) }
         ensures err { IfErr result (λ e. e ≡ NoMemory) }
     {
         match self {
@@ -142,7 +149,9 @@ impl Whole {
             Whole::PopMax(tree) => Ok(Whole::PopMax(tree.clone()?)),
             Whole::Clear(tree) => Ok(Whole::Clear(tree.clone()?)),
             Whole::OpenTree(name) => Ok(Whole::OpenTree(name.clone()?)),
+            Whole::DropTree(name) => Ok(Whole::DropTree(name.clone()?)),
             Whole::GenerateId => Ok(Whole::GenerateId),
+            Whole::Import(collections) => Ok(Whole::Import(copied_collections(collections)?)),
         }
     }
 }

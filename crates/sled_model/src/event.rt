@@ -16,6 +16,10 @@ pub enum Event {
 
 impl Event {
     /// The key that changed.
+    ///
+    /// ```
+    /// let key = event.key(); // Whether it has a value now or none.
+    /// ```
     pub fn key(&self) -> &IVec
         ensures { result.now ≡ key_of_event self.now }
     {
@@ -26,6 +30,10 @@ impl Event {
     }
 
     /// The same event. Refused with `NoMemory` alone.
+    ///
+    /// ```
+    /// let copy = event.clone()?; // One for each queue.
+    /// ```
     pub fn clone(&self) -> Result<Event>
         ensures ok { IfOk result (λ copy. copy ≡ self.now) }
         ensures err { IfErr result (λ e. e ≡ NoMemory) }

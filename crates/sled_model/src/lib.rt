@@ -5,6 +5,7 @@
 #![tactic(auto)]
 
 mod call;
+mod collection;
 mod decision;
 mod event;
 mod operator;
@@ -14,6 +15,7 @@ mod subscriber;
 mod tree;
 
 pub use call::{Call, Whole};
+pub use collection::Collection;
 pub use decision::{Decision, Effect};
 pub use event::Event;
 pub use operator::MergeOperator;

@@ -49,6 +49,8 @@ pub enum Reply {
     Pair(Option<(IVec, IVec)>),
     /// The tree that was opened.
     Tree(Tree),
+    /// Yes or no: whether there was a tree that could be dropped.
+    Flag(bool),
 }
 
 // The same value, if there is one.

@@ -21,6 +21,10 @@ impl Model for Subscriber {
 
 impl Subscriber {
     /// The same subscriber. This is never refused; it answers a `Result` as the copies of other values do.
+    ///
+    /// ```
+    /// let same = subscriber.clone()?; // Names the same queue.
+    /// ```
     pub fn clone(&self) -> Result<Subscriber>
         ensures { result ≡ Ok self.now }
     {

@@ -22,6 +22,10 @@ pub enum Link {
 
 impl Link {
     /// The same link. Refused with `NoMemory` alone.
+    ///
+    /// ```
+    /// let again = link.clone()?; // For a second try, where another changed the page first.
+    /// ```
     pub fn clone(&self) -> Result<Link>
         ensures ok { IfOk result (λ copy. copy ≡ self.now) }
         ensures err { IfErr result (λ e. e ≡ NoMemory) }

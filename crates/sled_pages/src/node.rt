@@ -149,6 +149,10 @@ pub(crate) fn copy_pointers(alloc: Global, pointers: &[(IVec, Pid)]) -> Result<V
 
 impl Leaf {
     /// A leaf of these pairs, as they are given. Refused with `NoMemory` alone.
+    ///
+    /// ```
+    /// let leaf = Leaf::from_pairs(alloc, pairs.as_slice())?; // Pairs that ascend by key.
+    /// ```
     pub fn from_pairs(alloc: Global, pairs: &[(IVec, IVec)]) -> Result<Leaf>
         ensures ok { IfOk result (λ leaf. leaf ≡ pairs.now) }
         ensures err { IfErr result (λ e. e ≡ NoMemory) }
@@ -159,6 +163,11 @@ impl Leaf {
     }
 
     /// The pairs. Refused with `NoMemory` alone.
+    ///
+    /// ```
+    /// let pairs = leaf.pairs(alloc)?;
+    /// let first = pairs.first(); // The pair with the least key, where the keys ascend.
+    /// ```
     pub fn pairs(&self, alloc: Global) -> Result<Vec<(IVec, IVec)>>
         ensures ok { IfOk result (λ list. list.items ≡ self.now) }
         ensures err { IfErr result (λ e. e ≡ NoMemory) }
@@ -167,6 +176,10 @@ impl Leaf {
     }
 
     /// How many pairs there are.
+    ///
+    /// ```
+    /// let count = leaf.len();
+    /// ```
     pub fn len(&self) -> usize
         ensures { result ≡ length self.now }
     {
@@ -174,6 +187,10 @@ impl Leaf {
     }
 
     /// The same value. Refused with `NoMemory` alone.
+    ///
+    /// ```
+    /// let copy = leaf.clone(alloc)?;
+    /// ```
     pub fn clone(&self, alloc: Global) -> Result<Leaf>
         ensures ok { IfOk result (λ copy. copy ≡ self.now) }
         ensures err { IfErr result (λ e. e ≡ NoMemory) }
@@ -318,6 +335,10 @@ impl Leaf {
 
 impl Index {
     /// An index of these pointers, as they are given. Refused with `NoMemory` alone.
+    ///
+    /// ```
+    /// let index = Index::from_pairs(alloc, pointers.as_slice())?; // Each page under the least key that it covers.
+    /// ```
     pub fn from_pairs(alloc: Global, pointers: &[(IVec, Pid)]) -> Result<Index>
         ensures ok { IfOk result (λ index. index ≡ pointers.now) }
         ensures err { IfErr result (λ e. e ≡ NoMemory) }
@@ -328,6 +349,11 @@ impl Index {
     }
 
     /// The pointers. Refused with `NoMemory` alone.
+    ///
+    /// ```
+    /// let pointers = index.pairs(alloc)?;
+    /// let first = pointers.first(); // The leftmost page of the level below, where the keys ascend.
+    /// ```
     pub fn pairs(&self, alloc: Global) -> Result<Vec<(IVec, Pid)>>
         ensures ok { IfOk result (λ list. list.items ≡ self.now) }
         ensures err { IfErr result (λ e. e ≡ NoMemory) }
@@ -336,6 +362,10 @@ impl Index {
     }
 
     /// How many pointers there are.
+    ///
+    /// ```
+    /// let count = index.len();
+    /// ```
     pub fn len(&self) -> usize
         ensures { result ≡ length self.now }
     {
@@ -343,6 +373,10 @@ impl Index {
     }
 
     /// The same value. Refused with `NoMemory` alone.
+    ///
+    /// ```
+    /// let copy = index.clone(alloc)?;
+    /// ```
     pub fn clone(&self, alloc: Global) -> Result<Index>
         ensures ok { IfOk result (λ copy. copy ≡ self.now) }
         ensures err { IfErr result (λ e. e ≡ NoMemory) }
@@ -473,6 +507,10 @@ impl Index {
 
 impl Data {
     /// The same value. Refused with `NoMemory` alone.
+    ///
+    /// ```
+    /// let copy = node.content.clone(alloc)?;
+    /// ```
     pub fn clone(&self, alloc: Global) -> Result<Data>
         ensures ok { IfOk result (λ copy. copy ≡ self.now) }
         ensures err { IfErr result (λ e. e ≡ NoMemory) }
@@ -558,6 +596,10 @@ impl Data {
 
 impl Node {
     /// The same value. Refused with `NoMemory` alone.
+    ///
+    /// ```
+    /// let copy = node.clone(alloc)?;
+    /// ```
     pub fn clone(&self, alloc: Global) -> Result<Node>
         ensures ok { IfOk result (λ copy. copy ≡ self.now) }
         ensures err { IfErr result (λ e. e ≡ NoMemory) }
@@ -573,6 +615,13 @@ impl Node {
     }
 
     /// A leaf's value at the key; `None` where there is none. Refused with `NoMemory` alone.
+    ///
+    /// ```
+    /// match node.get(b"ulm")? {
+    ///     Some(value) => (), // The value at the key.
+    ///     None => (), // There is none in this leaf, or the node is an index.
+    /// }
+    /// ```
     pub fn get(&self, key: &[u8]) -> Result<Option<IVec>>
         ensures ok { IfOk result (λ value. value ≡ value_in self.now.content key.now) }
         ensures err { IfErr result (λ e. e ≡ NoMemory) }
@@ -588,6 +637,11 @@ impl Node {
 
     /// Makes the change of a link. One that does not fit the kind of node leaves it as it is.
     /// Refused with `NoMemory` alone, and then unchanged.
+    ///
+    /// ```
+    /// node.apply(Link::Set(key, value))?; // A leaf has the value at the key now, and an index is as it was.
+    /// node.apply(Link::ChildMergeCap)?; // The page is merging now.
+    /// ```
     pub fn apply(&mut self, link: Link) -> Result<()>
         ensures ok { OnOk result (self.new ≡ after_link link self.old) }
         ensures err { OnErr result (self.new ≡ self.old) }
@@ -789,6 +843,12 @@ impl Node {
     /// The left and the right half of a node of two entries or more. The first half of the entries, rounded down, stays left.
     /// The right half begins at its first key and has the old `next`; the left half has none yet. Both are open.
     /// Refused with `NoMemory` alone.
+    ///
+    /// ```
+    /// if node.should_split() {
+    ///     let (left, right) = node.split(alloc)?; // Of 17 entries 8 and 9.
+    /// }
+    /// ```
     pub fn split(&self, alloc: Global) -> Result<(Node, Node)>
         requires { 2 ≤ count self.now.content }
         ensures ok { IfOk result (λ halves. (halves.0 ≡ left_half self.now) × (halves.1 ≡ right_half self.now)) }
@@ -831,6 +891,10 @@ impl Node {
 
     /// The node with the entries, the `hi` and the `next` of the node behind it, which is of the same kind and begins where
     /// this one ends. Of another kind the entries stay. Refused with `NoMemory` alone.
+    ///
+    /// ```
+    /// let both = left.receive_merge(alloc, &right)?; // The entries of both, up to where `right` ended.
+    /// ```
     pub fn receive_merge(&self, alloc: Global, child: &Node) -> Result<Node>
         ensures ok { IfOk result (λ both. both ≡ after_receiving self.now child.now) }
         ensures err { IfErr result (λ e. e ≡ NoMemory) }
@@ -847,6 +911,10 @@ impl Node {
 
     /// Puts a pointer into an index where the key has none, and says whether it did. Else, and in a leaf, nothing changes.
     /// Refused with `NoMemory` alone, and then unchanged.
+    ///
+    /// ```
+    /// let is_new = node.parent_split(at, pid)?; // `false` where the key had a pointer, and of a leaf.
+    /// ```
     pub fn parent_split(&mut self, at: IVec, pid: Pid) -> Result<bool>
         ensures ok { IfOk result (Posts at pid self.old self.new) }
         ensures err { OnErr result (self.new ≡ self.old) }
@@ -866,6 +934,12 @@ impl Node {
     }
 
     /// Whether it is open and has more than 16 entries.
+    ///
+    /// ```
+    /// if node.should_split() {
+    ///     let (left, right) = node.split(alloc)?;
+    /// }
+    /// ```
     pub fn should_split(&self) -> bool
         ensures { IsTrue result ↔ (16 < count self.now.content × IsOpen self.now) }
     {
@@ -873,6 +947,10 @@ impl Node {
     }
 
     /// Whether it is open and has 3 entries or fewer.
+    ///
+    /// ```
+    /// let is_small = node.should_merge(); // Of a leaf of 3 pairs `true`, while it is open.
+    /// ```
     pub fn should_merge(&self) -> bool
         ensures { IsTrue result ↔ (count self.now.content ≤ 3 × IsOpen self.now) }
     {
@@ -880,6 +958,12 @@ impl Node {
     }
 
     /// Whether it is an open index.
+    ///
+    /// ```
+    /// if node.can_merge_child() {
+    ///     node.apply(Link::ParentMergeIntention(child))?;
+    /// }
+    /// ```
     pub fn can_merge_child(&self) -> bool
         ensures { IsTrue result ↔ (IsIndex self.now.content × IsOpen self.now) }
     {
@@ -891,6 +975,13 @@ impl Node {
 
     /// An index's last pointer whose key is within an upper bound, and whether it is the first of all pointers.
     /// `None` where no key is within the bound. It takes no memory.
+    ///
+    /// ```
+    /// match node.pointer(Bound::Included(b"ulm")) {
+    ///     Some((pid, is_first)) => (), // The way to `ulm` goes on at this page.
+    ///     None => (), // The index begins above `ulm`, or the node is a leaf.
+    /// }
+    /// ```
     pub fn pointer(&self, bound: Bound<&[u8]>) -> Option<(Pid, bool)>
         ensures { IsPointerFor (bound_of bound.entry) (pointers self.now.content) result }
     {
@@ -901,6 +992,10 @@ impl Node {
     }
 
     /// The pointer before an index's first one to this page. `None` where there is no such pointer. It takes no memory.
+    ///
+    /// ```
+    /// let left = node.pointer_before(child); // From this page on, the one that `child` merges into is looked for.
+    /// ```
     pub fn pointer_before(&self, pid: Pid) -> Option<Pid>
         ensures { IsPointerBefore pid (pointers self.now.content) result }
     {
@@ -911,6 +1006,10 @@ impl Node {
     }
 
     /// A leaf's first pair whose key is within a lower bound. Refused with `NoMemory` alone.
+    ///
+    /// ```
+    /// let next = node.successor(Bound::Excluded(b"ulm"))?; // The first pair above `ulm`, within this leaf.
+    /// ```
     pub fn successor(&self, bound: Bound<&[u8]>) -> Result<Option<(IVec, IVec)>>
         ensures ok { IfOk result (IsSuccessor (bound_of bound.entry) (pairs self.now.content)) }
         ensures err { IfErr result (λ e. e ≡ NoMemory) }
@@ -922,6 +1021,10 @@ impl Node {
     }
 
     /// A leaf's last pair whose key is within an upper bound. Refused with `NoMemory` alone.
+    ///
+    /// ```
+    /// let last = node.predecessor(Bound::Unbounded)?; // The last pair of the leaf.
+    /// ```
     pub fn predecessor(&self, bound: Bound<&[u8]>) -> Result<Option<(IVec, IVec)>>
         ensures ok { IfOk result (IsPredecessor (bound_of bound.entry) (pairs self.now.content)) }
         ensures err { IfErr result (λ e. e ≡ NoMemory) }

@@ -9,6 +9,13 @@ pub struct Page {
 }
 
 /// A page as it was read: its number, its version then and its node then.
+///
+/// ```
+/// if let Some(view) = pages.read(alloc, pid)? {
+///     // Made where the page has not changed since it was read.
+///     let made = pages.link(view.pid, view.version, link)?;
+/// }
+/// ```
 #[derive(Drop)]
 pub struct View {
     pub pid: Pid,

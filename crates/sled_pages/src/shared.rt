@@ -29,6 +29,11 @@ impl Model for Shared {
 
 impl Shared {
     /// The node, to be held by several. Refused with `NoMemory` alone.
+    ///
+    /// ```
+    /// let node = Shared::new(alloc, node)?;
+    /// let next = node.next; // It is read as the node itself.
+    /// ```
     pub fn new(alloc: Global, node: Node) -> Result<Shared>
         ensures ok { IfOk result (λ made. made ≡ node) }
         ensures err { IfErr result (λ e. e ≡ NoMemory) }
@@ -39,6 +44,10 @@ impl Shared {
     }
 
     /// The same node, for one holder more. Refused with `NoMemory` alone.
+    ///
+    /// ```
+    /// let same = node.share()?; // Both read one node, which is let go with the last of them.
+    /// ```
     pub fn share(&self) -> Result<Shared>
         ensures ok { IfOk result (λ more. more ≡ self.now) }
         ensures err { IfErr result (λ e. e ≡ NoMemory) }

@@ -6,15 +6,16 @@ use Rattle.std.specs.List.{list_any}
 use Rattle.std.proofs.lemmas.Bool.{eq-eqb, ne_eqb, eqb-true, leb-true, leb-false}
 use Rattle.std.proofs.lemmas.List.{length-append}
 use Rattle.std.proofs.lemmas.List.Folds.{list_any-append}
+use Rattle.sled_pages.specs.Order.{Key}
 use Rattle.sled_pages.specs.Update.{put_at}
 use Rattle.sled_model.specs.State.{matches}
 use Rattle.sled_model.specs.Refusal.{queue_limit}
 use Rattle.sled_model.specs.declared.event.Event.{Event}
 use Rattle.sled_queues.specs.Values.{WaitingValue, QueuesValue, Waitings, queue_at}
 use Rattle.sled_queues.specs.Queues.{queue_of, held, AreQueues, Becomes, prepared_in, prepared, committed_in, committed, cancelled_in, cancelled, taken_in, without_oldest_of}
-use Rattle.sled_queues.specs.Tells.{HasRoom, MeetsFull}
+use Rattle.sled_queues.specs.Tells.{HasRoomAt, MeetsFullAt, HasRoom, IsUnwatched}
 use Rattle.sled_queues.specs.Lists.{is_in, Rise, AreListed}
-use Rattle.sled_queues.specs.theory.Lists.{without, changed_at, changed_in, has_prefix, gains, tells, forgets, is_full_for}
+use Rattle.sled_queues.specs.theory.Lists.{without, changed_at, changed_in, begins, has_prefix, gains, tells, forgets, is_full_for}
 use Rattle.sled_queues.proofs.Rising.{is_out, raise, push_rises, without_rises, without_keeps, push_without}
 
 none_some : {P A : Type 0} {a : A} → None ≡ Some a → P
@@ -154,18 +155,18 @@ one_of p (m ∷ ns) h = go (p m) refl h (one_of p ns)
 not_le : (a b : ℕ) → nat_le a b ≡ false → b < a
 not_le a b e = leb-false a b e
 
-pub has_room : (tree : ℕ) (e : Event) (ns : List ℕ) (a : Waitings) (lists : ℕ → List ℕ) (given : ℕ) → AreListed a lists given → lists tree ≡ ns → list_any (λ n. is_full_for e (a n)) ns ≡ false → HasRoom tree e a
-has_room tree e ns a lists given l k none = record {
+pub has_room : (tree : ℕ) (key : Key) (ns : List ℕ) (a : Waitings) (lists : ℕ → List ℕ) (given : ℕ) → AreListed a lists given → lists tree ≡ ns → list_any (λ n. is_full_for key (a n)) ns ≡ false → HasRoomAt tree key a
+has_room tree key ns a lists given l k none = record {
   room = λ n w there m.
-      let here : is_in n ns ≡ true = ap (is_in n) (sym k) ∙ l.listed n w there tree ∙ and_left (nat_eq w.tree tree) (has_prefix e w) m in
-      let full : (has_prefix e w && nat_le queue_limit (held w)) ≡ false = ap (is_full_for e) (sym there) ∙ none_of (λ n. is_full_for e (a n)) ns n none here in
-      not_le queue_limit (held w) (ap (λ b. b && nat_le queue_limit (held w)) (sym (and_right (nat_eq w.tree tree) (has_prefix e w) m)) ∙ full);
+      let here : is_in n ns ≡ true = ap (is_in n) (sym k) ∙ l.listed n w there tree ∙ and_left (nat_eq w.tree tree) (begins key w) m in
+      let full : (begins key w && nat_le queue_limit (held w)) ≡ false = ap (is_full_for key) (sym there) ∙ none_of (λ n. is_full_for key (a n)) ns n none here in
+      not_le queue_limit (held w) (ap (λ b. b && nat_le queue_limit (held w)) (sym (and_right (nat_eq w.tree tree) (begins key w) m)) ∙ full);
 }
 
-pub meets_full : (tree : ℕ) (e : Event) (ns : List ℕ) (a : Waitings) (lists : ℕ → List ℕ) (given : ℕ) → AreListed a lists given → lists tree ≡ ns → list_any (λ n. is_full_for e (a n)) ns ≡ true → MeetsFull tree e a
-meets_full tree e ns a lists given l k some = let n = one_of (λ n. is_full_for e (a n)) ns some in go n.0 n.1 (a n.0) refl n.2
+pub meets_full : (tree : ℕ) (key : Key) (ns : List ℕ) (a : Waitings) (lists : ℕ → List ℕ) (given : ℕ) → AreListed a lists given → lists tree ≡ ns → list_any (λ n. is_full_for key (a n)) ns ≡ true → MeetsFullAt tree key a
+meets_full tree key ns a lists given l k some = let n = one_of (λ n. is_full_for key (a n)) ns some in go n.0 n.1 (a n.0) refl n.2
   where
-    go : (n : ℕ) → is_in n ns ≡ true → (o : Option WaitingValue) → a n ≡ o → is_full_for e o ≡ true → MeetsFull tree e a
+    go : (n : ℕ) → is_in n ns ≡ true → (o : Option WaitingValue) → a n ≡ o → is_full_for key o ≡ true → MeetsFullAt tree key a
     go n i None there h = absurd (true≢false (sym h))
     go n i (Some w) there h =
         let here : nat_eq w.tree tree ≡ true = sym (l.listed n w there tree) ∙ ap (is_in n) k ∙ i in
@@ -173,9 +174,13 @@ meets_full tree e ns a lists given l k some = let n = one_of (λ n. is_full_for 
           subscriber = n;
           queue = w;
           there = there;
-          matching = ap (λ b. b && has_prefix e w) here ∙ and_left (has_prefix e w) (nat_le queue_limit (held w)) h;
-          full = leb-true queue_limit (held w) (and_right (has_prefix e w) (nat_le queue_limit (held w)) h);
+          matching = ap (λ b. b && begins key w) here ∙ and_left (begins key w) (nat_le queue_limit (held w)) h;
+          full = leb-true queue_limit (held w) (and_right (begins key w) (nat_le queue_limit (held w)) h);
         }
+
+-- a tree without a list has no queue
+pub is_unwatched : (tree : ℕ) (ns : List ℕ) (a : Waitings) (lists : ℕ → List ℕ) (given : ℕ) → AreListed a lists given → lists tree ≡ ns → ns ≡ [] → IsUnwatched tree a
+is_unwatched tree ns a lists given l k none = record { none = λ n w there. sym (l.listed n w there tree) ∙ ap (is_in n) (k ∙ none) }
 
 -- the oldest event of one queue is taken
 at_option : {W : Type 0} (f : W → W) (b : Bool) (o : Option W) → cond b (option_map f o) o ≡ option_map (λ w. cond b (f w) w) o

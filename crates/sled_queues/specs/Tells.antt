@@ -1,25 +1,52 @@
 -- What the calls on queues answer.
-use Rattle.std.specs.Prelude.{◌≡◌, ℕ, ◌<◌, ◌≤◌, Bool, true, false, Some}
+use Rattle.std.specs.Prelude.{◌≡◌, ℕ, ◌<◌, ◌≤◌, nat_eq, ◌&&◌, Bool, true, false, Some}
+use Rattle.std.specs.List.{starts_with}
+use Rattle.sled_pages.specs.Order.{Key}
 use Rattle.sled_pages.specs.declared.error.Error.{Error}
 use Rattle.sled_pages.specs.declared.error.Error.TheVariants.{Unsupported, NoMemory}
 use Rattle.sled_pages.specs.declared.texts.TheConstants.{NUMBERS_USED_UP}
-use Rattle.sled_model.specs.State.{matches}
+use Rattle.sled_model.specs.Event.{key_of_event}
 use Rattle.sled_model.specs.Refusal.{queue_limit}
 use Rattle.sled_model.specs.declared.event.Event.{Event}
 use Rattle.sled_queues.specs.Values.{WaitingValue, QueuesValue, Waitings, queue_at}
-use Rattle.sled_queues.specs.Queues.{queue_of, held, Becomes, prepared}
+use Rattle.sled_queues.specs.Queues.{held, Becomes, prepared}
 
--- each queue that waits for the event has room for it
-pub record HasRoom (tree : ℕ) (e : Event) (queues : Waitings) : Type 0 where
-  pub room : (n : ℕ) (w : WaitingValue) → queues n ≡ Some w → matches tree e (queue_of w) ≡ true → held w < queue_limit
+-- the queue waits for what happens to a key of a tree
+abbrev pub waits_for : ℕ → Key → WaitingValue → Bool
+waits_for tree key w = nat_eq w.tree tree && starts_with nat_eq key w.prefix
 
--- some queue that waits for the event is full
-pub record MeetsFull (tree : ℕ) (e : Event) (queues : Waitings) : Type 0 where
+-- each queue that waits for the key has room for an event
+pub record HasRoomAt (tree : ℕ) (key : Key) (queues : Waitings) : Type 0 where
+  pub room : (n : ℕ) (w : WaitingValue) → queues n ≡ Some w → waits_for tree key w ≡ true → held w < queue_limit
+
+-- some queue that waits for the key is full
+pub record MeetsFullAt (tree : ℕ) (key : Key) (queues : Waitings) : Type 0 where
   pub subscriber : ℕ
   pub queue : WaitingValue
   pub there : queues subscriber ≡ Some queue
-  pub matching : matches tree e (queue_of queue) ≡ true
+  pub matching : waits_for tree key queue ≡ true
   pub full : queue_limit ≤ held queue
+
+-- the same of an event: a queue waits for it where it waits for its key
+abbrev pub HasRoom : ℕ → Event → Waitings → Type 0
+HasRoom tree e queues = HasRoomAt tree (key_of_event e) queues
+
+abbrev pub MeetsFull : ℕ → Event → Waitings → Type 0
+MeetsFull tree e queues = MeetsFullAt tree (key_of_event e) queues
+
+-- whether one is full
+abbrev pub is_full_as : ℕ → Key → Waitings → Bool → Type 0
+is_full_as tree key queues true = MeetsFullAt tree key queues
+is_full_as tree key queues false = HasRoomAt tree key queues
+
+-- no subscriber watches the tree
+pub record IsUnwatched (tree : ℕ) (queues : Waitings) : Type 0 where
+  pub none : (n : ℕ) (w : WaitingValue) → queues n ≡ Some w → nat_eq w.tree tree ≡ false
+
+-- whether the tree may have a subscriber: where not, it has none
+abbrev pub is_watched_as : ℕ → Waitings → Bool → Type 0
+is_watched_as tree queues true = Unit {0}
+is_watched_as tree queues false = IsUnwatched tree queues
 
 -- there is room, and the event is prepared; or there is none, and nothing changes
 abbrev pub prepares_as : ℕ → Event → QueuesValue → Bool → QueuesValue → Type 0

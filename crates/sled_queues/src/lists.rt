@@ -15,23 +15,23 @@ use sled_pages::{Error, Result};
 use std::alloc::Global;
 use std::collections::BTreeMap;
 
-// Whether some queue of the list that waits for the event is full.
-pub(crate) fn any_full(queues: &BTreeMap<u64, Waiting>, numbers: &[u64], event: &Event) -> bool
-    ensures { result ≡ list_any (λ n. is_full_for event.now (get nat_cmp queues.now n)) numbers.now }
+// Whether some queue of the list that waits for the key is full.
+pub(crate) fn any_full(queues: &BTreeMap<u64, Waiting>, numbers: &[u64], key: &[u8]) -> bool
+    ensures { result ≡ list_any (λ n. is_full_for key.now (get nat_cmp queues.now n)) numbers.now }
 {
     for i in 0..numbers.len() {
-        if is_full(queues, numbers[i], event) {
+        if is_full(queues, numbers[i], key) {
             return true;
         }
     }
     false
 }
 
-fn is_full(queues: &BTreeMap<u64, Waiting>, number: u64, event: &Event) -> bool
-    ensures { result ≡ is_full_for event.now (get nat_cmp queues.now number) }
+fn is_full(queues: &BTreeMap<u64, Waiting>, number: u64, key: &[u8]) -> bool
+    ensures { result ≡ is_full_for key.now (get nat_cmp queues.now number) }
 {
     match queues.get(&number) {
-        Some(waiting) => waiting.has_prefix(event) && waiting.is_full(),
+        Some(waiting) => waiting.begins(key) && waiting.is_full(),
         None => false,
     }
 }

@@ -3,7 +3,7 @@ ghost use Rattle.std.specs.Prelude.{◌≡◌, ◌+◌, Some, None, OnOk, OnErr,
 ghost use Rattle.sled_pages.specs.declared.error.Error.TheVariants.{NoMemory};
 ghost use Rattle.sled_queues.specs.Values.{queue_at};
 ghost use Rattle.sled_queues.specs.Queues.{AreQueues, Becomes, no_queues, with_subscriber, committed, cancelled, oldest_in, without_oldest_of, without_subscriber};
-ghost use Rattle.sled_queues.specs.Tells.{prepares_as, refuses_watch};
+ghost use Rattle.sled_queues.specs.Tells.{prepares_as, is_full_as, is_watched_as, refuses_watch};
 
 use crate::lists::{
     add, any_full, cancel_all, commit_all, enlist, numbers_of, prepare_all, remove, take, unlist,
@@ -81,6 +81,22 @@ impl Queues {
         Ok(Subscriber(number))
     }
 
+    /// Whether a tree may have a subscriber. Where it answers `false`, no event of the tree comes into a queue. It costs no more
+    /// than to find the tree among those that have one.
+    pub fn is_watched(&self, tree: u64) -> bool
+        ensures { is_watched_as tree (queue_at self.now) result }
+    {
+        !numbers_of(&self.lists, tree).is_empty()
+    }
+
+    /// Whether a queue that waits for what happens to a key of a tree is full: it holds 1024 events, waiting and prepared ones
+    /// together. Then `prepare` has no room for an event of that key.
+    pub fn is_full(&self, tree: u64, key: &[u8]) -> bool
+        ensures { is_full_as tree key.now (queue_at self.now) result }
+    {
+        any_full(&self.queues, numbers_of(&self.lists, tree), key)
+    }
+
     /// Prepares an event of a tree: a copy comes behind the events of each queue that waits for it, where `next` does not
     /// give it yet. Answers whether there was room: where a queue that waits for it holds 1024 events, waiting and prepared
     /// ones together, nothing changes. Refused with `NoMemory` alone, and then nothing changes.
@@ -90,7 +106,7 @@ impl Queues {
         ensures cause { IfErr result (λ e. e ≡ NoMemory) }
     {
         let numbers = numbers_of(&self.lists, tree);
-        if any_full(&self.queues, numbers, event) {
+        if any_full(&self.queues, numbers, event.key().as_ref()) {
             return Ok(false);
         }
         if let Err(e) = prepare_all(&mut self.queues, numbers, event) {

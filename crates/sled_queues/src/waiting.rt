@@ -3,7 +3,7 @@ ghost use Rattle.std.specs.Prelude.{◌≡◌, ◌++◌, ◌∷◌, [], slice_ge
 ghost use Rattle.sled_pages.specs.declared.error.Error.TheVariants.{NoMemory};
 ghost use Rattle.sled_model.specs.Refusal.{queue_limit};
 ghost use Rattle.sled_queues.specs.Queues.{held, taken_in};
-ghost use Rattle.sled_queues.specs.theory.Lists.{has_prefix, gains, loses, tells, forgets};
+ghost use Rattle.sled_queues.specs.theory.Lists.{begins, has_prefix, gains, loses, tells, forgets};
 
 use sled_model::{Event, QUEUE_LIMIT};
 use sled_pages::{Error, IVec, Result};
@@ -52,11 +52,18 @@ impl Waiting {
         self.tree
     }
 
-    // Whether the event has the prefix.
+    // Whether the key has the prefix.
+    pub(crate) fn begins(&self, key: &[u8]) -> bool
+        ensures { result ≡ begins key.now self.now }
+    {
+        key.starts_with(self.prefix.as_ref())
+    }
+
+    // Whether the event has it.
     pub(crate) fn has_prefix(&self, event: &Event) -> bool
         ensures { result ≡ has_prefix event.now self.now }
     {
-        event.key().as_ref().starts_with(self.prefix.as_ref())
+        self.begins(event.key().as_ref())
     }
 
     // Whether there is no room for one event more.

@@ -11,3 +11,4 @@ pub mod Families
 pub mod Deciding
 pub mod Known
 pub mod Descending
+pub mod Linking

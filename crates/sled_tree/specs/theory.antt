@@ -3,3 +3,4 @@ pub mod Stages
 pub mod StageAction
 pub mod Passing
 pub mod Descent
+pub mod Linking

@@ -1,5 +1,5 @@
 //! The call's change at its leaf.
-ghost use Rattle.std.specs.Prelude.{◌≡◌, IfOk, IfErr};
+ghost use Rattle.std.specs.Prelude.{◌≡◌, ◌<◌, IfOk, IfErr, Some};
 ghost use Rattle.std.specs.Option.{option_map};
 ghost use Rattle.sled_pages.specs.Store.{now};
 ghost use Rattle.sled_pages.specs.declared.error.Error.TheVariants.{NoMemory};
@@ -7,20 +7,21 @@ ghost use Rattle.sled_tree.specs.theory.StageAction.{StageActionBy, Only};
 ghost use Rattle.sled_tree.specs.Follows.{OrRefused, LinksChange};
 ghost use Rattle.sled_tree.specs.theory.Passing.{AdvancesOnPath};
 ghost use Rattle.sled_tree.specs.Change.{link_of};
-ghost use Rattle.sled_tree.specs.theory.Change.{IsChangeOf};
+ghost use Rattle.sled_tree.specs.theory.Change.{IsChangeOf, IsOfPair, event_of_link};
+ghost use Rattle.sled_tree.specs.theory.Linking.{IsAtLink, PreparesChange, LinksPrepared, begun_again};
 ghost use Rattle.sled_tree.specs.Course.{course};
 
-use crate::flight::{Aim, Job, Next};
-use sled_model::{Decision, Effect, MergeOperator, Reply};
+use crate::flight::{Aim, InFlight, Job, Next, Went};
+use sled_model::{Decision, Effect, Event, MAX_LOOPS, MergeOperator, Reply};
 use sled_pages::{IVec, Link, Node, Pages, Result, View};
 use std::alloc::Global;
 use tree_laws::flight::Stage;
 
-// A link, and the reply of the call that makes it.
+/// A change that a call is to make of its leaf: a link, and the reply of the call that makes it.
 #[derive(Drop)]
-pub(crate) struct Change {
-    pub(crate) link: Link,
-    pub(crate) reply: Reply,
+pub struct Change {
+    pub link: Link,
+    pub reply: Reply,
 }
 
 // The link that has an effect at a key; without an effect there is none.
@@ -105,5 +106,80 @@ pub(crate) fn act<P: Pages, M: MergeOperator>(
             Next::Go(Stage::Root)
         }
         Ok(Ok(_)) => Next::Decided(reply),
+    }
+}
+
+/// What subscribers learn of a link that sets a pair or takes one out. Refused with `NoMemory` alone.
+pub fn event_of(link: &Link) -> Result<Event>
+    requires { IsOfPair link.now }
+    ensures ok { IfOk result (λ event. event_of_link link.now ≡ Some event) }
+    ensures err { IfErr result (λ e. e ≡ NoMemory) }
+{
+    match link {
+        Link::Set(key, value) => {
+            let key = key.clone()?;
+            match value.clone() {
+                Ok(value) => Ok(Event::Insert { key, value }),
+                Err(e) => {
+                    drop(key);
+                    Err(e)
+                }
+            }
+        }
+        Link::Del(key) => Ok(Event::Remove { key: key.clone()? }),
+        _ => unreachable!(),
+    }
+}
+
+/// Prepares the change of a call that is to link it, by the operator of its tree, and changes nothing. There is none where the call
+/// changes nothing of the leaf that it read. Refused with `NoMemory` alone.
+pub fn prepare_change<M: MergeOperator>(
+    alloc: Global,
+    flight: &InFlight,
+    operator: Option<&M>,
+) -> Result<Option<Change>>
+    requires { IsAtLink flight.now.stage }
+    ensures ok { IfOk result (PreparesChange (option_map (λ o. M.meant o.now) operator.entry) flight.now) }
+    ensures err { IfErr result (λ e. e ≡ NoMemory) }
+{
+    match &flight.stage {
+        Stage::Act(view) => prepare(alloc, &flight.job, &view.node, operator),
+        _ => unreachable!(),
+    }
+}
+
+/// Sends a call back to the root of its tree, which takes it one turn.
+pub fn begin_again(flight: &mut InFlight)
+    requires { flight.old.turns < MAX_LOOPS }
+    ensures { flight.new ≡ begun_again flight.old }
+{
+    let old = std::mem::replace(&mut flight.stage, Stage::Root);
+    drop(old);
+    flight.turns += 1;
+}
+
+/// Links the change that was prepared for a call, at the version of the leaf that the call has read. It is the rest of the step that
+/// `advance` makes of such a call.
+pub fn link_change<P: Pages>(pages: &mut P, flight: &mut InFlight, change: Change) -> Went
+    requires room { flight.old.turns < MAX_LOOPS }
+    requires here { IsAtLink flight.old.stage }
+    ensures { LinksPrepared change (P.store pages.old) flight.old result (P.store pages.new) flight.new }
+{
+    let Change { link, reply } = change;
+    let (pid, version) = match &flight.stage {
+        Stage::Act(view) => (view.pid, view.version),
+        _ => unreachable!(),
+    };
+    match pages.link(pid, version, link) {
+        Err(e) => {
+            drop(reply);
+            Went::Refused(e)
+        }
+        Ok(Err(_)) => {
+            drop(reply);
+            begin_again(flight);
+            Went::Moved
+        }
+        Ok(Ok(_)) => Went::Decided(reply),
     }
 }

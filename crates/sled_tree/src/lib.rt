@@ -15,6 +15,7 @@ mod merge;
 mod split;
 mod walk;
 
+pub use act::{Change, begin_again, event_of, link_change, prepare_change};
 pub use dispatch::advance;
 pub use flight::{Aim, InFlight, Job, Next, Went};
 pub use tree_laws::flight::{

@@ -8,7 +8,7 @@ use Rattle.sled_pages.specs.Crash.{crash_states, left_from}
 use Rattle.sled_pages.specs.declared.error.Error.{Error}
 use Rattle.tree_laws.specs.Crashes.{IsCrashConsistent, Trees, AddsCrashStates}
 use Rattle.tree_laws.specs.Contents.{trees_of}
-use Rattle.sled.specs.Values.{default_name}
+use Rattle.sled_model.specs.State.{default_name}
 use Rattle.sled.proofs.Opening.{default_is}
 use Rattle.sled.specs.Opens.{planted, GrowsAtMost, RefusesOpen}
 use Rattle.sledsh.specs.Store.{IsKept, HasDefault}

@@ -2,15 +2,16 @@
 
 use crate::calls::tell;
 use crate::draw::Drawing;
-use crate::look::{Look, Side, read_bound};
-use crate::operators::operator_of;
+use crate::look::{Look, Side};
+use crate::names::Named;
 use crate::owned::Owned;
+use crate::places::compare;
 use crate::pops::Pop;
 use sled_lines::command::{self, parse};
 use sled_lines::input::Stopped;
 use sled_lines::print::Piece::Text;
 use sled_lines::print::push_pieces;
-use sled_lines::words::{first_word, read_number, read_value, read_word};
+use sled_lines::words::{first_word, read_number, read_word};
 use sled_model::Call;
 use sled_pages::Result;
 use std::alloc::Global;
@@ -48,6 +49,10 @@ pub enum Verb {
     Look(Look),
     /// A whole call that takes pairs out.
     Pop(Pop),
+    /// A tree by its name, or an id.
+    Named(Named),
+    /// What a name was before.
+    OldTree,
     /// A call of the database itself.
     Owned(Owned),
     Help,
@@ -57,9 +62,10 @@ pub enum Verb {
 // A command's own words, what it takes, and what it does.
 type Form = (&'static str, &'static str, Verb, &'static str);
 
-// What a command takes has words of its own: K, V, P, OLD, NEW, DATABASE and NAME are byte strings, LO and HI bounds, STEP a step of a
-// call in flight, OPERATOR a merge operator, and the others numbers; `..` stands for more of the word before it.
-const FORMS: [Form; 71] = [
+// What a command takes has words of its own: K, V, P, OLD, NEW, DATABASE, TYPE and NAME are byte strings, LO and HI bounds, STEP a step
+// of a call in flight, OPERATOR a merge operator, and the others numbers; `..` stands for more of the word before it, `K V ..` for pairs,
+// and `; ..` for more of all that stands before it.
+const FORMS: [Form; 75] = [
     (
         "insert",
         "K V",
@@ -191,13 +197,13 @@ const FORMS: [Form; 71] = [
         "pages",
         "",
         Verb::Pages,
-        "prints how many pages each level of the tree has, and the most entries of one of them",
+        "prints how many pages each level of the current tree has, and the most entries of one of them",
     ),
     (
         "draw",
         "",
         Verb::Draw(Drawing::Text),
-        "draws the tree level by level, with what is half done; slots end, as at `pages`",
+        "draws the current tree level by level, with what is half done; slots end, as at `pages`",
     ),
     (
         "draw dot",
@@ -300,6 +306,24 @@ const FORMS: [Form; 71] = [
         "",
         Verb::Look(Look::Names),
         "prints the names of all trees, in order",
+    ),
+    (
+        "tree",
+        "NAME",
+        Verb::Named(Named::Open),
+        "makes the tree of a name current, and makes it where there is none",
+    ),
+    (
+        "old-tree",
+        "NAME",
+        Verb::OldTree,
+        "makes current what the name was before the last line `tree` with it",
+    ),
+    (
+        "id",
+        "",
+        Verb::Named(Named::Id),
+        "prints the next id, which never came before",
     ),
     (
         "range",
@@ -434,10 +458,16 @@ const FORMS: [Form; 71] = [
         "makes all durable",
     ),
     (
+        "owned drop",
+        "NAME",
+        Verb::Owned(Owned::Drop),
+        "drops the tree of a name: whether there was one",
+    ),
+    (
         "owned id",
         "",
         Verb::Owned(Owned::Id),
-        "gives the next id, which never came before",
+        "prints the next id, which never came before",
     ),
     ("help", "", Verb::Help, "prints these lines"),
     ("quit", "", Verb::Quit, "ends"),
@@ -447,15 +477,6 @@ const FORMS: [Form; 71] = [
 fn forms() -> &'static [Form] {
     &FORMS
 }
-
-const NO_NUMBER: &str = "is no number: decimal digits without leading zeros";
-
-const NO_BYTES: &str =
-    "is no byte string: % and two lower-case hexadecimal digits stand for a byte";
-
-const NO_BOUND: &str = "is no bound: [ or ( and a byte string, or ..";
-
-const NO_OPERATOR: &str = "is no operator: concat, add, max, before, keep, gone and short are";
 
 /// What a line asks for.
 #[derive(Drop)]
@@ -551,145 +572,12 @@ fn push_misfit<'a>(why: &mut Vec<u8>, line: &'a [u8], misfit: Misfit<'a>) -> Res
     }
 }
 
-// The words of a text; none where there is no text.
-fn words_of<'a>(alloc: Global, text: Option<&'a [u8]>) -> Result<Vec<&'a [u8]>> {
-    let mut words = Vec::new(alloc);
-    let mut rest = text;
-    for _ in 0..u64::MAX {
-        let Some(text) = rest else {
-            break;
-        };
-        let (word, others) = first_word(text);
-        words.push(word)?;
-        rest = others;
-    }
-    Ok(words)
-}
-
-// Whether a command takes any number of words.
-fn takes_many(form: &Form) -> bool {
-    form.1.as_bytes().ends_with(b"..")
-}
-
-// How many words a command takes that takes so many, or any number of them.
-fn count_of(form: &Form, count: usize) -> &'static str {
-    if takes_many(form) {
-        return ", one word or more";
-    }
-    match count {
-        0 => "no words",
-        1 => ", one word",
-        2 => ", two words",
-        _ => ", three words",
-    }
-}
-
-// What a word of a line stands for.
-#[derive(Clone, Copy)]
-enum Kind {
-    Bytes,
-    // A byte string or none.
-    Value,
-    Bound,
-    Operator,
-    Number,
-}
-
-const KINDS: [(&str, Kind); 10] = [
-    ("K", Kind::Bytes),
-    ("V", Kind::Bytes),
-    ("P", Kind::Bytes),
-    ("DATABASE", Kind::Bytes),
-    ("NAME", Kind::Bytes),
-    ("OLD", Kind::Value),
-    ("NEW", Kind::Value),
-    ("LO", Kind::Bound),
-    ("HI", Kind::Bound),
-    ("OPERATOR", Kind::Operator),
-];
-
-// What the word stands for in this place of a command.
-fn kind_of(place: &[u8]) -> Kind {
-    for (name, kind) in &KINDS {
-        if name.as_bytes() == place {
-            return *kind;
-        }
-    }
-    Kind::Number
-}
-
-// What is said of a word that was read, or was not; nothing where it was.
-fn said_of<T: Drop>(read: Result<Option<T>>, otherwise: &'static str) -> Result<&'static str> {
-    match read {
-        Ok(value) => {
-            let said = if value.is_some() { "" } else { otherwise };
-            drop(value);
-            Ok(said)
-        }
-        Err(error) => Err(error),
-    }
-}
-
-// What is said of a word that is not what a command takes in its place; nothing where it is.
-fn odd(alloc: Global, place: &[u8], word: &[u8]) -> Result<&'static str> {
-    match kind_of(place) {
-        Kind::Bytes => said_of(read_word(alloc, word), NO_BYTES),
-        Kind::Value => said_of(read_value(alloc, word), NO_BYTES),
-        Kind::Bound => said_of(read_bound(alloc, word), NO_BOUND),
-        Kind::Operator => said_of(Ok(operator_of(word)), NO_OPERATOR),
-        Kind::Number => said_of(Ok(read_number(word)), NO_NUMBER),
-    }
-}
-
-// Adds why words are not those that a command takes, if they are not.
-fn compare(
-    alloc: Global,
-    form: &Form,
-    takes: &[&[u8]],
-    words: &[&[u8]],
-    why: &mut Vec<u8>,
-) -> Result<()> {
-    let fits = if takes_many(form) {
-        !words.is_empty()
-    } else {
-        words.len() == takes.len()
-    };
-    if !fits {
-        let (own, all, count) = (
-            form.0.as_bytes(),
-            form.1.as_bytes(),
-            count_of(form, takes.len()).as_bytes(),
-        );
-        return push_pieces(
-            why,
-            &[
-                Text(b"`"),
-                Text(own),
-                Text(b"` takes "),
-                Text(all),
-                Text(count),
-            ],
-        );
-    }
-    for (place, word) in words.iter().enumerate() {
-        let part = takes.get(place).copied().unwrap_or(b"N");
-        let said = odd(alloc, part, *word)?;
-        if !said.is_empty() {
-            return quote(why, *word, said);
-        }
-    }
-    Ok(())
-}
-
 // Adds why a line does not have the words that its command takes, if it has not. Steps are read where they are done.
 fn check(alloc: Global, found: Match<'_>, why: &mut Vec<u8>) -> Result<()> {
     if matches!(found.form.2, Verb::Run) && found.words.is_some() {
         return Ok(());
     }
-    let taken = found.form.1.as_bytes();
-    let takes = words_of(alloc, if taken.is_empty() { None } else { Some(taken) })?;
-    let words = words_of(alloc, found.words)?;
-    compare(alloc, &found.form, takes.as_slice(), words.as_slice(), why)
+    compare(alloc, (found.form.0, found.form.1), found.words, why)
 }
 
 // Takes down the numbers among words.

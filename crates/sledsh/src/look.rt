@@ -85,7 +85,8 @@ fn lend(bound: &Bound<IVec>) -> Bound<&[u8]> {
     }
 }
 
-fn tell_is(out: &mut Vec<u8>, is: Answer<bool>) -> Result<()> {
+/// Adds whether it is so.
+pub fn tell_is(out: &mut Vec<u8>, is: Answer<bool>) -> Result<()> {
     match is {
         Ok(is) => tell_whether(out, is),
         Err(e) => tell_refused(out, e),

@@ -2,7 +2,7 @@
 
 use crate::calls::{Result, bytes_of, tell, tell_outcome, tell_refused};
 use crate::counting::Counting;
-use crate::look::{tell_found, tell_value};
+use crate::look::{tell_found, tell_is, tell_value};
 use crate::operators::Operator;
 use sled::{CompareAndSwapResult, Db};
 use sled_lines::input::{Stopped, without_end};
@@ -29,6 +29,7 @@ pub enum Owned {
     PopMax,
     Clear,
     Flush,
+    Drop,
     Id,
 }
 
@@ -68,6 +69,19 @@ fn tell_flushed(out: &mut Vec<u8>, count: Answer<usize>) -> Result<()> {
         Ok(count) => tell(out, &[Text(b"flushed "), Number(count as u64), Text(b"\n")]),
         Err(e) => tell_refused(out, e),
     }
+}
+
+// Drops the tree of a name.
+fn drop_tree(
+    alloc: Global,
+    db: &mut Db<Counting<'_>, Operator>,
+    word: &[u8],
+    out: &mut Vec<u8>,
+) -> Result<()> {
+    let name = bytes_of(alloc, word)?;
+    let dropped = db.drop_tree(name.as_ref());
+    drop(name);
+    tell_is(out, dropped)
 }
 
 fn tell_done(out: &mut Vec<u8>, done: Answer<()>) -> Result<()> {
@@ -218,6 +232,7 @@ fn make(
         Owned::PopMax => tell_found(out, db.pop_max(tree)),
         Owned::Clear => tell_done(out, db.clear(tree)),
         Owned::Flush => tell_flushed(out, db.flush()),
+        Owned::Drop => drop_tree(alloc, db, words, out),
         Owned::Id => tell_id(out, db.generate_id()),
     }
 }

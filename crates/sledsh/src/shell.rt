@@ -1,21 +1,24 @@
 //! A session of the shell: lines, from opening to opening.
 
-use crate::calls::{ask, run_steps, set_operator, take_handle, tell, tell_refused, tell_turns};
+use crate::calls::{
+    ask, bytes_of, run_steps, set_operator, take_handle, tell, tell_refused, tell_turns,
+};
 use crate::counting::Counting;
 use crate::crowd::run_calls;
 use crate::draw::{Drawing, tell_drawing};
 use crate::forms::{Command, Verb, push_help, read};
 use crate::levels::tell_levels;
 use crate::look::{Look, tell_look};
+use crate::names::{Named, Names, take_tree, tell_named};
 use crate::operators::Operator;
 use crate::owned::{Owned, tell_owned};
 use crate::pops::tell_pop;
 use crate::store::Kept;
 use line_files::Program;
-use sled::{DEFAULT_TREE, Db};
+use sled::Db;
 use sled_lines::command;
 use sled_lines::input::{Stopped, read_line, without_end};
-use sled_lines::print::Piece::{Number, Text};
+use sled_lines::print::Piece::{Number, Text, Word};
 use sled_lines::session::{Session, write};
 use sled_lines::words::first_word;
 use sled_pages::{Error, Pages};
@@ -66,6 +69,9 @@ struct Shell<'a> {
     // Why the line cannot be read; empty where it can be.
     why: Vec<u8>,
     mark: u64,
+    names: Names,
+    // The tree that is told level by level.
+    shown: Vec<u8>,
     // The command that changed the store last, or ended; and why the pages cannot be opened after it.
     last: Verb,
     refused: Option<Error>,
@@ -107,6 +113,18 @@ fn push_bad(out: &mut Vec<u8>, number: u64, why: &[u8]) -> Result<(), Stopped> {
             Text(b": "),
             Text(why),
             Text(b"\n"),
+        ],
+    )
+}
+
+// Adds why a name was no tree before.
+fn tell_none(why: &mut Vec<u8>, name: &[u8]) -> Result<(), Stopped> {
+    tell(
+        why,
+        &[
+            Text(b"`"),
+            Word(name),
+            Text(b"` has no older tree: fewer than two lines `tree` named it since the opening"),
         ],
     )
 }
@@ -188,6 +206,27 @@ impl<'a> Shell<'a> {
         Ok(Command::Own(Verb::Quit))
     }
 
+    // Opens a tree by its name, or takes an id. What a line `tree` got is taken down.
+    fn name(
+        &mut self,
+        session: &mut Session<Counting<'a>, Operator>,
+        named: Named,
+    ) -> Result<(), Stopped> {
+        let start = self.out.len();
+        tell_named(
+            self.alloc,
+            session,
+            named,
+            self.line.as_slice(),
+            &mut self.out,
+        )?;
+        let printed = self.out.get(start..).unwrap_or(b"");
+        if printed.starts_with(b"tree ") {
+            return self.names.push(session.tree());
+        }
+        Ok(())
+    }
+
     // Does steps of calls in flight, which the line says.
     fn run_steps(&mut self, session: &mut Session<Counting<'a>, Operator>) -> Result<(), Stopped> {
         run_steps(
@@ -217,6 +256,41 @@ impl<'a> Shell<'a> {
             words,
             &mut self.out,
         )
+    }
+
+    // The words of the line behind its first.
+    fn words(&self) -> &[u8] {
+        first_word(without_end(self.line.as_slice()))
+            .1
+            .unwrap_or(b"")
+    }
+
+    // Makes current what a name was before.
+    fn take_old(&mut self, state: &mut State<'a>) -> Result<(), Stopped> {
+        let name = bytes_of(self.alloc, self.words())?;
+        let told = match (state, self.names.older(name.as_ref())) {
+            (State::Open(session), Some(tree)) => take_tree(session, tree, &mut self.out),
+            _ => tell_none(&mut self.why, name.as_ref()),
+        };
+        drop(name);
+        told?;
+        self.tell_bad()
+    }
+
+    // Makes the current tree, if it is there, the one that is told level by level: whether it is not, which is told.
+    fn show(&mut self, state: &State<'a>) -> Result<bool, Stopped> {
+        let State::Open(session) = state else {
+            tell_refused(&mut self.out, Error::Closed)?;
+            return Ok(true);
+        };
+        match session.db().check(session.tree()) {
+            Ok(()) => {
+                self.shown.clear();
+                self.shown.extend_from_slice(session.tree().name.as_ref())?;
+                Ok(false)
+            }
+            Err(error) => tell_refused(&mut self.out, error).map(|()| true),
+        }
     }
 
     // Answers a command that is a call of the database itself.
@@ -257,6 +331,7 @@ impl<'a> Shell<'a> {
             (State::Open(session), Verb::Operator) => {
                 set_operator(session, self.line.as_slice(), &mut self.out)
             }
+            (State::Open(session), Verb::Named(named)) => self.name(session, named),
             (State::Open(session), Verb::Pop(pop)) => tell_pop(session, pop, &mut self.out),
             (State::Open(session), verb) => {
                 ask(
@@ -276,7 +351,6 @@ impl<'a> Shell<'a> {
     // Answers a command of the shell's own that does not change the store: whether it is one.
     fn answers(&mut self, state: &mut State<'a>, verb: Verb) -> Result<bool, Stopped> {
         let numbers = three(self.numbers.as_slice());
-        let is_shut = matches!(&*state, State::Shut(_));
         let told = match verb {
             Verb::Turns
             | Verb::Recovered
@@ -287,9 +361,11 @@ impl<'a> Shell<'a> {
             | Verb::Handle
             | Verb::Operator
             | Verb::Look(_)
+            | Verb::Named(_)
             | Verb::Pop(_) => self.ask(state, verb, numbers),
+            Verb::OldTree => self.take_old(state),
             Verb::Owned(owned) => self.owned(state, owned),
-            Verb::Pages | Verb::Draw(_) if is_shut => tell_refused(&mut self.out, Error::Closed),
+            Verb::Pages | Verb::Draw(_) => return self.show(state),
             Verb::Mark if numbers[0] < self.mark => self.tell_below(numbers[0]),
             Verb::Crowd => run_calls(self.alloc, numbers[0], numbers[1], &mut self.out),
             Verb::Reads => self.tell_reads(),
@@ -390,7 +466,13 @@ impl<'a> Shell<'a> {
             return Err(Stopped);
         }
         match Session::over(self.alloc, db) {
-            Ok(session) => self.live_in(State::Open(session), input, output),
+            Ok(session) => match self.names.begin(session.tree()) {
+                Ok(()) => self.live_in(State::Open(session), input, output),
+                Err(stopped) => {
+                    drop(session.into_db().into_pages());
+                    Err(stopped)
+                }
+            },
             Err(refused) => {
                 drop(refused);
                 Err(Stopped)
@@ -446,9 +528,9 @@ impl<'a> Shell<'a> {
         kept
     }
 
-    // Adds the levels of the tree. The pages are opened again without a word.
+    // Adds the levels of the tree that is shown. The pages are opened again without a word.
     fn tell_levels(&mut self, kept: Kept) -> Result<Kept, Stopped> {
-        let tree = DEFAULT_TREE.as_bytes();
+        let tree = self.shown.as_slice();
         match tell_levels(self.alloc, kept.pages(), tree, &mut self.out) {
             Ok(()) => Ok(kept),
             Err(stopped) => {
@@ -458,9 +540,9 @@ impl<'a> Shell<'a> {
         }
     }
 
-    // Adds a drawing of the tree. The pages are opened again without a word.
+    // Adds a drawing of the tree that is shown. The pages are opened again without a word.
     fn draw(&mut self, kept: Kept, drawing: Drawing) -> Result<Kept, Stopped> {
-        let tree = DEFAULT_TREE.as_bytes();
+        let tree = self.shown.as_slice();
         match tell_drawing(self.alloc, kept.pages(), tree, drawing, &mut self.out) {
             Ok(()) => Ok(kept),
             Err(stopped) => {
@@ -528,6 +610,8 @@ pub fn run<R: BufRead, W: Write>(
         numbers: Vec::new(alloc),
         why: Vec::new(alloc),
         mark: 0,
+        names: Names::empty(alloc),
+        shown: Vec::new(alloc),
         last: Verb::Quit,
         refused: None,
         reads: &reads,

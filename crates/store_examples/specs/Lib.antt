@@ -1,1 +1,4 @@
 pub mod Client
+pub mod Log
+pub mod LogStore
+pub mod theory

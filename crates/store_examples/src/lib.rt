@@ -3,8 +3,10 @@
 //! those contracts rule out.
 #![tactic(auto)]
 
+mod log_pages;
 mod single;
 mod store;
 
+pub use log_pages::LogPages;
 pub use single::{allocate, crash, flush, link, predecessor, receive_merge, replace, split};
 pub use store::{may_leave_base, open_tree, two_links};

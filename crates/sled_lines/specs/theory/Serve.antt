@@ -1,11 +1,10 @@
 -- Of Serve, for proofs. The program as a whole.
-use Rattle.std.specs.Prelude.{◌≡◌, ℕ, ◌+◌, Bool, true, false, List, [], ◌∷◌, ◌++◌, IsSome, Option, Some, None, IfSome}
+use Rattle.std.specs.Prelude.{◌≡◌, ℕ, ◌+◌, Bool, true, false, List, [], ◌∷◌, IsSome, Option, Some, None, IfSome}
 use Rattle.sled_pages.specs.Store.{Store}
 use Rattle.sled_model.specs.Maps.{Merge}
 use Rattle.sled_lines.specs.Command.{command_of}
-use Rattle.sled_lines.specs.Print.{Prints, bad_line}
-use Rattle.sled_lines.specs.Serve.{lines_of}
-use Rattle.sled_lines.specs.Session.{obeys}
+use Rattle.sled_lines.specs.Print.{Prints}
+use Rattle.sled_lines.specs.Serve.{lines_of, crash_of, Lives, LivesOver, Serves}
 use Rattle.sled_lines.specs.declared.command.Command.{Command}
 use Rattle.sled_lines.specs.declared.command.Command.TheVariants as command
 use Rattle.sled_lines.specs.declared.serve.Buffers.{Buffers}
@@ -32,11 +31,6 @@ Ends before after n (Crash keep) = IfSome before (λ bad. after ≡ Some bad)
 abbrev pub Ran : Option (Option ℕ) → Bool → Type 0
 Ran before true = IfSome before (λ bad. bad ≡ None)
 Ran before false = IfSome before (λ bad. IsSome bad)
-
--- how many actions a crash keeps, if the command is one
-abbrev pub crash_of : Command → Option ℕ
-crash_of (command.Crash keep) = Some keep
-crash_of c = None
 
 -- a text begins with a line that reads so, and a reader has the others left
 pub record BeginsSo (text : List ℕ) (read : Option Command) (after : Option (List ℕ)) : Type 0 where
@@ -65,15 +59,6 @@ IsToDo read line.BadLine = read ≡ None
 IsToDo read (line.Crash keep) = read ≡ Some (command.Crash keep)
 IsToDo read (line.Command c) = (read ≡ Some c) × (crash_of c ≡ None)
 
--- A session goes on over these lines, behind n others, until it ends: at the end of the lines, at one that cannot be read, or at a crash.
--- Each line before that is read as a command and run. The text is what is printed; m lines were read then, and the last lines were not
-pub data Lives {P M : Type 0} (store : P → Store) (flush_number : P → ℕ) (meant : M → Merge) : ℕ → Session P M → List (List ℕ) → List ℕ → End → ℕ → Session P M → List (List ℕ) → Type 0 where
-  AtEnd : {n : ℕ} {s : Session P M} → Lives store flush_number meant n s [] [] NoLine n s []
-  AtBadLine : {n : ℕ} {s : Session P M} {line : List ℕ} {lines : List (List ℕ)} → command_of line ≡ None → Lives store flush_number meant n s (line ∷ lines) (bad_line (n + 1)) BadLine (n + 1) s lines
-  AtCrash : {n keep : ℕ} {s : Session P M} {line : List ℕ} {lines : List (List ℕ)} → command_of line ≡ Some (command.Crash keep) → Lives store flush_number meant n s (line ∷ lines) [] (Crash keep) (n + 1) s lines
-  Obeying : {n m : ℕ} {s next last : Session P M} {line : List ℕ} {lines rest : List (List ℕ)} (c : Command) (text : List ℕ) {texts : List ℕ} {e : End} → command_of line ≡ Some c → crash_of c ≡ None
-      → obeys store flush_number meant s c text next → Lives store flush_number meant (n + 1) next lines texts e m last rest → Lives store flush_number meant n s (line ∷ lines) (text ++ texts) e m last rest
-
 -- where a run stands: how many lines were read, what the reader has left, what the writer holds, and what is gathered for it
 pub record Place : Type 0 where
   pub number : ℕ
@@ -95,3 +80,24 @@ pub record LivesOn {P M : Type 0} (store : P → Store) (flush_number : P → �
 -- the same of what the reader has left, where that is known
 abbrev pub LivesFrom : {P M : Type 0} → (P → Store) → (P → ℕ) → (M → Merge) → Session P M → Place → End → Session P M → Place → Type 0
 LivesFrom store flush_number meant s here e last there = IfSome here.left (λ text. LivesOn store flush_number meant s here e last there text)
+
+-- a session over what a store held lived from here to there over this text, and left this store
+pub record LivedOn (before : Store) (here : Place) (e : End) (after : Store) (there : Place) (text : List ℕ) : Type 0 where
+  pub texts : List ℕ
+  pub rest : List ℕ
+  pub lived : LivesOver here.number before (lines_of text) texts e there.number after (lines_of rest)
+  pub left : there.left ≡ Some rest
+  pub prints : Prints here.held here.gathered there.held there.gathered texts
+
+-- the same of what the reader has left, where that is known
+abbrev pub LivedFrom : Store → Place → End → Store → Place → Type 0
+LivedFrom before here e after there = IfSome here.left (λ text. LivedOn before here e after there text)
+
+-- sessions from here to there over this text, the first over what a store held
+pub record ServesOn (before : Store) (here : Place) (read : Bool) (there : Place) (text : List ℕ) : Type 0 where
+  pub texts : List ℕ
+  pub serves : Serves here.number before (lines_of text) texts read
+  pub prints : Prints here.held here.gathered there.held there.gathered texts
+
+abbrev pub ServesFrom : Store → Place → Bool → Place → Type 0
+ServesFrom before here read there = IfSome here.left (λ text. ServesOn before here read there text)

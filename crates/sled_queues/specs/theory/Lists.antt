@@ -1,6 +1,7 @@
 -- Of Lists, for proofs. The subscribers of each tree, in lists, and what becomes of the queues of a list.
 use Rattle.std.specs.Prelude.{ℕ, ◌-◌, nat_eq, nat_le, ◌&&◌, not, Bool, false, List, [], ◌∷◌, ◌++◌, take, length, Option, Some, None, option_map, if◌then◌else◌}
 use Rattle.std.specs.List.{starts_with, filter}
+use Rattle.sled_pages.specs.Order.{Key}
 use Rattle.sled_model.specs.Event.{key_of_event}
 use Rattle.sled_model.specs.Refusal.{queue_limit}
 use Rattle.sled_model.specs.declared.event.Event.{Event}
@@ -19,9 +20,12 @@ changed_at f k queues n = if nat_eq n k then option_map f (queues n) else queues
 abbrev pub changed_in : (WaitingValue → WaitingValue) → List ℕ → Waitings → Waitings
 changed_in f ns queues n = if is_in n ns then option_map f (queues n) else queues n
 
--- the event has the prefix that the queue's subscriber watches
+-- the key, or that of the event, has the prefix that the queue's subscriber watches
+abbrev pub begins : Key → WaitingValue → Bool
+begins key w = starts_with nat_eq key w.prefix
+
 abbrev pub has_prefix : Event → WaitingValue → Bool
-has_prefix e w = starts_with nat_eq (key_of_event e) w.prefix
+has_prefix e w = begins (key_of_event e) w
 
 -- the event is prepared where it has the prefix, or the last one that was prepared goes again
 abbrev pub gains : Event → WaitingValue → WaitingValue
@@ -36,7 +40,7 @@ tells w = record w { events = w.events ++ w.coming; coming = [] }
 abbrev pub forgets : WaitingValue → WaitingValue
 forgets w = record w { coming = [] }
 
--- the queue is full, and the event has its prefix
-abbrev pub is_full_for : Event → Option WaitingValue → Bool
-is_full_for e None = false
-is_full_for e (Some w) = has_prefix e w && nat_le queue_limit (held w)
+-- the queue is full, and the key has its prefix
+abbrev pub is_full_for : Key → Option WaitingValue → Bool
+is_full_for key None = false
+is_full_for key (Some w) = begins key w && nat_le queue_limit (held w)

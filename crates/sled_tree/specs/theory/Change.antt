@@ -1,9 +1,13 @@
 -- Of Change, for proofs. The change that a call makes of its leaf.
 use Rattle.std.specs.Prelude.{◌≡◌, Option, Some, None}
+use Rattle.sled_pages.specs.declared.link.Link.{Link}
+use Rattle.sled_pages.specs.declared.link.Link.TheVariants as link
 use Rattle.sled_pages.specs.declared.node.Data.{Data}
 use Rattle.sled_pages.specs.declared.node.Data.TheVariants.{Leaf, Index}
 use Rattle.sled_model.specs.declared.call.Call.{Call}
 use Rattle.sled_model.specs.declared.decision.Effect.TheVariants as effect
+use Rattle.sled_model.specs.declared.event.Event.{Event}
+use Rattle.sled_model.specs.declared.event.Event.TheVariants as event
 use Rattle.sled_model.specs.Maps.{Merge}
 use Rattle.sled_model.specs.Answer.{key_of}
 use Rattle.sled_tree.specs.declared.act.Change.{Change}
@@ -23,3 +27,15 @@ IsIndex (Index es) = Unit {0}
 abbrev pub IsChangeOf : Option Merge → Call → Data → Option Change → Type 0
 IsChangeOf merge call content None = (decision_at merge call content).effect ≡ effect.Nothing
 IsChangeOf merge call content (Some change) = (link_of (decision_at merge call content).effect (key_of call) ≡ Some change.link) × (change.reply ≡ (decision_at merge call content).reply)
+
+-- the link sets a pair, or takes one out
+abbrev pub IsOfPair : Link → Type 0
+IsOfPair (link.Set k v) = Unit {0}
+IsOfPair (link.Del k) = Unit {0}
+IsOfPair other = ⊥
+
+-- what subscribers learn of it
+abbrev pub event_of_link : Link → Option Event
+event_of_link (link.Set k v) = Some (event.Insert k v)
+event_of_link (link.Del k) = Some (event.Remove k)
+event_of_link other = None

@@ -2,9 +2,10 @@ use Rattle.std.proofs.Common.{sym, ap, subst}
 use Rattle.sled_pages.specs.Memory.{store_of}
 use Rattle.sled_pages.specs.Store.{Store, now}
 use Rattle.sled_pages.specs.declared.memory.MemPages.{MemPages}
+use Rattle.sled_model.specs.State.{default_name}
 use Rattle.tree_laws.specs.Contents.{trees_of}
 use Rattle.sled.specs.Opens.{IsOnePage}
-use Rattle.sled.specs.Values.{DbValue, default_name}
+use Rattle.sled.specs.Values.{DbValue}
 use Rattle.examples.proofs.Calls.{with_turns}
 use Rattle.examples.proofs.callers.get_in_new.Goals as goal
 

@@ -29,7 +29,7 @@ returns-in-BadLine-clause-lives g c =
     let here = place c.loop.buffers (g.R.Read.remaining c.loop.input) (g.W.Write.contents c.loop.output) in
     let there : Place = record { number = c.next_line.new.buffers.number; left = g.R.Read.remaining c.next_line.new.input; held = g.W.Write.contents c.tell_bad.new.output; gathered = c.tell_bad.new.out.items } in
     c.loop.invariant.lives end.BadLine c.loop.session there
-    (lives_bad g.P.Pages.store g.P.Pages.flush_number g.M.MergeOperator.meant c.loop.session here there _ _ (rw c.in-BadLine.is at read.takes) (prints_kept _ _ _ _ read.output read.same) c.in_ok-tell_bad-in-BadLine.ensures)
+    (lives_bad g.P.Pages.store g.P.Pages.flush_number g.M.MergeOperator.meant c.loop.session here there _ _ (rw c.in-BadLine.is at read.takes) (prints_kept _ _ _ _ read.output read.same) c.in_ok-tell_bad-in-BadLine.ensures.prints)
 
 pub returns-in-Crash-clause-lives : goal.returns-in-Crash-clause-lives
 returns-in-Crash-clause-lives g c =
@@ -45,7 +45,8 @@ loop-preserved g c =
     let here = place c.loop.buffers (g.R.Read.remaining c.loop.input) (g.W.Write.contents c.loop.output) in
     let then : Place = record { number = c.next_line.new.buffers.number; left = g.R.Read.remaining c.next_line.new.input; held = g.W.Write.contents c.answer.new.output; gathered = c.answer.new.out.items } in
     record {
+      written = c.in_ok-answer-in-Command.ensures.written;
       bad = bad_kept _ _ _ c.loop.invariant.bad (rw c.in-Command.is at read.bad);
       lives = λ e last there others. c.loop.invariant.lives e last there
-          (lives_command g.P.Pages.store g.P.Pages.flush_number g.M.MergeOperator.meant _ c.loop.session c.answer.new.session last e here then there _ _ (rw c.in-Command.is at read.takes) (prints_kept _ _ _ _ read.output read.same) c.in_ok-answer-in-Command.ensures others);
+          (lives_command g.P.Pages.store g.P.Pages.flush_number g.M.MergeOperator.meant _ c.loop.session c.answer.new.session last e here then there _ _ (rw c.in-Command.is at read.takes) (prints_kept _ _ _ _ read.output read.same) c.in_ok-answer-in-Command.ensures.obeys others);
     }

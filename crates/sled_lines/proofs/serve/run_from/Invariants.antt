@@ -1,14 +1,19 @@
-use Rattle.std.proofs.Common.{◌≡◌, false, Some, IfSome}
+use Rattle.std.proofs.Common.{◌≡◌, Bool, false, [], Some, IfSome}
 use Rattle.sled_pages.specs.Store.{now}
-use Rattle.sled_pages.specs.Memory.{store_of}
+use Rattle.sled_pages.specs.Memory.{store_of, empty_store}
 use Rattle.tree_laws.specs.Crashes.{IsValid}
 use Rattle.sled_lines.specs.Serve.{bad_left}
+use Rattle.sled_lines.specs.theory.Serve.{Place, ServesFrom, place}
 use Rattle.sled_lines.proofs.serve.run_from.Given as goal
 
--- the pages can be opened, and the first bad line is still to be read
+-- the pages can be opened, the first bad line is still to be read, all that was printed is written, and whoever serves the lines to come
+-- has served all
 abbrev pub invariant-loop : goal.invariant-loop
 invariant-loop g l = record {
   well : IsValid (now (store_of l.pages));
   no_group : (now (store_of l.pages)).in_group ≡ false;
   bad : IfSome (bad_left l.fn.buffers.number (g.R.Read.remaining l.fn.input)) (λ bad. bad_left l.buffers.number (g.R.Read.remaining l.input) ≡ Some bad);
+  written : l.buffers.out.items ≡ [];
+  serves : (read : Bool) (there : Place) → ServesFrom (store_of l.pages) (place l.buffers (g.R.Read.remaining l.input) (g.W.Write.contents l.output)) read there
+      → ServesFrom empty_store (place l.fn.buffers (g.R.Read.remaining l.fn.input) (g.W.Write.contents l.fn.output)) read there;
 }

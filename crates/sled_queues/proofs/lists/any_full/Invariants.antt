@@ -6,4 +6,4 @@ use Rattle.sled_queues.specs.theory.Lists.{is_full_for}
 use Rattle.sled_queues.proofs.lists.any_full.Given as goal
 
 abbrev pub invariant-loop-i : goal.invariant-loop-i
-invariant-loop-i l = list_any (λ n. is_full_for l.event (get nat_cmp l.queues n)) (take l.i l.numbers) ≡ false
+invariant-loop-i l = list_any (λ n. is_full_for l.key (get nat_cmp l.queues n)) (take l.i l.numbers) ≡ false

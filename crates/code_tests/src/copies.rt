@@ -1,0 +1,50 @@
+//! A copy of all trees of a database in another, where there is memory.
+use examples::copy_all;
+use sled::{Db, empty_pages};
+use sled_pages::{Error, MemPages, Result};
+use std::alloc::Global;
+
+// Whether the second database has what the first has, and refuses to import it again.
+fn has_copy(first: &mut Db<MemPages>, second: &mut Db<MemPages>) -> Result<bool> {
+    let tree = first.open_tree(b"t")?;
+    drop(first.insert(&tree, b"x", b"1")?);
+    drop(tree);
+    copy_all(first, second)?;
+    let collections = first.export()?;
+    let is_same = second.export()? == collections;
+    let again = second.import(collections.as_slice());
+    drop(collections);
+    Ok(
+        is_same
+            && matches!(
+                again,
+                Err(Error::Unsupported("import is overwriting existing data"))
+            ),
+    )
+}
+
+fn opened(alloc: Global, name: &[u8]) -> Result<Db<MemPages>> {
+    match Db::open(alloc, empty_pages(alloc), name) {
+        Ok(db) => Ok(db),
+        Err((pages, e)) => {
+            drop(pages);
+            Err(e)
+        }
+    }
+}
+
+/// Whether all trees of a database are copied into a new one.
+pub fn copies_all(alloc: Global) -> Result<bool> {
+    let mut first = opened(alloc, b"first")?;
+    let mut second = match opened(alloc, b"second") {
+        Ok(second) => second,
+        Err(e) => {
+            drop(first.into_pages());
+            return Err(e);
+        }
+    };
+    let is_copied = has_copy(&mut first, &mut second);
+    drop(first.into_pages());
+    drop(second.into_pages());
+    is_copied
+}

@@ -1,0 +1,8 @@
+use Rattle.std.proofs.Common.{ap, ◌∙◌}
+use Rattle.sled_model.specs.Collections.{contents_of}
+use Rattle.examples.proofs.Copying.{all_copied}
+use Rattle.examples.proofs.copy.copy_all.Goals as goal
+
+pub returns : goal.returns
+returns g c =
+    all_copied g.P.Pages.store g.M.MergeOperator.meant g.Q.Pages.store g.N.MergeOperator.meant _ _ _ c.audit.ensures.sound c.audit.ensures.ascend _ (ap contents_of c.as_slice.ensures.value ∙ c.in-Ok.ensures.ok) c.import-done.result c.import-done.ensures.ok

@@ -1,0 +1,18 @@
+-- What an import of an export makes of a database.
+use Rattle.std.specs.Prelude.{◌≡◌, [], Some}
+use Rattle.sled_pages.specs.Order.{Key}
+use Rattle.sled_model.specs.State.{State, NamedTree}
+
+-- no tree holds a pair
+pub record HoldsNothing (s : State) : Type 0 where
+  pub is : (name : Key) (tree : NamedTree) → s.trees name ≡ Some tree → tree.map ≡ []
+
+-- the name has a tree that has this tree's map
+pub record HasMapOf (s : State) (name : Key) (tree : NamedTree) : Type 0 where
+  pub named : NamedTree
+  pub there : s.trees name ≡ Some named
+  pub same : named.map ≡ tree.map
+
+-- Each tree of the first is in the second by its name, with the same map
+pub record HasAllOf (first second : State) : Type 0 where
+  pub is : (name : Key) (tree : NamedTree) → first.trees name ≡ Some tree → HasMapOf second name tree

@@ -1,0 +1,26 @@
+//! A copy of all trees of a database in another one.
+ghost use Rattle.std.specs.Prelude.{OnOk};
+ghost use Rattle.sled.specs.Values.{db_state};
+ghost use Rattle.examples.specs.Copies.{HoldsNothing, HasAllOf};
+
+use sled::Db;
+use sled_model::MergeOperator;
+use sled_pages::{Pages, Result};
+
+/// Imports what an export of the first database gives into the second. Where the trees of the second held nothing, each tree of the
+/// first is there then, with the same map.
+pub fn copy_all<P: Pages, M: MergeOperator, Q: Pages, N: MergeOperator>(
+    first: &Db<P, M>,
+    second: &mut Db<Q, N>,
+) -> Result<()>
+    ensures { OnOk result (HoldsNothing (db_state Q.store N.meant second.old) → HasAllOf (db_state P.store M.meant first.now) (db_state Q.store N.meant second.new)) }
+{
+    first.audit();
+    let collections = match first.export() {
+        Ok(collections) => collections,
+        Err(e) => return Err(e),
+    };
+    let done = second.import(collections.as_slice());
+    drop(collections);
+    done
+}

@@ -1,0 +1,122 @@
+//! Counters in a tree of a database: numbers that are added to by merges, and tickets that rise by one. A number is eight bytes,
+//! the highest first; what stands at a name and is of another length counts as 0, and so does a name where nothing stands.
+ghost use Rattle.std.specs.Prelude.{◌≡◌, Some, IfOk, OnOk, OnErr};
+ghost use Rattle.std.specs.Int.{w64, to_be_bytes};
+ghost use Rattle.std.specs.Option.{option_map, option_copied};
+ghost use Rattle.examples.specs.Counters.{adding, bytes_of_sum, counter_in, counters_now, number_in, sum_of, SetsCounter};
+ghost use Rattle.examples.specs.Reads.{maps_now};
+
+use sled::Db;
+use sled_model::{MergeOperator, Tree};
+use sled_pages::{IVec, Pages, Result};
+use std::alloc::{AllocError, Global};
+
+/// The merge operator that adds two numbers. The sum wraps.
+#[derive(Drop)]
+pub struct Adds;
+
+// The number in these bytes.
+fn number_of(bytes: Option<&[u8]>) -> u64
+    ensures { result ≡ number_in (option_copied bytes.entry) }
+{
+    let Some(bytes) = bytes else {
+        return 0;
+    };
+    if bytes.len() != 8 {
+        return 0;
+    }
+    match bytes.first_chunk::<8>() {
+        Some(number) => u64::from_be_bytes(*number),
+        None => 0,
+    }
+}
+
+// The number in this value.
+fn number_at(value: &Option<IVec>) -> u64
+    ensures { result ≡ number_in value.now }
+{
+    match value {
+        Some(value) => number_of(Some(value.as_ref())),
+        None => 0,
+    }
+}
+
+// The bytes of the sum of the number that stands and another.
+fn add_to(alloc: Global, stood: Option<&[u8]>, n: u64) -> std::result::Result<Vec<u8>, AllocError>
+    ensures { IfOk result (λ sum. sum.items ≡ bytes_of_sum (option_copied stood.entry) n) }
+{
+    let sum = number_of(stood).wrapping_add(n);
+    Vec::from_slice(alloc, &sum.to_be_bytes())
+}
+
+impl MergeOperator for Adds {
+    ghost meant = { λ a. adding };
+
+    fn merge(
+        &self,
+        alloc: Global,
+        _key: &[u8],
+        old: Option<&[u8]>,
+        new: &[u8],
+    ) -> std::result::Result<Option<Vec<u8>>, AllocError> {
+        Ok(Some(add_to(alloc, old, number_of(Some(new)))?))
+    }
+}
+
+/// Adds a number to a counter of the tree, which has the operator that adds. Refused, all counters stand as before.
+pub fn add_to_counter<P: Pages>(
+    db: &mut Db<P, Adds>,
+    tree: &Tree,
+    name: &[u8],
+    n: u64,
+) -> Result<()>
+    ensures ok { OnOk result (SetsCounter (counters_now P.store db.old) (counters_now P.store db.new) tree.now.name name.now (sum_of (counter_in (counters_now P.store db.old) tree.now.name name.now) n)) }
+    ensures err { OnErr result (counters_now P.store db.new ≡ counters_now P.store db.old) }
+{
+    let merged = match db.merge(tree, name, &n.to_be_bytes()) {
+        Ok(merged) => merged,
+        Err(e) => return Err(e),
+    };
+    drop(merged);
+    Ok(())
+}
+
+/// The number at which a counter of the tree stands.
+pub fn count<P: Pages, M: MergeOperator>(db: &Db<P, M>, tree: &Tree, name: &[u8]) -> Result<u64>
+    ensures { IfOk result (λ n. n ≡ counter_in (maps_now P.store M.meant db.now) tree.now.name name.now) }
+{
+    let value = match db.get(tree, name) {
+        Ok(value) => value,
+        Err(e) => return Err(e),
+    };
+    let n = number_at(&value);
+    drop(value);
+    Ok(n)
+}
+
+// What is one above the number that stands.
+fn one_more(alloc: Global, stood: Option<&[u8]>) -> std::result::Result<Option<Vec<u8>>, AllocError>
+    ensures { IfOk result (λ made. option_map (λ v. v.items) made ≡ Some (bytes_of_sum (option_copied stood.entry) 1)) }
+{
+    Ok(Some(add_to(alloc, stood, 1)?))
+}
+
+/// Raises the number at a name by one, and answers it: the next ticket. Refused, all numbers stand as before.
+pub fn next_ticket<P: Pages, M: MergeOperator>(
+    db: &mut Db<P, M>,
+    tree: &Tree,
+    name: &[u8],
+) -> Result<u64>
+    ensures ok { IfOk result (λ ticket. ticket ≡ sum_of (counter_in (maps_now P.store M.meant db.old) tree.now.name name.now) 1) }
+    ensures sets { IfOk result (SetsCounter (maps_now P.store M.meant db.old) (maps_now P.store M.meant db.new) tree.now.name name.now) }
+    ensures err { OnErr result (maps_now P.store M.meant db.new ≡ maps_now P.store M.meant db.old) }
+{
+    let alloc = db.allocator();
+    let made = match db.update_and_fetch(tree, name, |stood| one_more(alloc, stood)) {
+        Ok(made) => made,
+        Err(e) => return Err(e),
+    };
+    let ticket = number_at(&made);
+    drop(made);
+    Ok(ticket)
+}

@@ -1,0 +1,13 @@
+use Rattle.single_calls.proofs.imports.import.Goals as goal
+
+pub returns-clause-ok : goal.returns-clause-ok
+returns-clause-ok c = assumption
+
+pub returns-clause-err : goal.returns-clause-err
+returns-clause-err c = assumption
+
+pub returns-clause-steps : goal.returns-clause-steps
+returns-clause-steps c = assumption
+
+pub returns-clause-refused : goal.returns-clause-refused
+returns-clause-refused c = assumption

@@ -1,0 +1,25 @@
+//! Calls of a database that make the new value at a key of the one that stands there.
+ghost use Rattle.std.specs.Prelude.{IfOk, IfErr, Option};
+ghost use Rattle.sled_pages.specs.Order.{Key};
+ghost use Rattle.sled.specs.Fetch.{FetchDecided, FetchRefused};
+
+use sled::Db;
+use sled_model::{MergeOperator, Tree};
+use sled_pages::{IVec, Pages, Result};
+use std::alloc::AllocError;
+
+/// Sets the value at a key to what a closure makes of it, and answers the new one.
+pub fn update_and_fetch<P: Pages, M: MergeOperator, F>(
+    db: &mut Db<P, M>,
+    tree: &Tree,
+    key: &[u8],
+    f: F,
+) -> Result<Option<IVec>>
+where
+    F: FnMut(Option<&[u8]>) -> std::result::Result<Option<Vec<u8>>, AllocError>,
+    requires { (shown : _) → F.pre f shown }
+    ensures ok { IfOk result (λ made. (stood : Option Key) × FetchDecided P.store M.meant F.FnMut f db.old tree.now key.now stood made db.new) }
+    ensures err { IfErr result (λ e. FetchRefused P.store M.meant F.FnMut f db.old tree.now key.now e db.new) }
+{
+    db.update_and_fetch(tree, key, f)
+}

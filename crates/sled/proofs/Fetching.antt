@@ -1,0 +1,80 @@
+-- Calls that make the new value at a key of the one that stands there.
+use Rattle.std.proofs.Common.{◌≡◌, ℕ, true, cond, Option, Some, None, option_map, Result, Ok, Err, sym, refl, ap, ◌∙◌, subst, inl, inr}
+use Rattle.std.specs.FinMap.Entries.{find}
+use Rattle.std.specs.declared.vec.Vec.{Vec}
+use Rattle.std.specs.declared.alloc.Global.{Global}
+use Rattle.std.specs.declared.alloc.AllocError.{AllocError}
+use Rattle.sled_pages.specs.Order.{Key, key_cmp}
+use Rattle.sled_pages.specs.theory.Facts.{name_itself}
+use Rattle.sled_pages.specs.Store.{Store}
+use Rattle.sled_pages.specs.declared.error.Error.{Error}
+use Rattle.sled_pages.specs.declared.error.Error.TheVariants as error
+use Rattle.sled_model.specs.Maps.{Merge}
+use Rattle.sled_model.specs.Answer.{same_value, effect_of_write, decision_of_swap}
+use Rattle.sled_model.specs.State.{NamedTree}
+use Rattle.sled_model.specs.declared.call.Call.{Call}
+use Rattle.sled_model.specs.declared.call.Call.TheVariants.{CompareAndSwap}
+use Rattle.sled_model.specs.declared.decision.Decision.{Decision}
+use Rattle.sled_model.specs.declared.decision.Effect.TheVariants as effect
+use Rattle.sled_model.specs.declared.reply.Reply.{Reply}
+use Rattle.sled_model.specs.declared.reply.Reply.TheVariants.{Swapped}
+use Rattle.sled_model.specs.declared.tree.Tree.{Tree}
+use Rattle.tree_reads.specs.Walk.{once}
+use Rattle.sled.specs.Values.{DbValue}
+use Rattle.sled.specs.Reads.{RefusesReading, GivesUpGet}
+use Rattle.sled.specs.Direct.{PointDecided, PointRefused}
+use Rattle.sled.specs.Fetch.{Closure, Answers, Stands, FetchRefused}
+use Rattle.sled.proofs.Conducting.{conducts_none, conducts_refused, plain_short}
+use Rattle.sled.proofs.Popping.{min_unread}
+
+some_is : {X : Type 0} {x y : X} → Some x ≡ Some y → x ≡ y
+some_is e = cc
+
+same_itself : (value : Option Key) → same_value value value ≡ true
+same_itself None = refl
+same_itself (Some v) = name_itself v
+
+module _ {P M : Type 0} (store : P → Store) (meant : M → Merge) (old : DbValue P M) (tree : Tree) (key : Key) (stood made : Option Key) (s : Stands store meant old tree key stood) where
+  -- a swap of the value that stands finds it
+  pub swap_found : (call : Call) → call ≡ CompareAndSwap key stood made → (reply : Reply) (new : DbValue P M) → PointDecided store meant old tree call reply new → PointDecided store meant old tree (CompareAndSwap key stood made) (Swapped (Ok tt)) new
+  swap_found call is reply new p = subst (λ r. PointDecided store meant old tree (CompareAndSwap key stood made) r new) (told swapped) swapped
+    where
+      swapped : PointDecided store meant old tree (CompareAndSwap key stood made) reply new
+      swapped = subst (λ c. PointDecided store meant old tree c reply new) is p
+
+      told : PointDecided store meant old tree (CompareAndSwap key stood made) reply new → reply ≡ Swapped (Ok tt)
+      told q =
+          q.decides.replies
+          ∙ ap (λ value. (decision_of_swap value stood made).reply) (sym (subst (λ (n : NamedTree). stood ≡ find key_cmp key n.map) (some_is (sym s.there ∙ q.decides.there)) s.is))
+          ∙ ap (λ b. (cond {A = Decision} b (record { effect = effect_of_write made; reply = Swapped (Ok tt) }) (record { effect = effect.Nothing; reply = Swapped (Err (record { current = stood; proposed = made })) })).reply) (same_itself stood)
+
+  pub swap_short : (e : Error) → e ≡ error.NoMemory → PointRefused store meant old tree (CompareAndSwap key stood made) e old
+  swap_short e short = plain_short store meant old tree (CompareAndSwap key stood made) e refl s.tested short
+
+module _ {P M F : Type 0} (store : P → Store) (meant : M → Merge) (closure : Closure F) (f : F) (old : DbValue P M) (tree : Tree) (key : Key) where
+  -- the read was refused; it does to the store what the read of a pop does
+  pub unread : (e : Error) → RefusesReading store meant old tree once e → GivesUpGet store meant old tree key e → FetchRefused store meant closure f old tree key e old
+  unread e refuses gives_up = record {
+    why = inl (record { refuses = refuses; gives_up = gives_up; is = refl });
+    same = refl;
+    conducts = let none = conducts_none store meant old in record { acts = (min_unread store meant old tree e refuses).acts; leaves = none.leaves; same = none.same };
+  }
+
+  module _ (stood : Option Key) (stands : Stands store meant old tree key stood) where
+    -- the closure answered that there was no memory
+    pub unmade : (answer : Result (Option (Vec ℕ Global)) AllocError) (short : AllocError) → answer ≡ Err short → Answers closure f stood answer → FetchRefused store meant closure f old tree key error.NoMemory old
+    unmade answer short is answers = record {
+      why = inr (inl (record { stood = stood; stands = stands; error = short; answers = subst (Answers closure f stood) is answers; told = refl; is = refl }));
+      same = refl;
+      conducts = conducts_refused store meant old error.NoMemory refl;
+    }
+
+    -- there was no memory for what it made
+    pub unowned : (answer : Result (Option (Vec ℕ Global)) AllocError) (bytes : Option (Vec ℕ Global)) → answer ≡ Ok bytes → Answers closure f stood answer → (e : Error) → e ≡ error.NoMemory → FetchRefused store meant closure f old tree key e old
+    unowned answer bytes is answers e short =
+        let made = option_map (λ (v : Vec ℕ Global). v.items) bytes in
+        let refused = swap_short store meant old tree key stood made stands e short in record {
+          why = inr (inr (record { stood = stood; made = made; makes = record { stands = stands; answer = bytes; answers = subst (Answers closure f stood) is answers; is = refl }; refused = refused }));
+          same = refl;
+          conducts = refused.conducts;
+        }

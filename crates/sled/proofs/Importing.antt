@@ -1,0 +1,523 @@
+-- Imports.
+use Rattle.std.proofs.Common.{◌≡◌, ℕ, suc, ◌+◌, ◌<◌, ◌≤◌, Bool, true, false, not, cond, Bor, List, [], ◌∷◌, ◌++◌, append-nil, append_assoc, add-one, drop-cons, drop, get_or, length, Option, Some, None, is_some, Result, Ok, Err, IfErr, OnOk, sym, refl, ap, ◌∙◌, subst, inl, inr}
+use Rattle.std.proofs.lemmas.List.{drop_all}
+use Rattle.std.specs.FinMap.Entries.{find}
+use Rattle.std.specs.Global.{Vec}
+use Rattle.sled_pages.specs.Order.{Key, key_cmp}
+use Rattle.sled_pages.specs.theory.Facts.{put_name_here}
+use Rattle.sled_pages.specs.Store.{Store, now}
+use Rattle.sled_pages.specs.declared.error.Error.{Error}
+use Rattle.sled_pages.specs.declared.error.Error.TheVariants as error
+use Rattle.sled_pages.specs.declared.texts.TheConstants.{OVERWRITES_DATA, UNKNOWN_COLLECTION_TYPE}
+use Rattle.sled_model.specs.Maps.{Maps, Merge}
+use Rattle.sled_model.specs.Answer.{Answer, answer_of}
+use Rattle.sled_model.specs.Collections.{Content, content_of, contents_of, are_trees}
+use Rattle.sled_model.specs.Imports.{Part, OpensName, Puts, puts_of, parts_of, tree_at, DoesParts, NoPart, OnePart, refuses_part, refuses_import_as}
+use Rattle.sled_model.specs.State.{State, NamedTree, CallInFlight, maps_of, after_decision_on}
+use Rattle.sled_model.specs.Refusal.{MustRefuse, IsClosed, first_of, must_refuse, must_refuse_of, MayRefuse, ToPoint, ToCall, cause_of, may_refuse_as}
+use Rattle.sled_model.specs.Whole.{OpensTree, new_tree, number_opened, state_opened}
+use Rattle.sled_model.specs.declared.call.Call.TheVariants.{Insert}
+use Rattle.sled_model.specs.declared.call.Whole.TheVariants.{OpenTree, Import}
+use Rattle.sled_model.specs.declared.reply.Reply.{Reply}
+use Rattle.sled_model.specs.declared.reply.Reply.TheVariants as told
+use Rattle.sled_model.specs.declared.tree.Tree.{Tree}
+use Rattle.tree_reads.specs.Walk.{once}
+use Rattle.sled.specs.Values.{DbValue, state_of, db_state}
+use Rattle.sled.specs.Sound.{IsDb}
+use Rattle.sled.specs.Reads.{ReadsMap, RefusesReading, refuses_reading_as, stops_reading}
+use Rattle.sled.specs.Direct.{NoAction, LeavesAll, PointDecided, PointRefused, WholeDecided, WholeRefused}
+use Rattle.sled.specs.Opens.{OpensBySteps, OpenRefusedBySteps}
+use Rattle.sled.specs.Imports.{grows_trees, ImportDecided, ImportRefused, PartRefusedBySteps, ImportsBySteps, ImportsNone, ImportsMore, ImportRefusedBySteps}
+use Rattle.sled.specs.theory.Imports.{IsTreeNow, PartsDone, PartsStopped}
+use Rattle.sled.proofs.Conducting.{ReadsAlike, acts_then, may_alike, leaves_then, leaves_none}
+use Rattle.sled.proofs.Popping.{often_faults, often_readable, min_unread}
+use Rattle.sled.proofs.Testing.{first_alone, must_plain}
+
+none_some : {P X : Type 0} {x : X} → None ≡ Some x → P
+none_some e = cc
+
+some_is : {X : Type 0} {x y : X} → Some x ≡ Some y → x ≡ y
+some_is e = cc
+
+-- ---- lists of parts
+
+puts_then : (name : Key) (ps : List (Key × Key)) (others : List Part) → puts_of name ps others ≡ puts_of name ps [] ++ others
+puts_then name [] others = refl
+puts_then name (p ∷ ps) others = ap (λ l. Puts name p.0 p.1 ∷ l) (puts_then name ps others)
+
+parts_first : (c : Content) (cs : List Content) → parts_of (c ∷ cs) ≡ parts_of (c ∷ []) ++ parts_of cs
+parts_first c cs = ap (λ l. OpensName c.1 ∷ l) (puts_then c.1 c.2 (parts_of cs))
+
+parts_then : {a m b : State} {ps qs : List Part} {k l : List Maps} → DoesParts a ps m k → DoesParts m qs b l → DoesParts a (ps ++ qs) b (k ++ l)
+parts_then NoPart rest = rest
+parts_then {a = a} {b = b} {qs = qs} {l = l} (OnePart {part = part} {parts = parts} {added = added} {maps = maps} one more) rest =
+    subst (λ z. DoesParts a (part ∷ (parts ++ qs)) b z) (sym (append_assoc added maps l)) (OnePart one (parts_then more rest))
+
+-- what is left of a list from an element on
+left_is : {A : Type 0} (xs : List A) (i : ℕ) (x : A) → i < length xs → x ≡ get_or xs i x → drop i xs ≡ x ∷ drop (i + 1) xs
+left_is xs i x h e = rw add-one (drop-cons xs i x h ∙ ap (λ z. z ∷ drop (suc i) xs) (sym e))
+
+-- ---- refusals
+
+opening_alike : (s : State) (a m b : Store) (name : Key) (e : Error) → ReadsAlike a m → MayRefuse s m b (ToCall (OpenTree name)) e → MayRefuse s a b (ToCall (OpenTree name)) e
+opening_alike s a m b name e r may = record { is = go (must_refuse s (ToCall (OpenTree name))) may.is }
+  where
+    cause : (e : Error) → cause_of s m b (ToCall (OpenTree name)) e → cause_of s a b (ToCall (OpenTree name)) e
+    cause error.NoMemory k = tt
+    cause (error.Io fault) k = (k.0, subst (λ n. n < b.faults) r.faults k.1)
+    cause (error.ReportableBug text) k = k
+    cause error.FullQueue k = k
+    cause (error.CollectionNotFound name) k = k
+    cause (error.Unsupported text) k = k
+    cause (error.Corruption fault) k = k
+    cause error.Closed k = k
+
+    go : (o : Option MustRefuse) → may_refuse_as o s m b (ToCall (OpenTree name)) e → may_refuse_as o s a b (ToCall (OpenTree name)) e
+    go None k = cause e k
+    go (Some must) k = k
+
+part_alike : (s : State) (a m b : Store) (part : Part) (e : Error) → ReadsAlike a m → refuses_part s m b part e → refuses_part s a b part e
+part_alike s a m b (OpensName name) e r k = opening_alike s a m b name e r k
+part_alike s a m b (Puts name key value) e r (inl k) = inl k
+part_alike s a m b (Puts name key value) e r (inr k) = inr (may_alike s a m b (tree_at s name) (Insert key value) e r k)
+
+-- a tree keeps its number where its map changes
+put_stays : (s : State) (name : Key) (named : NamedTree) (a : Answer) → s.trees name ≡ Some named → tree_at (after_decision_on s name named a) name ≡ tree_at s name
+put_stays s name named a there =
+    ap (λ (z : Option NamedTree). record { database = s.name; name = name; number = number_opened z (after_decision_on s name named a) }) (put_name_here s.trees name (Some (record named { map = a.map })))
+    ∙ sym (ap (λ (z : Option NamedTree). record { database = s.name; name = name; number = number_opened z s }) there)
+
+value_of : (o : Option Key) → is_some o ≡ true → (v : Key) × (o ≡ Some v)
+value_of None e = cc
+value_of (Some v) e = (v, refl)
+
+-- the state with these slots
+abbrev with_slots : (ℕ → Option CallInFlight) → ℕ → State → State
+with_slots slots given s = record s { slots = slots; slots_given = given }
+
+module _ {P M : Type 0} (store : P → Store) (meant : M → Merge) where
+  abbrev State_of : DbValue P M → (ℕ → Option CallInFlight) → ℕ → State
+  State_of d slots given = state_of store meant d slots given
+
+  -- the tree that a name has is the same beside whatever calls
+  at_slots : (d : DbValue P M) (slots : ℕ → Option CallInFlight) (given : ℕ) (name : Key) → tree_at (db_state store meant d) name ≡ tree_at (State_of d slots given) name
+  at_slots d slots given name = ap (λ (n : ℕ). record { database = d.name; name = name; number = n }) (go ((db_state store meant d).trees name))
+    where
+      go : (o : Option NamedTree) → number_opened o (db_state store meant d) ≡ number_opened o (State_of d slots given)
+      go None = refl
+      go (Some t) = refl
+
+  -- ---- parts one after the other
+
+  grows_pages : (old new : DbValue P M) → new ≡ record old { pages = new.pages; queues = new.queues } → grows_trees old new
+  grows_pages old new e = e ∙ ap (λ (z : DbValue P M). record old { pages = new.pages; queues = new.queues; trees = z.trees; trees_given = z.trees_given }) (sym e)
+
+  grows_opened : (old new : DbValue P M) → new ≡ record old { pages = new.pages; trees = new.trees; trees_given = new.trees_given } → grows_trees old new
+  grows_opened old new e = e ∙ ap (λ (z : DbValue P M). record old { pages = new.pages; queues = z.queues; trees = new.trees; trees_given = new.trees_given }) (sym e)
+
+  grows_not : (old new : DbValue P M) → new ≡ record old { pages = new.pages } → grows_trees old new
+  grows_not old new e = e ∙ ap (λ (z : DbValue P M). record old { pages = new.pages; queues = z.queues; trees = z.trees; trees_given = z.trees_given }) (sym e)
+
+  steps_then : {old mid new : DbValue P M} {ps qs : List Part} → ImportsBySteps store meant old ps mid → ImportsBySteps store meant mid qs new → ImportsBySteps store meant old (ps ++ qs) new
+  steps_then ImportsNone rest = rest
+  steps_then (ImportsMore one more) rest = ImportsMore one (steps_then more rest)
+
+  pub done_none : (old : DbValue P M) → PartsDone store meant old [] old
+  done_none old = record { maps = []; does = λ slots given. NoPart; acts = NoAction; leaves = leaves_none store meant old; same = refl; did = ImportsNone }
+
+  pub done_then : (old mid new : DbValue P M) (ps qs : List Part) → PartsDone store meant old ps mid → IsDb store mid → PartsDone store meant mid qs new → PartsDone store meant old (ps ++ qs) new
+  done_then old mid new ps qs a db b = record {
+    maps = a.maps ++ b.maps;
+    does = λ slots given. parts_then (a.does slots given) (b.does slots given);
+    acts = acts_then None (store old.pages) (store mid.pages) (store new.pages) a.acts b.acts;
+    leaves = leaves_then store meant a.maps b.maps None old mid new a.leaves db b.leaves;
+    same = b.same ∙ ap (λ (z : DbValue P M). record z { pages = new.pages; queues = new.queues; trees = new.trees; trees_given = new.trees_given }) a.same;
+    did = steps_then a.did b.did;
+  }
+
+  done_alike : (old mid : DbValue P M) (ps : List Part) → PartsDone store meant old ps mid → ReadsAlike (store old.pages) (store mid.pages)
+  done_alike old mid ps a = record { faults = often_faults a.acts; readable = often_readable a.acts }
+
+  stopped_later : (ps done : List Part) (next : Part) (later qs : List Part) → qs ≡ done ++ next ∷ later → ps ++ qs ≡ (ps ++ done) ++ next ∷ later
+  stopped_later ps done next later qs e = ap (λ l. ps ++ l) e ∙ sym (append_assoc ps done (next ∷ later))
+
+  pub stops_then : (old mid new : DbValue P M) (ps qs : List Part) (e : Error) → PartsDone store meant old ps mid → IsDb store mid → PartsStopped store meant mid qs e new → PartsStopped store meant old (ps ++ qs) e new
+  stops_then old mid new ps qs e a db b = record {
+    maps = a.maps ++ b.maps;
+    done = ps ++ b.done;
+    next = b.next;
+    later = b.later;
+    all_parts = stopped_later ps b.done b.next b.later qs b.all_parts;
+    does = λ slots given. parts_then (a.does slots given) (b.does slots given);
+    refuses = λ slots given. part_alike (State_of new slots given) (store old.pages) (store mid.pages) (store new.pages) b.next e (done_alike old mid ps a) (b.refuses slots given);
+    acts = acts_then (Some e) (store old.pages) (store mid.pages) (store new.pages) a.acts b.acts;
+    leaves = leaves_then store meant a.maps b.maps None old mid new a.leaves db b.leaves;
+    same = b.same ∙ ap (λ (z : DbValue P M). record z { pages = new.pages; queues = new.queues; trees = new.trees; trees_given = new.trees_given }) a.same;
+    steps = record {
+      done = ps ++ b.steps.done;
+      next = b.steps.next;
+      later = b.steps.later;
+      all_parts = stopped_later ps b.steps.done b.steps.next b.steps.later qs b.steps.all_parts;
+      mid = b.steps.mid;
+      did = steps_then a.did b.steps.did;
+      refused = b.steps.refused;
+    };
+  }
+
+  stopped_before : (done : List Part) (next : Part) (later ps rs : List Part) → ps ≡ done ++ next ∷ later → ps ++ rs ≡ done ++ next ∷ (later ++ rs)
+  stopped_before done next later ps rs e = ap (λ l. l ++ rs) e ∙ append_assoc done (next ∷ later) rs
+
+  pub stops_more : (old new : DbValue P M) (ps rs : List Part) (e : Error) → PartsStopped store meant old ps e new → PartsStopped store meant old (ps ++ rs) e new
+  stops_more old new ps rs e b = record {
+    maps = b.maps;
+    done = b.done;
+    next = b.next;
+    later = b.later ++ rs;
+    all_parts = stopped_before b.done b.next b.later ps rs b.all_parts;
+    does = b.does;
+    refuses = b.refuses;
+    acts = b.acts;
+    leaves = b.leaves;
+    same = b.same;
+    steps = record {
+      done = b.steps.done;
+      next = b.steps.next;
+      later = b.steps.later ++ rs;
+      all_parts = stopped_before b.steps.done b.steps.next b.steps.later ps rs b.steps.all_parts;
+      mid = b.steps.mid;
+      did = b.steps.did;
+      refused = b.steps.refused;
+    };
+  }
+
+  -- a part that is refused at once
+  stops_at : (old new : DbValue P M) (next : Part) (e : Error) → ((slots : ℕ → Option CallInFlight) (given : ℕ) → State_of new slots given ≡ State_of old slots given) → ((slots : ℕ → Option CallInFlight) (given : ℕ) → refuses_part (State_of old slots given) (store old.pages) (store new.pages) next e)
+      → Rattle.sled.specs.Direct.effects_until (Some e) (store old.pages) (store new.pages) → LeavesAll store [] None old new → grows_trees old new → PartRefusedBySteps store meant old next e new → PartsStopped store meant old (next ∷ []) e new
+  stops_at old new next e stays refuses acts leaves same steps = record {
+    maps = [];
+    done = [];
+    next = next;
+    later = [];
+    all_parts = refl;
+    does = λ slots given. subst (λ (s : State). DoesParts (State_of old slots given) [] s []) (sym (stays slots given)) NoPart;
+    refuses = λ slots given. subst (λ (s : State). refuses_part s (store old.pages) (store new.pages) next e) (sym (stays slots given)) (refuses slots given);
+    acts = acts;
+    leaves = leaves;
+    same = same;
+    steps = record { done = []; next = next; later = []; all_parts = refl; mid = old; did = ImportsNone; refused = steps };
+  }
+
+  -- ---- a name is opened
+
+  opened_at : (s : State) (name : Key) (o : Option NamedTree) → s.trees name ≡ o → tree_at (state_opened o s name) name ≡ record { database = s.name; name = name; number = number_opened o s }
+  opened_at s name (Some t) e = ap (λ (z : Option NamedTree). record { database = s.name; name = name; number = number_opened z s }) e
+  opened_at s name None e = ap (λ (z : Option NamedTree). record { database = s.name; name = name; number = number_opened z (state_opened None s name) }) (put_name_here s.trees name (Some (new_tree s)))
+
+  told_tree : (t u : Tree) → told.Tree t ≡ told.Tree u → t ≡ u
+  told_tree t u e = cc
+
+  module _ (old new : DbValue P M) (name : Key) where
+    module _ (tree : Tree) (w : WholeDecided store meant old (OpenTree name) (told.Tree tree) new) where
+      opens : OpensTree (db_state store meant old) name (told.Tree tree) (db_state store meant new) w.maps
+      opens = w.decides (λ n. None) 0 0
+
+      replied : tree ≡ record { database = old.name; name = name; number = number_opened ((db_state store meant old).trees name) (db_state store meant old) }
+      replied = told_tree _ _ opens.replies
+
+      pub opened_name : tree.name ≡ name
+      opened_name = ap (λ (t : Tree). t.name) replied
+
+      pub opened_now : IsTreeNow store meant new tree
+      opened_now = record {
+        is = replied
+            ∙ sym (opened_at (db_state store meant old) name ((db_state store meant old).trees name) refl)
+            ∙ ap (λ (s : State). tree_at s name) (sym opens.is)
+            ∙ ap (λ n. tree_at (db_state store meant new) n) (sym opened_name);
+      }
+
+      pub opened_done : OpensBySteps store name old new → PartsDone store meant old (OpensName name ∷ []) new
+      opened_done s = record {
+        maps = w.maps;
+        does = λ slots given. let d = w.decides slots given 0 in subst (λ m. DoesParts (State_of old slots given) (OpensName name ∷ []) (State_of new slots given) m) (append-nil w.maps) (OnePart (record { is = (d.is, d.added) }) NoPart);
+        acts = w.acts;
+        leaves = w.leaves;
+        same = grows_opened old new w.same;
+        did = ImportsMore (record { is = s }) ImportsNone;
+      }
+
+    pub opened_not : (e : Error) → WholeRefused store meant old (OpenTree name) e new → OpenRefusedBySteps store name old e new → PartsStopped store meant old (OpensName name ∷ []) e new
+    opened_not e w s = stops_at old new (OpensName name) e (λ slots given. (w.refuses slots given).1) (λ slots given. (w.refuses slots given).0)
+        w.acts (subst (λ m. LeavesAll store m None old new) (w.refuses (λ n. None) 0).2 w.leaves) (grows_not old new w.same) (record { is = s })
+
+  -- ---- a pair is put
+
+  module _ (old : DbValue P M) (tree : Tree) (is_now : IsTreeNow store meant old tree) (key value : Key) where
+    -- the key has no value
+    module _ (new : DbValue P M) where
+      module _ (reply : Reply) (p : PointDecided store meant old tree (Insert key value) reply new) where
+        state_now : (slots : ℕ → Option CallInFlight) (given : ℕ) → State_of new slots given ≡ after_decision_on (State_of old slots given) tree.name p.decides.named (answer_of p.decides.named.merge (Insert key value) p.decides.named.map)
+        state_now slots given = ap (with_slots slots given) p.decides.is
+
+        pub put_now : IsTreeNow store meant new tree
+        put_now = record {
+          is = is_now.is
+              ∙ sym (put_stays (db_state store meant old) tree.name p.decides.named (answer_of p.decides.named.merge (Insert key value) p.decides.named.map) p.decides.there)
+              ∙ ap (λ (s : State). tree_at s tree.name) (sym p.decides.is);
+        }
+
+        pub put_done : (there : Bool) → there ≡ false → ReadsMap store meant old tree (λ map. there ≡ is_some (find key_cmp key map)) → PartsDone store meant old (Puts tree.name key value ∷ []) new
+        put_done there off r = record {
+          maps = maps_of (db_state store meant new) ∷ [];
+          does = λ slots given. OnePart
+              (record {
+                is = record {
+                  named = p.decides.named;
+                  there = p.decides.there;
+                  absent = subst (λ (n : NamedTree). find key_cmp key n.map ≡ None) (some_is (sym r.there ∙ p.decides.there)) (absent (find key_cmp key r.named.map) (sym r.is ∙ off));
+                  is = state_now slots given;
+                  added = refl;
+                };
+              })
+              NoPart;
+          acts = p.conducts.acts;
+          leaves = p.conducts.leaves;
+          same = grows_pages old new p.conducts.same;
+          did = ImportsMore (record { is = (reply, subst (λ t. PointDecided store meant old t (Insert key value) reply new) is_now.is p) }) ImportsNone;
+        }
+          where
+            absent : (o : Option Key) → is_some o ≡ false → o ≡ None
+            absent None e = refl
+            absent (Some v) e = cc
+
+      -- the insert was refused
+      may_slots : (e : Error) → MayRefuse (db_state store meant old) (store old.pages) (store new.pages) (ToPoint tree (Insert key value)) e → (slots : ℕ → Option CallInFlight) (given : ℕ) → MayRefuse (State_of old slots given) (store old.pages) (store new.pages) (ToPoint tree (Insert key value)) e
+      may_slots e may slots given = record { is = go (must_refuse (db_state store meant old) (ToPoint tree (Insert key value))) may.is }
+        where
+          cause : (e : Error) → cause_of (db_state store meant old) (store old.pages) (store new.pages) (ToPoint tree (Insert key value)) e → cause_of (State_of old slots given) (store old.pages) (store new.pages) (ToPoint tree (Insert key value)) e
+          cause error.NoMemory k = tt
+          cause (error.Io fault) k = k
+          cause (error.ReportableBug text) k = k
+          cause error.FullQueue k = record { tree = k.tree; there = k.there; event = k.event; brings = k.brings; subscriber = k.subscriber; queue = k.queue; waits = k.waits; matching = k.matching; full = k.full }
+          cause (error.CollectionNotFound name) k = k
+          cause (error.Unsupported text) k = k
+          cause (error.Corruption fault) k = k
+          cause error.Closed k = k
+
+          go : (o : Option MustRefuse) → may_refuse_as o (db_state store meant old) (store old.pages) (store new.pages) (ToPoint tree (Insert key value)) e → may_refuse_as o (State_of old slots given) (store old.pages) (store new.pages) (ToPoint tree (Insert key value)) e
+          go None k = cause e k
+          go (Some must) k = k
+
+      pub put_not : (e : Error) → PointRefused store meant old tree (Insert key value) e new → PartsStopped store meant old (Puts tree.name key value ∷ []) e new
+      put_not e p = stops_at old new (Puts tree.name key value) e (λ slots given. ap (with_slots slots given) p.refuses.is)
+          (λ slots given. inr (subst (λ t. MayRefuse (State_of old slots given) (store old.pages) (store new.pages) (ToPoint t (Insert key value)) e) (is_now.is ∙ at_slots old slots given tree.name) (may_slots e p.refuses.may slots given)))
+          p.conducts.acts p.conducts.leaves (grows_pages old new p.conducts.same)
+          (record { is = inr (subst (λ t. PointRefused store meant old t (Insert key value) e new) is_now.is p) })
+
+    -- the key was not looked for
+    read_cause : (s : State) (e : Error) → stops_reading store meant old tree once e → cause_of s (store old.pages) (store old.pages) (ToPoint tree (Insert key value)) e
+    read_cause s error.NoMemory k = tt
+    read_cause s (error.Io fault) k = inr k
+    read_cause s (error.ReportableBug text) k = k.0
+    read_cause s error.FullQueue k = absurd k
+    read_cause s (error.CollectionNotFound name) k = absurd k
+    read_cause s (error.Unsupported text) k = absurd k
+    read_cause s (error.Corruption fault) k = absurd k
+    read_cause s error.Closed k = absurd k
+
+    read_may : (e : Error) → RefusesReading store meant old tree once e → (slots : ℕ → Option CallInFlight) (given : ℕ) → MayRefuse (State_of old slots given) (store old.pages) (store old.pages) (ToPoint tree (Insert key value)) e
+    read_may e r slots given = record {
+      is = subst (λ o. may_refuse_as o (State_of old slots given) (store old.pages) (store old.pages) (ToPoint tree (Insert key value)) e) (sym (must_plain (State_of old slots given) tree (Insert key value) refl)) (go (must_refuse_of (db_state store meant old) (tree ∷ [])) r.is);
+    }
+      where
+        go : (o : Option MustRefuse) → refuses_reading_as store meant old tree once o e → may_refuse_as o (State_of old slots given) (store old.pages) (store old.pages) (ToPoint tree (Insert key value)) e
+        go None k = read_cause (State_of old slots given) e k
+        go (Some must) k = k
+
+    pub put_unread : (e : Error) → RefusesReading store meant old tree once e → PartsStopped store meant old (Puts tree.name key value ∷ []) e old
+    put_unread e r = stops_at old old (Puts tree.name key value) e (λ slots given. refl)
+        (λ slots given. inr (subst (λ t. MayRefuse (State_of old slots given) (store old.pages) (store old.pages) (ToPoint t (Insert key value)) e) (is_now.is ∙ at_slots old slots given tree.name) (read_may e r slots given)))
+        (min_unread store meant old tree e r).acts (leaves_none store meant old) refl (record { is = inl refl })
+
+    -- the key is present
+    pub put_present : (text : Bor Key) → text.now ≡ OVERWRITES_DATA.now → (there : Bool) → there ≡ true → ReadsMap store meant old tree (λ map. there ≡ is_some (find key_cmp key map)) → PartsStopped store meant old (Puts tree.name key value ∷ []) (error.Unsupported text) old
+    put_present text is there on r =
+        let v = value_of (find key_cmp key r.named.map) (sym r.is ∙ on) in
+        stops_at old old (Puts tree.name key value) (error.Unsupported text) (λ slots given. refl)
+        (λ slots given. inl (is, record { named = r.named; there = r.there; value = v.0; is = v.1 }))
+        (store old.pages, NoAction, refl) (leaves_none store meant old) refl (record { is = inl refl })
+
+  -- ---- pairs, and collections
+
+  -- a part of these pairs were put, and the others are left
+  pub record PutSoFar (old : DbValue P M) (tree : Tree) (pairs left : List (Key × Key)) (d : DbValue P M) : Type 0 where
+    pub done : List Part
+    pub rest : puts_of tree.name pairs [] ≡ done ++ puts_of tree.name left []
+    pub does : PartsDone store meant old done d
+    pub is_now : IsTreeNow store meant d tree
+
+  module _ (old : DbValue P M) (tree : Tree) (pairs : List (Key × Key)) where
+    pub put_first : IsTreeNow store meant old tree → PutSoFar old tree pairs pairs old
+    put_first is_now = record { done = []; rest = refl; does = done_none old; is_now = is_now }
+
+    module _ (left : List (Key × Key)) (d : DbValue P M) (k : PutSoFar old tree pairs left d) where
+      pub put_all : left ≡ [] → PartsDone store meant old (puts_of tree.name pairs []) d
+      put_all e = subst (λ ps. PartsDone store meant old ps d) (sym (k.rest ∙ ap (λ l. k.done ++ puts_of tree.name l []) e ∙ append-nil k.done)) k.does
+
+      module _ (db : IsDb store d) (pair : Key × Key) (more : List (Key × Key)) (e : left ≡ pair ∷ more) where
+        rest_is : puts_of tree.name pairs [] ≡ (k.done ++ Puts tree.name pair.0 pair.1 ∷ []) ++ puts_of tree.name more []
+        rest_is = k.rest ∙ ap (λ l. k.done ++ puts_of tree.name l []) e ∙ sym (append_assoc k.done (Puts tree.name pair.0 pair.1 ∷ []) (puts_of tree.name more []))
+
+        pub put_more : (new : DbValue P M) → PartsDone store meant d (Puts tree.name pair.0 pair.1 ∷ []) new → IsTreeNow store meant new tree → PutSoFar old tree pairs more new
+        put_more new p is_now = record {
+          done = k.done ++ Puts tree.name pair.0 pair.1 ∷ [];
+          rest = rest_is;
+          does = done_then old d new k.done (Puts tree.name pair.0 pair.1 ∷ []) k.does db p;
+          is_now = is_now;
+        }
+
+        pub put_stopped : (x : Error) (new : DbValue P M) → PartsStopped store meant d (Puts tree.name pair.0 pair.1 ∷ []) x new → PartsStopped store meant old (puts_of tree.name pairs []) x new
+        put_stopped x new p = subst (λ ps. PartsStopped store meant old ps x new) (sym rest_is)
+            (stops_more old new (k.done ++ Puts tree.name pair.0 pair.1 ∷ []) (puts_of tree.name more []) x (stops_then old d new k.done (Puts tree.name pair.0 pair.1 ∷ []) x k.does db p))
+
+  -- some of these collections are in, and the others are left
+  pub record ImportedSoFar (old : DbValue P M) (all left : List Content) (d : DbValue P M) : Type 0 where
+    pub done : List Part
+    pub rest : parts_of all ≡ done ++ parts_of left
+    pub does : PartsDone store meant old done d
+
+  module _ (old : DbValue P M) (all : List Content) where
+    pub imported_first : ImportedSoFar old all all old
+    imported_first = record { done = []; rest = refl; does = done_none old }
+
+    module _ (left : List Content) (d : DbValue P M) (k : ImportedSoFar old all left d) where
+      pub imported_all : left ≡ [] → PartsDone store meant old (parts_of all) d
+      imported_all e = subst (λ ps. PartsDone store meant old ps d) (sym (k.rest ∙ ap (λ l. k.done ++ parts_of l) e ∙ append-nil k.done)) k.does
+
+      module _ (db : IsDb store d) (c : Content) (more : List Content) (e : left ≡ c ∷ more) where
+        next_is : parts_of all ≡ (k.done ++ parts_of (c ∷ [])) ++ parts_of more
+        next_is = k.rest ∙ ap (λ l. k.done ++ parts_of l) e ∙ ap (λ ps. k.done ++ ps) (parts_first c more) ∙ sym (append_assoc k.done (parts_of (c ∷ [])) (parts_of more))
+
+        pub imported_more : (new : DbValue P M) → PartsDone store meant d (parts_of (c ∷ [])) new → ImportedSoFar old all more new
+        imported_more new p = record { done = k.done ++ parts_of (c ∷ []); rest = next_is; does = done_then old d new k.done (parts_of (c ∷ [])) k.does db p }
+
+        pub imported_stopped : (x : Error) (new : DbValue P M) → PartsStopped store meant d (parts_of (c ∷ [])) x new → PartsStopped store meant old (parts_of all) x new
+        imported_stopped x new p = subst (λ ps. PartsStopped store meant old ps x new) (sym next_is)
+            (stops_more old new (k.done ++ parts_of (c ∷ [])) (parts_of more) x (stops_then old d new k.done (parts_of (c ∷ [])) x k.does db p))
+
+  -- ---- the whole import
+
+  module _ (old : DbValue P M) (all : List Content) where
+    -- the database is closed
+    pub import_closed : (now (store old.pages)).in_group ≡ true → ImportRefused store meant old all error.Closed old
+    import_closed e = record {
+      maps = [];
+      refuses = λ slots given. record { is = inl (subst (λ o. refuses_import_as o all error.Closed) (sym (ap (λ b. first_of (cond (not b) None (Some IsClosed)) None) e)) refl, refl, refl) };
+      acts = (store old.pages, NoAction, refl);
+      leaves = leaves_none store meant old;
+      same = refl;
+      tested = λ must. refl;
+    }
+
+    pub import_nothing : (e : Error) → ImportRefusedBySteps store meant old all e old
+    import_nothing e = record { is = inl refl }
+
+    module _ (no_group : (now (store old.pages)).in_group ≡ false) where
+      open_is : (slots : ℕ → Option CallInFlight) (given : ℕ) → must_refuse_of (State_of old slots given) [] ≡ None
+      open_is slots given = ap (λ b. first_of (cond (not b) None (Some IsClosed)) None) no_group
+
+      -- some collection is of another type
+      pub import_unknown : are_trees all ≡ false → (text : Bor Key) → text.now ≡ UNKNOWN_COLLECTION_TYPE.now → ImportRefused store meant old all (error.Unsupported text) old
+      import_unknown off text is = record {
+        maps = [];
+        refuses = λ slots given. record { is = inl (subst (λ o. refuses_import_as o all (error.Unsupported text)) (sym (open_is slots given)) (is, off), refl, refl) };
+        acts = (store old.pages, NoAction, refl);
+        leaves = leaves_none store meant old;
+        same = refl;
+        tested = λ must. refl;
+      }
+
+      module _ (trees : are_trees all ≡ true) (new : DbValue P M) where
+        pub import_done : PartsDone store meant old (parts_of all) new → ImportDecided store meant old all new
+        import_done k = record {
+          maps = k.maps;
+          decides = λ slots given. record { free = open_is slots given; trees = trees; does = k.does slots given };
+          acts = k.acts;
+          leaves = k.leaves;
+          same = k.same;
+        }
+
+        pub import_stopped : (e : Error) → PartsStopped store meant old (parts_of all) e new → ImportRefused store meant old all e new
+        import_stopped e k = record {
+          maps = k.maps;
+          refuses = λ slots given. record {
+            is = inr (record {
+              free = open_is slots given;
+              trees = trees;
+              done = k.done;
+              next = k.next;
+              later = k.later;
+              all_parts = k.all_parts;
+              does = k.does slots given;
+              refuses = k.refuses slots given;
+            });
+          };
+          acts = k.acts;
+          leaves = k.leaves;
+          same = k.same;
+          tested = λ must. absurd (must (open_is (λ n. None) 0));
+        }
+
+        pub import_stopped_steps : (e : Error) → PartsStopped store meant old (parts_of all) e new → ImportRefusedBySteps store meant old all e new
+        import_stopped_steps e k = record { is = inr (trees, k.steps) }
+
+  -- ---- the same of the call that a machine makes
+
+  module _ (old new : DbValue P M) (collections : Vec (Vec ℕ × Vec ℕ × Vec (Key × Key))) where
+    pub import_whole : ImportDecided store meant old (contents_of collections.items) new → WholeDecided store meant old (Import collections) told.Done new
+    import_whole k = record { maps = k.maps; decides = λ slots given number. (refl, k.decides slots given); acts = k.acts; leaves = k.leaves; same = k.same }
+
+    pub import_whole_refused : (e : Error) → ImportRefused store meant old (contents_of collections.items) e new → WholeRefused store meant old (Import collections) e new
+    import_whole_refused e k = record {
+      maps = k.maps;
+      refuses = k.refuses;
+      acts = k.acts;
+      leaves = k.leaves;
+      same = k.same;
+      tested = λ must. k.tested (λ none. must (first_alone (must_refuse_of (db_state store meant old) []) ∙ none));
+    }
+
+-- ---- the same, of what calls answer
+
+module _ {P M : Type 0} (store : P → Store) (meant : M → Merge) where
+  -- a collection's pairs, after its tree was opened
+  module _ (old mid new : DbValue P M) (name : Key) (tree : Tree) (w : WholeDecided store meant old (OpenTree name) (told.Tree tree) mid) (s : OpensBySteps store name old mid) (db : IsDb store mid) (pairs : List (Key × Key)) where
+    pub collection_done : (r : Result (Unit {0}) Error) → OnOk r (PartsDone store meant mid (puts_of tree.name pairs []) new) → OnOk r (PartsDone store meant old (OpensName name ∷ puts_of name pairs []) new)
+    collection_done (Ok u) k = done_then store meant old mid new (OpensName name ∷ []) (puts_of name pairs []) (opened_done store meant old mid name tree w s) db (subst (λ n. PartsDone store meant mid (puts_of n pairs []) new) (opened_name store meant old mid name tree w) k)
+    collection_done (Err e) k = tt
+
+    pub collection_stopped : (r : Result (Unit {0}) Error) → IfErr r (λ e. PartsStopped store meant mid (puts_of tree.name pairs []) e new) → IfErr r (λ e. PartsStopped store meant old (OpensName name ∷ puts_of name pairs []) e new)
+    collection_stopped (Ok u) k = tt
+    collection_stopped (Err e) k = stops_then store meant old mid new (OpensName name ∷ []) (puts_of name pairs []) e (opened_done store meant old mid name tree w s) db (subst (λ n. PartsStopped store meant mid (puts_of n pairs []) e new) (opened_name store meant old mid name tree w) k)
+
+  pub collection_unopened : (old new : DbValue P M) (name : Key) (pairs : List (Key × Key)) (e : Error) → WholeRefused store meant old (OpenTree name) e new → OpenRefusedBySteps store name old e new → PartsStopped store meant old (OpensName name ∷ puts_of name pairs []) e new
+  collection_unopened old new name pairs e w s = stops_more store meant old new (OpensName name ∷ []) (puts_of name pairs []) e (opened_not store meant old new name e w s)
+
+-- ---- where a key and a value were read
+
+module _ {P M : Type 0} (store : P → Store) (meant : M → Merge) (old new : DbValue P M) (tree : Tree) (k key v value : Key) (is_key : k ≡ key) (is_value : v ≡ value) where
+  pub decided_of : (reply : Reply) → PointDecided store meant old tree (Insert k v) reply new → PointDecided store meant old tree (Insert key value) reply new
+  decided_of reply p = subst (λ z. PointDecided store meant old tree (Insert z value) reply new) is_key (subst (λ z. PointDecided store meant old tree (Insert k z) reply new) is_value p)
+
+  pub refused_of : (e : Error) → PointRefused store meant old tree (Insert k v) e new → PointRefused store meant old tree (Insert key value) e new
+  refused_of e p = subst (λ z. PointRefused store meant old tree (Insert z value) e new) is_key (subst (λ z. PointRefused store meant old tree (Insert k z) e new) is_value p)
+
+-- ---- what is left of lists
+
+pub pairs_left : (xs : List (Key × Key)) (i : ℕ) (x : Key × Key) → i < length xs → x ≡ get_or xs i x → drop i xs ≡ x ∷ drop (i + 1) xs
+pairs_left xs i x h e = left_is xs i x h e
+
+pub contents_left : (xs : List (Vec ℕ × Vec ℕ × Vec (Key × Key))) (i : ℕ) (x : Vec ℕ × Vec ℕ × Vec (Key × Key)) → i < length xs → x ≡ get_or xs i x → contents_of (drop i xs) ≡ content_of x ∷ contents_of (drop (i + 1) xs)
+contents_left xs i x h e = ap contents_of (left_is xs i x h e)
+
+pub none_left : {A : Type 0} (xs : List A) (i : ℕ) → length xs ≤ i → drop i xs ≡ []
+none_left xs i h = drop_all i xs h

@@ -1,0 +1,72 @@
+-- What an import of collections comes to, and by which steps.
+use Rattle.std.specs.Prelude.{◌≡◌, ◌≢◌, ◌⊎◌, ℕ, true, List, [], ◌∷◌, ◌++◌, Option, Some, None}
+use Rattle.sled_pages.specs.Store.{Store}
+use Rattle.sled_pages.specs.declared.error.Error.{Error}
+use Rattle.sled_model.specs.Maps.{Maps, Merge}
+use Rattle.sled_model.specs.Collections.{Content, are_trees}
+use Rattle.sled_model.specs.Imports.{Part, OpensName, Puts, parts_of, tree_at, Imports, StopsImporting}
+use Rattle.sled_model.specs.State.{CallInFlight}
+use Rattle.sled_model.specs.Refusal.{must_refuse_of}
+use Rattle.sled_model.specs.declared.call.Call.TheVariants.{Insert}
+use Rattle.sled_model.specs.declared.reply.Reply.{Reply}
+use Rattle.sled.specs.Values.{DbValue, state_of, db_state}
+use Rattle.sled.specs.Direct.{LeavesAll, PointDecided, PointRefused, effects_until}
+use Rattle.sled.specs.Opens.{OpensBySteps, OpenRefusedBySteps}
+
+-- an import changes the pages, the queues and the list of trees
+abbrev pub grows_trees : {P M : Type 0} → DbValue P M → DbValue P M → Type 0
+grows_trees old new = new ≡ record old { pages = new.pages; queues = new.queues; trees = new.trees; trees_given = new.trees_given }
+
+module _ {P M : Type 0} (store : P → Store) (meant : M → Merge) where
+  -- An import of these collections was decided, in whatever machine the database is
+  pub record ImportDecided (old : DbValue P M) (all : List Content) (new : DbValue P M) : Type 0 where
+    pub maps : List Maps
+    pub decides : (slots : ℕ → Option CallInFlight) (slots_given : ℕ) → Imports (state_of store meant old slots slots_given) all (state_of store meant new slots slots_given) maps
+    pub acts : effects_until None (store old.pages) (store new.pages)
+    pub leaves : LeavesAll store maps None old new
+    pub same : grows_trees old new
+
+  -- .. or it was refused
+  pub record ImportRefused (old : DbValue P M) (all : List Content) (e : Error) (new : DbValue P M) : Type 0 where
+    pub maps : List Maps
+    pub refuses : (slots : ℕ → Option CallInFlight) (slots_given : ℕ) → StopsImporting (state_of store meant old slots slots_given) (store old.pages) (store new.pages) all e (state_of store meant new slots slots_given) maps
+    pub acts : effects_until (Some e) (store old.pages) (store new.pages)
+    pub leaves : LeavesAll store maps None old new
+    pub same : grows_trees old new
+    -- by a test, and then it did nothing
+    pub tested : must_refuse_of (db_state store meant old) [] ≢ None → new ≡ old
+
+  abbrev pub part_by_steps_as : DbValue P M → Part → DbValue P M → Type 0
+  part_by_steps_as old (OpensName name) new = OpensBySteps store name old new
+  part_by_steps_as old (Puts name key value) new = (reply : Reply) × PointDecided store meant old (tree_at (db_state store meant old) name) (Insert key value) reply new
+
+  -- a part was done by the steps of an opening or of an insert
+  pub record PartBySteps (old : DbValue P M) (part : Part) (new : DbValue P M) : Type 0 where
+    pub is : part_by_steps_as old part new
+
+  abbrev pub part_refused_by_steps_as : DbValue P M → Part → Error → DbValue P M → Type 0
+  part_refused_by_steps_as old (OpensName name) e new = OpenRefusedBySteps store name old e new
+  part_refused_by_steps_as old (Puts name key value) e new = (new ≡ old) ⊎ PointRefused store meant old (tree_at (db_state store meant old) name) (Insert key value) e new
+
+  -- .. or it was refused: at one of these steps, or a pair also before them, where its key was looked for
+  pub record PartRefusedBySteps (old : DbValue P M) (part : Part) (e : Error) (new : DbValue P M) : Type 0 where
+    pub is : part_refused_by_steps_as old part e new
+
+-- Parts were done one after the other, each by its steps
+pub data ImportsBySteps {P M : Type 0} (store : P → Store) (meant : M → Merge) : DbValue P M → List Part → DbValue P M → Type 0 where
+  ImportsNone : {db : DbValue P M} → ImportsBySteps store meant db [] db
+  ImportsMore : {old mid new : DbValue P M} {part : Part} {parts : List Part} → PartBySteps store meant old part mid → ImportsBySteps store meant mid parts new → ImportsBySteps store meant old (part ∷ parts) new
+
+-- the first of these parts were done so, and the next was refused
+pub record StopsBySteps {P M : Type 0} (store : P → Store) (meant : M → Merge) (old : DbValue P M) (parts : List Part) (e : Error) (new : DbValue P M) : Type 0 where
+  pub done : List Part
+  pub next : Part
+  pub later : List Part
+  pub all_parts : parts ≡ done ++ next ∷ later
+  pub mid : DbValue P M
+  pub did : ImportsBySteps store meant old done mid
+  pub refused : PartRefusedBySteps store meant mid next e new
+
+-- An import did nothing, or it did the first of its parts so, and the next was refused
+pub record ImportRefusedBySteps {P M : Type 0} (store : P → Store) (meant : M → Merge) (old : DbValue P M) (all : List Content) (e : Error) (new : DbValue P M) : Type 0 where
+  pub is : (new ≡ old) ⊎ ((are_trees all ≡ true) × StopsBySteps store meant old (parts_of all) e new)

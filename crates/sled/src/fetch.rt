@@ -1,0 +1,193 @@
+//! Calls that make the new value at a key of the one that stands there, by a closure that is called once.
+ghost use Rattle.std.specs.Prelude.{◌≡◌, IfOk, IfErr, OnOk, Ok, Option};
+ghost use Rattle.std.specs.Option.{option_map};
+ghost use Rattle.sled_pages.specs.Order.{Key};
+ghost use Rattle.sled_pages.specs.declared.error.Error.TheVariants.{NoMemory};
+ghost use Rattle.sled_model.specs.declared.call.Call.TheVariants as call;
+ghost use Rattle.sled_model.specs.declared.reply.Reply.TheVariants as told;
+ghost use Rattle.sled.specs.Fetch.{Answers, Stands};
+
+use crate::db::Db;
+use sled_model::{Call, MergeOperator, Tree};
+use sled_pages::{Error, IVec, Pages, Result};
+use std::alloc::{AllocError, Global};
+
+// What the closure answers to the value that stands, if there is one.
+fn ask<F>(stood: &Option<IVec>, mut f: F) -> std::result::Result<Option<Vec<u8>>, AllocError>
+where
+    F: FnMut(Option<&[u8]>) -> std::result::Result<Option<Vec<u8>>, AllocError>,
+    requires { (shown : _) → F.pre f shown }
+    ensures { Answers F.FnMut f stood.now result }
+{
+    match stood {
+        Some(value) => f(Some(value.as_ref())),
+        None => f(None),
+    }
+}
+
+// A value of one's own of these bytes, if there are any. Refused with `NoMemory` alone.
+fn value_of(alloc: Global, bytes: Option<Vec<u8>>) -> Result<Option<IVec>>
+    ensures ok { IfOk result (λ value. value ≡ option_map (λ b. b.items) bytes) }
+    ensures err { IfErr result (λ e. e ≡ NoMemory) }
+{
+    let Some(bytes) = bytes else {
+        return Ok(None);
+    };
+    let value = IVec::from_slice(alloc, bytes.as_slice());
+    drop(bytes);
+    match value {
+        Ok(value) => Ok(Some(value)),
+        Err(e) => Err(e),
+    }
+}
+
+// The same value, or none. Refused with `NoMemory` alone.
+fn copy_of(value: &Option<IVec>) -> Result<Option<IVec>>
+    ensures ok { IfOk result (λ copy. copy ≡ value.now) }
+    ensures err { IfErr result (λ e. e ≡ NoMemory) }
+{
+    match value {
+        Some(value) => Ok(Some(value.clone()?)),
+        None => Ok(None),
+    }
+}
+
+// The call that swaps the one value for the other at a key.
+fn swap_of(alloc: Global, key: &[u8], stood: &Option<IVec>, made: &Option<IVec>) -> Result<Call>
+    ensures ok { IfOk result (λ swap. swap ≡ call.CompareAndSwap key.now stood.now made.now) }
+    ensures err { IfErr result (λ e. e ≡ NoMemory) }
+{
+    let key = IVec::from_slice(alloc, key)?;
+    let stood = match copy_of(stood) {
+        Ok(stood) => stood,
+        Err(e) => {
+            drop(key);
+            return Err(e);
+        }
+    };
+    match copy_of(made) {
+        Ok(made) => Ok(Call::CompareAndSwap(key, stood, made)),
+        Err(e) => {
+            drop(key);
+            drop(stood);
+            Err(e)
+        }
+    }
+}
+
+impl<P: Pages, M: MergeOperator> Db<P, M> {
+    ghost use Rattle.sled.specs.Direct.{PointDecided, PointRefused};
+    ghost use Rattle.sled.specs.Fetch.{FetchDecided, FetchRefused};
+
+    // Swaps the value that was read just now for another, which always succeeds.
+    fn swap(
+        &mut self,
+        tree: &Tree,
+        key: &[u8],
+        stood: &Option<IVec>,
+        made: &Option<IVec>,
+    ) -> Result<()>
+        requires { Stands P.store M.meant self.old tree.now key.now stood.now }
+        ensures ok { OnOk result (PointDecided P.store M.meant self.old tree.now (call.CompareAndSwap key.now stood.now made.now) (told.Swapped (Ok tt)) self.new) }
+        ensures err { IfErr result (λ e. PointRefused P.store M.meant self.old tree.now (call.CompareAndSwap key.now stood.now made.now) e self.new) }
+    {
+        let call = match swap_of(self.alloc, key, stood, made) {
+            Ok(call) => call,
+            Err(e) => return Err(e),
+        };
+        match self.make(tree, call) {
+            Ok(reply) => {
+                drop(reply);
+                Ok(())
+            }
+            Err(e) => Err(e),
+        }
+    }
+
+    // The value that stood, and the one that the closure made of it and that stands now.
+    fn fetch<F>(&mut self, tree: &Tree, key: &[u8], f: F) -> Result<(Option<IVec>, Option<IVec>)>
+    where
+        F: FnMut(Option<&[u8]>) -> std::result::Result<Option<Vec<u8>>, AllocError>,
+        requires { (shown : _) → F.pre f shown }
+        ensures ok { IfOk result (λ both. FetchDecided P.store M.meant F.FnMut f self.old tree.now key.now both.0 both.1 self.new) }
+        ensures err { IfErr result (λ e. FetchRefused P.store M.meant F.FnMut f self.old tree.now key.now e self.new) }
+    {
+        let stood = match self.get(tree, key) {
+            Ok(stood) => stood,
+            Err(e) => return Err(e),
+        };
+        let made = match ask(&stood, f) {
+            Ok(bytes) => value_of(self.alloc, bytes),
+            Err(_) => {
+                drop(stood);
+                return Err(Error::NoMemory);
+            }
+        };
+        let made = match made {
+            Ok(made) => made,
+            Err(e) => {
+                drop(stood);
+                return Err(e);
+            }
+        };
+        match self.swap(tree, key, &stood, &made) {
+            Ok(()) => Ok((stood, made)),
+            Err(e) => {
+                drop(stood);
+                drop(made);
+                Err(e)
+            }
+        }
+    }
+
+    /// Sets the value at a key to what the closure makes of the value that stands there, or takes the key out where it answers
+    /// `None`, and answers the new value. It is written also where it is equal.
+    ///
+    /// The key is read as `get` reads it, the closure is called once, and then the values are swapped as `compare_and_swap` does.
+    /// A closure that answers want of memory refuses the call with `NoMemory`, and nothing is written.
+    ///
+    /// ```
+    /// // The value with one byte more, or that byte alone.
+    /// let longer = db.update_and_fetch(&tree, b"ulm", |stood| {
+    ///     let mut bytes = Vec::from_slice(alloc, stood.unwrap_or(b""))?;
+    ///     bytes.push(7)?;
+    ///     Ok(Some(bytes))
+    /// })?;
+    /// ```
+    pub fn update_and_fetch<F>(&mut self, tree: &Tree, key: &[u8], f: F) -> Result<Option<IVec>>
+    where
+        F: FnMut(Option<&[u8]>) -> std::result::Result<Option<Vec<u8>>, AllocError>,
+        requires { (shown : _) → F.pre f shown }
+        ensures ok { IfOk result (λ made. (stood : Option Key) × FetchDecided P.store M.meant F.FnMut f self.old tree.now key.now stood made self.new) }
+        ensures err { IfErr result (λ e. FetchRefused P.store M.meant F.FnMut f self.old tree.now key.now e self.new) }
+    {
+        match self.fetch(tree, key, f) {
+            Ok((stood, made)) => {
+                drop(stood);
+                Ok(made)
+            }
+            Err(e) => Err(e),
+        }
+    }
+
+    /// The same, but that it answers the value that stood there before.
+    ///
+    /// ```
+    /// let taken = db.fetch_and_update(&tree, b"ulm", |_| Ok(None))?;
+    /// ```
+    pub fn fetch_and_update<F>(&mut self, tree: &Tree, key: &[u8], f: F) -> Result<Option<IVec>>
+    where
+        F: FnMut(Option<&[u8]>) -> std::result::Result<Option<Vec<u8>>, AllocError>,
+        requires { (shown : _) → F.pre f shown }
+        ensures ok { IfOk result (λ stood. (made : Option Key) × FetchDecided P.store M.meant F.FnMut f self.old tree.now key.now stood made self.new) }
+        ensures err { IfErr result (λ e. FetchRefused P.store M.meant F.FnMut f self.old tree.now key.now e self.new) }
+    {
+        match self.fetch(tree, key, f) {
+            Ok((stood, made)) => {
+                drop(made);
+                Ok(stood)
+            }
+            Err(e) => Err(e),
+        }
+    }
+}

@@ -1,0 +1,106 @@
+//! Importing collections, as an export gives them.
+ghost use Rattle.std.specs.Prelude.{◌≡◌, IfErr, OnOk, [], ◌∷◌};
+ghost use Rattle.sled_model.specs.Collections.{content_of, contents_of, are_trees};
+ghost use Rattle.sled_model.specs.Imports.{OpensName, Puts, puts_of, parts_of};
+ghost use Rattle.sled.specs.Imports.{ImportDecided, ImportRefused, ImportsBySteps, ImportRefusedBySteps};
+ghost use Rattle.sled.specs.theory.Imports.{IsTreeNow, PartsDone, PartsStopped};
+
+use crate::db::Db;
+use sled_model::{Collection, MergeOperator, Tree};
+use sled_pages::texts::{OVERWRITES_DATA, UNKNOWN_COLLECTION_TYPE};
+use sled_pages::{Error, IVec, Pages, Result};
+
+// Whether every collection is of the type `tree`.
+fn are_trees(collections: &[Collection]) -> bool
+    ensures { result ≡ are_trees (contents_of collections.now) }
+{
+    for collection in collections {
+        if collection.0.as_slice() != b"tree".as_slice() {
+            return false;
+        }
+    }
+    true
+}
+
+impl<P: Pages, M: MergeOperator> Db<P, M> {
+    // Puts a pair into a tree where its key is absent.
+    fn import_pair(&mut self, tree: &Tree, pair: &(IVec, IVec)) -> Result<()>
+        requires { IsTreeNow P.store M.meant self.old tree.now }
+        ensures ok { OnOk result (PartsDone P.store M.meant self.old (Puts tree.now.name pair.now.0 pair.now.1 ∷ []) self.new) }
+        ensures now { OnOk result (IsTreeNow P.store M.meant self.new tree.now) }
+        ensures err { IfErr result (λ e. PartsStopped P.store M.meant self.old (Puts tree.now.name pair.now.0 pair.now.1 ∷ []) e self.new) }
+    {
+        match self.contains_key(tree, pair.0.as_ref()) {
+            Ok(true) => return Err(Error::Unsupported(OVERWRITES_DATA)),
+            Ok(false) => (),
+            Err(e) => return Err(e),
+        }
+        match self.insert(tree, pair.0.as_ref(), pair.1.as_ref()) {
+            Ok(stood) => {
+                drop(stood);
+                Ok(())
+            }
+            Err(e) => Err(e),
+        }
+    }
+
+    // Puts pairs into a tree, one after the other.
+    fn import_pairs(&mut self, tree: &Tree, pairs: &[(IVec, IVec)]) -> Result<()>
+        requires { IsTreeNow P.store M.meant self.old tree.now }
+        ensures ok { OnOk result (PartsDone P.store M.meant self.old (puts_of tree.now.name pairs.now []) self.new) }
+        ensures err { IfErr result (λ e. PartsStopped P.store M.meant self.old (puts_of tree.now.name pairs.now []) e self.new) }
+    {
+        for pair in pairs {
+            self.audit();
+            if let Err(e) = self.import_pair(tree, pair) {
+                return Err(e);
+            }
+        }
+        Ok(())
+    }
+
+    // Opens the tree of a collection, and puts its pairs into it.
+    fn import_collection(&mut self, collection: &Collection) -> Result<()>
+        ensures ok { OnOk result (PartsDone P.store M.meant self.old (parts_of (content_of collection.now ∷ [])) self.new) }
+        ensures err { IfErr result (λ e. PartsStopped P.store M.meant self.old (parts_of (content_of collection.now ∷ [])) e self.new) }
+    {
+        let tree = match self.open_tree(collection.1.as_slice()) {
+            Ok(tree) => tree,
+            Err(e) => return Err(e),
+        };
+        self.audit();
+        let done = self.import_pairs(&tree, collection.2.as_slice());
+        drop(tree);
+        done
+    }
+
+    /// Opens the tree of each collection, one after the other, as `open_tree` does, and puts its pairs into it, one after the other, as
+    /// `insert` does where a key is absent. It is not atomic: refused midway, the trees that are opened and the pairs that are in stay.
+    /// Refused with `Unsupported` where a collection is not of the type `tree`, and then nothing is done; with `Unsupported` at a key
+    /// that is present, whose pair stays as it is; and as `open_tree`, `contains_key` and `insert` are.
+    ///
+    /// ```
+    /// let collections = first.export()?;
+    /// second.import(collections.as_slice())?; // Both have the same trees and pairs, where `second` had no pair.
+    /// ```
+    pub fn import(&mut self, collections: &[Collection]) -> Result<()>
+        ensures ok { OnOk result (ImportDecided P.store M.meant self.old (contents_of collections.now) self.new) }
+        ensures err { IfErr result (λ e. ImportRefused P.store M.meant self.old (contents_of collections.now) e self.new) }
+        ensures steps { OnOk result (ImportsBySteps P.store M.meant self.old (parts_of (contents_of collections.now)) self.new) }
+        ensures refused { IfErr result (λ e. ImportRefusedBySteps P.store M.meant self.old (contents_of collections.now) e self.new) }
+    {
+        if self.pages.in_group() {
+            return Err(Error::Closed);
+        }
+        if !are_trees(collections) {
+            return Err(Error::Unsupported(UNKNOWN_COLLECTION_TYPE));
+        }
+        for collection in collections {
+            self.audit();
+            if let Err(e) = self.import_collection(collection) {
+                return Err(e);
+            }
+        }
+        Ok(())
+    }
+}

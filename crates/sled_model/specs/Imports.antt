@@ -1,0 +1,100 @@
+-- What an import makes of the state.
+use Rattle.std.specs.Prelude.{◌≡◌, ◌⊎◌, true, List, [], ◌∷◌, ◌++◌, Option, Some, None}
+use Rattle.std.specs.FinMap.Entries.{find}
+use Rattle.sled_pages.specs.Order.{Key, key_cmp}
+use Rattle.sled_pages.specs.Store.{Store}
+use Rattle.sled_pages.specs.declared.error.Error.{Error}
+use Rattle.sled_pages.specs.declared.error.Error.TheVariants.{Unsupported}
+use Rattle.sled_pages.specs.declared.texts.TheConstants.{OVERWRITES_DATA}
+use Rattle.sled_model.specs.Maps.{Maps}
+use Rattle.sled_model.specs.Answer.{answer_of}
+use Rattle.sled_model.specs.Collections.{Content, are_trees}
+use Rattle.sled_model.specs.State.{State, NamedTree, maps_of, after_decision_on}
+use Rattle.sled_model.specs.Refusal.{MustRefuse, ToPoint, ToCall, must_refuse_of, tells, cause_of_import, MayRefuse}
+use Rattle.sled_model.specs.Whole.{number_opened, state_opened, maps_opened}
+use Rattle.sled_model.specs.declared.call.Call.TheVariants.{Insert}
+use Rattle.sled_model.specs.declared.call.Whole.TheVariants.{OpenTree}
+use Rattle.sled_model.specs.declared.tree.Tree.{Tree}
+
+-- a part of an import: a name is opened, or a pair is put into the tree of a name
+pub data Part : Type 0 where
+  OpensName : (name : Key) → Part
+  Puts : (name key value : Key) → Part
+
+-- these pairs are put into the tree of this name, and other parts follow
+abbrev pub puts_of : Key → List (Key × Key) → List Part → List Part
+puts_of name [] others = others
+puts_of name (p ∷ ps) others = Puts name p.0 p.1 ∷ puts_of name ps others
+
+-- The parts of an import, in order: the name of each collection is opened, and then its pairs are put
+abbrev pub parts_of : List Content → List Part
+parts_of [] = []
+parts_of (c ∷ cs) = OpensName c.1 ∷ puts_of c.1 c.2 (parts_of cs)
+
+-- the tree that a name has, as callers name it
+abbrev pub tree_at : State → Key → Tree
+tree_at s name = record { database = s.name; name = name; number = number_opened (s.trees name) s }
+
+-- a pair is put into the tree of a name, where its key was absent: it is inserted, with its event
+pub record PutsPair (old : State) (name key value : Key) (new : State) (maps : List Maps) : Type 0 where
+  pub named : NamedTree
+  pub there : old.trees name ≡ Some named
+  pub absent : find key_cmp key named.map ≡ None
+  pub is : new ≡ after_decision_on old name named (answer_of named.merge (Insert key value) named.map)
+  pub added : maps ≡ maps_of new ∷ []
+
+abbrev pub does_part_as : State → Part → State → List Maps → Type 0
+does_part_as old (OpensName name) new maps = (new ≡ state_opened (old.trees name) old name) × (maps ≡ maps_opened (old.trees name) new)
+does_part_as old (Puts name key value) new maps = PutsPair old name key value new maps
+
+-- one part is done, and adds these maps
+pub record DoesPart (old : State) (part : Part) (new : State) (maps : List Maps) : Type 0 where
+  pub is : does_part_as old part new maps
+
+-- Parts are done one after the other, and these are the maps that each adds, in order
+pub data DoesParts : State → List Part → State → List Maps → Type 0 where
+  NoPart : {s : State} → DoesParts s [] s []
+  OnePart : {a m b : State} {part : Part} {parts : List Part} {added maps : List Maps} → DoesPart a part m added → DoesParts m parts b maps → DoesParts a (part ∷ parts) b (added ++ maps)
+
+-- an import of these collections, each of the type `tree`, does all its parts
+pub record Imports (old : State) (all : List Content) (new : State) (maps : List Maps) : Type 0 where
+  pub free : must_refuse_of old [] ≡ None
+  pub trees : are_trees all ≡ true
+  pub does : DoesParts old (parts_of all) new maps
+
+-- the key has a value in the tree of this name
+pub record IsPresent (s : State) (name key : Key) : Type 0 where
+  pub named : NamedTree
+  pub there : s.trees name ≡ Some named
+  pub value : Key
+  pub is : find key_cmp key named.map ≡ Some value
+
+-- .. and a pair is not put over it
+abbrev pub overwrites_as : State → Key → Key → Error → Type 0
+overwrites_as s name key (Unsupported text) = (text.now ≡ OVERWRITES_DATA.now) × IsPresent s name key
+overwrites_as s name key e = ⊥
+
+-- why a part is refused: as an opening is; or the key is present, or as an insert is
+abbrev pub refuses_part : State → Store → Store → Part → Error → Type 0
+refuses_part s a b (OpensName name) e = MayRefuse s a b (ToCall (OpenTree name)) e
+refuses_part s a b (Puts name key value) e = overwrites_as s name key e ⊎ MayRefuse s a b (ToPoint (tree_at s name) (Insert key value)) e
+
+-- an import does its first parts, and the next is refused
+pub record StopsAtPart (old : State) (a b : Store) (all : List Content) (e : Error) (new : State) (maps : List Maps) : Type 0 where
+  pub free : must_refuse_of old [] ≡ None
+  pub trees : are_trees all ≡ true
+  pub done : List Part
+  pub next : Part
+  pub later : List Part
+  pub all_parts : parts_of all ≡ done ++ next ∷ later
+  pub does : DoesParts old done new maps
+  pub refuses : refuses_part new a b next e
+
+-- before its first part it is refused where the database is closed, or some collection is of another type
+abbrev pub refuses_import_as : Option MustRefuse → List Content → Error → Type 0
+refuses_import_as (Some must) all e = tells must e
+refuses_import_as None all e = cause_of_import all e
+
+-- An import is refused, and has done nothing, or its first parts
+pub record StopsImporting (old : State) (a b : Store) (all : List Content) (e : Error) (new : State) (maps : List Maps) : Type 0 where
+  pub is : (refuses_import_as (must_refuse_of old []) all e × (new ≡ old) × (maps ≡ [])) ⊎ StopsAtPart old a b all e new maps

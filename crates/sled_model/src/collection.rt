@@ -1,0 +1,69 @@
+//! Collections, as an export gives them and an import takes them.
+ghost use Rattle.std.specs.Prelude.{◌≡◌, IfOk, IfErr};
+ghost use Rattle.sled_pages.specs.declared.error.Error.TheVariants.{NoMemory};
+ghost use Rattle.sled_model.specs.Collections.{content_of, contents_of};
+
+use sled_pages::{IVec, Result};
+
+/// What an export has of a tree, and an import makes of one: the type of collection, which is `tree`, the tree's name, and its
+/// pairs.
+pub type Collection = (Vec<u8>, Vec<u8>, Vec<(IVec, IVec)>);
+
+// The same bytes.
+fn copied_bytes(bytes: &Vec<u8>) -> Result<Vec<u8>>
+    ensures ok { IfOk result (λ copy. copy.items ≡ bytes.now.items) }
+    ensures err { IfErr result (λ e. e ≡ NoMemory) }
+{
+    Ok(Vec::from_slice(*bytes.allocator(), bytes.as_slice())?)
+}
+
+// The same pair.
+fn copied_pair(pair: &(IVec, IVec)) -> Result<(IVec, IVec)>
+    ensures ok { IfOk result (λ copy. copy ≡ pair.now) }
+    ensures err { IfErr result (λ e. e ≡ NoMemory) }
+{
+    let key = pair.0.clone()?;
+    match pair.1.clone() {
+        Ok(value) => Ok((key, value)),
+        Err(e) => {
+            drop(key);
+            Err(e)
+        }
+    }
+}
+
+// The same pairs.
+fn copied_pairs(pairs: &Vec<(IVec, IVec)>) -> Result<Vec<(IVec, IVec)>>
+    ensures ok { IfOk result (λ copy. copy.items ≡ pairs.now.items) }
+    ensures err { IfErr result (λ e. e ≡ NoMemory) }
+{
+    let mut copy = Vec::with_capacity(*pairs.allocator(), pairs.len())?;
+    for pair in pairs {
+        copy.push(copied_pair(pair)?)?;
+    }
+    Ok(copy)
+}
+
+// The same collection.
+fn copied_collection(collection: &Collection) -> Result<Collection>
+    ensures ok { IfOk result (λ copy. content_of copy ≡ content_of collection.now) }
+    ensures err { IfErr result (λ e. e ≡ NoMemory) }
+{
+    Ok((
+        copied_bytes(&collection.0)?,
+        copied_bytes(&collection.1)?,
+        copied_pairs(&collection.2)?,
+    ))
+}
+
+// The same collections.
+pub(crate) fn copied_collections(all: &Vec<Collection>) -> Result<Vec<Collection>>
+    ensures ok { IfOk result (λ copy. contents_of copy.items ≡ contents_of all.now.items) }
+    ensures err { IfErr result (λ e. e ≡ NoMemory) }
+{
+    let mut copy = Vec::with_capacity(*all.allocator(), all.len())?;
+    for collection in all {
+        copy.push(copied_collection(collection)?)?;
+    }
+    Ok(copy)
+}

@@ -1,0 +1,17 @@
+use Rattle.std.proofs.Common.{◌≡◌, Bool, true, false, sym, subst}
+use Rattle.std.specs.List.{list_any}
+use Rattle.std.specs.Ordering.{nat_cmp}
+use Rattle.std.specs.BTreeMap.{get}
+use Rattle.sled_queues.specs.Values.{QueuesValue, queue_at}
+use Rattle.sled_queues.specs.Tells.{is_full_as}
+use Rattle.sled_queues.specs.Lists.{lists_of}
+use Rattle.sled_queues.specs.theory.Lists.{is_full_for}
+use Rattle.sled_queues.proofs.Listed.{has_room, meets_full}
+use Rattle.sled_queues.proofs.queues.Queues.is_full.Goals as goal
+
+pub returns : goal.returns
+returns c = subst (λ (s : QueuesValue). is_full_as c.args.tree c.args.key.now (queue_at s) c.any_full.result) c.self.view_is (go c.any_full.result (sym c.any_full.ensures))
+  where
+    go : (b : Bool) → list_any (λ n. is_full_for c.args.key.now (get nat_cmp c.self.inside.queues n)) c.numbers_of.result.now ≡ b → is_full_as c.args.tree c.args.key.now (get nat_cmp c.self.inside.queues) b
+    go true e = meets_full c.args.tree c.args.key.now c.numbers_of.result.now (get nat_cmp c.self.inside.queues) (lists_of c.self.inside.lists) c.self.inside.given c.self.invariant.1 (sym c.numbers_of.ensures) e
+    go false e = has_room c.args.tree c.args.key.now c.numbers_of.result.now (get nat_cmp c.self.inside.queues) (lists_of c.self.inside.lists) c.self.inside.given c.self.invariant.1 (sym c.numbers_of.ensures) e

@@ -1,0 +1,84 @@
+-- A call that is to link its change, in two halves.
+use Rattle.std.proofs.Common.{◌≡◌, ◌≢◌, ℕ, ◌+◌, Option, Some, None, Result, Ok, Err, sym, refl, ap, ◌∙◌, subst, inl, inr}
+use Rattle.sled_pages.specs.Order.{Key}
+use Rattle.sled_pages.specs.Node.{after_link}
+use Rattle.sled_pages.specs.Store.{Store, now, Changes, IsRefused}
+use Rattle.sled_pages.specs.declared.error.Error.{Error}
+use Rattle.sled_pages.specs.declared.link.Link.{Link}
+use Rattle.sled_pages.specs.declared.node.Data.{Data}
+use Rattle.sled_pages.specs.declared.page.View.{View}
+use Rattle.sled_model.specs.Maps.{Merge as Operator}
+use Rattle.sled_model.specs.Answer.{event_of, key_of}
+use Rattle.sled_model.specs.declared.call.Call.{Call}
+use Rattle.sled_model.specs.declared.decision.Effect.{Effect}
+use Rattle.sled_model.specs.declared.decision.Effect.TheVariants as effect
+use Rattle.tree_laws.specs.declared.flight.Stage.{Stage}
+use Rattle.tree_laws.specs.declared.flight.Stage.TheVariants as stage
+use Rattle.sled_tree.specs.Change.{link_of, decision_at}
+use Rattle.sled_tree.specs.Course.{course_of}
+use Rattle.sled_tree.specs.Follows.{Follows}
+use Rattle.sled_tree.specs.theory.Change.{IsChangeOf, IsOfPair, event_of_link}
+use Rattle.sled_tree.specs.theory.Linking.{begun_again, PreparesChange, LinksPrepared}
+use Rattle.sled_tree.specs.theory.StageAction.{StageActionBy, Only}
+use Rattle.sled_tree.specs.declared.act.Change.{Change}
+use Rattle.sled_tree.specs.declared.flight.InFlight.{InFlight}
+use Rattle.sled_tree.specs.declared.flight.Next.TheVariants as next
+use Rattle.sled_tree.specs.declared.flight.Went.TheVariants as went
+use Rattle.sled_tree.proofs.Acting.{act_moves, links_follows, late_follows}
+use Rattle.sled_tree.proofs.Basics.{none_some, some_is}
+use Rattle.sled_tree.proofs.Facts.{refused, stale, goes_on, by_these}
+use Rattle.sled_tree.proofs.Passing.{act_current, passes_further}
+
+-- what came of the link
+module _ (change : Change) (a b : Store) (f : InFlight) (view : View) (here : f.stage ≡ stage.Act view) where
+  pub link_refused : (e : Error) → IsRefused e a b → LinksPrepared change a f (went.Refused e) b f
+  link_refused e r = record {
+    is = λ operator p. record {
+      advances = record { is = subst (λ z. StageActionBy (Only operator) (course_of f) a z (next.Refused e) b) (sym here) (by_these (course_of f) a b (stage.Act view) (next.Refused e) (refused (course_of f) a b (stage.Act view) e r)) };
+      passes = record { is = tt };
+      follows = record { is = subst (λ z. Follows (course_of f) a z (next.Refused e) b) (sym here) (record { is = inr (e, refl, r) }) };
+    };
+  }
+
+  pub link_late : (present : Option ℕ) → Changes (after_link change.link) view.pid view.version a b (Err present) → LinksPrepared change a f went.Moved b (begun_again f)
+  link_late present c = record {
+    is = λ operator p. record {
+      advances = goes_on a b f (stage.Act view) stage.Root (next.Go stage.Root) (sym here) refl (by_these (course_of f) a b (stage.Act view) (next.Go stage.Root) (stale (course_of f) a b (stage.Act view) (λ q i. i) c));
+      passes = passes_further (now a) (now b) f (stage.Act view) stage.Root (next.Go stage.Root) (sym here) refl (act_current (course_of f) a b view (next.Go stage.Root) c);
+      follows = record { is = subst (λ z. Follows (course_of f) a z (next.Go stage.Root) b) (sym here) (record { is = inl (late_follows operator (course_of f) a b view change (p.is view here) present c) }) };
+    };
+  }
+
+  pub link_done : (given : ℕ) → Changes (after_link change.link) view.pid view.version a b (Ok given) → LinksPrepared change a f (went.Decided change.reply) b f
+  link_done given c = record {
+    is = λ operator p. record {
+      advances = record { is = subst (λ z. StageActionBy (Only operator) (course_of f) a z (next.Decided change.reply) b) (sym here) (act_moves operator (course_of f) a b view change given (p.is view here) c) };
+      passes = record { is = tt };
+      follows = record { is = subst (λ z. Follows (course_of f) a z (next.Decided change.reply) b) (sym here) (record { is = inl (links_follows operator (course_of f) a b view change (p.is view here) given c) }) };
+    };
+  }
+
+-- the change of a call is one of a pair, and subscribers learn of it what its effect tells them
+module _ (operator : Option Operator) (call : Call) (content : Data) (change : Change) (is : IsChangeOf operator call content (Some change)) where
+  pub change_pair : IsOfPair change.link
+  change_pair = go (decision_at operator call content).effect is.0
+    where
+      go : (e : Effect) → link_of e (key_of call) ≡ Some change.link → IsOfPair change.link
+      go effect.Nothing l = none_some l
+      go (effect.Set v) l = subst IsOfPair (some_is l) tt
+      go effect.Remove l = subst IsOfPair (some_is l) tt
+
+  pub change_event : event_of_link change.link ≡ event_of (decision_at operator call content).effect (key_of call)
+  change_event = go (decision_at operator call content).effect is.0
+    where
+      go : (e : Effect) → link_of e (key_of call) ≡ Some change.link → event_of_link change.link ≡ event_of e (key_of call)
+      go effect.Nothing l = none_some l
+      go (effect.Set v) l = ap event_of_link (sym (some_is l))
+      go effect.Remove l = ap event_of_link (sym (some_is l))
+
+-- the stage at which a change was prepared
+some_act : {u v : View} → stage.Act u ≡ stage.Act v → u ≡ v
+some_act e = cc
+
+pub prepared_here : (operator : Option Operator) (f : InFlight) (view : View) (change : Option Change) → f.stage ≡ stage.Act view → IsChangeOf operator f.job.call view.node.content change → PreparesChange operator f change
+prepared_here operator f view change here is = record { is = λ v there. subst (λ (z : View). IsChangeOf operator f.job.call z.node.content change) (some_act (sym here ∙ there)) is }

@@ -1,0 +1,37 @@
+-- A call that is to link its change, in two halves: the change is prepared, and then it is linked.
+use Rattle.std.specs.Prelude.{◌≡◌, ◌+◌, Option, Some}
+use Rattle.sled_pages.specs.Store.{Store, now}
+use Rattle.sled_pages.specs.declared.page.View.{View}
+use Rattle.sled_model.specs.Maps.{Merge as Operator}
+use Rattle.tree_laws.specs.declared.flight.Stage.{Stage}
+use Rattle.tree_laws.specs.declared.flight.Stage.TheVariants as stage
+use Rattle.sled_tree.specs.Follows.{FollowsOn}
+use Rattle.sled_tree.specs.Passing.{StepsOnPath}
+use Rattle.sled_tree.specs.theory.Change.{IsChangeOf}
+use Rattle.sled_tree.specs.theory.StageAction.{FlightStepBy, Only}
+use Rattle.sled_tree.specs.declared.act.Change.{Change}
+use Rattle.sled_tree.specs.declared.flight.InFlight.{InFlight}
+use Rattle.sled_tree.specs.declared.flight.Went.{Went}
+
+-- the call is to link its change
+abbrev pub IsAtLink : Stage → Type 0
+IsAtLink (stage.Act view) = Unit {0}
+IsAtLink other = ⊥
+
+-- the call begins again, with one turn more
+abbrev pub begun_again : InFlight → InFlight
+begun_again f = record f { stage = stage.Root; turns = f.turns + 1 }
+
+-- the change is that of the call at the leaf that it read, by this operator
+pub record PreparesChange (operator : Option Operator) (f : InFlight) (change : Option Change) : Type 0 where
+  pub is : (view : View) → f.stage ≡ stage.Act view → IsChangeOf operator f.job.call view.node.content change
+
+-- one step of a call by this operator, as `advance` makes it
+pub record StepsBy (operator : Option Operator) (old : Store) (f : InFlight) (went : Went) (new : Store) (g : InFlight) : Type 0 where
+  pub advances : FlightStepBy (Only operator) old f went new g
+  pub passes : StepsOnPath (now old) f went (now new) g
+  pub follows : FollowsOn old f went new g
+
+-- such a step comes of the link of a change, by each operator by which it is the call's
+pub record LinksPrepared (change : Change) (old : Store) (f : InFlight) (went : Went) (new : Store) (g : InFlight) : Type 0 where
+  pub is : (operator : Option Operator) → PreparesChange operator f (Some change) → StepsBy operator old f went new g

@@ -1,0 +1,131 @@
+//! Trees by name, and ids.
+
+use crate::calls::{Result, bytes_of, tell, tell_outcome, tell_refused};
+use crate::counting::Counting;
+use crate::operators::Operator;
+use sled_lines::input::{Stopped, without_end};
+use sled_lines::print::Piece::{Number, Text, Word};
+use sled_lines::session::Session;
+use sled_lines::words::first_word;
+use sled_model::{Outcome, Reply, Tree, Whole};
+use std::alloc::Global;
+
+/// Which call it is.
+#[derive(Clone, Copy)]
+pub enum Named {
+    Open,
+    Id,
+}
+
+/// What the lines `tree` got since the opening, one after the other. The default tree comes first and second, as if two lines had
+/// named it.
+#[derive(Drop)]
+pub struct Names {
+    trees: Vec<Tree>,
+}
+
+impl Names {
+    pub fn empty(alloc: Global) -> Names {
+        Names {
+            trees: Vec::new(alloc),
+        }
+    }
+
+    /// Takes down what a line `tree` got.
+    pub fn push(&mut self, tree: &Tree) -> Result<()> {
+        match tree.clone() {
+            Ok(tree) => Ok(self.trees.push(tree)?),
+            Err(error) => {
+                drop(error);
+                Err(Stopped)
+            }
+        }
+    }
+
+    /// The names after an opening.
+    pub fn begin(&mut self, default: &Tree) -> Result<()> {
+        self.trees.clear();
+        self.push(default)?;
+        self.push(default)
+    }
+
+    /// What a name was before the last line `tree` with it.
+    pub fn older(&self, name: &[u8]) -> Option<&Tree> {
+        let mut is_last = true;
+        for place in 0..self.trees.len() {
+            let tree = &self.trees[self.trees.len() - 1 - place];
+            if tree.name.as_ref() != name {
+                continue;
+            }
+            if !is_last {
+                return Some(tree);
+            }
+            is_last = false;
+        }
+        None
+    }
+}
+
+fn tell_id(out: &mut Vec<u8>, outcome: &Outcome) -> Result<()> {
+    match outcome {
+        Outcome::Decided(Reply::Number(id)) => {
+            tell(out, &[Text(b"number "), Number(*id), Text(b"\n")])
+        }
+        other => tell_outcome(out, other),
+    }
+}
+
+/// Makes a tree current, and adds its line.
+pub fn take_tree(
+    session: &mut Session<Counting<'_>, Operator>,
+    tree: &Tree,
+    out: &mut Vec<u8>,
+) -> Result<()> {
+    match tree.clone() {
+        Ok(tree) => {
+            let told = tell(
+                out,
+                &[Text(b"tree "), Word(tree.name.as_ref()), Text(b"\n")],
+            );
+            session.set_tree(tree);
+            told
+        }
+        Err(error) => tell_refused(out, error),
+    }
+}
+
+// Makes the tree of a name current.
+fn open(
+    alloc: Global,
+    session: &mut Session<Counting<'_>, Operator>,
+    line: &[u8],
+    out: &mut Vec<u8>,
+) -> Result<()> {
+    let name = bytes_of(alloc, first_word(without_end(line)).1.unwrap_or(b""))?;
+    let outcome = session.whole(Whole::OpenTree(name));
+    let told = match &outcome {
+        Outcome::Decided(Reply::Tree(tree)) => take_tree(session, tree, out),
+        other => tell_outcome(out, other),
+    };
+    drop(outcome);
+    told
+}
+
+/// Makes a call with the word that its line has, and adds what it answers.
+pub fn tell_named(
+    alloc: Global,
+    session: &mut Session<Counting<'_>, Operator>,
+    named: Named,
+    line: &[u8],
+    out: &mut Vec<u8>,
+) -> Result<()> {
+    match named {
+        Named::Open => open(alloc, session, line, out),
+        Named::Id => {
+            let outcome = session.whole(Whole::GenerateId);
+            let told = tell_id(out, &outcome);
+            drop(outcome);
+            told
+        }
+    }
+}

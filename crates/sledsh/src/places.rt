@@ -1,0 +1,250 @@
+//! How many words a command takes, and what each of them stands for.
+
+use crate::forms::quote;
+use crate::look::read_bound;
+use crate::operators::operator_of;
+use sled_lines::print::Piece::Text;
+use sled_lines::print::push_pieces;
+use sled_lines::words::{first_word, read_number, read_value, read_word};
+use sled_pages::Result;
+use std::alloc::Global;
+
+const NO_NUMBER: &str = "is no number: decimal digits without leading zeros";
+
+const NO_BYTES: &str =
+    "is no byte string: % and two lower-case hexadecimal digits stand for a byte";
+
+const NO_BOUND: &str = "is no bound: [ or ( and a byte string, or ..";
+
+const NO_OPERATOR: &str = "is no operator: concat, add, max, before, keep, gone and short are";
+
+/// The words of a text; none where there is no text.
+pub fn words_of<'a>(alloc: Global, text: Option<&'a [u8]>) -> Result<Vec<&'a [u8]>> {
+    let mut words = Vec::new(alloc);
+    let mut rest = text;
+    for _ in 0..u64::MAX {
+        let Some(text) = rest else {
+            break;
+        };
+        let (word, others) = first_word(text);
+        words.push(word)?;
+        rest = others;
+    }
+    Ok(words)
+}
+
+// What any number of words stand for behind those that come once.
+#[derive(Clone, Copy)]
+enum Tail {
+    Nothing,
+    // Numbers, of which there is one.
+    Numbers,
+    // A key and a value in turn.
+    Pairs,
+    // The same, and then more of all, behind a `;`.
+    Parts,
+}
+
+// Which it is, and the number of words that say it.
+fn tail_of(takes: &[u8]) -> (Tail, usize) {
+    if takes.ends_with(b"K V .. ; ..") {
+        (Tail::Parts, 5)
+    } else if takes.ends_with(b"K V ..") {
+        (Tail::Pairs, 3)
+    } else if takes.ends_with(b"..") {
+        (Tail::Numbers, 2)
+    } else {
+        (Tail::Nothing, 0)
+    }
+}
+
+// The words that a command takes.
+#[derive(Clone, Copy)]
+struct Takes<'a> {
+    once: &'a [&'a [u8]],
+    tail: Tail,
+}
+
+// Whether a command takes so many words.
+fn fits(takes: Takes<'_>, count: usize) -> bool {
+    let more = count.checked_sub(takes.once.len());
+    match (takes.tail, more) {
+        (_, None) => false,
+        (Tail::Nothing, Some(more)) => more == 0,
+        (Tail::Numbers, Some(more)) => more > 0,
+        (Tail::Pairs | Tail::Parts, Some(more)) => more % 2 == 0,
+    }
+}
+
+// What the word in this place is.
+fn place_of<'a>(takes: Takes<'a>, place: usize) -> &'a [u8] {
+    match (takes.once.get(place), takes.tail) {
+        (Some(word), _) => *word,
+        (None, Tail::Nothing | Tail::Numbers) => b"N",
+        (None, Tail::Pairs | Tail::Parts) if (place - takes.once.len()) % 2 == 0 => b"K",
+        (None, Tail::Pairs | Tail::Parts) => b"V",
+    }
+}
+
+// How many words a command takes once, and how many more.
+fn count_of(takes: Takes<'_>) -> (&'static str, &'static str) {
+    let count = match takes.once.len() {
+        0 => "no words",
+        1 => ", one word",
+        2 => ", two words",
+        _ => ", three words",
+    };
+    match takes.tail {
+        Tail::Nothing => (count, ""),
+        Tail::Numbers => (", one word or more", ""),
+        Tail::Pairs => (count, " and pairs"),
+        Tail::Parts => (count, " and pairs in each part"),
+    }
+}
+
+// What a word of a line stands for.
+#[derive(Clone, Copy)]
+enum Kind {
+    Bytes,
+    // A byte string or none.
+    Value,
+    Bound,
+    Operator,
+    Number,
+}
+
+const KINDS: [(&str, Kind); 11] = [
+    ("K", Kind::Bytes),
+    ("V", Kind::Bytes),
+    ("P", Kind::Bytes),
+    ("DATABASE", Kind::Bytes),
+    ("TYPE", Kind::Bytes),
+    ("NAME", Kind::Bytes),
+    ("OLD", Kind::Value),
+    ("NEW", Kind::Value),
+    ("LO", Kind::Bound),
+    ("HI", Kind::Bound),
+    ("OPERATOR", Kind::Operator),
+];
+
+// What the word stands for in this place of a command.
+fn kind_of(place: &[u8]) -> Kind {
+    for (name, kind) in &KINDS {
+        if name.as_bytes() == place {
+            return *kind;
+        }
+    }
+    Kind::Number
+}
+
+// What is said of a word that was read, or was not; nothing where it was.
+fn said_of<T: Drop>(read: Result<Option<T>>, otherwise: &'static str) -> Result<&'static str> {
+    match read {
+        Ok(value) => {
+            let said = if value.is_some() { "" } else { otherwise };
+            drop(value);
+            Ok(said)
+        }
+        Err(error) => Err(error),
+    }
+}
+
+// What is said of a word that is not what a command takes in its place; nothing where it is.
+fn odd(alloc: Global, place: &[u8], word: &[u8]) -> Result<&'static str> {
+    match kind_of(place) {
+        Kind::Bytes => said_of(read_word(alloc, word), NO_BYTES),
+        Kind::Value => said_of(read_value(alloc, word), NO_BYTES),
+        Kind::Bound => said_of(read_bound(alloc, word), NO_BOUND),
+        Kind::Operator => said_of(Ok(operator_of(word)), NO_OPERATOR),
+        Kind::Number => said_of(Ok(read_number(word)), NO_NUMBER),
+    }
+}
+
+// Adds why a word is not what a command takes in its place, if one is not.
+fn compare_words(
+    alloc: Global,
+    takes: Takes<'_>,
+    words: &[&[u8]],
+    why: &mut Vec<u8>,
+) -> Result<()> {
+    for (place, word) in words.iter().enumerate() {
+        let said = odd(alloc, place_of(takes, place), *word)?;
+        if !said.is_empty() {
+            return quote(why, *word, said);
+        }
+    }
+    Ok(())
+}
+
+fn is_semicolon(word: &&[u8]) -> bool {
+    *word == b";".as_slice()
+}
+
+// Whether a command takes as many words as these are.
+fn all_fit(takes: Takes<'_>, words: &[&[u8]]) -> bool {
+    if !matches!(takes.tail, Tail::Parts) {
+        return fits(takes, words.len());
+    }
+    for part in words.split(is_semicolon) {
+        if !fits(takes, part.len()) {
+            return false;
+        }
+    }
+    true
+}
+
+// The same as for words, in each part of them.
+fn compare_parts(
+    alloc: Global,
+    takes: Takes<'_>,
+    words: &[&[u8]],
+    why: &mut Vec<u8>,
+) -> Result<()> {
+    if !matches!(takes.tail, Tail::Parts) {
+        return compare_words(alloc, takes, words, why);
+    }
+    for part in words.split(is_semicolon) {
+        if why.is_empty() {
+            compare_words(alloc, takes, part, why)?;
+        }
+    }
+    Ok(())
+}
+
+/// Adds why a text does not have the words that a command takes, if it has not; the command by its own words, and by what it takes.
+pub fn compare(
+    alloc: Global,
+    (own, taken): (&'static str, &'static str),
+    text: Option<&[u8]>,
+    why: &mut Vec<u8>,
+) -> Result<()> {
+    let all = words_of(
+        alloc,
+        if taken.is_empty() {
+            None
+        } else {
+            Some(taken.as_bytes())
+        },
+    )?;
+    let (tail, said) = tail_of(taken.as_bytes());
+    let takes = Takes {
+        once: &all.as_slice()[..all.len().saturating_sub(said)],
+        tail,
+    };
+    let words = words_of(alloc, text)?;
+    if all_fit(takes, words.as_slice()) {
+        return compare_parts(alloc, takes, words.as_slice(), why);
+    }
+    let (count, more) = count_of(takes);
+    push_pieces(
+        why,
+        &[
+            Text(b"`"),
+            Text(own.as_bytes()),
+            Text(b"` takes "),
+            Text(taken.as_bytes()),
+            Text(count.as_bytes()),
+            Text(more.as_bytes()),
+        ],
+    )
+}
