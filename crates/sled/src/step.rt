@@ -1,8 +1,8 @@
 //! One step of a call in flight, over the pages and the queues of subscribers.
 //!
-//! A call that comes to its link while a queue that waits for its event is full is refused. At the link, the event is prepared in the
-//! queues before the page is touched, and waits in them once the link is made. Where the call's tree has no subscriber the step is one
-//! over the pages alone.
+//! A call whose read of its leaf leads to its link is refused where a queue that waits for its event is full. At the link, the event is
+//! prepared in the queues before the page is touched, and waits in them once the link is made; where a queue was filled in the meantime
+//! nothing is done, and the call begins again at the root. Where the call's tree has no subscriber the step is one over the pages alone.
 ghost use Rattle.std.specs.Prelude.{◌<◌};
 ghost use Rattle.std.specs.Option.{option_map};
 ghost use Rattle.sled_queues.specs.Values.{queue_at};
