@@ -9,6 +9,7 @@ mod imports;
 mod machine;
 mod pops;
 mod reads;
+mod watch;
 
 pub use database::{
     advance, advance_to_end, at_link, at_read, check, close, default_tree, drop_tree, export,
@@ -22,3 +23,4 @@ pub use machine::{
 };
 pub use pops::{clear, pop_max, pop_min};
 pub use reads::{contains_key, get_lt, len, range};
+pub use watch::watch_prefix;

@@ -4,6 +4,7 @@ pub mod Testing
 pub mod Trees
 pub mod Operating
 pub mod Watching
+pub mod Subscribing
 pub mod Flying
 pub mod Conducting
 pub mod Flushing

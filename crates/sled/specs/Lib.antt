@@ -13,5 +13,6 @@ pub mod Flush
 pub mod Imports
 pub mod Ids
 pub mod Operators
+pub mod Watch
 pub mod Drops
 pub mod theory

@@ -177,7 +177,8 @@ impl<P: Pages, M: MergeOperator> Db<P, M> {
         }
     }
 
-    /// One step of a call in flight, which may do one page action. The tests come first, and the count of turns last.
+    /// One step of a call in flight, which may do one page action. The tests come first, and the count of turns last. It is refused
+    /// with `FullQueue` where the call comes to its link while 1024 events wait for a subscriber that would get one more.
     ///
     /// ```
     /// let mut flight = InFlight::new(tree, Call::Get(key));

@@ -4,8 +4,8 @@
 //! are well formed, now and in every state that a crash may leave (`specs/Sound`); `Db::audit` tells callers so. One step of
 //! a call in flight is a step of the model, adds the map after the call to what a crash may leave if it was decided, and
 //! keeps true what every other call in flight knows (`specs/Flights`). Opening, flushing and exporting are stated in
-//! `specs/Opens`, `specs/Flush` and `specs/Export`, reads that take no slot in `specs/Reads`, and writes that take none in
-//! `specs/Direct`.
+//! `specs/Opens`, `specs/Flush` and `specs/Export`, reads that take no slot in `specs/Reads`, writes that take none in
+//! `specs/Direct`, and subscribers in `specs/Watch`.
 #![tactic(auto)]
 
 mod db;
@@ -22,6 +22,7 @@ mod operators;
 mod read;
 mod step;
 mod tree_list;
+mod watch;
 mod whole;
 
 pub use db::Db;
@@ -29,7 +30,7 @@ pub use direct::CompareAndSwapResult;
 pub use memory::{crash_pages, empty_pages};
 pub use sled_model::{
     Call, Collection, CompareAndSwapError, Decision, Effect, Event, MAX_LOOPS, MergeOperator,
-    Outcome, QUEUE_LIMIT, Reply, Slot, Step, Tree, Whole,
+    Outcome, QUEUE_LIMIT, Reply, Slot, Step, Subscriber, Tree, Whole,
 };
 pub use sled_pages::{
     Data, Error, Fault, IVec, Index, Leaf, Link, MemPages, Node, Page, Pages, Pid, Result, Shared,

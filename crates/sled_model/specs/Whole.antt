@@ -7,13 +7,15 @@ use Rattle.sled_pages.specs.declared.error.Error.{Error}
 use Rattle.sled_model.specs.Maps.{Map, Maps, Merge}
 use Rattle.sled_model.specs.Answer.{answer_of}
 use Rattle.sled_model.specs.State.{State, NamedTree, default_name, maps_of, after_decision_on}
-use Rattle.sled_model.specs.Refusal.{ToPoint, ToCall, ToSetOperator, must_refuse, MayRefuse}
+use Rattle.sled_model.specs.Queues.{oldest, watched, taken, given_up}
+use Rattle.sled_model.specs.Refusal.{ToPoint, ToCall, ToSetOperator, ToWatch, must_refuse, MayRefuse}
 use Rattle.sled_model.specs.Ids.{mark_above}
 use Rattle.sled_model.specs.Collections.{contents_of}
 use Rattle.sled_model.specs.declared.call.Call.{Call}
 use Rattle.sled_model.specs.declared.call.Call.TheVariants.{Remove}
 use Rattle.sled_model.specs.declared.call.Whole.{Whole}
 use Rattle.sled_model.specs.declared.call.Whole.TheVariants.{Clear, OpenTree, DropTree, GenerateId, Import}
+use Rattle.sled_model.specs.declared.event.Event.{Event}
 use Rattle.sled_model.specs.declared.tree.Tree.{Tree}
 use Rattle.sled_model.specs.declared.reply.Reply.{Reply}
 use Rattle.sled_model.specs.declared.reply.Reply.TheVariants.{Pair, Number, Flag}
@@ -38,6 +40,23 @@ pub record SetsOperator (old : State) (tree : Tree) (merge : Merge) (new : State
   pub named : NamedTree
   pub there : old.trees tree.name ≡ Some named
   pub is : new ≡ record old { trees = put_name old.trees tree.name (Some (record named { merge = Some merge })) }
+
+-- A tree has a subscriber more, to the keys that begin with a prefix: it has the next number, which no queue has, and nothing waits for
+-- it yet
+pub record Watches (old : State) (tree : Tree) (prefix : Key) (number : ℕ) (new : State) : Type 0 where
+  pub free : must_refuse old (ToWatch tree) ≡ None
+  pub next : number ≡ old.subscribers_given + 1
+  pub fresh : old.queues number ≡ None
+  pub is : new ≡ record old { queues = watched number tree.number prefix old.queues; subscribers_given = number }
+
+-- A subscriber takes the oldest event that waits for it, if one does, and all else is as it was
+pub record TakesEvent (old : State) (subscriber : ℕ) (event : Option Event) (new : State) : Type 0 where
+  pub gives : event ≡ oldest (old.queues subscriber)
+  pub is : new ≡ record old { queues = taken subscriber old.queues }
+
+-- A subscriber has no queue any more, and the events that waited there are gone
+pub record GivesUpQueue (old : State) (subscriber : ℕ) (new : State) : Type 0 where
+  pub is : new ≡ record old { queues = given_up subscriber old.queues }
 
 -- the state after this pair of the tree was taken out, if there is one
 abbrev pub after_pop : State → Key → NamedTree → Option (Key × Key) → State
