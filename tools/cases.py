@@ -9,7 +9,10 @@ What is printed comes from the oracle; see script.py for what it is compared wit
 does not print what the case spells out.
 """
 import sys
+import cases_drops
+import cases_fetch
 import cases_flights
+import cases_imports
 import cases_levels
 import cases_merges
 import cases_names

@@ -281,6 +281,29 @@ def drop_tree(store, name):
             store.notes['a level of a dropped tree is not freed to its end'] += 1
 
 
+# Closures of the calls that read and write: the new value, of the one that stands and what the line says.
+
+def counted(old):
+    number = -1 if old is None else int.from_bytes(old, 'big') if len(old) == 8 else 0
+    return (number + 1 & GREATEST).to_bytes(8, 'big')
+
+
+HOWS = {
+    'count': counted,
+    'append': lambda old, value: (old or b'') + value,
+    'set': lambda old, value: value,
+    'delete': lambda old: None,
+    'short': lambda old: short(old, None),
+}
+
+
+def how_of(words):
+    """How a value is changed, with what; none where that takes another number of words."""
+    if words[0] not in HOWS:
+        raise BadLine(f'`{words[0]}` does not change a value: count, append V, set V, delete and short do')
+    return [words[0]] + [value_of(word) for word in words[1:]]
+
+
 # Calls in flight.
 
 def decide(call, old):
@@ -551,10 +574,12 @@ keys LO HI; keys-back LO HI; values LO HI; values-back LO HI
 pop-min; pop-max; clear
 owned insert K V; owned set K V; owned remove K; owned del K; owned cas K OLD NEW; owned merge K V; owned pop-min
 owned pop-max; owned clear; owned flush; owned id; owned drop NAME
-names; tree NAME; old-tree NAME; drop NAME; id"""
+names; tree NAME; old-tree NAME; drop NAME; id; import NAME K V ..; import-type TYPE NAME K V ..; import-all TYPE NAME K V .. ; ..
+update K HOW; fetch K HOW; owned update K HOW; owned fetch K HOW"""
 FORMS = [form.split(' ') for form in re.split('(?<! ); |\n', FORMS)]
 POINT = ('insert', 'get', 'remove', 'cas', 'merge')
 POPS = ('pop-min', 'pop-max', 'clear')
+ON_TREES = ('begin', 'operator', 'pages', 'update', 'fetch')
 LOOKS = ('has', 'read', 'lt', 'gt', 'first', 'last', 'len', 'empty', 'range', 'prefix', 'keys', 'values')
 READERS = {'K': value_of, 'V': value_of, 'P': value_of, 'DATABASE': value_of, 'NAME': value_of, 'TYPE': value_of, 'OLD': optional, 'NEW': optional, 'LO': bound_of, 'HI': bound_of, 'OPERATOR': operator_of}
 
@@ -569,6 +594,14 @@ def fit(form, words):
         return at, None, f'`{words[at]}` does not follow `{words[0]}`; `help` lists what does'
     if len(words) < len(own):
         return len(has), None, f'`{" ".join(words)}` takes a word more; `help` lists which'
+    if form[-1] == 'HOW':
+        key, *how = words[len(own):] or ['']
+        if not how or how[0] in HOWS and len(how) != 1 + (how[0] in ('append', 'set')) or len(how) > 2:
+            return len(own), None, f'`{" ".join(own)}` takes K HOW, two words or three'
+        try:
+            return len(own), own + [value_of(key), how_of(how)], None
+        except BadLine as why:
+            return len(own), None, str(why)
     takes, lists = form[len(own):], parts_of(words[len(own):]) if ';' in form else [words[len(own):]]
     places = [places_of(takes[:takes.index(';')] if ';' in takes else takes, len(words)) for words in lists]
     if None in places:
@@ -647,6 +680,12 @@ def in_line(words):
     return ({'set': 'insert', 'del': 'remove'}.get(words[0], words[0]),) + tuple(words[1:])
 
 
+def collections_of(name, *words):
+    """What a line that imports has: types, names and lists of pairs."""
+    parts = words[0] if name == 'import-all' else [words if name == 'import-type' else (b'tree',) + words]
+    return [(kind, name, list(zip(pairs[::2], pairs[1::2]))) for kind, name, *pairs in parts]
+
+
 class Shell:
     """Runs lines, one after the other, over a store of its own."""
 
@@ -719,12 +758,15 @@ class Shell:
         if name == 'owned':
             self.slots, self.begun = {}, 0
             return self.do(*in_line(words))
-        if name.partition('-')[0] in POINT + LOOKS + ('begin', 'operator', 'pages') or name in POPS:
+        if name.partition('-')[0] in POINT + LOOKS + ON_TREES or name in POPS:
             return self.on_tree(self.there(self.handle), name, *words)
         if name == 'tree':
             return self.take(words[0])
         if name == 'drop':
             return ['yes' if self.drop(words[0]) else 'no']
+        if name.startswith('import'):
+            self.take_in(collections_of(name, *words))
+            return ['done']
         if name == 'load':
             reads = [self.reads_of('insert', key, key) for key in some_keys(words[0])]
             return ['yes' if max(reads) <= words[1] and sum(reads) <= words[2] else 'no']
@@ -753,6 +795,8 @@ class Shell:
             return ['done']
         if 'merge' in (name, words[0] if name == 'begin' else None) and tree.operator is None:
             raise Refused(2)
+        if name in ('update', 'fetch'):
+            return [self.fetched(tree, name, *words)]
         if name in POINT:
             return [self.advance(self.flight(tree, name, *words), True)]
         if name.partition('-')[0] in LOOKS:
@@ -768,6 +812,13 @@ class Shell:
         finally:
             self.open()
         return [f'level {len(level)} {max(len(n.entries) for n in level)}' for level in levels] + [f'end {len(levels)}']
+
+    def fetched(self, tree, name, key, how):
+        """Reads a value, and swaps what is made of it for it. It answers the new value, or the one that was read."""
+        old = look(self.store, tree, (True, key)).get(key)
+        new = HOWS[how[0]](old, *how[1:])
+        self.advance(self.flight(tree, 'cas', key, old, new), True)
+        return f'value {word(new if name == "update" else old)}'
 
     def flight(self, tree, *call):
         """A call in flight: its steps, how many of them went on, and its tree."""
@@ -806,6 +857,18 @@ class Shell:
         drop_tree(self.store, name)
         del self.trees[name]
         return True
+
+    def take_in(self, collections):
+        """Opens the tree of each collection in turn, and puts its pairs in one by one. First all types are tested. Where a key is
+        present already that is refused, and what was done stays."""
+        if any(kind != b'tree' for kind, _, _ in collections):
+            raise Refused(2)
+        for _, name, pairs in collections:
+            tree = self.open_tree(name)
+            for key, value in pairs:
+                if look(self.store, tree, (True, key)).get(key) is not None:
+                    raise Refused(2)
+                self.advance(self.flight(tree, 'insert', key, value), True)
 
     def next_id(self):
         """One above the greatest id that was given. Where none is set aside, 4096 more are, or as many as are left."""

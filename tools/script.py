@@ -7,8 +7,8 @@ answers, what each dump has, and that a crash leaves the pairs of some moment si
 import os
 import re
 import sys
-from oracle import (DATABASE, GREATEST, LOOKS, OPERATORS, POINT, POPS, TREE, Shell, Tree, in_line, is_from, is_up_to, read_line, some_keys,
-                    word)
+from oracle import (DATABASE, GREATEST, HOWS, LOOKS, ON_TREES, OPERATORS, POINT, POPS, TREE, Shell, Tree, collections_of, in_line, is_from, is_up_to, read_line,
+                    some_keys, word)
 
 DATA = os.path.join(os.path.dirname(os.path.abspath(__file__)), '..', 'crates', 'sledsh', 'data')
 CASES = []
@@ -160,6 +160,20 @@ class Plain:
             at = -1 if name == 'pop-max' else 0
             expect(printed == self.pop(keys[at] if keys else None), name, printed)
 
+    def imports(self, collections, printed, maps):
+        """A line that imports printed this, and left these trees. One that was refused may have begun."""
+        is_done = printed == 'done'
+        tests = all(kind == b'tree' for kind, _, _ in collections)
+        for _, name, pairs in collections if tests else []:
+            for key, value in [(None, None)] + pairs:
+                if not is_done and self.has(maps):
+                    return
+                map = self.open(name)
+                expect(key not in map.pairs, 'imported over', key)
+                if key is not None:
+                    self.set(map, key, value)
+        expect(is_done == tests and self.has(maps), printed, collections)
+
     def has(self, maps):
         """Whether these are the trees and their pairs."""
         return {name: map.pairs for name, map in self.maps.items()} == maps
@@ -177,7 +191,7 @@ class Plain:
         if name == 'owned':
             self.calls = {}
             return self.meets(in_line(words[1:]), printed, shell)
-        if name.partition('-')[0] in POINT + LOOKS + ('begin', 'operator') or name in POPS:
+        if name.partition('-')[0] in POINT + LOOKS + ON_TREES or name in POPS:
             if last != 'refused E8':
                 expect(self.current.is_there or last in ('refused E1', 'refused E2'), 'the tree is not there', words, last)
                 expect(not self.current.is_there or last != 'refused E1', 'the tree is there', words, last)
@@ -187,9 +201,18 @@ class Plain:
             if not last.endswith(('E1', 'E2', 'E8')):
                 self.pops(name, last, shell.contents())
             return
+        if name.startswith('import'):
+            if last != 'refused E8':
+                self.imports(collections_of(*words), last, shell.contents())
+            return
         if last.startswith('refused'):
             return
-        if name == 'operator':
+        if name in ('update', 'fetch'):
+            key, how = words[1:]
+            old = self.pairs.get(key)
+            new = HOWS[how[0]](old, *how[1:])
+            expect(self.answer(('cas', key, old, new), self.current) == 'swapped' and last == f'value {word(new if name == "update" else old)}', words, last)
+        elif name == 'operator':
             self.current.operator = words[1]
         elif name == 'handle':
             named = words[2] if words[1] == DATABASE and words[3] == shell.trees.get(words[2], Tree(None, None)).number else None

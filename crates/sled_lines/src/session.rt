@@ -1,12 +1,14 @@
 //! A session: a database from its opening to a crash or the end.
-ghost use Rattle.std.specs.Prelude.{◌≡◌, ◌-◌, ◌^◌, ◌++◌, [], false, length, map, min, sum_by, IfOk, IfErr, OnOk, OnErr};
+ghost use Rattle.std.specs.Prelude.{◌≡◌, ◌-◌, ◌^◌, ◌++◌, [], false, length, map, min, sum_by, Option, IfOk, IfErr, OnOk, OnErr};
 ghost use Rattle.std.specs.List.{flat_map};
+ghost use Rattle.sled_pages.specs.Order.{Key};
 ghost use Rattle.sled_pages.specs.Store.{now};
 ghost use Rattle.sled_model.specs.declared.call.Whole.TheVariants.{Flush, OpenTree};
 ghost use Rattle.sled_model.specs.declared.outcome.Step.TheVariants as step;
 ghost use Rattle.sled_model.specs.declared.outcome.Outcome.TheVariants.{Decided};
 ghost use Rattle.tree_laws.specs.Crashes.{IsValid, IsCrashConsistent};
 ghost use Rattle.sled.specs.Operators.{OperatorSet, OperatorNotSet};
+ghost use Rattle.sled.specs.Fetch.{FetchDecided, FetchRefused};
 ghost use Rattle.sled_machine.specs.Step.{MachineStepContract};
 ghost use Rattle.sled_machine.specs.Run.{MachineRun, MachineSteps};
 ghost use Rattle.sled_machine.specs.Finish.{Completes};
@@ -26,7 +28,7 @@ use sled::{Collection, Db};
 use sled_machine::Machine;
 use sled_model::{Call, MergeOperator, Outcome, Reply, Slot, Step, Tree, Whole};
 use sled_pages::{Error, IVec, MemPages, Pages};
-use std::alloc::Global;
+use std::alloc::{AllocError, Global};
 use std::io::Write;
 
 // So many bytes of lines are gathered before they are written.
@@ -193,6 +195,34 @@ impl<P: Pages, M: MergeOperator> Session<P, M> {
         ensures slots { self.new.slots ≡ self.old.slots }
     {
         self.machine.set_merge_operator(&self.tree, operator)
+    }
+
+    /// Sets the value at a key of the current tree to what the closure makes of it, and answers the new value.
+    pub fn update_and_fetch<F>(&mut self, key: &[u8], f: F) -> sled_pages::Result<Option<IVec>>
+    where
+        F: FnMut(Option<&[u8]>) -> Result<Option<Vec<u8>>, AllocError>,
+        requires { (shown : _) → F.pre f shown }
+        ensures ok { IfOk result (λ made. (stood : Option Key) × FetchDecided P.store M.meant F.FnMut f self.old.machine.db self.old.tree key.now stood made self.new.machine.db) }
+        ensures err { IfErr result (λ e. FetchRefused P.store M.meant F.FnMut f self.old.machine.db self.old.tree key.now e self.new.machine.db) }
+        ensures same { self.new.machine ≡ record (self.old.machine) { db = self.new.machine.db } }
+        ensures tree { self.new.tree ≡ self.old.tree }
+        ensures slots { self.new.slots ≡ self.old.slots }
+    {
+        self.machine.update_and_fetch(&self.tree, key, f)
+    }
+
+    /// The same, but that it answers the value that stood there before.
+    pub fn fetch_and_update<F>(&mut self, key: &[u8], f: F) -> sled_pages::Result<Option<IVec>>
+    where
+        F: FnMut(Option<&[u8]>) -> Result<Option<Vec<u8>>, AllocError>,
+        requires { (shown : _) → F.pre f shown }
+        ensures ok { IfOk result (λ stood. (made : Option Key) × FetchDecided P.store M.meant F.FnMut f self.old.machine.db self.old.tree key.now stood made self.new.machine.db) }
+        ensures err { IfErr result (λ e. FetchRefused P.store M.meant F.FnMut f self.old.machine.db self.old.tree key.now e self.new.machine.db) }
+        ensures same { self.new.machine ≡ record (self.old.machine) { db = self.new.machine.db } }
+        ensures tree { self.new.tree ≡ self.old.tree }
+        ensures slots { self.new.slots ≡ self.old.slots }
+    {
+        self.machine.fetch_and_update(&self.tree, key, f)
     }
 
     /// Does a list of steps. They name slots by the machine's numbers.

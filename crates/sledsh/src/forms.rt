@@ -2,6 +2,8 @@
 
 use crate::calls::tell;
 use crate::draw::Drawing;
+use crate::fetch::Fetch;
+use crate::imports::Import;
 use crate::look::{Look, Side};
 use crate::names::Named;
 use crate::owned::Owned;
@@ -53,6 +55,10 @@ pub enum Verb {
     Named(Named),
     /// What a name was before.
     OldTree,
+    /// An import of pairs into trees by name.
+    Import(Import),
+    /// A call that reads a value and writes what is made of it.
+    Fetch(Fetch),
     /// A call of the database itself.
     Owned(Owned),
     Help,
@@ -63,9 +69,10 @@ pub enum Verb {
 type Form = (&'static str, &'static str, Verb, &'static str);
 
 // What a command takes has words of its own: K, V, P, OLD, NEW, DATABASE, TYPE and NAME are byte strings, LO and HI bounds, STEP a step
-// of a call in flight, OPERATOR a merge operator, and the others numbers; `..` stands for more of the word before it, `K V ..` for pairs,
+// of a call in flight, OPERATOR a merge operator, HOW what is made
+// of a value, and the others numbers; `..` stands for more of the word before it, `K V ..` for pairs,
 // and `; ..` for more of all that stands before it.
-const FORMS: [Form; 75] = [
+const FORMS: [Form; 83] = [
     (
         "insert",
         "K V",
@@ -90,6 +97,18 @@ const FORMS: [Form; 75] = [
         "K V",
         Verb::Merge,
         "sets the value at a key to what the tree's operator makes of it and V, and prints it",
+    ),
+    (
+        "update",
+        "K HOW",
+        Verb::Fetch(Fetch::Update),
+        "changes the value at a key by count, append V, set V, delete or short, and prints the new one",
+    ),
+    (
+        "fetch",
+        "K HOW",
+        Verb::Fetch(Fetch::Fetch),
+        "the same, but that it prints the value that stood there",
     ),
     (
         "begin insert",
@@ -320,6 +339,12 @@ const FORMS: [Form; 75] = [
         "makes current what the name was before the last line `tree` with it",
     ),
     (
+        "drop",
+        "NAME",
+        Verb::Named(Named::Drop),
+        "drops the tree of a name: whether there was one",
+    ),
+    (
         "id",
         "",
         Verb::Named(Named::Id),
@@ -398,6 +423,24 @@ const FORMS: [Form; 75] = [
         "takes all keys out, from the least up",
     ),
     (
+        "import",
+        "NAME K V ..",
+        Verb::Import(Import::Tree),
+        "opens the tree of a name, and puts pairs into it whose keys are absent there",
+    ),
+    (
+        "import-type",
+        "TYPE NAME K V ..",
+        Verb::Import(Import::Typed),
+        "the same with a type, which is to be tree",
+    ),
+    (
+        "import-all",
+        "TYPE NAME K V .. ; ..",
+        Verb::Import(Import::All),
+        "the same for all parts, by one call; a ; stands between two of them, and %3b is the string ;",
+    ),
+    (
         "owned insert",
         "K V",
         Verb::Owned(Owned::Insert),
@@ -432,6 +475,18 @@ const FORMS: [Form; 75] = [
         "K V",
         Verb::Owned(Owned::Merge),
         "sets the value at a key to what the tree's operator makes of it and V, and prints it",
+    ),
+    (
+        "owned update",
+        "K HOW",
+        Verb::Owned(Owned::Fetch(Fetch::Update)),
+        "changes the value at a key, and prints the new one",
+    ),
+    (
+        "owned fetch",
+        "K HOW",
+        Verb::Owned(Owned::Fetch(Fetch::Fetch)),
+        "changes the value at a key, and prints the one that stood there",
     ),
     (
         "owned pop-min",

@@ -14,6 +14,7 @@ use std::alloc::Global;
 #[derive(Clone, Copy)]
 pub enum Named {
     Open,
+    Drop,
     Id,
 }
 
@@ -121,6 +122,13 @@ pub fn tell_named(
 ) -> Result<()> {
     match named {
         Named::Open => open(alloc, session, line, out),
+        Named::Drop => {
+            let name = bytes_of(alloc, first_word(without_end(line)).1.unwrap_or(b""))?;
+            let outcome = session.whole(Whole::DropTree(name));
+            let told = tell_outcome(out, &outcome);
+            drop(outcome);
+            told
+        }
         Named::Id => {
             let outcome = session.whole(Whole::GenerateId);
             let told = tell_id(out, &outcome);

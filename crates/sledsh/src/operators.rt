@@ -47,8 +47,8 @@ pub fn operator_of(name: &[u8]) -> Option<Operator> {
     None
 }
 
-// The bytes of a value, where none is the empty string.
-fn bytes_of<'a>(value: Option<&'a [u8]>) -> &'a [u8]
+/// The bytes of a value, where none is the empty string.
+pub fn bytes_of<'a>(value: Option<&'a [u8]>) -> &'a [u8]
     ensures { result.now ≡ bytes_or_none (option_copied value.entry) }
 {
     match value {
@@ -57,8 +57,8 @@ fn bytes_of<'a>(value: Option<&'a [u8]>) -> &'a [u8]
     }
 }
 
-// The number of eight bytes, the greatest first; of as many others 0.
-fn number_of(bytes: &[u8]) -> u64
+/// The number of eight bytes, the greatest first; of as many others 0.
+pub fn number_of(bytes: &[u8]) -> u64
     ensures { result ≡ number_of bytes.now }
 {
     if bytes.len() != 8 {
@@ -70,8 +70,8 @@ fn number_of(bytes: &[u8]) -> u64
     }
 }
 
-// One byte string behind another.
-fn joined(alloc: Global, first: &[u8], second: &[u8]) -> Result<Vec<u8>, AllocError>
+/// One byte string behind another.
+pub fn joined(alloc: Global, first: &[u8], second: &[u8]) -> Result<Vec<u8>, AllocError>
     ensures { IfOk result (λ made. made.items ≡ first.now ++ second.now) }
 {
     let mut bytes = Vec::from_slice(alloc, first)?;

@@ -2,6 +2,7 @@
 
 use crate::calls::{Result, bytes_of, tell, tell_outcome, tell_refused};
 use crate::counting::Counting;
+use crate::fetch::{Fetch, tell_owned_fetch};
 use crate::look::{tell_found, tell_is, tell_value};
 use crate::operators::Operator;
 use sled::{CompareAndSwapResult, Db};
@@ -25,6 +26,7 @@ pub enum Owned {
     Del,
     Cas,
     Merge,
+    Fetch(Fetch),
     PopMin,
     PopMax,
     Clear,
@@ -228,6 +230,7 @@ fn make(
         Owned::Remove | Owned::Del => remove(alloc, db, tree, owned, words, out),
         Owned::Cas => swap(alloc, db, tree, words, out),
         Owned::Merge => merge(alloc, db, tree, words, out),
+        Owned::Fetch(call) => tell_owned_fetch(alloc, db, tree, call, words, out),
         Owned::PopMin => tell_found(out, db.pop_min(tree)),
         Owned::PopMax => tell_found(out, db.pop_max(tree)),
         Owned::Clear => tell_done(out, db.clear(tree)),

@@ -1,5 +1,6 @@
 //! How many words a command takes, and what each of them stands for.
 
+use crate::fetch::takes_bytes;
 use crate::forms::quote;
 use crate::look::read_bound;
 use crate::operators::operator_of;
@@ -15,6 +16,8 @@ const NO_BYTES: &str =
     "is no byte string: % and two lower-case hexadecimal digits stand for a byte";
 
 const NO_BOUND: &str = "is no bound: [ or ( and a byte string, or ..";
+
+const NO_CHANGE: &str = "does not change a value: count, append V, set V, delete and short do";
 
 const NO_OPERATOR: &str = "is no operator: concat, add, max, before, keep, gone and short are";
 
@@ -43,6 +46,8 @@ enum Tail {
     Pairs,
     // The same, and then more of all, behind a `;`.
     Parts,
+    // What is made of a value, and the bytes that this takes.
+    How,
 }
 
 // Which it is, and the number of words that say it.
@@ -53,6 +58,8 @@ fn tail_of(takes: &[u8]) -> (Tail, usize) {
         (Tail::Pairs, 3)
     } else if takes.ends_with(b"..") {
         (Tail::Numbers, 2)
+    } else if takes.ends_with(b"HOW") {
+        (Tail::How, 1)
     } else {
         (Tail::Nothing, 0)
     }
@@ -72,6 +79,7 @@ fn fits(takes: Takes<'_>, count: usize) -> bool {
         (_, None) => false,
         (Tail::Nothing, Some(more)) => more == 0,
         (Tail::Numbers, Some(more)) => more > 0,
+        (Tail::How, Some(more)) => more == 1 || more == 2,
         (Tail::Pairs | Tail::Parts, Some(more)) => more % 2 == 0,
     }
 }
@@ -81,6 +89,8 @@ fn place_of<'a>(takes: Takes<'a>, place: usize) -> &'a [u8] {
     match (takes.once.get(place), takes.tail) {
         (Some(word), _) => *word,
         (None, Tail::Nothing | Tail::Numbers) => b"N",
+        (None, Tail::How) if place == takes.once.len() => b"HOW",
+        (None, Tail::How) => b"V",
         (None, Tail::Pairs | Tail::Parts) if (place - takes.once.len()) % 2 == 0 => b"K",
         (None, Tail::Pairs | Tail::Parts) => b"V",
     }
@@ -97,6 +107,7 @@ fn count_of(takes: Takes<'_>) -> (&'static str, &'static str) {
     match takes.tail {
         Tail::Nothing => (count, ""),
         Tail::Numbers => (", one word or more", ""),
+        Tail::How => (", two words or three", ""),
         Tail::Pairs => (count, " and pairs"),
         Tail::Parts => (count, " and pairs in each part"),
     }
@@ -110,10 +121,11 @@ enum Kind {
     Value,
     Bound,
     Operator,
+    How,
     Number,
 }
 
-const KINDS: [(&str, Kind); 11] = [
+const KINDS: [(&str, Kind); 12] = [
     ("K", Kind::Bytes),
     ("V", Kind::Bytes),
     ("P", Kind::Bytes),
@@ -125,6 +137,7 @@ const KINDS: [(&str, Kind); 11] = [
     ("LO", Kind::Bound),
     ("HI", Kind::Bound),
     ("OPERATOR", Kind::Operator),
+    ("HOW", Kind::How),
 ];
 
 // What the word stands for in this place of a command.
@@ -156,6 +169,7 @@ fn odd(alloc: Global, place: &[u8], word: &[u8]) -> Result<&'static str> {
         Kind::Value => said_of(read_value(alloc, word), NO_BYTES),
         Kind::Bound => said_of(read_bound(alloc, word), NO_BOUND),
         Kind::Operator => said_of(Ok(operator_of(word)), NO_OPERATOR),
+        Kind::How => said_of(Ok(takes_bytes(word)), NO_CHANGE),
         Kind::Number => said_of(Ok(read_number(word)), NO_NUMBER),
     }
 }
@@ -176,12 +190,28 @@ fn compare_words(
     Ok(())
 }
 
-fn is_semicolon(word: &&[u8]) -> bool {
+/// Whether a word stands between two parts of a line.
+pub fn is_semicolon(word: &&[u8]) -> bool {
     *word == b";".as_slice()
+}
+
+// Whether what is made of a value has bytes if it takes some, and has none if not.
+fn has_bytes(words: &[&[u8]]) -> bool {
+    let takes = match words.get(1) {
+        Some(how) => takes_bytes(*how),
+        None => None,
+    };
+    match takes {
+        Some(takes) => takes == (words.len() == 3),
+        None => true,
+    }
 }
 
 // Whether a command takes as many words as these are.
 fn all_fit(takes: Takes<'_>, words: &[&[u8]]) -> bool {
+    if matches!(takes.tail, Tail::How) {
+        return fits(takes, words.len()) && has_bytes(words);
+    }
     if !matches!(takes.tail, Tail::Parts) {
         return fits(takes, words.len());
     }

@@ -6,7 +6,9 @@ use crate::calls::{
 use crate::counting::Counting;
 use crate::crowd::run_calls;
 use crate::draw::{Drawing, tell_drawing};
+use crate::fetch::{Fetch, tell_fetch};
 use crate::forms::{Command, Verb, push_help, read};
+use crate::imports::{Import, tell_import};
 use crate::levels::tell_levels;
 use crate::look::{Look, tell_look};
 use crate::names::{Named, Names, take_tree, tell_named};
@@ -227,6 +229,36 @@ impl<'a> Shell<'a> {
         Ok(())
     }
 
+    // Imports what the line says.
+    fn import(
+        &mut self,
+        session: &mut Session<Counting<'a>, Operator>,
+        import: Import,
+    ) -> Result<(), Stopped> {
+        tell_import(
+            self.alloc,
+            session,
+            import,
+            self.line.as_slice(),
+            &mut self.out,
+        )
+    }
+
+    // Reads a value and writes what is made of it, which the line says.
+    fn fetch(
+        &mut self,
+        session: &mut Session<Counting<'a>, Operator>,
+        call: Fetch,
+    ) -> Result<(), Stopped> {
+        tell_fetch(
+            self.alloc,
+            session,
+            call,
+            self.line.as_slice(),
+            &mut self.out,
+        )
+    }
+
     // Does steps of calls in flight, which the line says.
     fn run_steps(&mut self, session: &mut Session<Counting<'a>, Operator>) -> Result<(), Stopped> {
         run_steps(
@@ -332,6 +364,8 @@ impl<'a> Shell<'a> {
                 set_operator(session, self.line.as_slice(), &mut self.out)
             }
             (State::Open(session), Verb::Named(named)) => self.name(session, named),
+            (State::Open(session), Verb::Import(import)) => self.import(session, import),
+            (State::Open(session), Verb::Fetch(call)) => self.fetch(session, call),
             (State::Open(session), Verb::Pop(pop)) => tell_pop(session, pop, &mut self.out),
             (State::Open(session), verb) => {
                 ask(
@@ -362,6 +396,8 @@ impl<'a> Shell<'a> {
             | Verb::Operator
             | Verb::Look(_)
             | Verb::Named(_)
+            | Verb::Fetch(_)
+            | Verb::Import(_)
             | Verb::Pop(_) => self.ask(state, verb, numbers),
             Verb::OldTree => self.take_old(state),
             Verb::Owned(owned) => self.owned(state, owned),

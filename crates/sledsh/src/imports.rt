@@ -1,0 +1,101 @@
+//! Imports of pairs into trees by name.
+
+use crate::calls::{Result, bytes_of, tell_outcome};
+use crate::counting::Counting;
+use crate::operators::Operator;
+use crate::places::{is_semicolon, words_of};
+use sled_lines::input::{Stopped, without_end};
+use sled_lines::session::Session;
+use sled_lines::words::first_word;
+use sled_model::{Collection, Whole};
+use sled_pages::IVec;
+use std::alloc::Global;
+
+/// What a line has of what it imports.
+#[derive(Clone, Copy)]
+pub enum Import {
+    /// One collection of the type `tree`.
+    Tree,
+    /// One collection, behind its type.
+    Typed,
+    /// Collections, each behind its type.
+    All,
+}
+
+// The bytes that a word spells.
+fn text_of(alloc: Global, word: &[u8]) -> Result<Vec<u8>> {
+    let bytes = bytes_of(alloc, word)?;
+    let text = Vec::from_slice(alloc, bytes.as_ref());
+    drop(bytes);
+    Ok(text?)
+}
+
+// The pair that two words spell.
+fn pair_of(alloc: Global, key: &[u8], value: &[u8]) -> Result<(IVec, IVec)> {
+    let key = bytes_of(alloc, key)?;
+    match bytes_of(alloc, value) {
+        Ok(value) => Ok((key, value)),
+        Err(stopped) => {
+            drop(key);
+            Err(stopped)
+        }
+    }
+}
+
+// The pairs that words spell.
+fn pairs_of(alloc: Global, words: &[&[u8]]) -> Result<Vec<(IVec, IVec)>> {
+    let mut pairs = Vec::new(alloc);
+    for place in 0..words.len() / 2 {
+        pairs.push(pair_of(alloc, words[2 * place], words[2 * place + 1])?)?;
+    }
+    Ok(pairs)
+}
+
+// The collection of a type that words spell.
+fn collection_of(alloc: Global, kind: &[u8], words: &[&[u8]]) -> Result<Collection> {
+    let [name, pairs @ ..] = words else {
+        return Err(Stopped);
+    };
+    let kind = text_of(alloc, kind)?;
+    let name = text_of(alloc, *name)?;
+    Ok((kind, name, pairs_of(alloc, pairs)?))
+}
+
+// The collection of a type and of all else that words spell.
+fn typed_of(alloc: Global, words: &[&[u8]]) -> Result<Collection> {
+    let [kind, words @ ..] = words else {
+        return Err(Stopped);
+    };
+    collection_of(alloc, *kind, words)
+}
+
+// The collections that words spell.
+fn collections_of(alloc: Global, import: Import, words: &[&[u8]]) -> Result<Vec<Collection>> {
+    let mut collections = Vec::new(alloc);
+    match import {
+        Import::Tree => collections.push(collection_of(alloc, b"tree", words)?)?,
+        Import::Typed => collections.push(typed_of(alloc, words)?)?,
+        Import::All => {
+            for part in words.split(is_semicolon) {
+                collections.push(typed_of(alloc, part)?)?;
+            }
+        }
+    }
+    Ok(collections)
+}
+
+/// Imports what a line spells, and adds how that came out.
+pub fn tell_import(
+    alloc: Global,
+    session: &mut Session<Counting<'_>, Operator>,
+    import: Import,
+    line: &[u8],
+    out: &mut Vec<u8>,
+) -> Result<()> {
+    let words = words_of(alloc, first_word(without_end(line)).1)?;
+    let collections = collections_of(alloc, import, words.as_slice())?;
+    let outcome = session.whole(Whole::Import(collections));
+    let told = tell_outcome(out, &outcome);
+    drop(outcome);
+    told
+}
