@@ -1,10 +1,11 @@
 //! A copy of all trees of a database in another, where there is memory.
+use crate::fresh::opened;
 use examples::copy_all;
-use sled::{Db, empty_pages};
-use sled_pages::{Error, MemPages, Result};
+use sled::Db;
+use sled_pages::{MemPages, Result};
 use std::alloc::Global;
 
-// Whether the second database has what the first has, and refuses to import it again.
+// Whether the second database has what the first has.
 fn has_copy(first: &mut Db<MemPages>, second: &mut Db<MemPages>) -> Result<bool> {
     let tree = first.open_tree(b"t")?;
     drop(first.insert(&tree, b"x", b"1")?);
@@ -12,25 +13,8 @@ fn has_copy(first: &mut Db<MemPages>, second: &mut Db<MemPages>) -> Result<bool>
     copy_all(first, second)?;
     let collections = first.export()?;
     let is_same = second.export()? == collections;
-    let again = second.import(collections.as_slice());
     drop(collections);
-    Ok(
-        is_same
-            && matches!(
-                again,
-                Err(Error::Unsupported("import is overwriting existing data"))
-            ),
-    )
-}
-
-fn opened(alloc: Global, name: &[u8]) -> Result<Db<MemPages>> {
-    match Db::open(alloc, empty_pages(alloc), name) {
-        Ok(db) => Ok(db),
-        Err((pages, e)) => {
-            drop(pages);
-            Err(e)
-        }
-    }
+    Ok(is_same)
 }
 
 /// Whether all trees of a database are copied into a new one.

@@ -1,7 +1,7 @@
 //! The counters in `examples`: numbers that are added to by merges, and tickets that rise by a closure.
+use crate::fresh::opened;
 use examples::{Adds, add_to_counter, count, next_ticket};
-use sled::{Db, empty_pages};
-use sled_machine::Machine;
+use sled::Db;
 use sled_model::Tree;
 use sled_pages::{MemPages, Result};
 use std::alloc::Global;
@@ -22,17 +22,6 @@ fn rises(db: &mut Db<MemPages, Adds>, tree: &Tree) -> Result<bool> {
     Ok(is_first && is_second && is_above)
 }
 
-// Whether a machine answers the value that stood, and takes the key out.
-fn takes(machine: &mut Machine<MemPages, Adds>, tree: &Tree) -> Result<bool> {
-    let stood = machine.fetch_and_update(tree, b"ticket", |_| Ok(None))?;
-    let is_two = match &stood {
-        Some(value) => value.as_ref() == [0, 0, 0, 0, 0, 0, 0, 2].as_slice(),
-        None => false,
-    };
-    drop(stood);
-    Ok(is_two && !machine.db().contains_key(tree, b"ticket")?)
-}
-
 fn in_database(db: Db<MemPages, Adds>) -> Result<bool> {
     let mut db = db;
     let tree = match db.default_tree() {
@@ -44,20 +33,12 @@ fn in_database(db: Db<MemPages, Adds>) -> Result<bool> {
     };
     let by_merges = adds(&mut db, &tree);
     let by_closure = rises(&mut db, &tree);
-    let mut machine = Machine::new(db);
-    let by_machine = takes(&mut machine, &tree);
     drop(tree);
-    drop(machine.into_db().into_pages());
-    Ok(by_merges? && by_closure? && by_machine?)
+    drop(db.into_pages());
+    Ok(by_merges? && by_closure?)
 }
 
 /// Whether counters count, and tickets rise, in a new database.
 pub fn counts(alloc: Global) -> Result<bool> {
-    match Db::open(alloc, empty_pages(alloc), b"shop") {
-        Ok(db) => in_database(db.with_operators()),
-        Err((pages, e)) => {
-            drop(pages);
-            Err(e)
-        }
-    }
+    in_database(opened(alloc, b"shop")?.with_operators())
 }

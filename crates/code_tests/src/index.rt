@@ -1,7 +1,7 @@
 //! The reader of an index in `examples`, over a database with entries.
+use crate::fresh::opened;
 use examples::entries_under;
 use ordered_keys::{push_number, push_text};
-use sled::{Db, empty_pages};
 use sled_machine::Machine;
 use sled_model::{Call, Tree};
 use sled_pages::{IVec, MemPages, Result};
@@ -62,13 +62,7 @@ fn fill_and_read(alloc: Global, machine: &mut Machine<MemPages>) -> Result<bool>
 
 /// Whether the entries of an index under a number are found, in their order.
 pub fn finds_entries(alloc: Global) -> Result<bool> {
-    let mut machine = match Db::open(alloc, empty_pages(alloc), b"db") {
-        Ok(db) => Machine::new(db),
-        Err((pages, e)) => {
-            drop(pages);
-            return Err(e);
-        }
-    };
+    let mut machine = Machine::new(opened(alloc, b"db")?);
     let found = fill_and_read(alloc, &mut machine);
     drop(machine);
     found

@@ -5,10 +5,10 @@
 mod callers;
 mod copies;
 mod counters;
+mod fresh;
 mod index;
 mod stores;
 mod streams;
-mod trees;
 mod typed;
 
 use callers::{is_read, survives};
@@ -19,7 +19,6 @@ use sled_lines::input::Stopped;
 use std::process::ExitCode;
 use stores::small_store_works;
 use streams::{CASES, served};
-use trees::trees_by_name;
 use typed::reads_readings;
 
 fn answer(is: bool) -> &'static str {
@@ -50,11 +49,6 @@ fn run(rt: &HostRuntime) -> Result<(), Stopped> {
         rt,
         "readings of a user's own type are read in their order",
         reads_readings(alloc),
-    )?;
-    tell(
-        rt,
-        "trees open and are dropped by name",
-        trees_by_name(alloc),
     )?;
     let what = "a database over the small store reads what it wrote and keeps what it flushed";
     tell(rt, what, small_store_works(alloc))?;

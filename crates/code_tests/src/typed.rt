@@ -1,6 +1,7 @@
 //! The typed map in `examples`, with readings of two stations.
+use crate::fresh::opened;
 use examples::{Reading, TypedError, TypedResult, look_up, put, walk};
-use sled::{Db, empty_pages};
+use sled::Db;
 use sled_model::Tree;
 use sled_pages::{IVec, MemPages, Result};
 use std::alloc::Global;
@@ -71,13 +72,7 @@ fn fill_and_read(alloc: Global, db: &mut Db<MemPages>) -> Result<bool> {
 
 /// Whether readings that were put into a new database are read again, in their order.
 pub fn reads_readings(alloc: Global) -> Result<bool> {
-    let mut db = match Db::open(alloc, empty_pages(alloc), b"weather") {
-        Ok(db) => db,
-        Err((pages, e)) => {
-            drop(pages);
-            return Err(e);
-        }
-    };
+    let mut db = opened(alloc, b"weather")?;
     let is_read = fill_and_read(alloc, &mut db);
     drop(db);
     is_read
