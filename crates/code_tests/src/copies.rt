@@ -1,12 +1,11 @@
 //! A copy of all trees of a database in another, where there is memory.
-use crate::fresh::opened;
+use crate::fresh::{Fresh, opened};
 use examples::copy_all;
-use sled::Db;
-use sled_pages::{MemPages, Result};
+use sled_pages::Result;
 use std::alloc::Global;
 
 // Whether the second database has what the first has.
-fn has_copy(first: &mut Db<MemPages>, second: &mut Db<MemPages>) -> Result<bool> {
+fn has_copy(first: &mut Fresh, second: &mut Fresh) -> Result<bool> {
     let tree = first.open_tree(b"t")?;
     drop(first.insert(&tree, b"x", b"1")?);
     drop(tree);

@@ -2,6 +2,7 @@
 use crate::fresh::opened;
 use examples::entries_under;
 use ordered_keys::{push_number, push_text};
+use sled_lines::operator::NoOperator;
 use sled_machine::Machine;
 use sled_model::{Call, Tree};
 use sled_pages::{IVec, MemPages, Result};
@@ -10,7 +11,7 @@ use std::alloc::Global;
 // Inserts an entry, with its text as the value.
 fn insert(
     alloc: Global,
-    machine: &mut Machine<MemPages>,
+    machine: &mut Machine<MemPages, NoOperator>,
     tree: &Tree,
     number: u64,
     text: &[u8],
@@ -31,7 +32,11 @@ fn is(value: &IVec, bytes: &[u8]) -> bool {
 // Entries, two of them under one number.
 const ENTRIES: [(u64, &str); 4] = [(7, "b"), (8, "a"), (7, "a"), (6, "c")];
 
-fn insert_all(alloc: Global, machine: &mut Machine<MemPages>, tree: &Tree) -> Result<()> {
+fn insert_all(
+    alloc: Global,
+    machine: &mut Machine<MemPages, NoOperator>,
+    tree: &Tree,
+) -> Result<()> {
     for entry in &ENTRIES {
         insert(alloc, machine, tree, entry.0, entry.1.as_bytes())?;
     }
@@ -39,7 +44,7 @@ fn insert_all(alloc: Global, machine: &mut Machine<MemPages>, tree: &Tree) -> Re
 }
 
 // Whether the two are read, in their order.
-fn reads_two(alloc: Global, machine: &Machine<MemPages>, tree: &Tree) -> Result<bool> {
+fn reads_two(alloc: Global, machine: &Machine<MemPages, NoOperator>, tree: &Tree) -> Result<bool> {
     let found = entries_under(alloc, machine.db(), tree, 7)?;
     let is_found = match found.as_slice() {
         [first, second] => is(&first.1, b"a") && is(&second.1, b"b"),
@@ -49,7 +54,7 @@ fn reads_two(alloc: Global, machine: &Machine<MemPages>, tree: &Tree) -> Result<
     Ok(is_found)
 }
 
-fn fill_and_read(alloc: Global, machine: &mut Machine<MemPages>) -> Result<bool> {
+fn fill_and_read(alloc: Global, machine: &mut Machine<MemPages, NoOperator>) -> Result<bool> {
     let tree = machine.db().default_tree()?;
     let filled = insert_all(alloc, machine, &tree);
     let is_found = match filled {

@@ -5,20 +5,24 @@
 mod callers;
 mod copies;
 mod counters;
+mod events;
 mod fresh;
 mod index;
 mod stores;
 mod streams;
+mod subscribers;
 mod typed;
 
 use callers::{is_read, survives};
 use copies::copies_all;
 use counters::counts;
+use events::reads_events;
 use index::finds_entries;
 use sled_lines::input::Stopped;
 use std::process::ExitCode;
 use stores::small_store_works;
 use streams::{CASES, served};
+use subscribers::subscribers_learn;
 use typed::reads_readings;
 
 fn answer(is: bool) -> &'static str {
@@ -58,6 +62,10 @@ fn run(rt: &HostRuntime) -> Result<(), Stopped> {
         "all trees of a database are copied into a new one",
         copies_all(alloc),
     )?;
+    let what = "events of a stream are read from an id on";
+    tell(rt, what, reads_events(alloc))?;
+    let what = "subscribers get their events in order, and a full queue refuses a write";
+    tell(rt, what, subscribers_learn(alloc))?;
     tell_streams(rt)
 }
 

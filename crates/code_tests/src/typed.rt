@@ -1,9 +1,8 @@
 //! The typed map in `examples`, with readings of two stations.
-use crate::fresh::opened;
+use crate::fresh::{Fresh, opened};
 use examples::{Reading, TypedError, TypedResult, look_up, put, walk};
-use sled::Db;
 use sled_model::Tree;
-use sled_pages::{IVec, MemPages, Result};
+use sled_pages::{IVec, Result};
 use std::alloc::Global;
 use std::ops::Bound;
 
@@ -22,7 +21,7 @@ fn reading(alloc: Global, station: &str, hour: u64) -> Result<Reading> {
     })
 }
 
-fn put_all(alloc: Global, db: &mut Db<MemPages>, tree: &Tree) -> Result<()> {
+fn put_all(alloc: Global, db: &mut Fresh, tree: &Tree) -> Result<()> {
     for (station, hour, value) in &READINGS {
         let key = reading(alloc, *station, *hour)?;
         let done = put(db, tree, &key, value);
@@ -33,7 +32,7 @@ fn put_all(alloc: Global, db: &mut Db<MemPages>, tree: &Tree) -> Result<()> {
 }
 
 // Whether the two readings of Ulm are walked, in the order of their hours.
-fn walks_two(db: &Db<MemPages>, tree: &Tree, lo: &Reading, hi: &Reading) -> TypedResult<bool> {
+fn walks_two(db: &Fresh, tree: &Tree, lo: &Reading, hi: &Reading) -> TypedResult<bool> {
     let found: Vec<(Reading, u64)> = walk(db, tree, Bound::Included(lo), Bound::Excluded(hi))?;
     let is_found = match found.as_slice() {
         [first, second] => {
@@ -45,7 +44,7 @@ fn walks_two(db: &Db<MemPages>, tree: &Tree, lo: &Reading, hi: &Reading) -> Type
     Ok(is_found)
 }
 
-fn reads(alloc: Global, db: &Db<MemPages>, tree: &Tree) -> TypedResult<bool> {
+fn reads(alloc: Global, db: &Fresh, tree: &Tree) -> TypedResult<bool> {
     let lo = reading(alloc, "Ulm", 0)?;
     let hi = reading(alloc, "Ulm", 301)?;
     let last: Option<u64> = look_up(db, tree, &reading(alloc, "Bern", 5)?)?;
@@ -55,7 +54,7 @@ fn reads(alloc: Global, db: &Db<MemPages>, tree: &Tree) -> TypedResult<bool> {
     Ok(walks? && last == Some(17))
 }
 
-fn fill_and_read(alloc: Global, db: &mut Db<MemPages>) -> Result<bool> {
+fn fill_and_read(alloc: Global, db: &mut Fresh) -> Result<bool> {
     let tree = db.default_tree()?;
     let filled = put_all(alloc, db, &tree);
     let is_read = match filled {
