@@ -14,12 +14,14 @@ is seldom reached is noted by name in `Store.notes`, so that cases can say what 
 """
 import re
 import sys
-from collections import Counter, namedtuple
+from collections import Counter, deque, namedtuple
 from dataclasses import dataclass, replace
 
 DATABASE = b'sledsh'
 TREE = b'__sled__default'
 GREATEST = 2**64 - 1
+# So many events a queue holds.
+ROOM = 1024
 
 
 class Refused(Exception):
@@ -254,7 +256,27 @@ class Tree:
     """A tree from its making, or from the opening, to its dropping. Its number is given once."""
 
     def __init__(self, name, number):
-        self.name, self.number, self.operator = name, number, None
+        self.name, self.number, self.operator, self.queues = name, number, None, []
+
+    def queues_of(self, key):
+        """The queues of the subscribers that see this key."""
+        return [queue for queue in self.queues if key.startswith(queue.prefix)]
+
+    def is_full(self, key):
+        """Whether one of them has no room."""
+        return any(len(queue.events) == ROOM for queue in self.queues_of(key))
+
+    def tell(self, key, value):
+        """A decided change goes last into each queue that sees its key."""
+        for queue in self.queues_of(key):
+            queue.events.append((key, value))
+
+
+class Queue:
+    """What waits for a subscriber to the keys that begin with a prefix: changed keys and their new values, or none."""
+
+    def __init__(self, prefix):
+        self.prefix, self.events = prefix, deque()
 
 
 def make_tree(store, name):
@@ -380,11 +402,18 @@ def walk(store, tree, call):
     changes, value, answer = decide(call, node.get(key))
     if not changes:
         return answer
+    if tree.is_full(key):
+        raise Refused(7)
     yield
+    if tree.is_full(key):
+        store.notes['a queue is full at the link'] += 1
+        yield
+        return
     if call[0] == 'merge':
         value = OPERATORS[tree.operator](node.get(key), call[2])
         answer = f'value {word(value)}'
     if store.change(view, node.put(key, value))[0]:
+        tree.tell(key, value)
         return answer
     store.notes['change is stale'] += 1
     yield
@@ -575,11 +604,12 @@ pop-min; pop-max; clear
 owned insert K V; owned set K V; owned remove K; owned del K; owned cas K OLD NEW; owned merge K V; owned pop-min
 owned pop-max; owned clear; owned flush; owned id; owned drop NAME
 names; tree NAME; old-tree NAME; drop NAME; id; import NAME K V ..; import-type TYPE NAME K V ..; import-all TYPE NAME K V .. ; ..
-update K HOW; fetch K HOW; owned update K HOW; owned fetch K HOW"""
+update K HOW; fetch K HOW; owned update K HOW; owned fetch K HOW
+watch P; next N; unwatch N; owned watch P; owned next N; owned unwatch N"""
 FORMS = [form.split(' ') for form in re.split('(?<! ); |\n', FORMS)]
 POINT = ('insert', 'get', 'remove', 'cas', 'merge')
 POPS = ('pop-min', 'pop-max', 'clear')
-ON_TREES = ('begin', 'operator', 'pages', 'update', 'fetch')
+ON_TREES = ('begin', 'operator', 'pages', 'watch', 'update', 'fetch')
 LOOKS = ('has', 'read', 'lt', 'gt', 'first', 'last', 'len', 'empty', 'range', 'prefix', 'keys', 'values')
 READERS = {'K': value_of, 'V': value_of, 'P': value_of, 'DATABASE': value_of, 'NAME': value_of, 'TYPE': value_of, 'OLD': optional, 'NEW': optional, 'LO': bound_of, 'HI': bound_of, 'OPERATOR': operator_of}
 
@@ -702,7 +732,7 @@ class Shell:
         self.store.flush()
         self.greatest_id, self.opened = self.store.mark, True
         self.trees = {name: Tree(name, number) for number, name in enumerate(sorted(self.store.roots), 1)}
-        self.created = len(self.trees)
+        self.created, self.subscribers = len(self.trees), []
         self.handle = self.value_of(TREE)
         # what the last line `tree NAME` got, and what it got before
         self.named = {TREE: (self.handle, self.handle)}
@@ -750,6 +780,8 @@ class Shell:
             return [self.slot(name, words[0])]
         if name == 'old-tree':
             return self.take_old(words[0])
+        if name in ('next', 'unwatch'):
+            return [self.subscribed(name, words[0])]
         if not self.opened:
             raise Refused(8)
         if name == 'handle':
@@ -795,6 +827,11 @@ class Shell:
             return ['done']
         if 'merge' in (name, words[0] if name == 'begin' else None) and tree.operator is None:
             raise Refused(2)
+        if name == 'watch':
+            queue = Queue(words[0])
+            tree.queues.append(queue)
+            self.subscribers.append((tree, queue))
+            return [f'subscriber {len(self.subscribers)}']
         if name in ('update', 'fetch'):
             return [self.fetched(tree, name, *words)]
         if name in POINT:
@@ -819,6 +856,20 @@ class Shell:
         new = HOWS[how[0]](old, *how[1:])
         self.advance(self.flight(tree, 'cas', key, old, new), True)
         return f'value {word(new if name == "update" else old)}'
+
+    def subscribed(self, name, number):
+        """The next event of a subscriber, or its end."""
+        if not self.opened or not 1 <= number <= len(self.subscribers):
+            return 'no subscriber'
+        tree, queue = self.subscribers[number - 1]
+        if name == 'unwatch':
+            tree.queues = [other for other in tree.queues if other is not queue]
+            queue.events.clear()
+            return 'done'
+        if not queue.events:
+            return 'event -'
+        key, value = queue.events.popleft()
+        return f'event remove {word(key)}' if value is None else f'event insert {word(key)} {word(value)}'
 
     def flight(self, tree, *call):
         """A call in flight: its steps, how many of them went on, and its tree."""

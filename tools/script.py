@@ -7,7 +7,7 @@ answers, what each dump has, and that a crash leaves the pairs of some moment si
 import os
 import re
 import sys
-from oracle import (DATABASE, GREATEST, HOWS, LOOKS, ON_TREES, OPERATORS, POINT, POPS, TREE, Shell, Tree, collections_of, in_line, is_from, is_up_to, read_line,
+from oracle import (DATABASE, GREATEST, HOWS, LOOKS, ON_TREES, OPERATORS, POINT, POPS, ROOM, TREE, Shell, Tree, collections_of, in_line, is_from, is_up_to, read_line,
                     some_keys, word)
 
 DATA = os.path.join(os.path.dirname(os.path.abspath(__file__)), '..', 'crates', 'sledsh', 'data')
@@ -40,7 +40,14 @@ class Map:
     """A tree as a dictionary, as long as it is there."""
 
     def __init__(self, is_there=True):
-        self.pairs, self.operator, self.is_there = {}, None, is_there
+        self.pairs, self.operator, self.is_there, self.queues = {}, None, is_there, []
+
+    def tell(self, key, value):
+        """A change is seen by each subscriber to a beginning of its key."""
+        for prefix, events in self.queues:
+            if key[:len(prefix)] == prefix:
+                expect(len(events) < ROOM, 'no queue holds more')
+                events.append(f'event remove {word(key)}' if value is None else f'event insert {word(key)} {word(value)}')
 
     def set(self, key, value):
         self.pairs.pop(key, None)
@@ -60,7 +67,8 @@ class Plain:
         self.calls, self.current = {}, self.maps[TREE]
         self.named = {TREE: (self.current, self.current)}
         for map in self.maps.values():
-            map.operator = None
+            map.operator, map.queues = None, []
+        self.queues = []
 
     @property
     def pairs(self):
@@ -108,6 +116,8 @@ class Plain:
         new = OPERATORS[map.operator](old, values[0]) if name == 'merge' else None if name == 'remove' else values[-1]
         if new != old:
             self.set(map, key, new)
+        if new != old or name in ('cas', 'merge'):
+            map.tell(key, new)
         return 'swapped' if name == 'cas' else f'value {word(new)}' if name == 'merge' else f'old {word(old)}'
 
     def look(self, name, *words):
@@ -146,6 +156,7 @@ class Plain:
             return 'found -'
         old = self.pairs[key]
         self.set(self.current, key, None)
+        self.current.tell(key, None)
         return f'found {word(key)} {word(old)}'
 
     def pops(self, name, printed, maps):
@@ -172,6 +183,7 @@ class Plain:
                 expect(key not in map.pairs, 'imported over', key)
                 if key is not None:
                     self.set(map, key, value)
+                    map.tell(key, value)
         expect(is_done == tests and self.has(maps), printed, collections)
 
     def has(self, maps):
@@ -205,9 +217,24 @@ class Plain:
             if last != 'refused E8':
                 self.imports(collections_of(*words), last, shell.contents())
             return
+        if last == 'refused E7':
+            map = self.calls[words[1]][1] if name in ('step', 'finish') else self.current
+            expect(any(len(events) == ROOM for _, events in map.queues), words, 'no queue is full')
         if last.startswith('refused'):
             return
-        if name in ('update', 'fetch'):
+        if name == 'watch':
+            self.queues.append([])
+            self.current.queues.append((words[1], self.queues[-1]))
+            expect(last == f'subscriber {len(self.queues)}', words, last)
+        elif name in ('next', 'unwatch'):
+            events = self.queues[words[1] - 1] if 1 <= words[1] <= len(self.queues) else None
+            wanted = 'no subscriber' if events is None else 'done' if name == 'unwatch' else events.pop(0) if events else 'event -'
+            expect(last == wanted, words, last, wanted)
+            if last == 'done':
+                events.clear()
+                for map in self.maps.values():
+                    map.queues = [queue for queue in map.queues if queue[1] is not events]
+        elif name in ('update', 'fetch'):
             key, how = words[1:]
             old = self.pairs.get(key)
             new = HOWS[how[0]](old, *how[1:])
