@@ -10,6 +10,7 @@ does not print what the case spells out.
 """
 import sys
 import cases_drops
+import cases_events
 import cases_fetch
 import cases_flights
 import cases_imports

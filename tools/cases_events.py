@@ -79,6 +79,12 @@ def a_full_queue_refuses_what_brings_an_event(s):
     s.line(f'merge {new} x', 'refused E7')
     s.line(f'owned merge {new} x', 'refused E7')
     s.line('len', 'number 1024')
+    s.note('A call in flight goes down to its leaf, and is refused where it reads it.')
+    s.line(f'begin insert {short(500)} x', 'slot 1')
+    for level in range(2):
+        s.line('step 1', 'moved')
+    s.line('step 1', 'refused E7')
+    s.line('step 1', 'no slot')
     s.line('next 1', f'event insert {short(0)} 0')
     s.line(f'insert {new} x', 'old -')
     s.line(f'insert {new} y', 'refused E7')
@@ -288,14 +294,16 @@ def subscribers_are_of_a_tree_and_end_at_an_opening(s):
         sees(s, 1, 'remove e')
     s.note('Without a database there is no subscriber.')
     s.rows('''
-        new refuse 1    refused E4
-        watch %         refused E8
-        next 1          no subscriber
-        unwatch 1       no subscriber
-        owned watch %   refused E8
-        reopen          opened
-        next 1          no subscriber
-        watch %         subscriber 1
+        new refuse 1      refused E4
+        watch %           refused E8
+        next 1            no subscriber
+        unwatch 1         no subscriber
+        owned watch %     refused E8
+        owned next 1      no subscriber
+        owned unwatch 1   no subscriber
+        reopen            opened
+        next 1            no subscriber
+        watch %           subscriber 1
     ''')
 
 

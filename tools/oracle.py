@@ -782,6 +782,8 @@ class Shell:
             return self.take_old(words[0])
         if name in ('next', 'unwatch'):
             return [self.subscribed(name, words[0])]
+        if name == 'owned' and words[0] in ('next', 'unwatch') and not self.opened:
+            return self.do(*in_line(words))
         if not self.opened:
             raise Refused(8)
         if name == 'handle':

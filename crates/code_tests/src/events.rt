@@ -1,6 +1,7 @@
 //! The event store in `examples`, with two streams.
 use crate::fresh::{Fresh, opened};
-use examples::{TypedError, TypedResult, append, open_stream, read_from};
+use crate::typed::told;
+use examples::{TypedResult, append, open_stream, read_from};
 use sled_model::Tree;
 use sled_pages::Result;
 use std::alloc::Global;
@@ -29,15 +30,25 @@ fn reads_two(db: &Fresh, orders: &Tree) -> TypedResult<bool> {
     Ok(is_found)
 }
 
+// Appends to both streams, and whether one of them is read then.
+fn append_then_read(db: &mut Fresh, orders: &Tree, bills: &Tree) -> TypedResult<bool> {
+    append_all(db, orders, bills)?;
+    reads_two(db, orders)
+}
+
 fn append_and_read(db: &mut Fresh) -> Result<bool> {
     let orders = open_stream(db, b"orders")?;
-    let bills = open_stream(db, b"bills")?;
-    append_all(db, &orders, &bills)?;
-    match reads_two(db, &orders) {
-        Ok(is) => Ok(is),
-        Err(TypedError::Foreign) => Ok(false),
-        Err(TypedError::Refused(e)) => Err(e),
-    }
+    let bills = match open_stream(db, b"bills") {
+        Ok(bills) => bills,
+        Err(e) => {
+            drop(orders);
+            return Err(e);
+        }
+    };
+    let is_read = append_then_read(db, &orders, &bills);
+    drop(orders);
+    drop(bills);
+    told(is_read)
 }
 
 /// Whether the events that were appended to a stream are read from an id on.

@@ -10,7 +10,6 @@ mod fresh;
 mod index;
 mod stores;
 mod streams;
-mod subscribers;
 mod typed;
 
 use callers::{is_read, survives};
@@ -22,7 +21,6 @@ use sled_lines::input::Stopped;
 use std::process::ExitCode;
 use stores::small_store_works;
 use streams::{CASES, served};
-use subscribers::subscribers_learn;
 use typed::reads_readings;
 
 fn answer(is: bool) -> &'static str {
@@ -64,8 +62,6 @@ fn run(rt: &HostRuntime) -> Result<(), Stopped> {
     )?;
     let what = "events of a stream are read from an id on";
     tell(rt, what, reads_events(alloc))?;
-    let what = "subscribers get their events in order, and a full queue refuses a write";
-    tell(rt, what, subscribers_learn(alloc))?;
     tell_streams(rt)
 }
 

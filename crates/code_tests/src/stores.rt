@@ -17,21 +17,33 @@ fn has(db: &Db<LogPages>, tree: &Tree, key: &[u8], value: Option<&[u8]>) -> Resu
 }
 
 // Inserts forty pairs, so that pages are split, flushes, and inserts one more. Whether the pairs are read.
-fn fill(db: &mut Db<LogPages>) -> Result<bool> {
-    let tree = db.default_tree()?;
+fn fill_tree(db: &mut Db<LogPages>, tree: &Tree) -> Result<bool> {
     for i in 0..40 {
-        drop(db.insert(&tree, &[i], b"old")?);
+        drop(db.insert(tree, &[i], b"old")?);
     }
     let count = db.flush()?;
-    drop(db.insert(&tree, b"ulm", b"21")?);
-    Ok(count > 40 && has(db, &tree, &[7], Some(b"old"))? && has(db, &tree, b"ulm", Some(b"21"))?)
+    drop(db.insert(tree, b"ulm", b"21")?);
+    Ok(count > 40 && has(db, tree, &[7], Some(b"old"))? && has(db, tree, b"ulm", Some(b"21"))?)
+}
+
+fn fill(db: &mut Db<LogPages>) -> Result<bool> {
+    let tree = db.default_tree()?;
+    let filled = fill_tree(db, &tree);
+    drop(tree);
+    filled
 }
 
 // Whether what was flushed is there, and what was not is gone.
+fn has_flushed(db: &Db<LogPages>, tree: &Tree) -> Result<bool> {
+    let is_there = has(db, tree, &[39], Some(b"old"))? && db.len(tree)? == 40;
+    Ok(is_there && has(db, tree, b"ulm", None)?)
+}
+
 fn is_as_flushed(db: &Db<LogPages>) -> Result<bool> {
     let tree = db.default_tree()?;
-    let is_there = has(db, &tree, &[39], Some(b"old"))? && db.len(&tree)? == 40;
-    Ok(is_there && has(db, &tree, b"ulm", None)?)
+    let is = has_flushed(db, &tree);
+    drop(tree);
+    is
 }
 
 /// Whether a database over the small store answers what it should, before and after a crash that keeps nothing since the flush.

@@ -44,35 +44,54 @@ fn walks_two(db: &Fresh, tree: &Tree, lo: &Reading, hi: &Reading) -> TypedResult
     Ok(is_found)
 }
 
-fn reads(alloc: Global, db: &Fresh, tree: &Tree) -> TypedResult<bool> {
+fn walks(alloc: Global, db: &Fresh, tree: &Tree) -> TypedResult<bool> {
     let lo = reading(alloc, "Ulm", 0)?;
-    let hi = reading(alloc, "Ulm", 301)?;
-    let last: Option<u64> = look_up(db, tree, &reading(alloc, "Bern", 5)?)?;
+    let hi = match reading(alloc, "Ulm", 301) {
+        Ok(hi) => hi,
+        Err(e) => {
+            drop(lo);
+            return Err(TypedError::Refused(e));
+        }
+    };
     let walks = walks_two(db, tree, &lo, &hi);
     drop(lo);
     drop(hi);
-    Ok(walks? && last == Some(17))
+    walks
 }
 
-fn fill_and_read(alloc: Global, db: &mut Fresh) -> Result<bool> {
-    let tree = db.default_tree()?;
-    let filled = put_all(alloc, db, &tree);
-    let is_read = match filled {
-        Ok(()) => reads(alloc, db, &tree),
-        Err(e) => Err(TypedError::Refused(e)),
-    };
-    drop(tree);
-    match is_read {
+// Whether the reading of Bern is found.
+fn looks_up(alloc: Global, db: &Fresh, tree: &Tree) -> TypedResult<bool> {
+    let key = reading(alloc, "Bern", 5)?;
+    let found: TypedResult<Option<u64>> = look_up(db, tree, &key);
+    drop(key);
+    Ok(found? == Some(17))
+}
+
+fn put_and_read(alloc: Global, db: &mut Fresh, tree: &Tree) -> TypedResult<bool> {
+    put_all(alloc, db, tree)?;
+    Ok(looks_up(alloc, db, tree)? && walks(alloc, db, tree)?)
+}
+
+/// What a typed read told; it is not so where the tree has something foreign.
+pub fn told(is: TypedResult<bool>) -> Result<bool> {
+    match is {
         Ok(is) => Ok(is),
         Err(TypedError::Foreign) => Ok(false),
         Err(TypedError::Refused(e)) => Err(e),
     }
 }
 
+fn fill_and_read(alloc: Global, db: &mut Fresh) -> Result<bool> {
+    let tree = db.default_tree()?;
+    let is_read = put_and_read(alloc, db, &tree);
+    drop(tree);
+    told(is_read)
+}
+
 /// Whether readings that were put into a new database are read again, in their order.
 pub fn reads_readings(alloc: Global) -> Result<bool> {
     let mut db = opened(alloc, b"weather")?;
     let is_read = fill_and_read(alloc, &mut db);
-    drop(db);
+    drop(db.into_pages());
     is_read
 }

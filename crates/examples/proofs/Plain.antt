@@ -10,10 +10,10 @@ use Rattle.sled_pages.specs.declared.error.Error.{Error}
 use Rattle.sled_pages.specs.declared.error.Error.TheVariants as error
 use Rattle.sled_model.specs.Maps.{Map, Maps, Merge, IsLeast}
 use Rattle.sled_model.specs.State.{State, CallInFlight, maps_of}
-use Rattle.sled_model.specs.Refusal.{Asked, ToStep, must_refuse, must_refuse_of, MeetsFullQueue}
+use Rattle.sled_model.specs.Refusal.{MustRefuse, Asked, ToStep, must_refuse, must_refuse_of, MeetsFullQueue}
 use Rattle.sled_model.specs.Transition.{Configuration, Transition}
 use Rattle.sled_model.specs.Collections.{Content}
-use Rattle.sled_model.specs.Imports.{Part, OpensName, Puts, tree_at}
+use Rattle.sled_model.specs.Imports.{Part, OpensName, Puts, tree_at, IsAbsent, overwrites_as, refuses_import_as, StopsAtPart}
 use Rattle.sled_model.specs.Whole.{DecidesPoint, RefusesPoint}
 use Rattle.sled_model.specs.declared.call.Call.{Call}
 use Rattle.sled_model.specs.declared.call.Call.TheVariants.{Insert, Remove}
@@ -31,9 +31,10 @@ use Rattle.sled_tree.specs.declared.flight.Went.{Went}
 use Rattle.sled_tree.specs.declared.flight.Went.TheVariants.{Moved}
 use Rattle.sled.specs.Direct.{Conducts, PointDecided, PointRefused}
 use Rattle.sled.specs.Drops.{DropsNamed, DropsTree, MightDrop, refuses_drop_as, RefusesDrop}
-use Rattle.sled.specs.Flights.{call_in_flight_of, BringsEvent, DbStepContract, DbSteps, Ends, GoesOn, DbRunsToEnd, outcome_of, slot_after, maps_added, MeetsNoFullQueue, FindsRoom}
+use Rattle.sled.specs.Flights.{call_in_flight_of, BringsEvent, DbStepContract, DbSteps, Ends, GoesOn, DbRunsToEnd, outcome_of, slot_after, maps_added, FindsRoom, DbFindsRoom}
 use Rattle.sled.specs.Opens.{Opens, OpensBySteps, OpenRefusedBySteps}
-use Rattle.sled.specs.Imports.{PartBySteps, PartRefusedBySteps, ImportsBySteps, ImportsNone, ImportsMore, ImportRefusedBySteps}
+use Rattle.sled.specs.Imports.{PartBySteps, PartRefusedBySteps, ImportsBySteps, ImportsNone, ImportsMore, ImportStops, ImportRefused}
+use Rattle.sled.specs.Reads.{RefusesReading, refuses_reading_as}
 use Rattle.sled.specs.Pops.{TakesOut, RefusesToTake, IsAtEnd, PopsBySteps, PopRefusedBySteps, IsLongWay, GivesUpPop, ClearsBySteps, ClearsNone, ClearsMore, ClearRefusedBySteps}
 use Rattle.sled.specs.Sound.{IsDb}
 use Rattle.sled.specs.Values.{DbValue, named, numbers_of, db_state, state_of, configuration_of}
@@ -101,6 +102,13 @@ module _ {P M : Type 0} (store : P → Store) (meant : M → Merge) where
   plain_brings : (d : DbValue P M) (f : InFlight) (went : Went) (event : Option Event) → BringsEvent store (λ m. m) (plain d) f went event → BringsEvent store meant d f went event
   plain_brings d f went event b = record { reply = b.reply; decided = b.decided; tree = b.tree; there = sym (same_tree d f.job.tree.name) ∙ b.there; is = b.is }
 
+  pub plain_room : (old new : DbValue P M) (f g : InFlight) (went : Went) → DbFindsRoom store meant old f went new g → DbFindsRoom store (λ m. m) (plain old) f went (plain new) g
+  plain_room old new f g went r = record {
+    room = λ moved. subst (λ (s : State). FindsRoom s g) (sym (same_db old)) (r.room moved);
+    back = λ must fits view here met. r.back (sym (same_tests old (ToStep (call_in_flight_of f))) ∙ must) fits view here (subst (λ (s : State). MeetsFullQueue s f.job.tree f.job.call) (same_db old) met);
+    told = r.told;
+  }
+
   plain_step : (old new : DbValue P M) (f g : InFlight) (went : Went) → DbStepContract store meant old f went new g → DbStepContract store (λ m. m) (plain old) f went (plain new) g
   plain_step old new f g went r = record {
     step = record {
@@ -114,12 +122,9 @@ module _ {P M : Type 0} (store : P → Store) (meant : M → Merge) where
     };
     sound = record { keeps = λ d. plain_sound new (r.sound.keeps (meant_sound old d)) };
     does = record { does = r.does.does; quiet = λ b. r.does.quiet (plain_brings old f went None b); loud = λ event b. r.does.loud event (plain_brings old f went (Some event) b) };
-    follows = λ must fits free. r.follows (sym (same_tests old (ToStep (call_in_flight_of f))) ∙ must) fits (subst (λ (s : State). MeetsNoFullQueue s f) (same_db old) free);
+    follows = λ must fits finds. r.follows (sym (same_tests old (ToStep (call_in_flight_of f))) ∙ must) fits (subst (λ (s : State). FindsRoom s f) (same_db old) finds);
     passes = λ finds. r.passes (subst (λ (s : State). FindsRoom s f) (same_db old) finds);
-    room = record {
-      room = λ moved. subst (λ (s : State). FindsRoom s g) (sym (same_db old)) (r.room.room moved);
-      back = λ must fits view here met. r.room.back (sym (same_tests old (ToStep (call_in_flight_of f))) ∙ must) fits view here (subst (λ (s : State). MeetsFullQueue s f.job.tree f.job.call) (same_db old) met);
-    };
+    room = plain_room old new f g went r.room;
     loses = r.loses;
     leaves = r.leaves;
     knows = record { goes_on = r.knows.goes_on; others = r.knows.others };
@@ -246,12 +251,34 @@ module _ {P M : Type 0} (store : P → Store) (meant : M → Merge) where
     is = (h.is.0, subst (λ (s : State). PointDecided store (λ m. m) (plain old) (tree_at s name) (Insert key value) h.is.0 (plain new)) (sym (same_db old)) (plain_decided old new (tree_at (db_state store meant old) name) (Insert key value) h.is.0 h.is.1));
   }
 
+  plain_unread : (d : DbValue P M) (tree : Tree) (of : ℕ → ℕ) (e : Error) → RefusesReading store meant d tree of e → RefusesReading store (λ m. m) (plain d) tree of e
+  plain_unread d tree of e r = record { is = subst (λ (s : State). refuses_reading_as store (λ m. m) (plain d) tree of (must_refuse_of s (tree ∷ [])) e) (sym (same_db d)) (plain_cause (must_refuse_of (db_state store meant d) (tree ∷ [])) e r.is) }
+    where
+      plain_cause : (o : Option MustRefuse) (e : Error) → refuses_reading_as store meant d tree of o e → refuses_reading_as store (λ m. m) (plain d) tree of o e
+      plain_cause (Some must) e k = k
+      plain_cause None error.NoMemory k = k
+      plain_cause None (error.Io fault) k = k
+      plain_cause None (error.ReportableBug text) k = k
+      plain_cause None error.FullQueue k = k
+      plain_cause None (error.CollectionNotFound name) k = k
+      plain_cause None (error.Unsupported text) k = k
+      plain_cause None (error.Corruption fault) k = k
+      plain_cause None error.Closed k = k
+
   plain_part_not : (old : DbValue P M) (part : Part) (e : Error) (new : DbValue P M) → PartRefusedBySteps store meant old part e new → PartRefusedBySteps store (λ m. m) (plain old) part e (plain new)
   plain_part_not old (OpensName name) e new h = record { is = plain_opens_not name old e new h.is }
   plain_part_not old (Puts name key value) e new h = record {
     is = elim h.is [
-      | inl same ↦ inl (ap plain same)
-      | inr p ↦ inr (subst (λ (s : State). PointRefused store (λ m. m) (plain old) (tree_at s name) (Insert key value) e (plain new)) (sym (same_db old)) (plain_refused old new (tree_at (db_state store meant old) name) (Insert key value) e p))
+      | inl there ↦ inl (subst (λ (s : State). overwrites_as s name key e) (sym (same_db old)) there.0, ap plain there.1)
+      | inr (inl unread) ↦ inr (inl (record {
+        refuses = subst (λ (s : State). RefusesReading store (λ m. m) (plain old) (tree_at s name) once e) (sym (same_db old)) (plain_unread old (tree_at (db_state store meant old) name) once e unread.refuses);
+        gives_up = record { is = unread.gives_up.is };
+        same = ap plain unread.same;
+      }))
+      | inr (inr unput) ↦ inr (inr (record {
+        absent = subst (λ (s : State). IsAbsent s name key) (sym (same_db old)) unput.absent;
+        refused = subst (λ (s : State). PointRefused store (λ m. m) (plain old) (tree_at s name) (Insert key value) e (plain new)) (sym (same_db old)) (plain_refused old new (tree_at (db_state store meant old) name) (Insert key value) e unput.refused);
+      }))
     ];
   }
 
@@ -259,12 +286,29 @@ module _ {P M : Type 0} (store : P → Store) (meant : M → Merge) where
   plain_imports ImportsNone = ImportsNone
   plain_imports (ImportsMore {old = old} {mid = mid} {part = part} one more) = ImportsMore (plain_part old part mid one) (plain_imports more)
 
-  pub plain_imports_not : (all : List Content) (old : DbValue P M) (e : Error) (new : DbValue P M) → ImportRefusedBySteps store meant old all e new → ImportRefusedBySteps store (λ m. m) (plain old) all e (plain new)
+  plain_import_stops : (all : List Content) (old : DbValue P M) (e : Error) (new : DbValue P M) (maps : List Maps) → ImportStops store meant old all e new maps → ImportStops store (λ m. m) (plain old) all e (plain new) maps
+  plain_import_stops all old e new maps h = record {
+    stop = h.stop;
+    mid = plain h.mid;
+    state = λ slots given.
+        subst (λ (s : State). StopsAtPart s (store old.pages) (store new.pages) all h.stop e (state_of store (λ m. m) (plain h.mid) slots given) maps) (sym (same_state old slots given))
+        (subst (λ (s : State). StopsAtPart (state_of store meant old slots given) (store old.pages) (store new.pages) all h.stop e s maps) (sym (same_state h.mid slots given)) (h.state slots given));
+    stays = λ slots given. same_state new slots given ∙ h.stays slots given ∙ sym (same_state h.mid slots given);
+    did = plain_imports h.did;
+    refused = plain_part_not h.mid h.stop.next e new h.refused;
+  }
+
+  pub plain_imports_not : (all : List Content) (old : DbValue P M) (e : Error) (new : DbValue P M) → ImportRefused store meant old all e new → ImportRefused store (λ m. m) (plain old) all e (plain new)
   plain_imports_not all old e new h = record {
-    is = elim h.is [
-      | inl same ↦ inl (ap plain same)
-      | inr (trees, s) ↦ inr (trees, record { done = s.done; next = s.next; later = s.later; all_parts = s.all_parts; mid = plain s.mid; did = plain_imports s.did; refused = plain_part_not s.mid s.next e new s.refused })
+    maps = h.maps;
+    refuses = elim h.refuses [
+      | inl (cause, same, none) ↦ inl (subst (λ (s : State). refuses_import_as (must_refuse_of s []) all e) (sym (same_db old)) cause, ap plain same, none)
+      | inr stops ↦ inr (plain_import_stops all old e new h.maps stops)
     ];
+    acts = h.acts;
+    leaves = record { extends = h.leaves.extends; others = h.leaves.others; loses = h.leaves.loses; sound = λ d. plain_sound new (h.leaves.sound (meant_sound old d)) };
+    same = ap plain h.same;
+    tested = λ must. ap plain (h.tested (subst (λ (s : State). must_refuse_of s [] ≢ None) (same_db old) must));
   }
 
   -- ---- pops and clears

@@ -11,7 +11,7 @@ use Rattle.sled_model.specs.Transition.{Configuration, transition_as}
 use Rattle.sled_model.specs.Whole.{after_pop, RemovesLeast, RemovesNone, RemovesOne, state_opened, state_dropped}
 use Rattle.sled_model.specs.declared.call.Call.TheVariants.{Remove}
 use Rattle.sled_model.specs.declared.call.Whole.{Whole}
-use Rattle.sled_model.specs.declared.call.Whole.TheVariants.{Flush, PopMin, PopMax, Clear, OpenTree, DropTree, GenerateId, Import}
+use Rattle.sled_model.specs.declared.call.Whole.TheVariants.{Flush, PopMin, PopMax, Clear, OpenTree, DropTree, GenerateId, Import, Watch, Next, Unsubscribe}
 use Rattle.sled_model.specs.declared.outcome.Step.{Step}
 use Rattle.sled_model.specs.declared.outcome.Step.TheVariants as step
 use Rattle.sled_model.specs.declared.outcome.Outcome.{Outcome}
@@ -72,6 +72,8 @@ one_given low high told.Done r h = omega arith
 one_given low high (told.Pair p) r h = omega arith
 one_given low high (told.Tree t) r h = omega arith
 one_given low high (told.Flag b) r h = omega arith
+one_given low high (told.Subscriber s) r h = omega arith
+one_given low high (told.Event e) r h = omega arith
 
 whole_rises : (a b : Configuration) (w : Whole) (o : Outcome) (maps : List Maps) → transition_as a (step.Whole w) o b maps → RiseBetween a.state.greatest_id (id_of (step.Whole w) o) b.state.greatest_id
 whole_rises a b Flush (outcome.Decided reply) maps t = stays a.state b.state t.2
@@ -82,6 +84,9 @@ whole_rises a b (OpenTree name) (outcome.Decided reply) maps t = at_most _ _ (ap
 whole_rises a b (DropTree name) (outcome.Decided reply) maps t = at_most _ _ (ap (λ (s : State). s.greatest_id) t.is ∙ dropped (a.state.trees name) a.state name)
 whole_rises a b GenerateId (outcome.Decided reply) maps t = one_given a.state.greatest_id b.state.greatest_id reply t.replies (ap (λ (s : State). s.greatest_id) t.is)
 whole_rises a b (Import collections) (outcome.Decided reply) maps t = at_most _ _ (parts_done t.1.does)
+whole_rises a b (Watch tree prefix) (outcome.Decided reply) maps t = at_most _ _ (ap (λ (s : State). s.greatest_id) t.2.0.is)
+whole_rises a b (Next subscriber) (outcome.Decided reply) maps t = at_most _ _ (ap (λ (s : State). s.greatest_id) t.2.0.is)
+whole_rises a b (Unsubscribe subscriber) (outcome.Decided reply) maps t = at_most _ _ (ap (λ (s : State). s.greatest_id) t.1.0.is)
 whole_rises a b Flush (outcome.Refused e) maps t = stays a.state b.state t.1
 whole_rises a b (PopMin tree) (outcome.Refused e) maps t = stays a.state b.state t.1
 whole_rises a b (PopMax tree) (outcome.Refused e) maps t = stays a.state b.state t.1
@@ -91,8 +96,11 @@ whole_rises a b (DropTree name) (outcome.Refused e) maps t = stays a.state b.sta
 whole_rises a b GenerateId (outcome.Refused e) maps t = stays a.state b.state t.1
 whole_rises a b (Import collections) (outcome.Refused e) maps t = elim t.is [
   | inl none ↦ stays a.state b.state none.1
-  | inr parts ↦ at_most _ _ (parts_done parts.does)
+  | inr parts ↦ at_most _ _ (parts_done parts.1.does)
 ]
+whole_rises a b (Watch tree prefix) (outcome.Refused e) maps t = stays a.state b.state t.1
+whole_rises a b (Next subscriber) (outcome.Refused e) maps t = absurd t
+whole_rises a b (Unsubscribe subscriber) (outcome.Refused e) maps t = absurd t
 whole_rises a b w (outcome.Begun slot) maps t = absurd t
 whole_rises a b w outcome.Moved maps t = absurd t
 whole_rises a b w outcome.Abandoned maps t = absurd t

@@ -2,7 +2,7 @@
 ghost use Rattle.std.specs.Prelude.{IfErr, OnOk};
 ghost use Rattle.sled_model.specs.Collections.{contents_of};
 ghost use Rattle.sled_model.specs.Imports.{parts_of};
-ghost use Rattle.sled.specs.Imports.{ImportDecided, ImportRefused, ImportsBySteps, ImportRefusedBySteps};
+ghost use Rattle.sled.specs.Imports.{ImportDecided, ImportRefused, ImportsBySteps};
 
 use sled::{Collection, Db};
 use sled_model::MergeOperator;
@@ -16,7 +16,6 @@ pub fn import<P: Pages, M: MergeOperator>(
     ensures ok { OnOk result (ImportDecided P.store M.meant db.old (contents_of collections.now) db.new) }
     ensures err { IfErr result (λ e. ImportRefused P.store M.meant db.old (contents_of collections.now) e db.new) }
     ensures steps { OnOk result (ImportsBySteps P.store M.meant db.old (parts_of (contents_of collections.now)) db.new) }
-    ensures refused { IfErr result (λ e. ImportRefusedBySteps P.store M.meant db.old (contents_of collections.now) e db.new) }
 {
     db.import(collections)
 }

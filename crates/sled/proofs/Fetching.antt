@@ -1,5 +1,5 @@
 -- Calls that make the new value at a key of the one that stands there.
-use Rattle.std.proofs.Common.{◌≡◌, ℕ, true, cond, Option, Some, None, option_map, Result, Ok, Err, sym, refl, ap, ◌∙◌, subst, inl, inr}
+use Rattle.std.proofs.Common.{◌≡◌, ℕ, Bool, true, false, cond, Option, Some, None, option_map, Result, Ok, Err, sym, refl, ap, ◌∙◌, subst, inl, inr}
 use Rattle.std.specs.FinMap.Entries.{find}
 use Rattle.std.specs.declared.vec.Vec.{Vec}
 use Rattle.std.specs.declared.alloc.Global.{Global}
@@ -23,6 +23,7 @@ use Rattle.tree_reads.specs.Walk.{once}
 use Rattle.sled.specs.Values.{DbValue}
 use Rattle.sled.specs.Reads.{RefusesReading, GivesUpGet}
 use Rattle.sled.specs.Direct.{PointDecided, PointRefused}
+use Rattle.sled.specs.theory.Direct.{IsSwap}
 use Rattle.sled.specs.Fetch.{Closure, Answers, Stands, FetchRefused}
 use Rattle.sled.proofs.Conducting.{conducts_none, conducts_refused, plain_short}
 use Rattle.sled.proofs.Popping.{min_unread}
@@ -33,6 +34,19 @@ some_is e = cc
 same_itself : (value : Option Key) → same_value value value ≡ true
 same_itself None = refl
 same_itself (Some v) = name_itself v
+
+-- a swap replies with how it came out, whatever stands
+swap_as : (b : Bool) (value made : Option Key)
+    → IsSwap (cond {A = Decision} b (record { effect = effect_of_write made; reply = Swapped (Ok tt) }) (record { effect = effect.Nothing; reply = Swapped (Err (record { current = value; proposed = made })) })).reply
+swap_as true value made = record { swap = Ok tt; is = refl }
+swap_as false value made = record { swap = Err (record { current = value; proposed = made }); is = refl }
+
+pub swap_replies : {P M : Type 0} (store : P → Store) (meant : M → Merge) (old : DbValue P M) (tree : Tree) (key : Key) (stood made : Option Key) (call : Call) (reply : Reply) (new : DbValue P M)
+    → call ≡ CompareAndSwap key stood made → PointDecided store meant old tree call reply new → IsSwap reply
+swap_replies store meant old tree key stood made call reply new is p =
+    let q : PointDecided store meant old tree (CompareAndSwap key stood made) reply new = subst (λ c. PointDecided store meant old tree c reply new) is p in
+    let value = find key_cmp key q.decides.named.map in
+    subst IsSwap (sym q.decides.replies) (swap_as (same_value value stood) value made)
 
 module _ {P M : Type 0} (store : P → Store) (meant : M → Merge) (old : DbValue P M) (tree : Tree) (key : Key) (stood made : Option Key) (s : Stands store meant old tree key stood) where
   -- a swap of the value that stands finds it

@@ -189,6 +189,16 @@ linked_page j a b view reply f = elim f.is [
     go d (Some l) (inl t) = (t.1.is.0, t.1.is.1)
     go d (Some l) (inr t) = off t.2
 
+-- what was answered is not a full queue
+moved_told : {X : Type 0} → Moved ≡ Refused error.FullQueue → X
+moved_told e = cc
+
+decided_told : {X : Type 0} {reply : Reply} → Decided reply ≡ Refused error.FullQueue → X
+decided_told e = cc
+
+told_error : {e d : Error} → Refused e ≡ Refused d → e ≡ d
+told_error e = cc
+
 -- an action is counted
 acts_not : {X : Type 0} (a b : Store) → b ≡ a → ActsOnce a b → X
 acts_not a b same o = absurd (more a.actions b.actions (ap (λ (s : Store). s.actions) same) (ap (λ (s : Store). s.actions) o.is))
@@ -198,8 +208,8 @@ acts_not a b same o = absurd (more a.actions b.actions (ap (λ (s : Store). s.ac
 
 -- a call that is refused before it touches a page
 module _ {P M : Type 0} (store : P → Store) (meant : M → Merge) (old : DbValue P M) where
-  untouched : (f g : InFlight) (e : Error) → ((fault : Fault) → e ≡ error.Io fault → ⊥) → (must_refuse (db_state store meant old) (ToStep (call_in_flight_of f)) ≡ None → f.turns < turns_limit → ⊥) → (must_refuse (db_state store meant old) (ToStep (call_in_flight_of f)) ≡ None → f.turns ≡ turns_limit → TellsTurns e) → ((slots : ℕ → Option CallInFlight) (given : ℕ) → MayRefuse (state_of store meant old slots given) (store old.pages) (store old.pages) (ToStep (call_in_flight_of f)) e) → DbStepContract store meant old f (Refused e) old g
-  untouched f g e off stopped limit may = record {
+  untouched : (f g : InFlight) (e : Error) → ((fault : Fault) → e ≡ error.Io fault → ⊥) → e ≢ error.FullQueue → (must_refuse (db_state store meant old) (ToStep (call_in_flight_of f)) ≡ None → f.turns < turns_limit → ⊥) → (must_refuse (db_state store meant old) (ToStep (call_in_flight_of f)) ≡ None → f.turns ≡ turns_limit → TellsTurns e) → ((slots : ℕ → Option CallInFlight) (given : ℕ) → MayRefuse (state_of store meant old slots given) (store old.pages) (store old.pages) (ToStep (call_in_flight_of f)) e) → DbStepContract store meant old f (Refused e) old g
+  untouched f g e off empty stopped limit may = record {
     step = record {
       steps = λ slots given slot before after here. record { is = (record { flying = call_in_flight_of f; here = here; may = may slots given; limit = limit; is = refl }, refl) };
       extends = extends_same (store old.pages);
@@ -208,9 +218,9 @@ module _ {P M : Type 0} (store : P → Store) (meant : M → Merge) (old : DbVal
     };
     sound = record { keeps = λ d. d };
     does = record { does = quiet_untold e (store old.pages) off; quiet = λ q. refl; loud = λ event b. absurd (silent b.reply b.decided) };
-    follows = λ must fits free. absurd (stopped must fits);
+    follows = λ must fits finds other. absurd (stopped must fits);
     passes = λ finds. record { is = tt };
-    room = record { room = λ e. absurd (apart e); back = λ must fits view here met. absurd (stopped must fits) };
+    room = record { room = λ e. absurd (apart e); back = λ must fits view here met. absurd (stopped must fits); told = λ full. absurd (empty (told_error full)) };
     loses = loses_nothing None (snapshot_of_db store old);
     leaves = λ v is. tt;
     knows = record { goes_on = λ e. absurd (apart e); others = λ h off k. (k, λ e. absurd (apart e)) };
@@ -224,7 +234,7 @@ module _ {P M : Type 0} (store : P → Store) (meant : M → Merge) (old : DbVal
 
   -- the tests refuse the call
   pub flies_untested : (f g : InFlight) (e : Error) → MustBeRefused (must_refuse (db_state store meant old) (ToStep (call_in_flight_of f))) e → DbStepContract store meant old f (Refused e) old g
-  flies_untested f g e tested = untouched f g e (λ fault io. untold fault (must_refuse (db_state store meant old) (ToStep (call_in_flight_of f))) (subst (λ z. must_be_refused_as (must_refuse (db_state store meant old) (ToStep (call_in_flight_of f))) z) io tested.is)) (λ none fits. absurd (subst (λ o. must_be_refused_as o e) none tested.is)) (λ none all. absurd (subst (λ o. must_be_refused_as o e) none tested.is)) (λ slots given. record { is = go slots given (must_refuse (db_state store meant old) (ToStep (call_in_flight_of f))) tested.is })
+  flies_untested f g e tested = untouched f g e (λ fault io. untold fault (must_refuse (db_state store meant old) (ToStep (call_in_flight_of f))) (subst (λ z. must_be_refused_as (must_refuse (db_state store meant old) (ToStep (call_in_flight_of f))) z) io tested.is)) (λ full. unfilled (must_refuse (db_state store meant old) (ToStep (call_in_flight_of f))) (subst (λ z. must_be_refused_as (must_refuse (db_state store meant old) (ToStep (call_in_flight_of f))) z) full tested.is)) (λ none fits. absurd (subst (λ o. must_be_refused_as o e) none tested.is)) (λ none all. absurd (subst (λ o. must_be_refused_as o e) none tested.is)) (λ slots given. record { is = go slots given (must_refuse (db_state store meant old) (ToStep (call_in_flight_of f))) tested.is })
     where
       go : (slots : ℕ → Option CallInFlight) (given : ℕ) (o : Option MustRefuse) → must_be_refused_as o e → may_refuse_as o (state_of store meant old slots given) (store old.pages) (store old.pages) (ToStep (call_in_flight_of f)) e
       go slots given None t = absurd t
@@ -238,6 +248,14 @@ module _ {P M : Type 0} (store : P → Store) (meant : M → Merge) (old : DbVal
       untold fault (Some (IsDropped name)) (inr t) = cc
       untold fault (Some HasNoOperator) t = t
 
+      unfilled : (o : Option MustRefuse) → must_be_refused_as o error.FullQueue → ⊥
+      unfilled None t = t
+      unfilled (Some IsClosed) t = cc
+      unfilled (Some IsForeign) t = t
+      unfilled (Some (IsDropped name)) (inl t) = cc
+      unfilled (Some (IsDropped name)) (inr t) = cc
+      unfilled (Some HasNoOperator) t = t
+
   -- the tests let the call pass
   module _ (f : InFlight) (must : must_refuse (db_state store meant old) (ToStep (call_in_flight_of f)) ≡ None) where
     may_refuse : (slots : ℕ → Option CallInFlight) (given : ℕ) (a b : Store) (e : Error) → cause_of (state_of store meant old slots given) a b (ToStep (call_in_flight_of f)) e → MayRefuse (state_of store meant old slots given) a b (ToStep (call_in_flight_of f)) e
@@ -245,7 +263,7 @@ module _ {P M : Type 0} (store : P → Store) (meant : M → Merge) (old : DbVal
 
     -- its turns are the limit
     pub flies_limit : (g : InFlight) (e : Error) → f.turns ≡ turns_limit → TellsTurns e → ((slots : ℕ → Option CallInFlight) (given : ℕ) → cause_of (state_of store meant old slots given) (store old.pages) (store old.pages) (ToStep (call_in_flight_of f)) e) → DbStepContract store meant old f (Refused e) old g
-    flies_limit g e all tells cause = untouched f g e (λ fault io. subst TellsTurns io tells) (λ none fits. below f.turns all fits) (λ none all. tells) (λ slots given. may_refuse slots given (store old.pages) (store old.pages) e (cause slots given))
+    flies_limit g e all tells cause = untouched f g e (λ fault io. subst TellsTurns io tells) (λ full. subst TellsTurns full tells) (λ none fits. below f.turns all fits) (λ none all. tells) (λ slots given. may_refuse slots given (store old.pages) (store old.pages) e (cause slots given))
       where
         below : (n : ℕ) → n ≡ turns_limit → n < turns_limit → ⊥
         below n all fits = omega arith
@@ -390,7 +408,7 @@ module _ {P M : Type 0} (store : P → Store) (meant : M → Merge) (old : DbVal
       whole v a (inr o) = valid_law o.action (store old.pages) (store q) (once_adds o) db.safe (λ no_group. well v a)
 
       -- the call goes on
-      module _ (fits : f.turns < turns_limit) (g : InFlight) (job : g.job ≡ f.job) (aim : g.aim ≡ f.aim) (turns : g.turns ≡ f.turns + 1) (moves : StageActionBy (Only operator) (course_of f) (store old.pages) f.stage (next.Go g.stage) (store q)) (further : FindsRoom (db_state store meant old) f → StepsOnPath (now (store old.pages)) f Moved (now (store q)) g) (follows : MeetsNoFullQueue (db_state store meant old) f → FollowsOn (store old.pages) f Moved (store q) g) (keeps : Becomes (queue_at old.queues) old.queues.given queues) (room : DbFindsRoom store meant old f Moved new g) where
+      module _ (fits : f.turns < turns_limit) (g : InFlight) (job : g.job ≡ f.job) (aim : g.aim ≡ f.aim) (turns : g.turns ≡ f.turns + 1) (moves : StageActionBy (Only operator) (course_of f) (store old.pages) f.stage (next.Go g.stage) (store q)) (further : FindsRoom (db_state store meant old) f → StepsOnPath (now (store old.pages)) f Moved (now (store q)) g) (follows : FindsRoom (db_state store meant old) f → FollowsOn (store old.pages) f Moved (store q) g) (keeps : Becomes (queue_at old.queues) old.queues.given queues) (room : DbFindsRoom store meant old f Moved new g) where
         moved : (v : Forest) × KeepsForest (owned f.stage) (owned g.stage) at db.forest after v × (Knows after v (course_of f) g.stage × KeepsContents at db.forest after v) × LeaksNoPage (owned f.stage) (owned g.stage) (now (store old.pages)) (now (store q)) v
         moved = moves.is (numbers_of old.trees) (given_to old.trees_given) db.forest db.is named_now (known.is db.forest db.is)
 
@@ -448,7 +466,7 @@ module _ {P M : Type 0} (store : P → Store) (meant : M → Merge) (old : DbVal
           };
           sound = record { keeps = λ d. moved_db };
           does = record { does = moves.touches; quiet = λ k. absurd (apart k.reply k.decided); loud = λ event k. absurd (apart k.reply k.decided) };
-          follows = λ must fits free. follows free;
+          follows = λ must fits finds other. follows finds;
           passes = further;
           room = room;
           loses = loses_acting at after db.forest moved.0 db.is moved.1;
@@ -463,7 +481,7 @@ module _ {P M : Type 0} (store : P → Store) (meant : M → Merge) (old : DbVal
             apart r e = cc
 
       -- the call is refused, and the store does what it does where it refuses an action
-      module _ (fits : f.turns < turns_limit) (g : InFlight) (e d : Error) (moves : StageActionBy (Only operator) (course_of f) (store old.pages) f.stage (next.Refused d) (store q)) (quietly : IsStepRefused e (store old.pages) (store q)) (cause : (slots : ℕ → Option CallInFlight) (given : ℕ) → cause_of (state_of store meant old slots given) (store old.pages) (store q) (ToStep (call_in_flight_of f)) e) (follows : MeetsNoFullQueue (db_state store meant old) f → FollowsOn (store old.pages) f (Refused e) (store q) g) (keeps : Becomes (queue_at old.queues) old.queues.given queues) (room : DbFindsRoom store meant old f (Refused e) new g) where
+      module _ (fits : f.turns < turns_limit) (g : InFlight) (e d : Error) (moves : StageActionBy (Only operator) (course_of f) (store old.pages) f.stage (next.Refused d) (store q)) (quietly : IsStepRefused e (store old.pages) (store q)) (cause : (slots : ℕ → Option CallInFlight) (given : ℕ) → cause_of (state_of store meant old slots given) (store old.pages) (store q) (ToStep (call_in_flight_of f)) e) (follows : FindsRoom (db_state store meant old) f → Refused e ≢ Refused error.FullQueue → FollowsOn (store old.pages) f (Refused e) (store q) g) (keeps : Becomes (queue_at old.queues) old.queues.given queues) (room : DbFindsRoom store meant old f (Refused e) new g) where
         refused : (v : Forest) × KeepsForest (owned f.stage) [] at db.forest after v × KeepsContents at db.forest after v × Unit {0}
         refused = moves.is (numbers_of old.trees) (given_to old.trees_given) db.forest db.is named_now (known.is db.forest db.is)
 
@@ -500,7 +518,7 @@ module _ {P M : Type 0} (store : P → Store) (meant : M → Merge) (old : DbVal
           };
           sound = record { keeps = λ d. refused_db };
           does = record { does = quietly; quiet = λ k. absurd (apart k.reply k.decided); loud = λ event k. absurd (apart k.reply k.decided) };
-          follows = λ must fits free. follows free;
+          follows = λ must fits finds other. follows finds other;
           passes = λ finds. record { is = tt };
           room = room;
           loses = loses_acting at after db.forest refused.0 db.is refused.1;
@@ -518,7 +536,7 @@ module _ {P M : Type 0} (store : P → Store) (meant : M → Merge) (old : DbVal
             below n h e = omega arith
 
       -- the call is decided
-      module _ (fits : f.turns < turns_limit) (g : InFlight) (reply : Reply) (moves : StageActionBy (Only operator) (course_of f) (store old.pages) f.stage (next.Decided reply) (store q)) (follows : MeetsNoFullQueue (db_state store meant old) f → FollowsOn (store old.pages) f (Decided reply) (store q) g) (tells : Told queues) (room : DbFindsRoom store meant old f (Decided reply) new g) where
+      module _ (fits : f.turns < turns_limit) (g : InFlight) (reply : Reply) (moves : StageActionBy (Only operator) (course_of f) (store old.pages) f.stage (next.Decided reply) (store q)) (follows : FindsRoom (db_state store meant old) f → FollowsOn (store old.pages) f (Decided reply) (store q) g) (tells : Told queues) (room : DbFindsRoom store meant old f (Decided reply) new g) where
         done : (v : Forest) × KeepsForest (owned f.stage) [] at db.forest after v × DecidesAs operator (course_of f) reply (store old.pages) (store q) at db.forest after v × LeaksNoPage (owned f.stage) [] (now (store old.pages)) (now (store q)) v
         done = let d = moves.is (numbers_of old.trees) (given_to old.trees_given) db.forest db.is named_now (known.is db.forest db.is) in (d.0, d.1, d.2 operator refl, d.3)
 
@@ -602,7 +620,7 @@ module _ {P M : Type 0} (store : P → Store) (meant : M → Merge) (old : DbVal
             quiet = λ k. done.2.quiet (brought k.tree k.there ∙ k.is);
             loud = λ event k. done.2.loud (λ none. none_some (sym none ∙ brought k.tree k.there ∙ k.is));
           };
-          follows = λ must fits free. follows free;
+          follows = λ must fits finds other. follows finds;
           passes = λ finds. record { is = tt };
           room = room;
           loses = loses_acting at after db.forest done.0 db.is done.1;
@@ -649,29 +667,30 @@ module _ {P M : Type 0} (store : P → Store) (meant : M → Merge) (old : DbVal
 
         over : (went : Went) → StepsOver operator (store old.pages) old.queues f went (store q) queues g → Flown went
         over Moved s = (
-          flies_moved fits g s.steps.advances.is.0 s.steps.advances.is.1 s.steps.advances.is.2 s.steps.advances.is.3 (λ finds. s.steps.passes) (λ free. s.steps.follows) s.tells room,
-          moved_db fits g s.steps.advances.is.0 s.steps.advances.is.1 s.steps.advances.is.2 s.steps.advances.is.3 (λ finds. s.steps.passes) (λ free. s.steps.follows) s.tells room,
+          flies_moved fits g s.steps.advances.is.0 s.steps.advances.is.1 s.steps.advances.is.2 s.steps.advances.is.3 (λ finds. s.steps.passes) (λ finds. s.steps.follows) s.tells room,
+          moved_db fits g s.steps.advances.is.0 s.steps.advances.is.1 s.steps.advances.is.2 s.steps.advances.is.3 (λ finds. s.steps.passes) (λ finds. s.steps.follows) s.tells room,
         )
           where
             room : DbFindsRoom store meant old f Moved new g
             room = record {
               room = λ moved. record { is = λ view here met. no_room (s.room refl view here) (meets_for (subst (λ (j : Job). MeetsFullQueue (db_state store meant old) j.tree j.call) s.steps.advances.is.0 met)) };
               back = λ must fits view here met. s.back view here (meets_for met);
+              told = moved_told;
             }
         over (Decided reply) s = (
-          flies_decided fits g reply s.steps.advances.is (λ free. s.steps.follows) (told_decided reply s.steps s.tells) room,
-          decided_db fits g reply s.steps.advances.is (λ free. s.steps.follows) (told_decided reply s.steps s.tells) room,
+          flies_decided fits g reply s.steps.advances.is (λ finds. s.steps.follows) (told_decided reply s.steps s.tells) room,
+          decided_db fits g reply s.steps.advances.is (λ finds. s.steps.follows) (told_decided reply s.steps s.tells) room,
         )
           where
             room : DbFindsRoom store meant old f (Decided reply) new g
-            room = record { room = λ moved. decided_moved moved; back = λ must fits view here met. s.back view here (meets_for met) }
+            room = record { room = λ moved. decided_moved moved; back = λ must fits view here met. s.back view here (meets_for met); told = decided_told }
         over (Refused e) s = (
-          flies_refused fits g e e s.steps.advances.is (refuses_quietly e (store old.pages) (store q) s.steps.advances.is.touches) (λ slots given. cause_is (state_of store meant old slots given) (call_in_flight_of f) e (store old.pages) (store q) s.steps.advances.is.touches) (λ free. s.steps.follows) s.tells room,
-          refused_db fits g e e s.steps.advances.is (refuses_quietly e (store old.pages) (store q) s.steps.advances.is.touches) (λ slots given. cause_is (state_of store meant old slots given) (call_in_flight_of f) e (store old.pages) (store q) s.steps.advances.is.touches) (λ free. s.steps.follows) s.tells room,
+          flies_refused fits g e e s.steps.advances.is (refuses_quietly e (store old.pages) (store q) s.steps.advances.is.touches) (λ slots given. cause_is (state_of store meant old slots given) (call_in_flight_of f) e (store old.pages) (store q) s.steps.advances.is.touches) (λ finds other. s.steps.follows) s.tells room,
+          refused_db fits g e e s.steps.advances.is (refuses_quietly e (store old.pages) (store q) s.steps.advances.is.touches) (λ slots given. cause_is (state_of store meant old slots given) (call_in_flight_of f) e (store old.pages) (store q) s.steps.advances.is.touches) (λ finds other. s.steps.follows) s.tells room,
         )
           where
             room : DbFindsRoom store meant old f (Refused e) new g
-            room = record { room = λ moved. refused_moved moved; back = λ must fits view here met. s.back view here (meets_for met) }
+            room = record { room = λ moved. refused_moved moved; back = λ must fits view here met. s.back view here (meets_for met); told = λ full. absurd (subst (λ z. is_action_refused_as z (store old.pages) (store q)) (told_error full) s.steps.advances.is.touches) }
 
         -- a full queue sends the call back
         turned : TurnsBack (store old.pages) old.queues f Moved (store q) queues (begun_again f) → DbStepContract store meant old f Moved new (begun_again f) × IsDb store new
@@ -703,8 +722,8 @@ module _ {P M : Type 0} (store : P → Store) (meant : M → Merge) (old : DbVal
                 go None is e = none_some e
                 go (Some p) is e = free (meets_here t.view knows p.node (is ∙ ap (λ v. Some (record { version = v; node = p.node })) (some_is e)) t.full)
 
-            follows : MeetsNoFullQueue (db_state store meant old) f → FollowsOn (store old.pages) f Moved (store q) (begun_again f)
-            follows free = record {
+            follows : FindsRoom (db_state store meant old) f → FollowsOn (store old.pages) f Moved (store q) (begun_again f)
+            follows finds = record {
               is = subst (λ b. Follows (course_of f) (store old.pages) f.stage (next.Go stage.Root) b) (sym t.same) (subst (λ z. Follows (course_of f) (store old.pages) z (next.Go stage.Root) (store old.pages)) (sym t.here) (record {
                 is = inl (record { operator = operator; is = go (link_of (decision_at operator f.job.call t.view.node.content).effect (key_of f.job.call)) });
               }));
@@ -712,16 +731,16 @@ module _ {P M : Type 0} (store : P → Store) (meant : M → Merge) (old : DbVal
               where
                 go : (l : Option Link) → MatchOption l ((store old.pages ≡ store old.pages) × (next.Go stage.Root ≡ next.Go stage.Root)) (λ link. TakesWay (after_link link) t.view.pid t.view.version (store old.pages) (store old.pages) (next.Go stage.Root) (λ _. next.Decided (decision_at operator f.job.call t.view.node.content).reply) (λ _. next.Go stage.Root))
                 go None = (refl, refl)
-                go (Some l) = inr (version_now (store old.pages) t.view.pid, record { is = (refl, refl, stale_at free) }, refl)
+                go (Some l) = inr (version_now (store old.pages) t.view.pid, record { is = (refl, refl, stale_at (finds.is t.view t.here)) }, refl)
 
             room : DbFindsRoom store meant old f Moved new (begun_again f)
-            room = record { room = λ moved. record { is = λ view here. root_act here }; back = λ must fits view here met. (refl, t.same) }
+            room = record { room = λ moved. record { is = λ view here. root_act here }; back = λ must fits view here met. (refl, t.same); told = moved_told }
 
         -- .. or refuses it
         met_full : MeetsFullThere operator (store old.pages) old.queues f (Refused error.FullQueue) (store q) queues g → Flown (Refused error.FullQueue)
         met_full t = (
-          flies_refused fits g error.FullQueue error.NoMemory moves came.0 (λ slots given. met slots given) (λ free. absurd (free there_now)) (same_queues old.queues queues t.queues) room,
-          refused_db fits g error.FullQueue error.NoMemory moves came.0 (λ slots given. met slots given) (λ free. absurd (free there_now)) (same_queues old.queues queues t.queues) room,
+          flies_refused fits g error.FullQueue error.NoMemory moves came.0 (λ slots given. met slots given) (λ finds other. absurd (other refl)) (same_queues old.queues queues t.queues) room,
+          refused_db fits g error.FullQueue error.NoMemory moves came.0 (λ slots given. met slots given) (λ finds other. absurd (other refl)) (same_queues old.queues queues t.queues) room,
         )
           where
             came : (store q ≡ store old.pages) × IsUnchanged (now (store q)) t.view
@@ -747,7 +766,7 @@ module _ {P M : Type 0} (store : P → Store) (meant : M → Merge) (old : DbVal
             met slots given = let m = there_now in record { tree = m.tree; there = m.there; event = m.event; brings = m.brings; subscriber = m.subscriber; queue = m.queue; waits = m.waits; matching = m.matching; full = m.full }
 
             room : DbFindsRoom store meant old f (Refused error.FullQueue) new g
-            room = record { room = λ moved. refused_moved moved; back = λ must fits view here met. absurd (t.off view here) }
+            room = record { room = λ moved. refused_moved moved; back = λ must fits view here met. absurd (t.off view here); told = λ full. record { view = t.view; is = subst (λ z. Follows (course_of f) (store old.pages) f.stage (next.Go z) (store q)) t.here t.steps.follows.is } }
 
         -- one step of the call, whatever comes of it
         pub flown : (went : Went) → AdvancesOver operator (store old.pages) old.queues f went (store q) queues g → Flown went

@@ -1,5 +1,5 @@
 -- Imports.
-use Rattle.std.proofs.Common.{◌≡◌, ℕ, suc, ◌+◌, ◌<◌, ◌≤◌, Bool, true, false, not, cond, Bor, List, [], ◌∷◌, ◌++◌, append-nil, append_assoc, add-one, drop-cons, drop, get_or, length, Option, Some, None, is_some, Result, Ok, Err, IfErr, OnOk, sym, refl, ap, ◌∙◌, subst, inl, inr}
+use Rattle.std.proofs.Common.{◌≡◌, ◌⊎◌, ℕ, suc, ◌+◌, ◌<◌, ◌≤◌, Bool, true, false, not, cond, Bor, List, [], ◌∷◌, ◌++◌, append-nil, append_assoc, add-one, drop-cons, drop, get_or, length, Option, Some, None, is_some, Result, Ok, Err, IfErr, OnOk, sym, refl, ap, ◌∙◌, subst, inl, inr}
 use Rattle.std.proofs.lemmas.List.{drop_all}
 use Rattle.std.specs.FinMap.Entries.{find}
 use Rattle.std.specs.Global.{Vec}
@@ -12,7 +12,7 @@ use Rattle.sled_pages.specs.declared.texts.TheConstants.{OVERWRITES_DATA, UNKNOW
 use Rattle.sled_model.specs.Maps.{Maps, Merge}
 use Rattle.sled_model.specs.Answer.{Answer, answer_of}
 use Rattle.sled_model.specs.Collections.{Content, content_of, contents_of, are_trees}
-use Rattle.sled_model.specs.Imports.{Part, OpensName, Puts, puts_of, parts_of, tree_at, DoesParts, NoPart, OnePart, refuses_part, refuses_import_as}
+use Rattle.sled_model.specs.Imports.{Part, OpensName, Puts, puts_of, parts_of, tree_at, DoesParts, NoPart, OnePart, IsAbsent, unread_as, refuses_part, refuses_import_as, StopsAtPart, StopsImporting}
 use Rattle.sled_model.specs.State.{State, NamedTree, CallInFlight, maps_of, after_decision_on}
 use Rattle.sled_model.specs.Refusal.{MustRefuse, IsClosed, first_of, must_refuse, must_refuse_of, MayRefuse, ToPoint, ToCall, cause_of, may_refuse_as}
 use Rattle.sled_model.specs.Whole.{OpensTree, new_tree, number_opened, state_opened}
@@ -24,14 +24,14 @@ use Rattle.sled_model.specs.declared.tree.Tree.{Tree}
 use Rattle.tree_reads.specs.Walk.{once}
 use Rattle.sled.specs.Values.{DbValue, state_of, db_state}
 use Rattle.sled.specs.Sound.{IsDb}
-use Rattle.sled.specs.Reads.{ReadsMap, RefusesReading, refuses_reading_as, stops_reading}
+use Rattle.sled.specs.Reads.{ReadsMap, RefusesReading, GivesUpGet, refuses_reading_as, stops_reading}
 use Rattle.sled.specs.Direct.{NoAction, LeavesAll, PointDecided, PointRefused, WholeDecided, WholeRefused}
 use Rattle.sled.specs.Opens.{OpensBySteps, OpenRefusedBySteps}
-use Rattle.sled.specs.Imports.{grows_trees, ImportDecided, ImportRefused, PartRefusedBySteps, ImportsBySteps, ImportsNone, ImportsMore, ImportRefusedBySteps}
+use Rattle.sled.specs.Imports.{grows_trees, ImportDecided, PartRefusedBySteps, ImportsBySteps, ImportsNone, ImportsMore, ImportStops, ImportRefused}
 use Rattle.sled.specs.theory.Imports.{IsTreeNow, PartsDone, PartsStopped}
 use Rattle.sled.proofs.Conducting.{ReadsAlike, acts_then, may_alike, leaves_then, leaves_none}
 use Rattle.sled.proofs.Popping.{often_faults, often_readable, min_unread}
-use Rattle.sled.proofs.Testing.{first_alone, must_plain}
+use Rattle.sled.proofs.Testing.{first_alone}
 
 none_some : {P X : Type 0} {x : X} → None ≡ Some x → P
 none_some e = cc
@@ -76,16 +76,32 @@ opening_alike s a m b name e r may = record { is = go (must_refuse s (ToCall (Op
     go None k = cause e k
     go (Some must) k = k
 
+unread_alike : (o : Option MustRefuse) (a m : Store) (e : Error) → ReadsAlike a m → unread_as o m e → unread_as o a e
+unread_alike (Some must) a m e r k = k
+unread_alike None a m error.NoMemory r k = tt
+unread_alike None a m (error.Io fault) r k = (k.0, subst (λ (f : ℕ → Bool). f k.0 ≡ false) r.readable k.1)
+unread_alike None a m (error.ReportableBug text) r k = k
+unread_alike None a m error.FullQueue r k = k
+unread_alike None a m (error.CollectionNotFound name) r k = k
+unread_alike None a m (error.Unsupported text) r k = k
+unread_alike None a m (error.Corruption fault) r k = k
+unread_alike None a m error.Closed r k = k
+
 part_alike : (s : State) (a m b : Store) (part : Part) (e : Error) → ReadsAlike a m → refuses_part s m b part e → refuses_part s a b part e
 part_alike s a m b (OpensName name) e r k = opening_alike s a m b name e r k
 part_alike s a m b (Puts name key value) e r (inl k) = inl k
-part_alike s a m b (Puts name key value) e r (inr k) = inr (may_alike s a m b (tree_at s name) (Insert key value) e r k)
+part_alike s a m b (Puts name key value) e r (inr (inl k)) = inr (inl (unread_alike (must_refuse_of s (tree_at s name ∷ [])) a m e r k))
+part_alike s a m b (Puts name key value) e r (inr (inr k)) = inr (inr (k.0, may_alike s a m b (tree_at s name) (Insert key value) e r k.1))
 
 -- a tree keeps its number where its map changes
 put_stays : (s : State) (name : Key) (named : NamedTree) (a : Answer) → s.trees name ≡ Some named → tree_at (after_decision_on s name named a) name ≡ tree_at s name
 put_stays s name named a there =
     ap (λ (z : Option NamedTree). record { database = s.name; name = name; number = number_opened z (after_decision_on s name named a) }) (put_name_here s.trees name (Some (record named { map = a.map })))
     ∙ sym (ap (λ (z : Option NamedTree). record { database = s.name; name = name; number = number_opened z s }) there)
+
+absent : (o : Option Key) → is_some o ≡ false → o ≡ None
+absent None e = refl
+absent (Some v) e = cc
 
 value_of : (o : Option Key) → is_some o ≡ true → (v : Key) × (o ≡ Some v)
 value_of None e = cc
@@ -144,24 +160,17 @@ module _ {P M : Type 0} (store : P → Store) (meant : M → Merge) where
   pub stops_then : (old mid new : DbValue P M) (ps qs : List Part) (e : Error) → PartsDone store meant old ps mid → IsDb store mid → PartsStopped store meant mid qs e new → PartsStopped store meant old (ps ++ qs) e new
   stops_then old mid new ps qs e a db b = record {
     maps = a.maps ++ b.maps;
-    done = ps ++ b.done;
-    next = b.next;
-    later = b.later;
-    all_parts = stopped_later ps b.done b.next b.later qs b.all_parts;
+    stop = record { done = ps ++ b.stop.done; next = b.stop.next; later = b.stop.later };
+    all_parts = stopped_later ps b.stop.done b.stop.next b.stop.later qs b.all_parts;
+    mid = b.mid;
     does = λ slots given. parts_then (a.does slots given) (b.does slots given);
-    refuses = λ slots given. part_alike (State_of new slots given) (store old.pages) (store mid.pages) (store new.pages) b.next e (done_alike old mid ps a) (b.refuses slots given);
+    refuses = λ slots given. part_alike (State_of b.mid slots given) (store old.pages) (store mid.pages) (store new.pages) b.stop.next e (done_alike old mid ps a) (b.refuses slots given);
+    stays = b.stays;
+    did = steps_then a.did b.did;
+    refused = b.refused;
     acts = acts_then (Some e) (store old.pages) (store mid.pages) (store new.pages) a.acts b.acts;
     leaves = leaves_then store meant a.maps b.maps None old mid new a.leaves db b.leaves;
     same = b.same ∙ ap (λ (z : DbValue P M). record z { pages = new.pages; queues = new.queues; trees = new.trees; trees_given = new.trees_given }) a.same;
-    steps = record {
-      done = ps ++ b.steps.done;
-      next = b.steps.next;
-      later = b.steps.later;
-      all_parts = stopped_later ps b.steps.done b.steps.next b.steps.later qs b.steps.all_parts;
-      mid = b.steps.mid;
-      did = steps_then a.did b.steps.did;
-      refused = b.steps.refused;
-    };
   }
 
   stopped_before : (done : List Part) (next : Part) (later ps rs : List Part) → ps ≡ done ++ next ∷ later → ps ++ rs ≡ done ++ next ∷ (later ++ rs)
@@ -170,24 +179,17 @@ module _ {P M : Type 0} (store : P → Store) (meant : M → Merge) where
   pub stops_more : (old new : DbValue P M) (ps rs : List Part) (e : Error) → PartsStopped store meant old ps e new → PartsStopped store meant old (ps ++ rs) e new
   stops_more old new ps rs e b = record {
     maps = b.maps;
-    done = b.done;
-    next = b.next;
-    later = b.later ++ rs;
-    all_parts = stopped_before b.done b.next b.later ps rs b.all_parts;
+    stop = record { done = b.stop.done; next = b.stop.next; later = b.stop.later ++ rs };
+    all_parts = stopped_before b.stop.done b.stop.next b.stop.later ps rs b.all_parts;
+    mid = b.mid;
     does = b.does;
     refuses = b.refuses;
+    stays = b.stays;
+    did = b.did;
+    refused = b.refused;
     acts = b.acts;
     leaves = b.leaves;
     same = b.same;
-    steps = record {
-      done = b.steps.done;
-      next = b.steps.next;
-      later = b.steps.later ++ rs;
-      all_parts = stopped_before b.steps.done b.steps.next b.steps.later ps rs b.steps.all_parts;
-      mid = b.steps.mid;
-      did = b.steps.did;
-      refused = b.steps.refused;
-    };
   }
 
   -- a part that is refused at once
@@ -195,16 +197,17 @@ module _ {P M : Type 0} (store : P → Store) (meant : M → Merge) where
       → Rattle.sled.specs.Direct.effects_until (Some e) (store old.pages) (store new.pages) → LeavesAll store [] None old new → grows_trees old new → PartRefusedBySteps store meant old next e new → PartsStopped store meant old (next ∷ []) e new
   stops_at old new next e stays refuses acts leaves same steps = record {
     maps = [];
-    done = [];
-    next = next;
-    later = [];
+    stop = record { done = []; next = next; later = [] };
     all_parts = refl;
-    does = λ slots given. subst (λ (s : State). DoesParts (State_of old slots given) [] s []) (sym (stays slots given)) NoPart;
-    refuses = λ slots given. subst (λ (s : State). refuses_part s (store old.pages) (store new.pages) next e) (sym (stays slots given)) (refuses slots given);
+    mid = old;
+    does = λ slots given. NoPart;
+    refuses = refuses;
+    stays = stays;
+    did = ImportsNone;
+    refused = steps;
     acts = acts;
     leaves = leaves;
     same = same;
-    steps = record { done = []; next = next; later = []; all_parts = refl; mid = old; did = ImportsNone; refused = steps };
   }
 
   -- ---- a name is opened
@@ -252,6 +255,9 @@ module _ {P M : Type 0} (store : P → Store) (meant : M → Merge) where
   -- ---- a pair is put
 
   module _ (old : DbValue P M) (tree : Tree) (is_now : IsTreeNow store meant old tree) (key value : Key) where
+    is_absent : (slots : ℕ → Option CallInFlight) (given : ℕ) (there : Bool) → there ≡ false → ReadsMap store meant old tree (λ map. there ≡ is_some (find key_cmp key map)) → IsAbsent (State_of old slots given) tree.name key
+    is_absent slots given there off r = record { named = r.named; there = r.there; is = absent (find key_cmp key r.named.map) (sym r.is ∙ off) }
+
     -- the key has no value
     module _ (new : DbValue P M) where
       module _ (reply : Reply) (p : PointDecided store meant old tree (Insert key value) reply new) where
@@ -284,10 +290,6 @@ module _ {P M : Type 0} (store : P → Store) (meant : M → Merge) where
           same = grows_pages old new p.conducts.same;
           did = ImportsMore (record { is = (reply, subst (λ t. PointDecided store meant old t (Insert key value) reply new) is_now.is p) }) ImportsNone;
         }
-          where
-            absent : (o : Option Key) → is_some o ≡ false → o ≡ None
-            absent None e = refl
-            absent (Some v) e = cc
 
       -- the insert was refused
       may_slots : (e : Error) → MayRefuse (db_state store meant old) (store old.pages) (store new.pages) (ToPoint tree (Insert key value)) e → (slots : ℕ → Option CallInFlight) (given : ℕ) → MayRefuse (State_of old slots given) (store old.pages) (store new.pages) (ToPoint tree (Insert key value)) e
@@ -307,36 +309,32 @@ module _ {P M : Type 0} (store : P → Store) (meant : M → Merge) where
           go None k = cause e k
           go (Some must) k = k
 
-      pub put_not : (e : Error) → PointRefused store meant old tree (Insert key value) e new → PartsStopped store meant old (Puts tree.name key value ∷ []) e new
-      put_not e p = stops_at old new (Puts tree.name key value) e (λ slots given. ap (with_slots slots given) p.refuses.is)
-          (λ slots given. inr (subst (λ t. MayRefuse (State_of old slots given) (store old.pages) (store new.pages) (ToPoint t (Insert key value)) e) (is_now.is ∙ at_slots old slots given tree.name) (may_slots e p.refuses.may slots given)))
+      pub put_not : (there : Bool) → there ≡ false → ReadsMap store meant old tree (λ map. there ≡ is_some (find key_cmp key map)) → (e : Error) → PointRefused store meant old tree (Insert key value) e new → PartsStopped store meant old (Puts tree.name key value ∷ []) e new
+      put_not there off r e p = stops_at old new (Puts tree.name key value) e (λ slots given. ap (with_slots slots given) p.refuses.is)
+          (λ slots given. inr (inr (is_absent slots given there off r, subst (λ t. MayRefuse (State_of old slots given) (store old.pages) (store new.pages) (ToPoint t (Insert key value)) e) (is_now.is ∙ at_slots old slots given tree.name) (may_slots e p.refuses.may slots given))))
           p.conducts.acts p.conducts.leaves (grows_pages old new p.conducts.same)
-          (record { is = inr (subst (λ t. PointRefused store meant old t (Insert key value) e new) is_now.is p) })
+          (record { is = inr (inr (record { absent = is_absent (λ n. None) 0 there off r; refused = subst (λ t. PointRefused store meant old t (Insert key value) e new) is_now.is p })) })
 
     -- the key was not looked for
-    read_cause : (s : State) (e : Error) → stops_reading store meant old tree once e → cause_of s (store old.pages) (store old.pages) (ToPoint tree (Insert key value)) e
-    read_cause s error.NoMemory k = tt
-    read_cause s (error.Io fault) k = inr k
-    read_cause s (error.ReportableBug text) k = k.0
-    read_cause s error.FullQueue k = absurd k
-    read_cause s (error.CollectionNotFound name) k = absurd k
-    read_cause s (error.Unsupported text) k = absurd k
-    read_cause s (error.Corruption fault) k = absurd k
-    read_cause s error.Closed k = absurd k
+    read_cause : (e : Error) → stops_reading store meant old tree once e → unread_as None (store old.pages) e
+    read_cause error.NoMemory k = tt
+    read_cause (error.Io fault) k = k
+    read_cause (error.ReportableBug text) k = k.0
+    read_cause error.FullQueue k = k
+    read_cause (error.CollectionNotFound name) k = k
+    read_cause (error.Unsupported text) k = k
+    read_cause (error.Corruption fault) k = k
+    read_cause error.Closed k = k
 
-    read_may : (e : Error) → RefusesReading store meant old tree once e → (slots : ℕ → Option CallInFlight) (given : ℕ) → MayRefuse (State_of old slots given) (store old.pages) (store old.pages) (ToPoint tree (Insert key value)) e
-    read_may e r slots given = record {
-      is = subst (λ o. may_refuse_as o (State_of old slots given) (store old.pages) (store old.pages) (ToPoint tree (Insert key value)) e) (sym (must_plain (State_of old slots given) tree (Insert key value) refl)) (go (must_refuse_of (db_state store meant old) (tree ∷ [])) r.is);
-    }
-      where
-        go : (o : Option MustRefuse) → refuses_reading_as store meant old tree once o e → may_refuse_as o (State_of old slots given) (store old.pages) (store old.pages) (ToPoint tree (Insert key value)) e
-        go None k = read_cause (State_of old slots given) e k
-        go (Some must) k = k
+    read_not : (o : Option MustRefuse) (e : Error) → refuses_reading_as store meant old tree once o e → unread_as o (store old.pages) e
+    read_not None e k = read_cause e k
+    read_not (Some must) e k = k
 
-    pub put_unread : (e : Error) → RefusesReading store meant old tree once e → PartsStopped store meant old (Puts tree.name key value ∷ []) e old
-    put_unread e r = stops_at old old (Puts tree.name key value) e (λ slots given. refl)
-        (λ slots given. inr (subst (λ t. MayRefuse (State_of old slots given) (store old.pages) (store old.pages) (ToPoint t (Insert key value)) e) (is_now.is ∙ at_slots old slots given tree.name) (read_may e r slots given)))
-        (min_unread store meant old tree e r).acts (leaves_none store meant old) refl (record { is = inl refl })
+    pub put_unread : (e : Error) → RefusesReading store meant old tree once e → GivesUpGet store meant old tree key e → PartsStopped store meant old (Puts tree.name key value ∷ []) e old
+    put_unread e r g = stops_at old old (Puts tree.name key value) e (λ slots given. refl)
+        (λ slots given. inr (inl (subst (λ t. unread_as (must_refuse_of (State_of old slots given) (t ∷ [])) (store old.pages) e) (is_now.is ∙ at_slots old slots given tree.name) (read_not (must_refuse_of (db_state store meant old) (tree ∷ [])) e r.is))))
+        (min_unread store meant old tree e r).acts (leaves_none store meant old) refl
+        (record { is = inr (inl (record { refuses = subst (λ t. RefusesReading store meant old t once e) is_now.is r; gives_up = subst (λ t. GivesUpGet store meant old t key e) is_now.is g; same = refl })) })
 
     -- the key is present
     pub put_present : (text : Bor Key) → text.now ≡ OVERWRITES_DATA.now → (there : Bool) → there ≡ true → ReadsMap store meant old tree (λ map. there ≡ is_some (find key_cmp key map)) → PartsStopped store meant old (Puts tree.name key value ∷ []) (error.Unsupported text) old
@@ -344,7 +342,7 @@ module _ {P M : Type 0} (store : P → Store) (meant : M → Merge) where
         let v = value_of (find key_cmp key r.named.map) (sym r.is ∙ on) in
         stops_at old old (Puts tree.name key value) (error.Unsupported text) (λ slots given. refl)
         (λ slots given. inl (is, record { named = r.named; there = r.there; value = v.0; is = v.1 }))
-        (store old.pages, NoAction, refl) (leaves_none store meant old) refl (record { is = inl refl })
+        (store old.pages, NoAction, refl) (leaves_none store meant old) refl (record { is = inl ((is, record { named = r.named; there = r.there; value = v.0; is = v.1 }), refl) })
 
   -- ---- pairs, and collections
 
@@ -411,15 +409,12 @@ module _ {P M : Type 0} (store : P → Store) (meant : M → Merge) where
     pub import_closed : (now (store old.pages)).in_group ≡ true → ImportRefused store meant old all error.Closed old
     import_closed e = record {
       maps = [];
-      refuses = λ slots given. record { is = inl (subst (λ o. refuses_import_as o all error.Closed) (sym (ap (λ b. first_of (cond (not b) None (Some IsClosed)) None) e)) refl, refl, refl) };
+      refuses = inl (subst (λ o. refuses_import_as o all error.Closed) (sym (ap (λ b. first_of (cond (not b) None (Some IsClosed)) None) e)) refl, refl, refl);
       acts = (store old.pages, NoAction, refl);
       leaves = leaves_none store meant old;
       same = refl;
       tested = λ must. refl;
     }
-
-    pub import_nothing : (e : Error) → ImportRefusedBySteps store meant old all e old
-    import_nothing e = record { is = inl refl }
 
     module _ (no_group : (now (store old.pages)).in_group ≡ false) where
       open_is : (slots : ℕ → Option CallInFlight) (given : ℕ) → must_refuse_of (State_of old slots given) [] ≡ None
@@ -429,7 +424,7 @@ module _ {P M : Type 0} (store : P → Store) (meant : M → Merge) where
       pub import_unknown : are_trees all ≡ false → (text : Bor Key) → text.now ≡ UNKNOWN_COLLECTION_TYPE.now → ImportRefused store meant old all (error.Unsupported text) old
       import_unknown off text is = record {
         maps = [];
-        refuses = λ slots given. record { is = inl (subst (λ o. refuses_import_as o all (error.Unsupported text)) (sym (open_is slots given)) (is, off), refl, refl) };
+        refuses = inl (subst (λ o. refuses_import_as o all (error.Unsupported text)) (sym (open_is (λ n. None) 0)) (is, off), refl, refl);
         acts = (store old.pages, NoAction, refl);
         leaves = leaves_none store meant old;
         same = refl;
@@ -449,26 +444,19 @@ module _ {P M : Type 0} (store : P → Store) (meant : M → Merge) where
         pub import_stopped : (e : Error) → PartsStopped store meant old (parts_of all) e new → ImportRefused store meant old all e new
         import_stopped e k = record {
           maps = k.maps;
-          refuses = λ slots given. record {
-            is = inr (record {
-              free = open_is slots given;
-              trees = trees;
-              done = k.done;
-              next = k.next;
-              later = k.later;
-              all_parts = k.all_parts;
-              does = k.does slots given;
-              refuses = k.refuses slots given;
-            });
-          };
+          refuses = inr (record {
+            stop = k.stop;
+            mid = k.mid;
+            state = λ slots given. record { free = open_is slots given; trees = trees; all_parts = k.all_parts; does = k.does slots given; refuses = k.refuses slots given };
+            stays = k.stays;
+            did = k.did;
+            refused = k.refused;
+          });
           acts = k.acts;
           leaves = k.leaves;
           same = k.same;
           tested = λ must. absurd (must (open_is (λ n. None) 0));
         }
-
-        pub import_stopped_steps : (e : Error) → PartsStopped store meant old (parts_of all) e new → ImportRefusedBySteps store meant old all e new
-        import_stopped_steps e k = record { is = inr (trees, k.steps) }
 
   -- ---- the same of the call that a machine makes
 
@@ -476,10 +464,17 @@ module _ {P M : Type 0} (store : P → Store) (meant : M → Merge) where
     pub import_whole : ImportDecided store meant old (contents_of collections.items) new → WholeDecided store meant old (Import collections) told.Done new
     import_whole k = record { maps = k.maps; decides = λ slots given number. (refl, k.decides slots given); acts = k.acts; leaves = k.leaves; same = k.same }
 
+    refused_whole : (all : List Content) (e : Error) (maps : List Maps) → (refuses_import_as (must_refuse_of (db_state store meant old) []) all e × (new ≡ old) × (maps ≡ [])) ⊎ ImportStops store meant old all e new maps
+        → (slots : ℕ → Option CallInFlight) (given : ℕ) → StopsImporting (State_of old slots given) (store old.pages) (store new.pages) all e (State_of new slots given) maps
+    refused_whole all e maps (inl (cause, same, none)) slots given = record { is = inl (cause, ap (λ (d : DbValue P M). State_of d slots given) same, none) }
+    refused_whole all e maps (inr s) slots given = record {
+      is = inr (s.stop, subst (λ (z : State). StopsAtPart (State_of old slots given) (store old.pages) (store new.pages) all s.stop e z maps) (sym (s.stays slots given)) (s.state slots given));
+    }
+
     pub import_whole_refused : (e : Error) → ImportRefused store meant old (contents_of collections.items) e new → WholeRefused store meant old (Import collections) e new
     import_whole_refused e k = record {
       maps = k.maps;
-      refuses = k.refuses;
+      refuses = refused_whole (contents_of collections.items) e k.maps k.refuses;
       acts = k.acts;
       leaves = k.leaves;
       same = k.same;

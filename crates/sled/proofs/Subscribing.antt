@@ -7,20 +7,29 @@ use Rattle.sled_pages.specs.Order.{Key}
 use Rattle.sled_pages.specs.Update.{put_at}
 use Rattle.sled_pages.specs.Store.{Store, now}
 use Rattle.sled_pages.specs.declared.error.Error.{Error}
+use Rattle.sled_pages.specs.declared.error.Error.TheVariants as error
 use Rattle.sled_model.specs.Maps.{Merge}
 use Rattle.sled_model.specs.State.{Queue, CallInFlight}
 use Rattle.sled_model.specs.Queues.{oldest, without_oldest}
-use Rattle.sled_model.specs.Refusal.{must_refuse_of}
+use Rattle.sled_model.specs.Refusal.{MustRefuse, must_refuse, must_refuse_of, MayRefuse, ToCall, cause_of_watch, may_refuse_as}
+use Rattle.sled_model.specs.declared.call.Whole.TheVariants.{Watch, Next, Unsubscribe}
 use Rattle.sled_model.specs.declared.event.Event.{Event}
+use Rattle.sled_model.specs.declared.reply.Reply.TheVariants as reply
 use Rattle.sled_model.specs.declared.tree.Tree.{Tree}
 use Rattle.sled_queues.specs.Values.{WaitingValue, QueuesValue, Waitings, queue_at}
 use Rattle.sled_queues.specs.Queues.{IsCalm, Becomes, queue_of, queues_of, with_subscriber, oldest_in, taken_in, without_oldest_of, without_subscriber}
 use Rattle.sled_queues.specs.Laws.{ServesLaw}
 use Rattle.sled_queues.proofs.Grouped.{calm_law}
+use Rattle.sled_tree.specs.Known.{IsKnown}
 use Rattle.tree_laws.specs.Contents.{trees_of}
-use Rattle.sled.specs.Values.{DbValue, numbers_of, named, state_of, db_state}
+use Rattle.tree_laws.specs.Crashes.{AddsCrashStates}
+use Rattle.tree_laws.specs.Snapshot.{Snapshot}
+use Rattle.tree_laws.proofs.Crashing.{extends_same}
+use Rattle.sled.specs.Direct.{KeepsOrFreesTreePages, LeavesAll, WholeDecided, WholeRefused}
+use Rattle.sled.specs.Values.{DbValue, numbers_of, named, state_of, db_state, snapshot_of_db}
 use Rattle.sled.specs.Sound.{IsDb}
-use Rattle.sled.specs.Watch.{WatchesDb, TakesFromDb, EndsSubscriber}
+use Rattle.sled.specs.Watch.{WatchesDb, RefusesWatch, TakesFromDb, EndsSubscriber}
+use Rattle.sled.proofs.Conducting.{loses_same}
 use Rattle.sled.proofs.Testing.{first_alone}
 
 -- ---- the queues of the model
@@ -142,3 +151,70 @@ module _ {P M : Type 0} (store : P → Store) (inside : DbValue P M) (db : IsDb 
 
   pub ended_db : (n : ℕ) → Becomes (without_subscriber n (queue_at inside.queues)) inside.queues.given new → IsDb store (record inside { queues = new })
   ended_db n becomes = told_db store inside new (ended_calm inside.queues new db.calm n inside.queues.given becomes) db
+
+-- ---- the same as whole calls
+
+-- a database of which at most the queues changed is left as it was
+module _ {P M : Type 0} (store : P → Store) (old new : DbValue P M) (same : new ≡ record old { queues = new.queues }) where
+  store_same : store new.pages ≡ store old.pages
+  store_same = ap (λ (d : DbValue P M). store d.pages) same
+
+  moment_same : snapshot_of_db store new ≡ snapshot_of_db store old
+  moment_same = ap (snapshot_of_db store) same
+
+  leaves_pages : (IsDb store old → IsDb store new) → LeavesAll store [] None old new
+  leaves_pages sound = record {
+    extends = subst (AddsCrashStates [] (store old.pages)) (sym store_same) (extends_same (store old.pages));
+    others = λ h known. subst (λ (z : Snapshot). IsKnown z h) (sym moment_same) known;
+    loses = subst (λ (z : Snapshot). KeepsOrFreesTreePages None (snapshot_of_db store old) z) (sym moment_same) (loses_same (snapshot_of_db store old));
+    sound = sound;
+  }
+
+module _ {P M : Type 0} (store : P → Store) (meant : M → Merge) (old new : DbValue P M) where
+  pub watch_decided : (tree : Tree) (prefix : Key) (number : ℕ) → WatchesDb store meant old tree prefix number new → WholeDecided store meant old (Watch tree prefix) (reply.Subscriber number) new
+  watch_decided tree prefix number w = record {
+    maps = [];
+    decides = λ slots given n. (number, refl, w.watches slots given, refl);
+    acts = store_same store old new w.same;
+    leaves = leaves_pages store old new w.same w.sound;
+    same = w.same;
+  }
+
+  pub next_decided : (subscriber : ℕ) (event : Option Event) → TakesFromDb store meant old subscriber event new → WholeDecided store meant old (Next subscriber) (reply.Event event) new
+  next_decided subscriber event t = record {
+    maps = [];
+    decides = λ slots given n. (event, refl, t.takes slots given, refl);
+    acts = store_same store old new t.same;
+    leaves = leaves_pages store old new t.same t.sound;
+    same = t.same;
+  }
+
+  pub unsubscribe_decided : (subscriber : ℕ) → EndsSubscriber store meant old subscriber new → WholeDecided store meant old (Unsubscribe subscriber) reply.Done new
+  unsubscribe_decided subscriber u = record {
+    maps = [];
+    decides = λ slots given n. (refl, u.gives_up slots given, refl);
+    acts = store_same store old new u.same;
+    leaves = leaves_pages store old new u.same u.sound;
+    same = u.same;
+  }
+
+  pub watch_refused : (tree : Tree) (prefix : Key) (e : Error) → RefusesWatch store meant old tree prefix e new → WholeRefused store meant old (Watch tree prefix) e new
+  watch_refused tree prefix e r = subst (WholeRefused store meant old (Watch tree prefix) e) (sym r.is) (record {
+    maps = [];
+    refuses = λ slots given. (record { is = whatever slots given (must_refuse (db_state store meant old) (ToCall (Watch tree prefix))) r.may.is }, refl, refl);
+    acts = refl;
+    leaves = leaves_pages store old old refl (λ db. db);
+    same = refl;
+    tested = λ must. refl;
+  })
+    where
+      -- the cause is the same whatever calls are in flight
+      whatever : (slots : ℕ → Option CallInFlight) (given : ℕ) (o : Option MustRefuse) → may_refuse_as o (db_state store meant old) (store old.pages) (store old.pages) (ToCall (Watch tree prefix)) e
+          → may_refuse_as o (state_of store meant old slots given) (store old.pages) (store old.pages) (ToCall (Watch tree prefix)) e
+      whatever slots given (Some must) told = told
+      whatever slots given None cause = as_before slots given e cause
+        where
+          as_before : (slots : ℕ → Option CallInFlight) (given : ℕ) (e : Error) → cause_of_watch (db_state store meant old) e → cause_of_watch (state_of store meant old slots given) e
+          as_before slots given error.NoMemory k = k
+          as_before slots given (error.Unsupported text) k = k
+          as_before slots given other k = absurd k

@@ -9,12 +9,12 @@ use Rattle.sled_pages.specs.declared.error.Error.{Error}
 use Rattle.sled_model.specs.Maps.{Maps, Merge}
 use Rattle.sled_model.specs.Answer.{key_of}
 use Rattle.sled_model.specs.State.{CallInFlight, maps_of}
-use Rattle.sled_model.specs.Transition.{WholeDecides, WholeRefuses, Kind, Flushing, Telling, Dropping, kind_of}
+use Rattle.sled_model.specs.Transition.{WholeDecides, WholeRefuses, Kind, Flushing, Telling, Dropping, Listening, kind_of}
 use Rattle.sled_model.specs.Whole.{DecidesPoint, RefusesPoint}
 use Rattle.sled_model.specs.Refusal.{ToCall, must_refuse, TellsTurns, turns_limit}
 use Rattle.sled_model.specs.declared.call.Call.{Call}
 use Rattle.sled_model.specs.declared.call.Whole.{Whole}
-use Rattle.sled_model.specs.declared.call.Whole.TheVariants.{OpenTree, DropTree, GenerateId, Import, PopMin, PopMax, Clear}
+use Rattle.sled_model.specs.declared.call.Whole.TheVariants.{OpenTree, DropTree, GenerateId, Import, PopMin, PopMax, Clear, Watch, Next, Unsubscribe}
 use Rattle.sled_model.specs.declared.outcome.Outcome.{Outcome}
 use Rattle.sled_model.specs.declared.outcome.Outcome.TheVariants as outcome
 use Rattle.sled_model.specs.declared.tree.Tree.{Tree}
@@ -77,8 +77,9 @@ pub record Conducts {P M : Type 0} (store : P → Store) (maps : List Maps) (ref
 
 -- What a whole call does to the store: a flush makes all durable, and a call that tells something does nothing, but that it may raise
 -- the mark; where one of these is refused, nothing but a fault is counted. One that drops a tree does changing actions, and faults may
--- be counted between them, since a refusal after the root went is not told; where it is refused it does no action. Any other does
--- changing actions, one after the other, and after the last of them nothing; where it is refused then at most a fault is counted
+-- be counted between them, since a refusal after the root went is not told; where it is refused it does no action. One that learns of
+-- changes does nothing. Any other does changing actions, one after the other, and after the last of them nothing; where it is refused
+-- then at most a fault is counted
 abbrev pub effect_of_whole : Kind → Outcome → Store → Store → Type 0
 effect_of_whole Flushing (outcome.Decided reply) old new = new ≡ after_flush old
 effect_of_whole Flushing (outcome.Refused e) old new = only_faults e old new
@@ -86,12 +87,14 @@ effect_of_whole Telling (outcome.Decided reply) old new = new ≡ record old { m
 effect_of_whole Telling (outcome.Refused e) old new = only_faults e old new
 effect_of_whole Dropping (outcome.Decided reply) old new = ActsAndCounts old new
 effect_of_whole Dropping (outcome.Refused e) old new = IsStepRefused e old new
+effect_of_whole Listening o old new = new ≡ old
 effect_of_whole kind (outcome.Decided reply) old new = effects_until None old new
 effect_of_whole kind (outcome.Refused e) old new = effects_until (Some e) old new
 effect_of_whole kind o old new = ⊥
 
 -- what a decided whole call may change of the database: its pages; and one that removes or imports keys the queues, one that opens a
--- tree the list of trees, one that drops a tree that list and the operators, one that takes an id the greatest that was given
+-- tree the list of trees, one that drops a tree that list and the operators, one that takes an id the greatest that was given. One that
+-- learns of changes touches the queues alone
 abbrev pub changes_only : {P M : Type 0} → Whole → DbValue P M → DbValue P M → Type 0
 changes_only (OpenTree name) old new = new ≡ record old { pages = new.pages; trees = new.trees; trees_given = new.trees_given }
 changes_only (DropTree name) old new = new ≡ record old { pages = new.pages; trees = new.trees; operators = new.operators }
@@ -100,6 +103,9 @@ changes_only (PopMin tree) old new = new ≡ record old { pages = new.pages; que
 changes_only (PopMax tree) old new = new ≡ record old { pages = new.pages; queues = new.queues }
 changes_only (Clear tree) old new = new ≡ record old { pages = new.pages; queues = new.queues }
 changes_only (Import collections) old new = new ≡ record old { pages = new.pages; queues = new.queues; trees = new.trees; trees_given = new.trees_given }
+changes_only (Watch tree prefix) old new = new ≡ record old { queues = new.queues }
+changes_only (Next subscriber) old new = new ≡ record old { queues = new.queues }
+changes_only (Unsubscribe subscriber) old new = new ≡ record old { queues = new.queues }
 changes_only whole old new = new ≡ record old { pages = new.pages }
 
 -- .. and one that is refused. A clear may have removed some keys, and an import keeps the parts that it did

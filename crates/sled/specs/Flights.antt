@@ -2,7 +2,7 @@
 use Rattle.std.specs.Prelude.{◌≡◌, ◌≢◌, ℕ, zero, suc, ◌+◌, ◌<◌, ◌≤◌, ◌⊎◌, true, false, List, [], ◌∷◌, length, Option, Some, None}
 use Rattle.sled_pages.specs.In.{In}
 use Rattle.sled_pages.specs.declared.error.Error.{Error}
-use Rattle.sled_pages.specs.declared.error.Error.TheVariants.{Io, NoMemory}
+use Rattle.sled_pages.specs.declared.error.Error.TheVariants.{Io, NoMemory, FullQueue}
 use Rattle.sled_pages.specs.declared.node.Node.{Node}
 use Rattle.sled_pages.specs.declared.page.View.{View}
 use Rattle.sled_pages.specs.Store.{Store, now}
@@ -26,7 +26,7 @@ use Rattle.tree_laws.specs.Stages.{owned}
 use Rattle.tree_laws.specs.declared.flight.Stage.TheVariants as stage
 use Rattle.sled_tree.specs.Known.{IsKnown, AreApart}
 use Rattle.sled_tree.specs.StageAction.{ActsOnce, ActsAtMostOnce, leaks_no_page_as}
-use Rattle.sled_tree.specs.Follows.{FollowsOn}
+use Rattle.sled_tree.specs.Follows.{Follows, FollowsOn}
 use Rattle.sled_tree.specs.Passing.{IsOnPath, StepsOnPath}
 use Rattle.sled_tree.specs.Course.{course_of}
 use Rattle.sled_tree.specs.declared.flight.InFlight.{InFlight}
@@ -132,10 +132,10 @@ pub record DbActs {P M : Type 0} (store : P → Store) (meant : M → Merge) (ol
   pub quiet : BringsEvent store meant old f went None → store new.pages ≡ store old.pages
   pub loud : (event : Event) → BringsEvent store meant old f went (Some event) → ActsOnce (store old.pages) (store new.pages)
 
--- where the tests pass, a turn is left and no full queue is in the way, the step does what the call's stage is to do, and leads where that
--- leads
+-- where the tests pass and a turn is left, the step does what the call's stage is to do, and leads where that leads; but for a call that
+-- meets a full queue at its link, or as it comes there
 abbrev pub DbFollows : {P M : Type 0} → (P → Store) → (M → Merge) → DbValue P M → InFlight → Went → DbValue P M → InFlight → Type 0
-DbFollows store meant old f went new g = must_refuse (db_state store meant old) (ToStep (call_in_flight_of f)) ≡ None → f.turns < turns_limit → MeetsNoFullQueue (db_state store meant old) f → FollowsOn (store old.pages) f went (store new.pages) g
+DbFollows store meant old f went new g = must_refuse (db_state store meant old) (ToStep (call_in_flight_of f)) ≡ None → f.turns < turns_limit → FindsRoom (db_state store meant old) f → went ≢ Refused FullQueue → FollowsOn (store old.pages) f went (store new.pages) g
 
 -- on a clean path the call goes one page further, or ends, but for one that is to link its change and meets a full queue
 abbrev pub DbPasses : {P M : Type 0} → (P → Store) → (M → Merge) → DbValue P M → InFlight → Went → DbValue P M → InFlight → Type 0
@@ -147,12 +147,18 @@ turned_back Moved g = g.stage ≡ stage.Root
 turned_back (Decided reply) g = ⊥
 turned_back (Refused e) g = e ≡ NoMemory
 
--- What a full queue does to a call: it does not come to its link; and where it is to link its change, the queue having been filled
--- since, it does nothing and begins again
+-- what the call's stage is to do leads to its link
+pub record LeadsToLink (old : Store) (f : InFlight) (new : Store) : Type 0 where
+  pub view : View
+  pub is : Follows (course_of f) old f.stage (next.Go (stage.Act view)) new
+
+-- What a full queue does to a call: it does not come to its link, and only there is it refused for the queue; and where it is to link its
+-- change, the queue having been filled since, it does nothing and begins again
 pub record DbFindsRoom {P M : Type 0} (store : P → Store) (meant : M → Merge) (old : DbValue P M) (f : InFlight) (went : Went) (new : DbValue P M) (g : InFlight) : Type 0 where
   pub room : went ≡ Moved → FindsRoom (db_state store meant old) g
   pub back : must_refuse (db_state store meant old) (ToStep (call_in_flight_of f)) ≡ None → f.turns < turns_limit → (view : View) → f.stage ≡ stage.Act view
       → MeetsFullQueue (db_state store meant old) f.job.tree f.job.call → turned_back went g × (store new.pages ≡ store old.pages)
+  pub told : went ≡ Refused FullQueue → LeadsToLink (store old.pages) f (store new.pages)
 
 -- no page of the call's own is left behind, but by a call that is refused
 abbrev pub DbLeaksNoPage : {P M : Type 0} → (P → Store) → DbValue P M → InFlight → Went → DbValue P M → InFlight → Type 0

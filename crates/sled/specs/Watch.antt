@@ -5,8 +5,9 @@ use Rattle.sled_pages.specs.Store.{Store}
 use Rattle.sled_pages.specs.declared.error.Error.{Error}
 use Rattle.sled_model.specs.Maps.{Merge}
 use Rattle.sled_model.specs.State.{CallInFlight}
-use Rattle.sled_model.specs.Refusal.{ToWatch, MayRefuse}
+use Rattle.sled_model.specs.Refusal.{ToCall, MayRefuse}
 use Rattle.sled_model.specs.Whole.{Watches, TakesEvent, GivesUpQueue}
+use Rattle.sled_model.specs.declared.call.Whole.TheVariants.{Watch}
 use Rattle.sled_model.specs.declared.event.Event.{Event}
 use Rattle.sled_model.specs.declared.tree.Tree.{Tree}
 use Rattle.sled.specs.Values.{DbValue, state_of, db_state}
@@ -20,8 +21,8 @@ module _ {P M : Type 0} (store : P → Store) (meant : M → Merge) where
     pub sound : IsDb store old → IsDb store new
 
   -- It was refused, and nothing changes
-  pub record RefusesWatch (old : DbValue P M) (tree : Tree) (e : Error) (new : DbValue P M) : Type 0 where
-    pub may : MayRefuse (db_state store meant old) (store old.pages) (store old.pages) (ToWatch tree) e
+  pub record RefusesWatch (old : DbValue P M) (tree : Tree) (prefix : Key) (e : Error) (new : DbValue P M) : Type 0 where
+    pub may : MayRefuse (db_state store meant old) (store old.pages) (store old.pages) (ToCall (Watch tree prefix)) e
     pub is : new ≡ old
 
   -- A subscriber took its oldest event, if one waited

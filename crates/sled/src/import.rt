@@ -2,7 +2,7 @@
 ghost use Rattle.std.specs.Prelude.{◌≡◌, IfErr, OnOk, [], ◌∷◌};
 ghost use Rattle.sled_model.specs.Collections.{content_of, contents_of, are_trees};
 ghost use Rattle.sled_model.specs.Imports.{OpensName, Puts, puts_of, parts_of};
-ghost use Rattle.sled.specs.Imports.{ImportDecided, ImportRefused, ImportsBySteps, ImportRefusedBySteps};
+ghost use Rattle.sled.specs.Imports.{ImportDecided, ImportRefused, ImportsBySteps};
 ghost use Rattle.sled.specs.theory.Imports.{IsTreeNow, PartsDone, PartsStopped};
 
 use crate::db::Db;
@@ -87,7 +87,6 @@ impl<P: Pages, M: MergeOperator> Db<P, M> {
         ensures ok { OnOk result (ImportDecided P.store M.meant self.old (contents_of collections.now) self.new) }
         ensures err { IfErr result (λ e. ImportRefused P.store M.meant self.old (contents_of collections.now) e self.new) }
         ensures steps { OnOk result (ImportsBySteps P.store M.meant self.old (parts_of (contents_of collections.now)) self.new) }
-        ensures refused { IfErr result (λ e. ImportRefusedBySteps P.store M.meant self.old (contents_of collections.now) e self.new) }
     {
         if self.pages.in_group() {
             return Err(Error::Closed);

@@ -10,7 +10,8 @@ impl<P: Pages, M: MergeOperator> Db<P, M> {
 
     /// A new subscriber to the keys of a tree that begin with a prefix. From now on each change of such a key that is decided
     /// comes into its queue, in order, where `next` takes it out. At most 1024 events wait there: a call whose event a full
-    /// queue would get is refused with `FullQueue`. Subscribers are numbered from 1, and no number is given twice.
+    /// queue would get is refused with `FullQueue`. Subscribers are numbered from 1, and no number is given twice until the
+    /// database is opened again.
     ///
     /// Refused as `check` tells, then for want of memory alone, and with `Unsupported` once all numbers of 64 bits are given.
     /// Then nothing changes.
@@ -21,7 +22,7 @@ impl<P: Pages, M: MergeOperator> Db<P, M> {
     /// ```
     pub fn watch_prefix(&mut self, tree: &Tree, prefix: &[u8]) -> Result<Subscriber>
         ensures ok { IfOk result (λ number. WatchesDb P.store M.meant self.old tree.now prefix.now number self.new) }
-        ensures err { IfErr result (λ e. RefusesWatch P.store M.meant self.old tree.now e self.new) }
+        ensures err { IfErr result (λ e. RefusesWatch P.store M.meant self.old tree.now prefix.now e self.new) }
     {
         if let Err(e) = self.check(tree) {
             return Err(e);

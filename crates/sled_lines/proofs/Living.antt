@@ -1,5 +1,5 @@
 -- Lines of a session, one by one.
-use Rattle.std.proofs.Common.{◌≡◌, ℕ, ◌+◌, List, [], ◌++◌, Option, Some, None, IfSome, sym, subst}
+use Rattle.std.proofs.Common.{◌≡◌, ℕ, ◌+◌, List, [], ◌++◌, Option, Some, None, IfSome, Result, Ok, Err, IfOk, OnOk, sym, subst}
 use Rattle.sled_pages.specs.Store.{Store}
 use Rattle.sled_model.specs.Maps.{Merge}
 use Rattle.sled_lines.specs.Print.{Prints, bad_line}
@@ -12,6 +12,11 @@ use Rattle.sled_lines.specs.declared.serve.End.{End}
 use Rattle.sled_lines.specs.declared.serve.End.TheVariants as end
 use Rattle.sled_lines.specs.declared.session.Session.{Session}
 use Rattle.sled_lines.proofs.Printing.{prints_then}
+
+-- what holds of this value holds of an answer that is it, by what comes with that
+pub ends_as : {T E Q : Type 0} (p : T → Type 0) (x : T) (r : Result T E) → IfOk r (λ t. t ≡ x) → OnOk r Q → (Q → p x) → IfOk r p
+ends_as p x (Ok t) same has gives = subst p (sym same) (gives has)
+ends_as p x (Err e) same has gives = tt
 
 module _ {P M : Type 0} (store : P → Store) (flush_number : P → ℕ) (meant : M → Merge) where
   end_by : (before after : Option (List ℕ)) (n m : ℕ) (held held_then : Option (List ℕ)) (gathered gathered_then : List ℕ) (s : Session P M) → m ≡ n → IfSome before (λ text. (text ≡ []) × (after ≡ Some [])) → Prints held gathered held_then gathered_then []

@@ -9,7 +9,7 @@ use Rattle.tree_laws.specs.Contents.{trees_of}
 use Rattle.sled.specs.Export.{collections, RefusesExport}
 use Rattle.sled_lines.specs.Print.{Prints, outcome_line, refused_line, dump_text}
 use Rattle.sled_lines.specs.Session.{slot_at, acts_at, performs, current_after, opened_or, obeys, Obeys}
-use Rattle.sled_lines.specs.theory.Session.{ActsAndShows, OpensAndShows}
+use Rattle.sled_lines.specs.theory.Session.{ActsAndShows, Shows}
 use Rattle.sled_lines.specs.declared.session.Act.{Act}
 use Rattle.sled_lines.specs.declared.session.Act.TheVariants as act
 use Rattle.sled_lines.specs.declared.command.Command.{Command}
@@ -38,6 +38,18 @@ module _ {P M : Type 0} (store : P → Store) (flush_number : P → ℕ) (meant 
     does = obeys_by old c show o new does tree;
     prints = prints_onto held gathered gathered_then (outcome_line show o) is;
   }
+
+  -- the same of its line, if it could be gathered
+  pub shown : {T E : Type 0} (old : Session P M) (c : Command) (show : Shown) (o : Outcome) (new : Session P M) (gathered gathered_then : List ℕ) (r : Result T E) → performs store flush_number meant old c show o new → new.tree ≡ current_after c old.tree o
+      → OnOk r (gathered_then ≡ gathered ++ outcome_line show o) → OnOk r (Shows store flush_number meant old c new gathered gathered_then)
+  shown old c show o new gathered gathered_then (Ok done) does tree is = record { show = show; outcome = o; performs = does; tree = tree; line = is }
+  shown old c show o new gathered gathered_then (Err e) does tree is = tt
+
+  -- the command is this one
+  pub obeyed_as : {T E : Type 0} (old : Session P M) (c d : Command) (new : Session P M) (held : Option (List ℕ)) (gathered gathered_then : List ℕ) (r : Result T E) → c ≡ d
+      → OnOk r (Shows store flush_number meant old d new gathered gathered_then) → OnOk r (Obeys store flush_number meant old c new held gathered held gathered_then)
+  obeyed_as old c d new held gathered gathered_then (Ok done) same did = subst (λ x. Obeys store flush_number meant old x new held gathered held gathered_then) (sym same) (obeyed old d did.show did.outcome new held gathered gathered_then did.performs did.tree did.line)
+  obeyed_as old c d new held gathered gathered_then (Err e) same did = tt
 
   -- the same of a command that is this one, if its line could be gathered
   pub obeyed_shown : {T E : Type 0} (old : Session P M) (c d : Command) (show : Shown) (o : Outcome) (new : Session P M) (held : Option (List ℕ)) (gathered gathered_then : List ℕ) (r : Result T E) → c ≡ d → performs store flush_number meant old d show o new
@@ -68,7 +80,7 @@ module _ {P M : Type 0} (store : P → Store) (flush_number : P → ℕ) (meant 
 
   -- the tree of a name is opened, and its line is gathered
   pub opened_shown : (old : Session P M) (name : Key) (show : Shown) (o : Outcome) (middle new : Session P M) (gathered gathered_then : List ℕ) → performs store flush_number meant old (command.OpenTree name) show o middle
-      → middle.tree ≡ old.tree → new ≡ record middle { tree = opened_or middle.tree o } → gathered_then ≡ gathered ++ outcome_line show o → OpensAndShows store flush_number meant old name new gathered gathered_then
+      → middle.tree ≡ old.tree → new ≡ record middle { tree = opened_or middle.tree o } → gathered_then ≡ gathered ++ outcome_line show o → Shows store flush_number meant old (command.OpenTree name) new gathered gathered_then
   opened_shown old name show o middle new gathered gathered_then does same follows is = record {
     show = show;
     outcome = o;
@@ -76,11 +88,6 @@ module _ {P M : Type 0} (store : P → Store) (flush_number : P → ℕ) (meant 
     tree = ap (λ (s : Session P M). s.tree) follows ∙ ap (λ t. opened_or t o) same;
     line = is;
   }
-
-  pub obeyed_open : {T E : Type 0} (old : Session P M) (c : Command) (name : Key) (new : Session P M) (held : Option (List ℕ)) (gathered gathered_then : List ℕ) (r : Result T E) → c ≡ command.OpenTree name
-      → OnOk r (OpensAndShows store flush_number meant old name new gathered gathered_then) → OnOk r (Obeys store flush_number meant old c new held gathered held gathered_then)
-  obeyed_open old c name new held gathered gathered_then (Ok done) same did = subst (λ x. Obeys store flush_number meant old x new held gathered held gathered_then) (sym same) (obeyed old (command.OpenTree name) did.show did.outcome new held gathered gathered_then did.performs did.tree did.line)
-  obeyed_open old c name new held gathered gathered_then (Err e) same did = tt
 
   -- all pairs are printed
   pub obeyed_all : (s : Session P M) (held held_then : Option (List ℕ)) (gathered gathered_then text : List ℕ) → (now (store s.machine.db.pages)).in_group ≡ false

@@ -10,8 +10,11 @@ use Rattle.sled_model.specs.declared.call.Call.{Call}
 use Rattle.sled_model.specs.declared.call.Call.TheVariants.{Get, Insert, Remove, CompareAndSwap, Merge}
 use Rattle.sled_model.specs.declared.call.Whole.{Whole}
 use Rattle.sled_model.specs.declared.call.Whole.TheVariants.{GenerateId}
+use Rattle.sled_model.specs.declared.event.Event.{Event}
+use Rattle.sled_model.specs.declared.event.Event.TheVariants as event
 use Rattle.sled_model.specs.declared.reply.Reply.{Reply}
-use Rattle.sled_model.specs.declared.reply.Reply.TheVariants.{Value, Swapped, Number, Done, Pair, Tree, Flag}
+use Rattle.sled_model.specs.declared.reply.Reply.TheVariants.{Value, Swapped, Number, Done, Pair, Tree, Flag, Subscriber}
+use Rattle.sled_model.specs.declared.reply.Reply.TheVariants as reply
 use Rattle.sled_model.specs.declared.reply.CompareAndSwapError.{CompareAndSwapError}
 use Rattle.sled_model.specs.declared.outcome.Outcome.{Outcome}
 use Rattle.sled_model.specs.declared.outcome.Outcome.TheVariants.{Begun, Moved, Decided, Refused, Abandoned, NoSuchSlot}
@@ -61,6 +64,14 @@ found_line key value = codes "found " ++ printed key ++ codes " " ++ printed val
 abbrev pub tree_line : Key → List ℕ
 tree_line name = codes "tree " ++ printed name ++ end
 
+abbrev pub subscriber_line : ℕ → List ℕ
+subscriber_line n = codes "subscriber " ++ decimal n ++ end
+
+abbrev pub event_line : Option Event → List ℕ
+event_line None = codes "event -" ++ end
+event_line (Some (event.Insert key value)) = codes "event insert " ++ printed key ++ codes " " ++ printed value ++ end
+event_line (Some (event.Remove key)) = codes "event remove " ++ printed key ++ end
+
 abbrev pub reply_line : Shown → Reply → List ℕ
 reply_line show (Value bytes) = name_of show ++ word_of bytes ++ end
 reply_line show (Swapped (Ok done)) = codes "swapped" ++ end
@@ -72,6 +83,8 @@ reply_line show (Pair None) = codes "found -" ++ end
 reply_line show (Tree tree) = tree_line tree.name
 reply_line show (Flag true) = codes "yes" ++ end
 reply_line show (Flag false) = codes "no" ++ end
+reply_line show (Subscriber n) = subscriber_line n
+reply_line show (reply.Event taken) = event_line taken
 
 -- errors are numbered in the order of their variants
 abbrev pub error_number : Error → ℕ

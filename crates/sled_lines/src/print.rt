@@ -1,14 +1,15 @@
 //! Lines: how outcomes are printed. Each function adds one line. It is refused with `NoMemory` alone, and a beginning of
 //! the line may stand there then.
-ghost use Rattle.std.specs.Prelude.{◌≡◌, ◌++◌, OnOk, IfErr, decimal};
+ghost use Rattle.std.specs.Prelude.{◌≡◌, ◌++◌, Some, OnOk, IfErr, decimal};
 ghost use Rattle.std.specs.Option.{option_copied};
 ghost use Rattle.std.specs.List.{flat_map};
 ghost use Rattle.sled_pages.specs.declared.error.Error.TheVariants.{NoMemory};
+ghost use Rattle.sled_model.specs.declared.event.Event.TheVariants.{Insert, Remove};
 ghost use Rattle.sled_lines.specs.Words.{word_of};
-ghost use Rattle.sled_lines.specs.Print.{end, piece_text, shown_of, shown_of_whole, name_of, number_name_of, conflict_line, found_line, tree_line, reply_line, error_number, refused_line, slot_line, outcome_line, pair_line, end_line, recovered_line, bad_line};
+ghost use Rattle.sled_lines.specs.Print.{end, piece_text, shown_of, shown_of_whole, name_of, number_name_of, conflict_line, found_line, tree_line, subscriber_line, event_line, reply_line, error_number, refused_line, slot_line, outcome_line, pair_line, end_line, recovered_line, bad_line};
 
 use crate::words::push_word;
-use sled_model::{Call, CompareAndSwapError, Outcome, Reply, Whole};
+use sled_model::{Call, CompareAndSwapError, Event, Outcome, Reply, Whole};
 use sled_pages::{Error, IVec, Result};
 use std::io::Write;
 
@@ -160,6 +161,58 @@ fn push_tree<'a>(out: &mut Vec<u8>, name: &'a [u8]) -> Result<()>
     )
 }
 
+/// Adds the line of a subscriber, by this number for it.
+pub fn push_subscriber(out: &mut Vec<u8>, number: u64) -> Result<()>
+    ensures ok { OnOk result (out.new.items ≡ out.old.items ++ subscriber_line number) }
+    ensures err { IfErr result (λ e. e ≡ NoMemory) }
+{
+    push_numbered(out, b"subscriber ", number)
+}
+
+// Adds the line of a key that has this value now.
+fn push_inserted<'a>(out: &mut Vec<u8>, key: &'a [u8], value: &'a [u8]) -> Result<()>
+    ensures ok { OnOk result (out.new.items ≡ out.old.items ++ event_line (Some (Insert key.now value.now))) }
+    ensures err { IfErr result (λ e. e ≡ NoMemory) }
+{
+    push_pieces(
+        out,
+        &[
+            Piece::Text(b"event insert "),
+            Piece::Word(key),
+            Piece::Text(b" "),
+            Piece::Word(value),
+            Piece::Text(b"\n"),
+        ],
+    )
+}
+
+// Adds the line of a key that has no value now.
+fn push_removed<'a>(out: &mut Vec<u8>, key: &'a [u8]) -> Result<()>
+    ensures ok { OnOk result (out.new.items ≡ out.old.items ++ event_line (Some (Remove key.now))) }
+    ensures err { IfErr result (λ e. e ≡ NoMemory) }
+{
+    push_pieces(
+        out,
+        &[
+            Piece::Text(b"event remove "),
+            Piece::Word(key),
+            Piece::Text(b"\n"),
+        ],
+    )
+}
+
+// Adds the line of an event that was taken, or of none.
+fn push_event(out: &mut Vec<u8>, event: &Option<Event>) -> Result<()>
+    ensures ok { OnOk result (out.new.items ≡ out.old.items ++ event_line event.now) }
+    ensures err { IfErr result (λ e. e ≡ NoMemory) }
+{
+    match event {
+        None => push_text(out, b"event -\n"),
+        Some(Event::Insert { key, value }) => push_inserted(out, key.as_ref(), value.as_ref()),
+        Some(Event::Remove { key }) => push_removed(out, key.as_ref()),
+    }
+}
+
 // What a value is called.
 fn name_of(shown: Shown) -> &'static [u8]
     ensures { result.now ≡ name_of shown }
@@ -200,6 +253,8 @@ fn push_reply(out: &mut Vec<u8>, shown: Shown, reply: &Reply) -> Result<()>
         Reply::Tree(tree) => push_tree(out, tree.name.as_ref()),
         Reply::Flag(true) => push_text(out, b"yes\n"),
         Reply::Flag(false) => push_text(out, b"no\n"),
+        Reply::Subscriber(subscriber) => push_subscriber(out, subscriber.0),
+        Reply::Event(event) => push_event(out, event),
     }
 }
 

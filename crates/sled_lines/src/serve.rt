@@ -5,6 +5,7 @@ ghost use Rattle.sled_pages.specs.Store.{now};
 ghost use Rattle.sled_pages.specs.Memory.{store_of, empty_store};
 ghost use Rattle.tree_laws.specs.Crashes.{IsValid, IsCrashConsistent};
 ghost use Rattle.sled_lines.specs.Print.{Prints, bad_line};
+ghost use Rattle.sled_lines.specs.declared.serve.End.TheVariants.{BadLine};
 ghost use Rattle.sled_lines.specs.Serve.{IsStatus, bad_left, crash_of, recovered_text, Served, served_as};
 ghost use Rattle.sled_lines.specs.Session.{Obeys};
 ghost use Rattle.sled_lines.specs.theory.Serve.{Reads, Takes, IsToDo, Ends, LivesFrom, LivedFrom, ServesFrom, place, Ran};
@@ -112,6 +113,17 @@ fn tell_bad<W: Write>(number: u64, output: &mut W, out: &mut Vec<u8>) -> Result<
     write(output, out)
 }
 
+// The same, with which a session ends.
+fn end_at_bad<W: Write>(buffers: &mut Buffers, output: &mut W) -> Result<End, Stopped>
+    ensures end { IfOk result (λ e. e ≡ BadLine) }
+    ensures prints { OnOk result (Prints (W.contents output.old) buffers.old.out.items (W.contents output.new) buffers.new.out.items (bad_line buffers.old.number)) }
+    ensures written { OnOk result (buffers.new.out.items ≡ []) }
+    ensures same { buffers.new ≡ record buffers.old { out = buffers.new.out } }
+{
+    tell_bad(buffers.number, output, &mut buffers.out)?;
+    Ok(End::BadLine)
+}
+
 // Runs a command, and prints how it came out.
 fn answer<P: Pages, M: MergeOperator, W: Write>(
     session: &mut Session<P, M>,
@@ -142,10 +154,7 @@ fn lines<P: Pages, M: MergeOperator, R: BufRead, W: Write>(
     for _ in 0..u64::MAX {
         match next_line(alloc, input, output, buffers)? {
             Line::NoLine => return Ok(End::NoLine),
-            Line::BadLine => {
-                tell_bad(buffers.number, output, &mut buffers.out)?;
-                return Ok(End::BadLine);
-            }
+            Line::BadLine => return end_at_bad(buffers, output),
             Line::Crash(keep) => return Ok(End::Crash(keep)),
             Line::Command(command) => answer(session, command, output, &mut buffers.out)?,
         }

@@ -19,7 +19,7 @@ ghost use Rattle.sled_lines.specs.declared.command.Command.TheVariants as comman
 ghost use Rattle.sled_lines.specs.declared.print.Shown.{Shown};
 ghost use Rattle.sled_lines.specs.declared.session.Act.TheVariants as act;
 ghost use Rattle.sled_lines.specs.Session.{slot_at, turns_at, begins_as, acts_at, opened_or, Obeys};
-ghost use Rattle.sled_lines.specs.theory.Session.{ActsAndShows, OpensAndShows};
+ghost use Rattle.sled_lines.specs.theory.Session.{ActsAndShows, Shows};
 
 use crate::command::Command;
 use crate::input::Stopped;
@@ -278,7 +278,7 @@ impl<P: Pages, M: MergeOperator> Session<P, M> {
 
     // Opens the tree of a name, which becomes the current one, and adds the line of how that came out.
     fn open_tree(&mut self, name: IVec, out: &mut Vec<u8>) -> Result<(), Stopped>
-        ensures { OnOk result (OpensAndShows P.store P.flush_number M.meant self.old name self.new out.old.items out.new.items) }
+        ensures { OnOk result (Shows P.store P.flush_number M.meant self.old (command.OpenTree name) self.new out.old.items out.new.items) }
     {
         let (shown, outcome) = self.whole_shown(Whole::OpenTree(name));
         let pushed = push_outcome(out, shown, &outcome);
@@ -331,6 +331,21 @@ impl<P: Pages, M: MergeOperator> Session<P, M> {
         show(out, self.act(number, act))
     }
 
+    // A call from its begin to its end, and adds the line of how that came out.
+    fn point_and_show(&mut self, call: Call, out: &mut Vec<u8>) -> Result<(), Stopped>
+        ensures { OnOk result (Shows P.store P.flush_number M.meant self.old (command.Point call) self.new out.old.items out.new.items) }
+    {
+        show(out, self.point(call))
+    }
+
+    // A call takes a slot, and the line of how that came out is added.
+    fn begin_and_show(&mut self, call: Call, out: &mut Vec<u8>) -> Result<(), Stopped>
+        ensures { OnOk result (Shows P.store P.flush_number M.meant self.old (command.Begin call) self.new out.old.items out.new.items) }
+    {
+        let told = self.begin(call)?;
+        show(out, told)
+    }
+
     // Prints all pairs.
     fn dump<W: Write>(&self, output: &mut W, out: &mut Vec<u8>) -> Result<(), Stopped>
         ensures { OnOk result (Obeys P.store P.flush_number M.meant self.now command.Dump self.now (W.contents output.old) out.old.items (W.contents output.new) out.new.items) }
@@ -352,8 +367,8 @@ impl<P: Pages, M: MergeOperator> Session<P, M> {
         ensures { OnOk result (Obeys P.store P.flush_number M.meant self.old command self.new (W.contents output.old) out.old.items (W.contents output.new) out.new.items) }
     {
         match command {
-            Command::Point(call) => show(out, self.point(call)),
-            Command::Begin(call) => show(out, self.begin(call)?),
+            Command::Point(call) => self.point_and_show(call, out),
+            Command::Begin(call) => self.begin_and_show(call, out),
             Command::Step(number) => self.act_and_show(number, Act::Step, out),
             Command::Finish(number) => self.act_and_show(number, Act::Finish, out),
             Command::Abandon(number) => self.act_and_show(number, Act::Abandon, out),

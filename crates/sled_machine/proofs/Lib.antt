@@ -6,3 +6,4 @@ pub mod Runs
 pub mod Wholes
 pub mod Fetched
 pub mod Finishing
+pub mod Hearing

@@ -33,7 +33,7 @@ use Rattle.sled_tree.specs.declared.flight.Went.TheVariants.{Moved, Decided, Ref
 use Rattle.sled.specs.Values.{DbValue, state_of, db_state, configuration_of as instant_of_db, snapshot_of_db}
 use Rattle.sled.specs.Calls.{MustBeRefused, must_be_refused_as}
 use Rattle.sled_tree.specs.Known.{IsKnown, AreApart}
-use Rattle.sled.specs.Flights.{MeetsNoFullQueue, FindsRoom, call_in_flight_of, KeepsTreePages, BringsEvent, DbStepContract, outcome_of, slot_after, maps_added}
+use Rattle.sled.specs.Flights.{FindsRoom, DbFindsRoom, call_in_flight_of, KeepsTreePages, BringsEvent, DbStepContract, outcome_of, slot_after, maps_added}
 use Rattle.sled.specs.Flush.{FlushesDb, RefusesFlush}
 use Rattle.sled.proofs.Flying.{loses_nothing, moved_state}
 use Rattle.sled.proofs.Flushing.{stays_state, stays_moment}
@@ -113,6 +113,7 @@ module _ {P M : Type 0} (store : P → Store) (number : P → ℕ) (meant : M �
     does = record { is = refl };
     follows = record { is = λ f there. none_some (sym e ∙ there) };
     passes = record { is = tt };
+    room = record { is = λ f there. none_some (sym e ∙ there) };
     slots = record { starts = tt; others = λ q off. refl };
     loses = record { none = loses_nothing None (snapshot_of_db store v.db) };
     leaves = record { is = λ w is. subst (λ o. LeaksNoPage (owned_by o) (owned_by o) (now (store v.db.pages)) (now (store v.db.pages)) w) (sym e) (leaves_same_pages [] [] (now (store v.db.pages)) w (λ q i. i)) };
@@ -128,6 +129,7 @@ module _ {P M : Type 0} (store : P → Store) (number : P → ℕ) (meant : M �
     does = record { is = refl };
     follows = record { is = tt };
     passes = record { is = tt };
+    room = record { is = tt };
     slots = record { starts = tt; others = λ q off. refl };
     loses = record { none = loses_nothing None (snapshot_of_db store v.db) };
     leaves = record { is = tt };
@@ -147,6 +149,7 @@ module _ {P M : Type 0} (store : P → Store) (number : P → ℕ) (meant : M �
       does = record { is = refl };
       follows = record { is = tt };
       passes = record { is = tt };
+      room = record { is = tt };
       slots = record { starts = tt; others = elsewhere v.flights gs slot None gone };
       loses = record { none = loses_nothing None (snapshot_of_db store v.db) };
       leaves = record { is = tt };
@@ -183,16 +186,25 @@ module _ {P M : Type 0} (store : P → Store) (number : P → ℕ) (meant : M �
       sound = record { keeps = flies.sound.keeps };
       does = record { is = acts_flying went flies };
       follows = record {
-        is = λ g here must fits free. let same : g ≡ f = some_is (sym here ∙ there) in record {
+        is = λ g here must fits finds other. let same : g ≡ f = some_is (sym here ∙ there) in record {
           went = went;
           next = next;
           outcome = refl;
           there = are slot ∙ put_here (kept_at v.flights) slot kept ∙ stands;
           follows = subst (λ (z : InFlight). FollowsOn (store v.db.pages) z went (store db.pages) next) (sym same)
-              (flies.follows (subst (λ (z : InFlight). must_refuse (db_state store meant v.db) (ToStep (call_in_flight_of z)) ≡ None) same must) (subst (λ (z : InFlight). z.turns < turns_limit) same fits) (subst (λ (z : InFlight). MeetsNoFullQueue (db_state store meant v.db) z) same free));
+              (flies.follows (subst (λ (z : InFlight). must_refuse (db_state store meant v.db) (ToStep (call_in_flight_of z)) ≡ None) same must) (subst (λ (z : InFlight). z.turns < turns_limit) same fits) (subst (λ (z : InFlight). FindsRoom (db_state store meant v.db) z) same finds) (λ full. other (ap outcome_of full)));
         };
       };
       passes = record { is = passes };
+      room = record {
+        is = λ g here. record {
+          went = went;
+          next = next;
+          outcome = refl;
+          there = are slot ∙ put_here (kept_at v.flights) slot kept ∙ stands;
+          room = subst (λ (z : InFlight). DbFindsRoom store meant v.db z went db next) (some_is (sym there ∙ here)) flies.room;
+        };
+      };
       slots = record { starts = tt; others = elsewhere v.flights gs slot kept are };
       loses = record { none = flies.loses };
       leaves = record { is = leaves };
@@ -280,6 +292,7 @@ module _ {P M : Type 0} (store : P → Store) (number : P → ℕ) (meant : M �
     does = record { is = refl };
     follows = record { is = tt };
     passes = record { is = tt };
+    room = record { is = tt };
     slots = record { starts = tt; others = λ q off. refl };
     loses = record { none = loses_nothing None (snapshot_of_db store v.db) };
     leaves = record { is = tt };
@@ -328,6 +341,7 @@ module _ {P M : Type 0} (store : P → Store) (number : P → ℕ) (meant : M �
         does = record { is = refl };
         follows = record { is = tt };
         passes = record { is = tt };
+        room = record { is = tt };
         slots = record { starts = added_kept slot ∙ put_here (kept_at v.flights) slot (Some f) ∙ ap Some is; others = elsewhere v.flights gs slot (Some f) added_kept };
         loses = record { none = loses_nothing None (snapshot_of_db store v.db) };
         leaves = record { is = tt };
@@ -375,6 +389,7 @@ module _ {P M : Type 0} (store : P → Store) (number : P → ℕ) (meant : M �
     does = record { is = f.is };
     follows = record { is = tt };
     passes = record { is = tt };
+    room = record { is = tt };
     slots = record { starts = tt; others = λ q off. refl };
     loses = flush_loses db f.same (flushed_now f.is) (outcome.Decided (Number n));
     leaves = record { is = tt };
@@ -397,6 +412,7 @@ module _ {P M : Type 0} (store : P → Store) (number : P → ℕ) (meant : M �
     does = record { is = f.is };
     follows = record { is = tt };
     passes = record { is = tt };
+    room = record { is = tt };
     slots = record { starts = tt; others = λ q off. refl };
     loses = flush_loses db f.same (rests_now rests) (outcome.Refused e);
     leaves = record { is = tt };

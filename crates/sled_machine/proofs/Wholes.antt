@@ -5,15 +5,16 @@ use Rattle.sled_pages.specs.Store.{Store}
 use Rattle.sled_pages.specs.declared.error.Error.{Error}
 use Rattle.sled_model.specs.Maps.{Maps, Merge}
 use Rattle.sled_model.specs.State.{maps_of}
-use Rattle.sled_model.specs.Transition.{Kind, Flushing, Telling, Changing, InParts, Dropping, kind_of}
+use Rattle.sled_model.specs.Transition.{Kind, Flushing, Telling, Changing, InParts, Dropping, Listening, kind_of}
 use Rattle.sled_model.specs.declared.call.Whole.{Whole}
+use Rattle.sled_model.specs.declared.call.Whole.TheVariants.{Flush}
 use Rattle.sled_model.specs.declared.reply.Reply.{Reply}
 use Rattle.sled_model.specs.declared.outcome.Outcome.TheVariants as outcome
 use Rattle.sled_model.specs.declared.outcome.Step.TheVariants as step
 use Rattle.tree_laws.specs.Snapshot.{Snapshot}
 use Rattle.sled.specs.Values.{DbValue, snapshot_of_db}
 use Rattle.sled.specs.Direct.{KeepsOrFreesTreePages, LeavesAll, lost_of, WholeDecided, WholeRefused}
-use Rattle.sled_machine.specs.CrashMaps.{AreCrashMaps, crash_maps_after_whole}
+use Rattle.sled_machine.specs.CrashMaps.{AreCrashMaps, crash_maps_after}
 use Rattle.sled_machine.specs.Sound.{IsMachine}
 use Rattle.sled_machine.specs.Step.{MachineStepContract, whole_keeps_tree_pages, whole_gives_up, whole_tested, way_of_whole}
 use Rattle.sled_machine.specs.Values.{MachineValue, slots_of, configuration_of}
@@ -26,13 +27,15 @@ IsOther Telling = Unit {0}
 IsOther Changing = Unit {0}
 IsOther InParts = Unit {0}
 IsOther Dropping = Unit {0}
+IsOther Listening = Unit {0}
 
-kept_other : (k : Kind) → IsOther k → (added : List Maps) (after : Maps) (kept : List Maps) → crash_maps_after_whole k added after kept ≡ kept ++ added
-kept_other Flushing off added after kept = absurd off
-kept_other Telling off added after kept = refl
-kept_other Changing off added after kept = refl
-kept_other InParts off added after kept = refl
-kept_other Dropping off added after kept = refl
+kept_other : (w : Whole) → IsOther (kind_of w) → (reply : Reply) (added : List Maps) (after : Maps) (kept : List Maps) → crash_maps_after (step.Whole w) (outcome.Decided reply) added after kept ≡ kept ++ added
+kept_other Flush off reply added after kept = absurd off
+kept_other other off reply added after kept = refl
+
+kept_refused : (w : Whole) (e : Error) (added : List Maps) (after : Maps) (kept : List Maps) → crash_maps_after (step.Whole w) (outcome.Refused e) added after kept ≡ kept ++ added
+kept_refused Flush e added after kept = refl
+kept_refused other e added after kept = refl
 
 loses_other : (k : Kind) → IsOther k → (lost : Option Key) (a b : Snapshot) → KeepsOrFreesTreePages lost a b → whole_keeps_tree_pages k lost a b
 loses_other Flushing off lost a b l = absurd off
@@ -40,6 +43,7 @@ loses_other Telling off lost a b l = l
 loses_other Changing off lost a b l = l
 loses_other InParts off lost a b l = l
 loses_other Dropping off lost a b l = l
+loses_other Listening off lost a b l = l
 
 tested_other : (k : Kind) → IsOther k → (T : Type 0) → T → whole_tested k T
 tested_other Flushing off T t = absurd off
@@ -47,6 +51,7 @@ tested_other Telling off T t = t
 tested_other Changing off T t = t
 tested_other InParts off T t = t
 tested_other Dropping off T t = t
+tested_other Listening off T t = t
 
 module _ {P M : Type 0} (store : P → Store) (number : P → ℕ) (meant : M → Merge) (v : MachineValue P M) (w : Whole) (off : IsOther (kind_of w)) (db : DbValue P M) where
   decided : (reply : Reply) → WholeDecided store meant v.db w reply db → way_of_whole store meant v.db w (outcome.Decided reply) db → MachineStepContract store number meant v (step.Whole w) (outcome.Decided reply) (record v { db = db })
@@ -54,12 +59,13 @@ module _ {P M : Type 0} (store : P → Store) (number : P → ℕ) (meant : M �
     step = record {
       maps = d.maps;
       step = record { is = d.decides (slots_of v.flights) v.slots_given (number v.db.pages) };
-      keeps = λ kept l. subst (AreCrashMaps (store db.pages)) (sym (kept_other (kind_of w) off d.maps (maps_of (configuration_of store number meant (record v { db = db })).state) kept)) (extended d.maps (store v.db.pages) (store db.pages) d.leaves.extends kept l);
+      keeps = λ kept l. subst (AreCrashMaps (store db.pages)) (sym (kept_other w off reply d.maps (maps_of (configuration_of store number meant (record v { db = db })).state) kept)) (extended d.maps (store v.db.pages) (store db.pages) d.leaves.extends kept l);
     };
     sound = record { keeps = d.leaves.sound };
     does = record { is = d.acts };
     follows = record { is = tt };
     passes = record { is = tt };
+    room = record { is = tt };
     slots = record { starts = tt; others = λ q other. refl };
     loses = record { none = loses_other (kind_of w) off (lost_of w reply) (snapshot_of_db store v.db) (snapshot_of_db store db) d.leaves.loses };
     leaves = record { is = tt };
@@ -73,12 +79,13 @@ module _ {P M : Type 0} (store : P → Store) (number : P → ℕ) (meant : M �
     step = record {
       maps = d.maps;
       step = record { is = d.refuses (slots_of v.flights) v.slots_given };
-      keeps = λ kept l. extended d.maps (store v.db.pages) (store db.pages) d.leaves.extends kept l;
+      keeps = λ kept l. subst (AreCrashMaps (store db.pages)) (sym (kept_refused w e d.maps (maps_of (configuration_of store number meant (record v { db = db })).state) kept)) (extended d.maps (store v.db.pages) (store db.pages) d.leaves.extends kept l);
     };
     sound = record { keeps = d.leaves.sound };
     does = record { is = d.acts };
     follows = record { is = tt };
     passes = record { is = tt };
+    room = record { is = tt };
     slots = record { starts = tt; others = λ q other. refl };
     loses = record { none = loses_other (kind_of w) off None (snapshot_of_db store v.db) (snapshot_of_db store db) d.leaves.loses };
     leaves = record { is = tt };

@@ -3,7 +3,7 @@ use Rattle.std.specs.Prelude.{List, [], ◌∷◌, ◌++◌, map}
 use Rattle.sled_pages.specs.Store.{Store}
 use Rattle.sled_pages.specs.Crash.{crash_states}
 use Rattle.sled_model.specs.Maps.{Maps}
-use Rattle.sled_model.specs.Transition.{Kind, Flushing, Telling, Changing, InParts, Dropping, kind_of}
+use Rattle.sled_model.specs.declared.call.Whole.TheVariants.{Flush}
 use Rattle.sled_model.specs.declared.outcome.Step.{Step}
 use Rattle.sled_model.specs.declared.outcome.Step.TheVariants as step
 use Rattle.sled_model.specs.declared.outcome.Outcome.{Outcome}
@@ -15,15 +15,8 @@ use Rattle.tree_laws.specs.Crashes.{StutterEquivalent}
 pub record AreCrashMaps (s : Store) (maps : List Maps) : Type 0 where
   pub is : StutterEquivalent (map trees_of (crash_states s)) maps
 
-abbrev pub crash_maps_after_whole : Kind → List Maps → Maps → List Maps → List Maps
-crash_maps_after_whole Flushing added after kept = after ∷ []
-crash_maps_after_whole Telling added after kept = kept ++ added
-crash_maps_after_whole Changing added after kept = kept ++ added
-crash_maps_after_whole InParts added after kept = kept ++ added
-crash_maps_after_whole Dropping added after kept = kept ++ added
-
 -- The list of maps after a step: it goes on by those that the step added, at its end. A flush that was decided makes all durable,
 -- and leaves the maps now alone
 abbrev pub crash_maps_after : Step → Outcome → List Maps → Maps → List Maps → List Maps
-crash_maps_after (step.Whole whole) (Decided reply) added after kept = crash_maps_after_whole (kind_of whole) added after kept
+crash_maps_after (step.Whole Flush) (Decided reply) added after kept = after ∷ []
 crash_maps_after s o added after kept = kept ++ added

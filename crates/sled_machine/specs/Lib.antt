@@ -5,6 +5,7 @@ pub mod CrashMaps
 pub mod StepsInSlot
 pub mod Step
 pub mod Run
+pub mod Hears
 pub mod Finish
 pub mod Sound
 pub mod theory

@@ -10,6 +10,7 @@ use Rattle.sled_model.specs.Collections.{Content, contents_of}
 use Rattle.sled_model.specs.Imports.{parts_of}
 use Rattle.sled_model.specs.Transition.{Transition, Kind, Flushing, kind_of}
 use Rattle.sled_pages.specs.declared.error.Error.{Error}
+use Rattle.sled_pages.specs.declared.error.Error.TheVariants.{FullQueue}
 use Rattle.sled_model.specs.declared.call.Whole.{Whole}
 use Rattle.sled_model.specs.declared.call.Whole.TheVariants.{PopMin, PopMax, Clear, OpenTree, DropTree, Import}
 use Rattle.sled_model.specs.declared.reply.Reply.TheVariants.{Pair, Flag}
@@ -33,12 +34,12 @@ use Rattle.sled_tree.specs.declared.flight.Went.{Went}
 use Rattle.tree_reads.specs.Walk.{once, for_each}
 use Rattle.sled.specs.Sound.{IsDb}
 use Rattle.sled.specs.Values.{DbValue, db_state, snapshot_of_db}
-use Rattle.sled.specs.Flights.{IsStepRefused, KeepsTreePages, call_in_flight_of, outcome_of, MeetsNoFullQueue, FindsRoom}
+use Rattle.sled.specs.Flights.{IsStepRefused, KeepsTreePages, call_in_flight_of, outcome_of, FindsRoom, DbFindsRoom}
 use Rattle.sled.specs.Direct.{KeepsOrFreesTreePages, effect_of_whole, lost_of}
 use Rattle.sled.specs.Drops.{DropsTree, RefusesDrop}
 use Rattle.sled.specs.Opens.{OpensBySteps, OpenRefusedBySteps}
 use Rattle.sled.specs.Pops.{GivesUpPop, PopsBySteps, PopRefusedBySteps, ClearsBySteps, ClearRefusedBySteps}
-use Rattle.sled.specs.Imports.{ImportsBySteps, ImportRefusedBySteps}
+use Rattle.sled.specs.Imports.{ImportsBySteps, ImportRefused}
 use Rattle.sled_machine.specs.CrashMaps.{AreCrashMaps, crash_maps_after}
 use Rattle.sled_machine.specs.StepsInSlot.{flight_after}
 use Rattle.sled_machine.specs.Slots.{kept_at}
@@ -92,13 +93,31 @@ pub record FollowsAt {P M : Type 0} (store : P → Store) (old : MachineValue P 
   pub there : kept_at new.flights slot ≡ flight_after went next
   pub follows : FollowsOn (store old.db.pages) f went (store new.db.pages) next
 
--- a step of a slot follows from the stage of its call, where the tests pass, a turn is left and no full queue is in the way
+-- a step of a slot follows from the stage of its call, where the tests pass and a turn is left; but for a call that meets a full queue at
+-- its link, or as it comes there
 abbrev pub follows_stage_as : {P M : Type 0} → (P → Store) → (M → Merge) → MachineValue P M → Step → Outcome → MachineValue P M → Type 0
-follows_stage_as store meant old (step.Step slot) o new = (f : InFlight) → kept_at old.flights slot ≡ Some f → must_refuse (db_state store meant old.db) (ToStep (call_in_flight_of f)) ≡ None → f.turns < turns_limit → MeetsNoFullQueue (db_state store meant old.db) f → FollowsAt store old f slot o new
+follows_stage_as store meant old (step.Step slot) o new = (f : InFlight) → kept_at old.flights slot ≡ Some f → must_refuse (db_state store meant old.db) (ToStep (call_in_flight_of f)) ≡ None → f.turns < turns_limit → FindsRoom (db_state store meant old.db) f → o ≢ Refused FullQueue → FollowsAt store old f slot o new
 follows_stage_as store meant old s o new = Unit {0}
 
 pub record MachineFollows {P M : Type 0} (store : P → Store) (meant : M → Merge) (old : MachineValue P M) (s : Step) (o : Outcome) (new : MachineValue P M) : Type 0 where
   pub is : follows_stage_as store meant old s o new
+
+-- what a full queue did to the call in a slot
+pub record FindsRoomAt {P M : Type 0} (store : P → Store) (meant : M → Merge) (old : MachineValue P M) (f : InFlight) (slot : ℕ) (o : Outcome) (new : MachineValue P M) : Type 0 where
+  pub went : Went
+  pub next : InFlight
+  pub outcome : o ≡ outcome_of went
+  pub there : kept_at new.flights slot ≡ flight_after went next
+  pub room : DbFindsRoom store meant old.db f went new.db next
+
+-- a call that goes on comes to its link only where there is room, and is refused with `FullQueue` only where it would come there; and at
+-- its link with a full queue it begins again
+abbrev pub finds_room_as : {P M : Type 0} → (P → Store) → (M → Merge) → MachineValue P M → Step → Outcome → MachineValue P M → Type 0
+finds_room_as store meant old (step.Step slot) o new = (f : InFlight) → kept_at old.flights slot ≡ Some f → FindsRoomAt store meant old f slot o new
+finds_room_as store meant old s o new = Unit {0}
+
+pub record MachineFindsRoom {P M : Type 0} (store : P → Store) (meant : M → Merge) (old : MachineValue P M) (s : Step) (o : Outcome) (new : MachineValue P M) : Type 0 where
+  pub is : finds_room_as store meant old s o new
 
 -- the call in the slot has this path of pages ahead of it, nothing to repair on it, and no full queue in its way if it is to link its
 -- change
@@ -216,10 +235,10 @@ drops_tree_as store meant old name (Decided reply) new = (dropped : Bool) × (re
 drops_tree_as store meant old name (Refused e) new = RefusesDrop store meant old name e new
 drops_tree_as store meant old name o new = Unit {0}
 
--- an import does each of its parts by the steps of an opening or of an insert
+-- an import does each of its parts by the steps of an opening or of an insert, and what is refused stops at one of them
 abbrev pub imports_as : {P M : Type 0} → (P → Store) → (M → Merge) → DbValue P M → List Content → Outcome → DbValue P M → Type 0
 imports_as store meant old all (Decided reply) new = ImportsBySteps store meant old (parts_of all) new
-imports_as store meant old all (Refused e) new = ImportRefusedBySteps store meant old all e new
+imports_as store meant old all (Refused e) new = ImportRefused store meant old all e new
 imports_as store meant old all o new = Unit {0}
 
 abbrev pub way_of_whole : {P M : Type 0} → (P → Store) → (M → Merge) → DbValue P M → Whole → Outcome → DbValue P M → Type 0
@@ -245,6 +264,7 @@ pub record MachineStepContract {P M : Type 0} (store : P → Store) (flush_numbe
   pub does : MachineActs store meant old s o new
   pub follows : MachineFollows store meant old s o new
   pub passes : MachinePasses store meant old s o new
+  pub room : MachineFindsRoom store meant old s o new
   pub slots : MachineSlots old s o new
   pub loses : MachineKeepsTreePages store old s o new
   pub leaves : MachineLeaksNoPage store old s o new

@@ -6,10 +6,12 @@
 #![tactic(auto)]
 
 mod flights;
+mod laws;
 mod machine;
 mod place;
 mod table;
 
+pub use laws::law_hears;
 pub use machine::Machine;
 pub use sled_model::{
     Call, CompareAndSwapError, MergeOperator, Outcome, Reply, Slot, Step, Tree, Whole,

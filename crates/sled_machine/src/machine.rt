@@ -4,7 +4,7 @@ ghost use Rattle.std.specs.Option.{option_map};
 ghost use Rattle.sled_pages.specs.Order.{Key};
 ghost use Rattle.sled_pages.specs.declared.error.Error.TheVariants.{NoMemory};
 ghost use Rattle.sled_model.specs.Refusal.{must_refuse, ToBegin, must_refuse_of};
-ghost use Rattle.sled_model.specs.declared.call.Whole.TheVariants.{Flush, PopMin, PopMax, Clear, OpenTree, DropTree, GenerateId, Import};
+ghost use Rattle.sled_model.specs.declared.call.Whole.TheVariants.{Flush, PopMin, PopMax, Clear, OpenTree, DropTree, GenerateId, Import, Watch, Next, Unsubscribe};
 ghost use Rattle.sled_model.specs.declared.call.Call.{Call};
 ghost use Rattle.sled_model.specs.declared.outcome.Outcome.TheVariants as outcome;
 ghost use Rattle.sled_model.specs.declared.outcome.Step.TheVariants as step;
@@ -12,7 +12,9 @@ ghost use Rattle.sled_model.specs.declared.outcome.Step.TheVariants as step;
 use crate::flights::{finish_at, outcome_of, step_at, turns_of};
 use crate::table::Table;
 use sled::Db;
-use sled_model::{Call, Collection, MergeOperator, Outcome, Reply, Slot, Step, Tree, Whole};
+use sled_model::{
+    Call, Collection, MergeOperator, Outcome, Reply, Slot, Step, Subscriber, Tree, Whole,
+};
 use sled_pages::texts::NUMBERS_USED_UP;
 use sled_pages::{Error, IVec, Pages, Result};
 use sled_tree::InFlight;
@@ -49,7 +51,7 @@ impl<P: Pages, M: MergeOperator> Machine<P, M> {
     ghost use Rattle.sled.specs.Values.{db_state};
     ghost use Rattle.sled.specs.Operators.{OperatorSet, OperatorNotSet};
     ghost use Rattle.sled.specs.Fetch.{FetchDecided, FetchRefused};
-    ghost use Rattle.sled_machine.specs.Step.{MachineStep, MachineSound, MachineActs, MachineFollows, MachinePasses, MachineSlots, MachineKeepsTreePages, MachineLeaksNoPage, MachineStepContract};
+    ghost use Rattle.sled_machine.specs.Step.{MachineStep, MachineSound, MachineActs, MachineFollows, MachinePasses, MachineFindsRoom, MachineSlots, MachineKeepsTreePages, MachineLeaksNoPage, MachineStepContract};
     ghost use Rattle.sled_machine.specs.Run.{MachineRun, MachineSteps};
     ghost use Rattle.sled_machine.specs.Finish.{RunsToEnd, Completes};
 
@@ -207,6 +209,7 @@ impl<P: Pages, M: MergeOperator> Machine<P, M> {
         ensures does { MachineActs P.store M.meant self.old (step.Step slot) result self.new }
         ensures follows { MachineFollows P.store M.meant self.old (step.Step slot) result self.new }
         ensures passes { MachinePasses P.store M.meant self.old (step.Step slot) result self.new }
+        ensures room { MachineFindsRoom P.store M.meant self.old (step.Step slot) result self.new }
         ensures slots { MachineSlots self.old (step.Step slot) result self.new }
         ensures loses { MachineKeepsTreePages P.store self.old (step.Step slot) result self.new }
         ensures leaves { MachineLeaksNoPage P.store self.old (step.Step slot) result self.new }
@@ -271,6 +274,9 @@ impl<P: Pages, M: MergeOperator> Machine<P, M> {
             Whole::DropTree(name) => self.drop_tree(name),
             Whole::GenerateId => self.generate_id(),
             Whole::Import(collections) => self.import(collections),
+            Whole::Watch(tree, prefix) => self.watch(tree, prefix),
+            Whole::Next(subscriber) => self.next(subscriber),
+            Whole::Unsubscribe(subscriber) => self.unsubscribe(subscriber),
         }
     }
 
@@ -349,6 +355,30 @@ impl<P: Pages, M: MergeOperator> Machine<P, M> {
         if let Err(e) = self.db.import(collections.as_slice()) {
             return Outcome::Refused(e);
         }
+        Outcome::Decided(Reply::Done)
+    }
+
+    fn watch(&mut self, tree: &Tree, prefix: &IVec) -> Outcome
+        ensures { MachineStepContract P.store P.flush_number M.meant self.old (step.Whole (Watch tree.now prefix.now)) result self.new }
+    {
+        let subscriber = match self.db.watch_prefix(tree, prefix.as_ref()) {
+            Ok(subscriber) => subscriber,
+            Err(e) => return Outcome::Refused(e),
+        };
+        Outcome::Decided(Reply::Subscriber(subscriber))
+    }
+
+    fn next(&mut self, subscriber: &Subscriber) -> Outcome
+        ensures { MachineStepContract P.store P.flush_number M.meant self.old (step.Whole (Next subscriber.now)) result self.new }
+    {
+        let event = self.db.next(subscriber);
+        Outcome::Decided(Reply::Event(event))
+    }
+
+    fn unsubscribe(&mut self, subscriber: &Subscriber) -> Outcome
+        ensures { MachineStepContract P.store P.flush_number M.meant self.old (step.Whole (Unsubscribe subscriber.now)) result self.new }
+    {
+        self.db.unsubscribe(subscriber);
         Outcome::Decided(Reply::Done)
     }
 

@@ -1,11 +1,11 @@
 -- What an import makes of the state.
-use Rattle.std.specs.Prelude.{◌≡◌, ◌⊎◌, true, List, [], ◌∷◌, ◌++◌, Option, Some, None}
+use Rattle.std.specs.Prelude.{◌≡◌, ◌⊎◌, ℕ, true, false, List, [], ◌∷◌, ◌++◌, Option, Some, None}
 use Rattle.std.specs.FinMap.Entries.{find}
 use Rattle.sled_pages.specs.Order.{Key, key_cmp}
 use Rattle.sled_pages.specs.Store.{Store}
 use Rattle.sled_pages.specs.declared.error.Error.{Error}
-use Rattle.sled_pages.specs.declared.error.Error.TheVariants.{Unsupported}
-use Rattle.sled_pages.specs.declared.texts.TheConstants.{OVERWRITES_DATA}
+use Rattle.sled_pages.specs.declared.error.Error.TheVariants.{NoMemory, Io, Unsupported, ReportableBug}
+use Rattle.sled_pages.specs.declared.texts.TheConstants.{OVERWRITES_DATA, WALK_PASSED_TURNS}
 use Rattle.sled_model.specs.Maps.{Maps}
 use Rattle.sled_model.specs.Answer.{answer_of}
 use Rattle.sled_model.specs.Collections.{Content, are_trees}
@@ -74,21 +74,43 @@ abbrev pub overwrites_as : State → Key → Key → Error → Type 0
 overwrites_as s name key (Unsupported text) = (text.now ≡ OVERWRITES_DATA.now) × IsPresent s name key
 overwrites_as s name key e = ⊥
 
--- why a part is refused: as an opening is; or the key is present, or as an insert is
+-- the key has no value in the tree of this name
+pub record IsAbsent (s : State) (name key : Key) : Type 0 where
+  pub named : NamedTree
+  pub there : s.trees name ≡ Some named
+  pub is : find key_cmp key named.map ≡ None
+
+-- why a key is not looked for to the end: by a test of the tree, or for want of memory, a page that is not readable, or turns used up
+abbrev pub unread_as : Option MustRefuse → Store → Error → Type 0
+unread_as (Some must) a e = tells must e
+unread_as None a NoMemory = Unit {0}
+unread_as None a (Io fault) = (pid : ℕ) × (a.is_readable pid ≡ false)
+unread_as None a (ReportableBug text) = text.now ≡ WALK_PASSED_TURNS.now
+unread_as None a e = ⊥
+
+-- why a part is refused: as an opening is; and a pair, since its key is present, or could not be looked for, or is absent and the
+-- insert is refused
 abbrev pub refuses_part : State → Store → Store → Part → Error → Type 0
 refuses_part s a b (OpensName name) e = MayRefuse s a b (ToCall (OpenTree name)) e
-refuses_part s a b (Puts name key value) e = overwrites_as s name key e ⊎ MayRefuse s a b (ToPoint (tree_at s name) (Insert key value)) e
+refuses_part s a b (Puts name key value) e = overwrites_as s name key e ⊎ (unread_as (must_refuse_of s (tree_at s name ∷ [])) a e ⊎ (IsAbsent s name key × MayRefuse s a b (ToPoint (tree_at s name) (Insert key value)) e))
 
--- an import does its first parts, and the next is refused
-pub record StopsAtPart (old : State) (a b : Store) (all : List Content) (e : Error) (new : State) (maps : List Maps) : Type 0 where
-  pub free : must_refuse_of old [] ≡ None
-  pub trees : are_trees all ≡ true
+-- where parts stop: those that were done, the next, which is refused, and those that are left
+pub record Stop : Type 0 where
   pub done : List Part
   pub next : Part
   pub later : List Part
-  pub all_parts : parts_of all ≡ done ++ next ∷ later
-  pub does : DoesParts old done new maps
-  pub refuses : refuses_part new a b next e
+
+-- the parts that there are about a stop
+abbrev pub parts_about : Stop → List Part
+parts_about s = s.done ++ s.next ∷ s.later
+
+-- an import does its first parts, and the next is refused
+pub record StopsAtPart (old : State) (a b : Store) (all : List Content) (stop : Stop) (e : Error) (new : State) (maps : List Maps) : Type 0 where
+  pub free : must_refuse_of old [] ≡ None
+  pub trees : are_trees all ≡ true
+  pub all_parts : parts_of all ≡ parts_about stop
+  pub does : DoesParts old stop.done new maps
+  pub refuses : refuses_part new a b stop.next e
 
 -- before its first part it is refused where the database is closed, or some collection is of another type
 abbrev pub refuses_import_as : Option MustRefuse → List Content → Error → Type 0
@@ -97,4 +119,4 @@ refuses_import_as None all e = cause_of_import all e
 
 -- An import is refused, and has done nothing, or its first parts
 pub record StopsImporting (old : State) (a b : Store) (all : List Content) (e : Error) (new : State) (maps : List Maps) : Type 0 where
-  pub is : (refuses_import_as (must_refuse_of old []) all e × (new ≡ old) × (maps ≡ [])) ⊎ StopsAtPart old a b all e new maps
+  pub is : (refuses_import_as (must_refuse_of old []) all e × (new ≡ old) × (maps ≡ [])) ⊎ ((stop : Stop) × StopsAtPart old a b all stop e new maps)

@@ -15,19 +15,18 @@ use Rattle.sled_model.specs.declared.call.Call.{Call}
 use Rattle.sled_model.specs.declared.call.Call.TheVariants.{Get, Insert, Remove, CompareAndSwap}
 use Rattle.sled_model.specs.declared.call.Call.TheVariants as call
 use Rattle.sled_model.specs.declared.call.Whole.{Whole}
-use Rattle.sled_model.specs.declared.call.Whole.TheVariants.{Flush, PopMin, PopMax, Clear, OpenTree, DropTree, GenerateId, Import}
+use Rattle.sled_model.specs.declared.call.Whole.TheVariants.{Flush, PopMin, PopMax, Clear, OpenTree, DropTree, GenerateId, Import, Watch, Next, Unsubscribe}
 use Rattle.sled_model.specs.declared.event.Event.{Event}
 use Rattle.sled_model.specs.declared.tree.Tree.{Tree}
 
--- what was asked of the database: to begin a call, to go on with the call in a slot, to make a call at once, a whole call, to set the
--- merge operator of a tree, or to add a subscriber to one
+-- what was asked of the database: to begin a call, to go on with the call in a slot, to make a call at once, a whole call, or to set
+-- the merge operator of a tree
 pub data Asked : Type 0 where
   ToBegin : (tree : Tree) (call : Call) → Asked
   ToStep : (flying : CallInFlight) → Asked
   ToPoint : (tree : Tree) (call : Call) → Asked
   ToCall : (whole : Whole) → Asked
   ToSetOperator : (tree : Tree) → Asked
-  ToWatch : (tree : Tree) → Asked
 
 -- the trees that it is asked of
 abbrev pub trees_asked : Asked → List Tree
@@ -35,7 +34,6 @@ trees_asked (ToBegin tree call) = tree ∷ []
 trees_asked (ToStep flying) = flying.tree ∷ []
 trees_asked (ToPoint tree call) = tree ∷ []
 trees_asked (ToSetOperator tree) = tree ∷ []
-trees_asked (ToWatch tree) = tree ∷ []
 trees_asked (ToCall Flush) = []
 trees_asked (ToCall (PopMin tree)) = tree ∷ []
 trees_asked (ToCall (PopMax tree)) = tree ∷ []
@@ -44,6 +42,9 @@ trees_asked (ToCall (OpenTree name)) = []
 trees_asked (ToCall (DropTree name)) = []
 trees_asked (ToCall GenerateId) = []
 trees_asked (ToCall (Import collections)) = []
+trees_asked (ToCall (Watch tree prefix)) = tree ∷ []
+trees_asked (ToCall (Next subscriber)) = []
+trees_asked (ToCall (Unsubscribe subscriber)) = []
 
 -- why a call must be refused: the database is closed, the tree is another database's, it was dropped, or it has no operator
 pub data MustRefuse : Type 0 where
@@ -94,7 +95,6 @@ operator_test s (ToStep f) = if needs_operator f.call && not (has_operator (s.tr
 operator_test s (ToPoint tree call) = if needs_operator call && not (has_operator (s.trees tree.name)) then (Some HasNoOperator) else None
 operator_test s (ToCall whole) = None
 operator_test s (ToSetOperator tree) = None
-operator_test s (ToWatch tree) = None
 
 abbrev pub must_refuse : State → Asked → Option MustRefuse
 must_refuse s asked = first_of (must_refuse_of s (trees_asked asked)) (operator_test s asked)
@@ -162,15 +162,21 @@ cause_of_import all NoMemory = Unit {0}
 cause_of_import all (Unsupported text) = (text.now ≡ UNKNOWN_COLLECTION_TYPE.now) × (are_trees all ≡ false)
 cause_of_import all e = ⊥
 
+-- why no subscriber is added: there is no memory, or all numbers were given
+abbrev pub cause_of_watch : State → Error → Type 0
+cause_of_watch s NoMemory = Unit {0}
+cause_of_watch s (Unsupported text) = (text.now ≡ NUMBERS_USED_UP.now) × (s.subscribers_given ≡ 18446744073709551615)
+cause_of_watch s e = ⊥
+
 -- The causes of a refusal that is none of those tests: slots, trees and subscribers are numbered up to the greatest u64; the call has
 -- no turns left; the store counted a fault, or some page is not readable; a queue is full. a is the store before, b the store after
 abbrev pub cause_of : State → Store → Store → Asked → Error → Type 0
 cause_of s a b (ToCall GenerateId) e = cause_of_id s a b e
 cause_of s a b (ToCall (DropTree name)) e = cause_of_drop s a b name e
 cause_of s a b (ToCall (Import collections)) e = cause_of_import (contents_of collections.items) e
+cause_of s a b (ToCall (Watch tree prefix)) e = cause_of_watch s e
 cause_of s a b asked NoMemory = Unit {0}
 cause_of s a b (ToBegin tree call) (Unsupported text) = (text.now ≡ NUMBERS_USED_UP.now) × (s.slots_given ≡ 18446744073709551615)
-cause_of s a b (ToWatch tree) (Unsupported text) = (text.now ≡ NUMBERS_USED_UP.now) × (s.subscribers_given ≡ 18446744073709551615)
 cause_of s a b (ToStep f) (Io fault) = (a.faults < b.faults) ⊎ ((pid : ℕ) × (a.is_readable pid ≡ false))
 cause_of s a b (ToStep f) (ReportableBug text) = (text.now ≡ WALK_PASSED_TURNS.now) × (f.turns ≡ turns_limit)
 cause_of s a b (ToStep f) FullQueue = MeetsFullQueue s f.tree f.call

@@ -1,5 +1,5 @@
 -- One step of the machine, by cases.
-use Rattle.std.specs.Prelude.{◌≡◌, ℕ, ◌+◌, ◌<◌, List, [], ◌∷◌, Some, None}
+use Rattle.std.specs.Prelude.{◌≡◌, ℕ, ◌+◌, ◌<◌, List, [], ◌∷◌, Option, Some, None}
 use Rattle.sled_pages.specs.Update.{put_at}
 use Rattle.sled_pages.specs.Store.{Store}
 use Rattle.sled_pages.specs.declared.error.Error.{Error}
@@ -9,13 +9,15 @@ use Rattle.sled_model.specs.State.{State, NamedTree, CallInFlight, maps_of, call
 use Rattle.sled_model.specs.Refusal.{ToBegin, ToStep, ToCall, must_refuse, MayRefuse, TellsTurns, turns_limit}
 use Rattle.sled_model.specs.declared.call.Call.{Call}
 use Rattle.sled_model.specs.declared.call.Whole.{Whole}
-use Rattle.sled_model.specs.declared.call.Whole.TheVariants.{Flush, PopMin, PopMax, Clear, OpenTree, DropTree, GenerateId, Import}
-use Rattle.sled_model.specs.Whole.{Pops, Clears, StopsClearing, OpensTree, DropsTreeOf, GeneratesId}
+use Rattle.sled_model.specs.declared.call.Whole.TheVariants.{Flush, PopMin, PopMax, Clear, OpenTree, DropTree, GenerateId, Import, Watch, Next, Unsubscribe}
+use Rattle.sled_model.specs.Whole.{Pops, Clears, StopsClearing, OpensTree, DropsTreeOf, GeneratesId, Watches, TakesEvent, GivesUpQueue}
 use Rattle.sled_model.specs.Collections.{contents_of}
 use Rattle.sled_model.specs.Imports.{Imports, StopsImporting}
 use Rattle.sled_model.specs.declared.tree.Tree.{Tree}
 use Rattle.sled_model.specs.declared.reply.Reply.{Reply}
+use Rattle.sled_model.specs.declared.event.Event.{Event}
 use Rattle.sled_model.specs.declared.reply.Reply.TheVariants.{Number, Done}
+use Rattle.sled_model.specs.declared.reply.Reply.TheVariants as told
 use Rattle.sled_model.specs.declared.outcome.Step.{Step}
 use Rattle.sled_model.specs.declared.outcome.Step.TheVariants as step
 use Rattle.sled_model.specs.declared.outcome.Outcome.{Outcome}
@@ -73,13 +75,14 @@ pub record Abandon (old : State) (slot : ℕ) (new : State) : Type 0 where
   pub is : new ≡ record old { slots = put_at old.slots slot None }
 
 -- what a whole call is about: to make durable what was decided, to tell something and change no map, to change maps in one
--- step, to change them part by part, or to drop a tree
+-- step, to change them part by part, to drop a tree, or to learn of changes, which touches neither maps nor pages
 pub data Kind : Type 0 where
   Flushing : Kind
   Telling : Kind
   Changing : Kind
   InParts : Kind
   Dropping : Kind
+  Listening : Kind
 
 abbrev pub kind_of : Whole → Kind
 kind_of Flush = Flushing
@@ -90,8 +93,11 @@ kind_of (OpenTree name) = Changing
 kind_of (DropTree name) = Dropping
 kind_of GenerateId = Telling
 kind_of (Import collections) = InParts
+kind_of (Watch tree prefix) = Listening
+kind_of (Next subscriber) = Listening
+kind_of (Unsubscribe subscriber) = Listening
 
--- a whole call is decided. A flush answers the store's number
+-- A whole call is decided. A flush answers the store's number. An event is taken and a queue given up on a closed database too
 abbrev pub WholeDecides : Configuration → Whole → Reply → State → List Maps → Type 0
 WholeDecides old Flush reply new maps = (must_refuse old.state (ToCall Flush) ≡ None) × (reply ≡ Number old.flush_number) × (new ≡ old.state) × (maps ≡ [])
 WholeDecides old (PopMin tree) reply new maps = Pops IsLeast old.state (PopMin tree) tree reply new maps
@@ -101,11 +107,17 @@ WholeDecides old (OpenTree name) reply new maps = OpensTree old.state name reply
 WholeDecides old (DropTree name) reply new maps = DropsTreeOf old.state name reply new maps
 WholeDecides old GenerateId reply new maps = GeneratesId old.state reply new maps
 WholeDecides old (Import collections) reply new maps = (reply ≡ Done) × Imports old.state (contents_of collections.items) new maps
+WholeDecides old (Watch tree prefix) reply new maps = (number : ℕ) × (reply ≡ told.Subscriber number) × Watches old.state tree prefix number new × (maps ≡ [])
+WholeDecides old (Next subscriber) reply new maps = (event : Option Event) × (reply ≡ told.Event event) × TakesEvent old.state subscriber event new × (maps ≡ [])
+WholeDecides old (Unsubscribe subscriber) reply new maps = (reply ≡ Done) × GivesUpQueue old.state subscriber new × (maps ≡ [])
 
--- a whole call is refused, and nothing changes, but for the parts that a call in parts has done
+-- A whole call is refused, and nothing changes, but for the parts that a call in parts has done. To take an event and to give up a
+-- queue is never refused
 abbrev pub WholeRefuses : State → Store → Store → Whole → Error → State → List Maps → Type 0
 WholeRefuses old a b (Clear tree) e new maps = StopsClearing old a b tree e new maps
 WholeRefuses old a b (Import collections) e new maps = StopsImporting old a b (contents_of collections.items) e new maps
+WholeRefuses old a b (Next subscriber) e new maps = ⊥
+WholeRefuses old a b (Unsubscribe subscriber) e new maps = ⊥
 WholeRefuses old a b whole e new maps = MayRefuse old a b (ToCall whole) e × (new ≡ old) × (maps ≡ [])
 
 -- One step: what was done, how it came out, the state after it, and the maps that it added: those after each call that

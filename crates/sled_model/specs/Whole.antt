@@ -8,13 +8,13 @@ use Rattle.sled_model.specs.Maps.{Map, Maps, Merge}
 use Rattle.sled_model.specs.Answer.{answer_of}
 use Rattle.sled_model.specs.State.{State, NamedTree, default_name, maps_of, after_decision_on}
 use Rattle.sled_model.specs.Queues.{oldest, watched, taken, given_up}
-use Rattle.sled_model.specs.Refusal.{ToPoint, ToCall, ToSetOperator, ToWatch, must_refuse, MayRefuse}
+use Rattle.sled_model.specs.Refusal.{ToPoint, ToCall, ToSetOperator, must_refuse, MayRefuse}
 use Rattle.sled_model.specs.Ids.{mark_above}
 use Rattle.sled_model.specs.Collections.{contents_of}
 use Rattle.sled_model.specs.declared.call.Call.{Call}
 use Rattle.sled_model.specs.declared.call.Call.TheVariants.{Remove}
 use Rattle.sled_model.specs.declared.call.Whole.{Whole}
-use Rattle.sled_model.specs.declared.call.Whole.TheVariants.{Clear, OpenTree, DropTree, GenerateId, Import}
+use Rattle.sled_model.specs.declared.call.Whole.TheVariants.{Clear, OpenTree, DropTree, GenerateId, Import, Watch}
 use Rattle.sled_model.specs.declared.event.Event.{Event}
 use Rattle.sled_model.specs.declared.tree.Tree.{Tree}
 use Rattle.sled_model.specs.declared.reply.Reply.{Reply}
@@ -44,7 +44,7 @@ pub record SetsOperator (old : State) (tree : Tree) (merge : Merge) (new : State
 -- A tree has a subscriber more, to the keys that begin with a prefix: it has the next number, which no queue has, and nothing waits for
 -- it yet
 pub record Watches (old : State) (tree : Tree) (prefix : Key) (number : ℕ) (new : State) : Type 0 where
-  pub free : must_refuse old (ToWatch tree) ≡ None
+  pub free : must_refuse old (ToCall (Watch tree prefix)) ≡ None
   pub next : number ≡ old.subscribers_given + 1
   pub fresh : old.queues number ≡ None
   pub is : new ≡ record old { queues = watched number tree.number prefix old.queues; subscribers_given = number }

@@ -5,9 +5,11 @@ ghost use Rattle.sled_model.specs.Answer.{key_of};
 ghost use Rattle.sled_model.specs.Refusal.{needs_operator};
 ghost use Rattle.sled_model.specs.Whole.{IsSameWhole};
 ghost use Rattle.sled_model.specs.declared.call.Call.TheVariants.{Insert, CompareAndSwap, Merge};
+ghost use Rattle.sled_model.specs.declared.call.Whole.TheVariants.{Watch};
 
 use crate::collection::{Collection, copied_collections};
 use crate::reply::clone_value;
+use crate::subscriber::Subscriber;
 use crate::tree::Tree;
 use sled_pages::{IVec, Result};
 
@@ -46,6 +48,12 @@ pub enum Whole {
     /// Opens the tree of each collection, one after the other, and puts its pairs into it, one after the other. Refused midway, at a
     /// key that is present or for another cause, what was done stays. All types are looked at first.
     Import(Vec<Collection>),
+    /// Adds a subscriber to the keys of a tree that begin with a prefix, and replies with it.
+    Watch(Tree, IVec),
+    /// Takes the oldest event that waits for a subscriber, and replies with it, if there is one. It is never refused.
+    Next(Subscriber),
+    /// Gives up the queue of a subscriber, with the events that wait there. It is never refused.
+    Unsubscribe(Subscriber),
 }
 
 impl Call {
@@ -152,6 +160,24 @@ impl Whole {
             Whole::DropTree(name) => Ok(Whole::DropTree(name.clone()?)),
             Whole::GenerateId => Ok(Whole::GenerateId),
             Whole::Import(collections) => Ok(Whole::Import(copied_collections(collections)?)),
+            Whole::Watch(tree, prefix) => copied_watch(tree, prefix),
+            Whole::Next(subscriber) => Ok(Whole::Next(Subscriber(subscriber.0))),
+            Whole::Unsubscribe(subscriber) => Ok(Whole::Unsubscribe(Subscriber(subscriber.0))),
+        }
+    }
+}
+
+// The call that watches a copy of a prefix in a copy of a tree.
+fn copied_watch(tree: &Tree, prefix: &IVec) -> Result<Whole>
+    ensures ok { IfOk result (λ whole. whole ≡ Watch tree.now prefix.now) }
+    ensures err { IfErr result (λ e. e ≡ NoMemory) }
+{
+    let tree = tree.clone()?;
+    match prefix.clone() {
+        Ok(prefix) => Ok(Whole::Watch(tree, prefix)),
+        Err(e) => {
+            drop(tree);
+            Err(e)
         }
     }
 }

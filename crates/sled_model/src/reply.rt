@@ -2,6 +2,8 @@
 ghost use Rattle.std.specs.Prelude.{◌≡◌, IfOk, IfErr};
 ghost use Rattle.sled_pages.specs.declared.error.Error.TheVariants.{NoMemory};
 
+use crate::event::Event;
+use crate::subscriber::Subscriber;
 use crate::tree::Tree;
 use sled_pages::{IVec, Result};
 use std::fmt::{self, Display, Formatter, Write};
@@ -51,6 +53,10 @@ pub enum Reply {
     Tree(Tree),
     /// Yes or no: whether there was a tree that could be dropped.
     Flag(bool),
+    /// The subscriber that was added.
+    Subscriber(Subscriber),
+    /// The event that was taken, if one waited.
+    Event(Option<Event>),
 }
 
 // The same value, if there is one.

@@ -5,7 +5,7 @@ use sled_pages::Result;
 use std::marker::Model;
 
 /// Names a subscriber, and by it the queue of its events. Subscribers are numbered from 1, in order of the calls that made
-/// them, and no number is given twice.
+/// them, and no number is given twice between one opening of a database and the next.
 #[derive(Debug, Drop, PartialEq, Eq)]
 pub struct Subscriber(pub u64);
 

@@ -1,16 +1,12 @@
 -- The laws of queues.
-use Rattle.std.proofs.Common.{◌≡◌, ℕ, Bool, true, false, cond, nat_eq, ◌&&◌, List, [], ◌∷◌, ◌++◌, append_assoc, append-nil, drop, Option, Some, None, option_map, slice_get, sym, refl, ap, ◌∙◌}
+use Rattle.std.proofs.Common.{◌≡◌, ℕ, Bool, true, false, cond, nat_eq, ◌&&◌, [], ◌∷◌, ◌++◌, append-nil, Option, Some, None, option_map, sym, refl, ap, ◌∙◌}
 use Rattle.std.proofs.Math.Path.{fun_ext}
-use mathlib.Core.Bool.{true≢false}
-use Rattle.std.specs.Option.{option_to_list}
-use Rattle.std.proofs.lemmas.Bool.{eq-eqb, ne_eqb, eqb-true}
 use Rattle.sled_model.specs.State.{Queue, matches}
-use Rattle.sled_model.specs.Queues.{waiting_in, oldest, without_oldest}
 use Rattle.sled_model.specs.declared.event.Event.{Event}
 use Rattle.sled_queues.specs.Values.{WaitingValue}
 use Rattle.sled_queues.specs.Queues.{queue_of, prepared_in, committed_in, cancelled_in}
 use Rattle.sled_queues.specs.theory.Lists.{has_prefix}
-use Rattle.sled_queues.specs.Laws.{DeliversLaw, CancelsLaw, Turn, Comes, Takes, after_turn, after_turns, taken_at, taken_by, brought_at, brought, OrdersLaw}
+use Rattle.sled_queues.specs.Laws.{DeliversLaw, CancelsLaw}
 
 some_is : {A : Type 0} {a b : A} → Some a ≡ Some b → a ≡ b
 some_is e = cc
@@ -97,86 +93,3 @@ cancels_law queues calm tree e = fun_ext (λ n.
     map_twice (prepared_in tree e) (cancelled_in tree) (queues n)
     ∙ on_option (λ w. cancelled_in tree (prepared_in tree e w)) (λ w. w) (queues n) (λ w there. one_gone tree e w (calm.none n w there))
     ∙ map_same (queues n))
-
--- what one turn makes of a queue
-abbrev turned : ℕ → Turn → Queue → Queue
-turned n (Comes tree e) q = cond (matches tree e q) (record q { events = q.events ++ e ∷ [] }) q
-turned n (Takes m) q = cond (nat_eq n m) (without_oldest q) q
-
-after_one : (t : Turn) (n : ℕ) (queues : ℕ → Option Queue) (q : Queue) → queues n ≡ Some q → after_turn t queues n ≡ Some (turned n t q)
-after_one (Comes tree e) n queues q h = ap (option_map (λ (q : Queue). cond (matches tree e q) (record q { events = q.events ++ e ∷ [] }) q)) h
-after_one (Takes m) n queues q h = go (nat_eq n m) refl
-  where
-    go : (b : Bool) → nat_eq n m ≡ b → cond b (option_map without_oldest (queues m)) (queues n) ≡ Some (cond b (without_oldest q) q)
-    go true e = ap (λ k. option_map without_oldest (queues k)) (sym (eqb-true n m e)) ∙ ap (option_map without_oldest) h
-    go false e = h
-
--- the queue watches what it did
-brought_same : (t : Turn) (q : Queue) (r : Queue) → r.tree ≡ q.tree → r.prefix ≡ q.prefix → brought_at r t ≡ brought_at q t
-brought_same (Comes tree e) q r a b = ap (λ k. cond (matches tree e (record { tree = k; prefix = r.prefix; events = [] })) (e ∷ []) []) a ∙ ap (λ k. cond (matches tree e (record { tree = q.tree; prefix = k; events = [] })) (e ∷ []) []) b
-brought_same (Takes m) q r a b = refl
-
-brought_all : (ts : List Turn) (q : Queue) (r : Queue) → r.tree ≡ q.tree → r.prefix ≡ q.prefix → brought r ts ≡ brought q ts
-brought_all [] q r a b = refl
-brought_all (t ∷ ts) q r a b = ap (λ l. l ++ brought r ts) (brought_same t q r a b) ∙ ap (λ l. brought_at q t ++ l) (brought_all ts q r a b)
-
-turned_tree : (n : ℕ) (t : Turn) (q : Queue) → (turned n t q).tree ≡ q.tree
-turned_tree n (Comes tree e) q = go (matches tree e q)
-  where
-    go : (b : Bool) → (cond b (record q { events = q.events ++ e ∷ [] }) q).tree ≡ q.tree
-    go true = refl
-    go false = refl
-turned_tree n (Takes m) q = go (nat_eq n m)
-  where
-    go : (b : Bool) → (cond b (without_oldest q) q).tree ≡ q.tree
-    go true = refl
-    go false = refl
-
-turned_prefix : (n : ℕ) (t : Turn) (q : Queue) → (turned n t q).prefix ≡ q.prefix
-turned_prefix n (Comes tree e) q = go (matches tree e q)
-  where
-    go : (b : Bool) → (cond b (record q { events = q.events ++ e ∷ [] }) q).prefix ≡ q.prefix
-    go true = refl
-    go false = refl
-turned_prefix n (Takes m) q = go (nat_eq n m)
-  where
-    go : (b : Bool) → (cond b (without_oldest q) q).prefix ≡ q.prefix
-    go true = refl
-    go false = refl
-
-first_rest : {X : Type 0} (xs : List X) → option_to_list (slice_get xs 0) ++ drop 1 xs ≡ xs
-first_rest [] = refl
-first_rest (x ∷ xs) = refl
-
-eqb_flip : (m n : ℕ) → nat_eq m n ≡ nat_eq n m
-eqb_flip m n = go (nat_eq n m) refl
-  where
-    go : (b : Bool) → nat_eq n m ≡ b → nat_eq m n ≡ b
-    go true e = eq-eqb m n (sym (eqb-true n m e))
-    go false e = ne_eqb m n (λ s. true≢false (sym (eq-eqb n m (sym s)) ∙ e))
-
--- one turn: what is taken and what waits then are what waited and what came
-one_turn : (t : Turn) (n : ℕ) (queues : ℕ → Option Queue) (q : Queue) → queues n ≡ Some q → taken_at n t queues ++ (turned n t q).events ≡ q.events ++ brought_at q t
-one_turn (Comes tree e) n queues q h = go (matches tree e q)
-  where
-    go : (b : Bool) → (cond b (record q { events = q.events ++ e ∷ [] }) q).events ≡ q.events ++ cond b (e ∷ []) []
-    go true = refl
-    go false = sym (append-nil q.events)
-one_turn (Takes m) n queues q h =
-    ap (λ b. cond b (option_to_list (oldest (queues n))) [] ++ (cond (nat_eq n m) (without_oldest q) q).events) (eqb_flip m n)
-    ∙ ap (λ o. cond (nat_eq n m) (option_to_list (oldest o)) [] ++ (cond (nat_eq n m) (without_oldest q) q).events) h
-    ∙ go (nat_eq n m)
-  where
-    go : (b : Bool) → cond b (option_to_list (slice_get q.events 0)) [] ++ (cond b (without_oldest q) q).events ≡ q.events ++ []
-    go true = first_rest q.events ∙ sym (append-nil q.events)
-    go false = sym (append-nil q.events)
-
-pub orders_law : OrdersLaw
-orders_law [] n queues q h = ap waiting_in h ∙ sym (append-nil q.events)
-orders_law (t ∷ ts) n queues q h =
-    let r : Queue = turned n t q in
-    append_assoc (taken_at n t queues) (taken_by n ts (after_turn t queues)) (waiting_in (after_turns ts (after_turn t queues) n))
-    ∙ ap (λ l. taken_at n t queues ++ l) (orders_law ts n (after_turn t queues) r (after_one t n queues q h) ∙ ap (λ l. r.events ++ l) (brought_all ts q r (turned_tree n t q) (turned_prefix n t q)))
-    ∙ sym (append_assoc (taken_at n t queues) r.events (brought q ts))
-    ∙ ap (λ l. l ++ brought q ts) (one_turn t n queues q h)
-    ∙ append_assoc q.events (brought_at q t) (brought q ts)

@@ -3,3 +3,7 @@ pub mod Changing
 pub mod Listed
 pub mod Lawful
 pub mod Grouped
+pub mod Hearing
+pub mod Copied
+pub mod Turning
+pub mod Numbering

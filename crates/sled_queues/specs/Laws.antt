@@ -1,11 +1,10 @@
 -- What the calls on queues come to in the model, as laws.
-use Rattle.std.specs.Prelude.{◌≡◌, ℕ, ◌<◌, ◌≤◌, nat_eq, true, length, List, [], ◌∷◌, ◌++◌, Option, Some, if◌then◌else◌}
-use Rattle.std.specs.Option.{option_to_list}
+use Rattle.std.specs.Prelude.{◌≡◌, ℕ, ◌<◌, ◌≤◌, nat_eq, true, length, List, [], ◌∷◌, Option, Some}
 use Rattle.std.specs.List.{list_any}
 use Rattle.sled_pages.specs.Order.{Key}
 use Rattle.sled_model.specs.State.{Queue, matches, queues_after}
 use Rattle.sled_model.specs.Refusal.{queue_limit}
-use Rattle.sled_model.specs.Queues.{waiting_in, oldest, watched, taken, given_up}
+use Rattle.sled_model.specs.Queues.{oldest, watched, taken, given_up}
 use Rattle.sled_model.specs.declared.event.Event.{Event}
 use Rattle.sled_queues.specs.Values.{Waitings}
 use Rattle.sled_queues.specs.Queues.{queues_of, IsCalm, with_subscriber, prepared, committed, cancelled, oldest_in, without_oldest_of, without_subscriber}
@@ -33,43 +32,6 @@ pub record Serves (queues : Waitings) : Type 0 where
 
 abbrev pub ServesLaw : Type 0
 ServesLaw = (queues : Waitings) → Serves queues
-
--- what happens to queues: an event of a tree is delivered, or a subscriber takes its oldest event
-pub data Turn : Type 0 where
-  Comes : (tree : ℕ) (event : Event) → Turn
-  Takes : (subscriber : ℕ) → Turn
-
-abbrev pub after_turn : Turn → (ℕ → Option Queue) → ℕ → Option Queue
-after_turn (Comes tree e) queues = queues_after tree (Some e) queues
-after_turn (Takes n) queues = taken n queues
-
-abbrev pub after_turns : List Turn → (ℕ → Option Queue) → ℕ → Option Queue
-after_turns [] queues = queues
-after_turns (t ∷ ts) queues = after_turns ts (after_turn t queues)
-
--- the events that a subscriber takes at these turns, in order
-abbrev pub taken_at : ℕ → Turn → (ℕ → Option Queue) → List Event
-taken_at n (Comes tree e) queues = []
-taken_at n (Takes m) queues = if nat_eq m n then option_to_list (oldest (queues n)) else []
-
-abbrev pub taken_by : ℕ → List Turn → (ℕ → Option Queue) → List Event
-taken_by n [] queues = []
-taken_by n (t ∷ ts) queues = taken_at n t queues ++ taken_by n ts (after_turn t queues)
-
--- the events among them that a queue waits for, in order
-abbrev pub brought_at : Queue → Turn → List Event
-brought_at q (Comes tree e) = if matches tree e q then e ∷ [] else []
-brought_at q (Takes n) = []
-
-abbrev pub brought : Queue → List Turn → List Event
-brought q [] = []
-brought q (t ∷ ts) = brought_at q t ++ brought q ts
-
--- What a subscriber took, and then what waits for it, are the events that waited at first and then those that came for it, in their
--- order. At first nothing waits for a new subscriber
-abbrev pub OrdersLaw : Type 0
-OrdersLaw = (turns : List Turn) (n : ℕ) (queues : ℕ → Option Queue) (q : Queue) → queues n ≡ Some q
-    → taken_by n turns queues ++ waiting_in (after_turns turns queues n) ≡ q.events ++ brought q turns
 
 -- where nothing is prepared, nothing is after the calls that prepare nothing
 pub record StaysCalm (queues : Waitings) : Type 0 where

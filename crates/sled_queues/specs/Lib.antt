@@ -3,4 +3,9 @@ pub mod Queues
 pub mod Tells
 pub mod Lists
 pub mod Laws
+pub mod Events
+pub mod Hears
+pub mod Copies
+pub mod Turns
+pub mod Trees
 pub mod theory

@@ -1,5 +1,9 @@
 //! The laws of queues.
-ghost use Rattle.sled_queues.specs.Laws.{DeliversLaw, CancelsLaw, GroupLaw, CalmLaw, FullLaw, ServesLaw, OrdersLaw};
+ghost use Rattle.sled_queues.specs.Laws.{DeliversLaw, CancelsLaw, GroupLaw, CalmLaw, FullLaw, ServesLaw};
+ghost use Rattle.sled_queues.specs.Hears.{HearsLaw, HearsAllLaw};
+ghost use Rattle.sled_queues.specs.Copies.{ChangesLaw, CopyLaw, FollowsLaw};
+ghost use Rattle.sled_queues.specs.Turns.{TurnsLaw, HeardLaw};
+ghost use Rattle.sled_queues.specs.Trees.{TreesLaw};
 
 /// An event that is prepared and committed is delivered, where nothing was prepared before.
 pub fn law_delivers()
@@ -33,6 +37,41 @@ pub fn law_serves()
 {}
 
 /// A subscriber gets each event that comes for it once, in order.
-pub fn law_orders()
-    ensures { OrdersLaw }
+pub fn law_hears()
+    ensures { HearsLaw }
+{}
+
+/// .. from the moment on at which it watched.
+pub fn law_hears_all()
+    ensures { HearsAllLaw }
+{}
+
+/// The event of a call tells all that the call changes in the map of its tree.
+pub fn law_changes()
+    ensures { ChangesLaw }
+{}
+
+/// A copy that is changed by the events under its prefix stays a copy of the map.
+pub fn law_copy()
+    ensures { CopyLaw }
+{}
+
+/// A subscriber that changes a copy by each event that it takes has a copy of its tree's map where nothing waits for it.
+pub fn law_follows()
+    ensures { FollowsLaw }
+{}
+
+/// What a step of a machine does to queues is what its turns do.
+pub fn law_turns()
+    ensures { TurnsLaw }
+{}
+
+/// What a subscriber takes at a step of a machine is what the step's reply tells it.
+pub fn law_heard()
+    ensures { HeardLaw }
+{}
+
+/// The events that come to a tree at a step tell all that the step changes in its map.
+pub fn law_trees()
+    ensures { TreesLaw }
 {}

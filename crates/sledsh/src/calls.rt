@@ -27,8 +27,8 @@ pub fn mixed(number: u64) -> u64 {
     number ^ (number << 17)
 }
 
-// What was answered, where that was not refused.
-fn answered<T: Drop>(answer: sled_pages::Result<T>) -> Result<T> {
+/// What was answered, where that was not refused.
+pub fn answered<T: Drop>(answer: sled_pages::Result<T>) -> Result<T> {
     match answer {
         Ok(value) => Ok(value),
         Err(error) => {

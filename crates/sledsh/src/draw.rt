@@ -2,7 +2,8 @@
 
 use crate::calls::tell_refused;
 use sled_lines::input::Stopped;
-use sled_lines::print::{push_number, push_text};
+use sled_lines::print::Piece::{Number, Text};
+use sled_lines::print::{push_number, push_pieces, push_text};
 use sled_lines::words::push_word;
 use sled_pages::{Data, IVec, Node, Pages, Pid, Result};
 use std::alloc::Global;
@@ -37,7 +38,38 @@ fn push_pid(out: &mut Vec<u8>, text: &[u8], pid: Pid) -> Result<()> {
     push_number(out, pid.0)
 }
 
-// Adds what a page is: its bounds, no upper one being `..`, and what is half done with it.
+// Adds the bounds of a page's keys, no upper one being `..`.
+fn push_bounds(alloc: Global, out: &mut Vec<u8>, node: &Node, drawing: Drawing) -> Result<()> {
+    push_text(out, b" from ")?;
+    push_name(alloc, out, node.lo.as_ref(), drawing)?;
+    push_text(out, b" to ")?;
+    if node.hi.len() == 0 {
+        return push_text(out, b"..");
+    }
+    push_name(alloc, out, node.hi.as_ref(), drawing)
+}
+
+// Adds a text and a page's number, if there is the page.
+fn push_link(out: &mut Vec<u8>, text: &[u8], pid: Option<Pid>) -> Result<()> {
+    match pid {
+        Some(pid) => push_pid(out, text, pid),
+        None => Ok(()),
+    }
+}
+
+// Adds what is half done with a page.
+fn push_marks(out: &mut Vec<u8>, node: &Node, is_pointed: bool) -> Result<()> {
+    if node.merging {
+        push_text(out, b" merging")?;
+    }
+    push_link(out, b" merging-child ", node.merging_child)?;
+    if is_pointed {
+        return Ok(());
+    }
+    push_text(out, b" no-pointer")
+}
+
+// Adds what a page is: its bounds, the page to its right, and what is half done with it.
 fn push_head(
     alloc: Global,
     out: &mut Vec<u8>,
@@ -51,27 +83,10 @@ fn push_head(
         Data::Index(_) => "index ",
     };
     push_pid(out, kind.as_bytes(), pid)?;
-    push_text(out, b" from ")?;
-    push_name(alloc, out, node.lo.as_ref(), drawing)?;
-    push_text(out, b" to ")?;
-    if node.hi.len() == 0 {
-        push_text(out, b"..")?;
-    } else {
-        push_name(alloc, out, node.hi.as_ref(), drawing)?;
-    }
-    if let Some(next) = node.next {
-        push_pid(out, b" next ", next)?;
-    }
-    if node.merging {
-        push_text(out, b" merging")?;
-    }
-    if let Some(child) = node.merging_child {
-        push_pid(out, b" merging-child ", child)?;
-    }
-    if !is_pointed {
-        push_text(out, b" no-pointer")?;
-    }
-    Ok(())
+    push_bounds(alloc, out, node, drawing)?;
+    push_link(out, b" next ", node.next)?;
+    push_marks(out, node, is_pointed)?;
+    push_text(out, b":")
 }
 
 fn push_pairs(
@@ -116,7 +131,81 @@ fn push_arrows(
     Ok(())
 }
 
-// Adds a page, and the pages that it points to.
+// The pointers of an index. A leaf has none, and its pairs are added.
+fn pointers_of(
+    alloc: Global,
+    out: &mut Vec<u8>,
+    node: &Node,
+    drawing: Drawing,
+) -> Result<Vec<(IVec, Pid)>> {
+    let pairs = match &node.content {
+        Data::Leaf(leaf) => leaf.pairs(alloc)?,
+        Data::Index(index) => return index.pairs(alloc),
+    };
+    let pushed = push_pairs(alloc, out, pairs.as_slice(), drawing);
+    drop(pairs);
+    match pushed {
+        Ok(()) => Ok(Vec::new(alloc)),
+        Err(error) => Err(error),
+    }
+}
+
+// Adds the end of a page's label, and its arrows.
+fn push_dot_end(
+    alloc: Global,
+    out: &mut Vec<u8>,
+    node: &Node,
+    pid: Pid,
+    pointers: &[(IVec, Pid)],
+) -> Result<()> {
+    push_text(out, b"\"]\n")?;
+    push_arrows(alloc, out, pid, pointers)?;
+    let Some(next) = node.next else {
+        return Ok(());
+    };
+    push_pid(out, b"  ", pid)?;
+    push_pid(out, b" -> ", next)?;
+    push_text(out, b" [style=dashed]\n")
+}
+
+// Adds where a page points to.
+fn push_end(
+    alloc: Global,
+    out: &mut Vec<u8>,
+    node: &Node,
+    pid: Pid,
+    pointers: &[(IVec, Pid)],
+    drawing: Drawing,
+) -> Result<()> {
+    match drawing {
+        Drawing::Dot => push_dot_end(alloc, out, node, pid, pointers),
+        Drawing::Text => {
+            push_pointers(alloc, out, pointers)?;
+            push_text(out, b"\n")
+        }
+    }
+}
+
+// Takes down the pages that these point to.
+fn take_down(below: &mut Vec<Pid>, pointers: &[(IVec, Pid)]) -> Result<()> {
+    for pointer in pointers {
+        below.push(pointer.1)?;
+    }
+    Ok(())
+}
+
+// Adds the beginning of a page's label.
+fn push_start(out: &mut Vec<u8>, pid: Pid, drawing: Drawing) -> Result<()> {
+    match drawing {
+        Drawing::Dot => {
+            push_pid(out, b"  ", pid)?;
+            push_text(out, b" [label=\"")
+        }
+        Drawing::Text => Ok(()),
+    }
+}
+
+// Adds a page, and takes down the pages that it points to.
 fn push_page(
     alloc: Global,
     out: &mut Vec<u8>,
@@ -126,34 +215,13 @@ fn push_page(
     is_pointed: bool,
     drawing: Drawing,
 ) -> Result<()> {
-    let is_dot = matches!(drawing, Drawing::Dot);
-    if is_dot {
-        push_pid(out, b"  ", pid)?;
-        push_text(out, b" [label=\"")?;
-    }
+    push_start(out, pid, drawing)?;
     push_head(alloc, out, node, pid, is_pointed, drawing)?;
-    push_text(out, b":")?;
-    let mut pointers = Vec::new(alloc);
-    match &node.content {
-        Data::Leaf(leaf) => push_pairs(alloc, out, leaf.pairs(alloc)?.as_slice(), drawing)?,
-        Data::Index(index) => pointers = index.pairs(alloc)?,
-    }
-    if is_dot {
-        push_text(out, b"\"]\n")?;
-        push_arrows(alloc, out, pid, pointers.as_slice())?;
-        if let Some(next) = node.next {
-            push_pid(out, b"  ", pid)?;
-            push_pid(out, b" -> ", next)?;
-            push_text(out, b" [style=dashed]\n")?;
-        }
-    } else {
-        push_pointers(alloc, out, pointers.as_slice())?;
-        push_text(out, b"\n")?;
-    }
-    for pointer in pointers.as_slice() {
-        below.push(pointer.1)?;
-    }
-    Ok(())
+    let pointers = pointers_of(alloc, out, node, drawing)?;
+    let pushed = push_end(alloc, out, node, pid, pointers.as_slice(), drawing);
+    let taken = take_down(below, pointers.as_slice());
+    drop(pointers);
+    pushed.and(taken)
 }
 
 fn is_among(pids: &[Pid], pid: Pid) -> bool {
@@ -191,6 +259,23 @@ fn push_level<P: Pages>(
     Ok(below)
 }
 
+// The root of a tree, if it has one.
+fn roots_of<P: Pages>(alloc: Global, pages: &P, name: &[u8]) -> Result<Vec<Pid>> {
+    let mut roots = Vec::new(alloc);
+    if let Some(root) = pages.root(name) {
+        roots.push(root)?;
+    }
+    Ok(roots)
+}
+
+// Adds which level it is.
+fn push_title(out: &mut Vec<u8>, level: u64, drawing: Drawing) -> Result<()> {
+    match drawing {
+        Drawing::Text => push_pieces(out, &[Text(b"level "), Number(level), Text(b"\n")]),
+        Drawing::Dot => Ok(()),
+    }
+}
+
 // Adds all levels, from the root down.
 fn push_levels<P: Pages>(
     alloc: Global,
@@ -199,19 +284,12 @@ fn push_levels<P: Pages>(
     drawing: Drawing,
     out: &mut Vec<u8>,
 ) -> Result<()> {
-    let mut pointed = Vec::new(alloc);
-    if let Some(root) = pages.root(name) {
-        pointed.push(root)?;
-    }
+    let mut pointed = roots_of(alloc, pages, name)?;
     for level in 0..u64::MAX {
         if pointed.is_empty() {
             break;
         }
-        if matches!(drawing, Drawing::Text) {
-            push_text(out, b"level ")?;
-            push_number(out, level)?;
-            push_text(out, b"\n")?;
-        }
+        push_title(out, level, drawing)?;
         pointed = push_level(alloc, pages, pointed.as_slice(), drawing, out)?;
     }
     Ok(())

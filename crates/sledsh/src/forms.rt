@@ -9,6 +9,7 @@ use crate::names::Named;
 use crate::owned::Owned;
 use crate::places::compare;
 use crate::pops::Pop;
+use crate::subscribers::Listen;
 use sled_lines::command::{self, parse};
 use sled_lines::input::Stopped;
 use sled_lines::print::Piece::Text;
@@ -59,6 +60,8 @@ pub enum Verb {
     Import(Import),
     /// A call that reads a value and writes what is made of it.
     Fetch(Fetch),
+    /// A subscriber and its events.
+    Listen(Listen),
     /// A call of the database itself.
     Owned(Owned),
     Help,
@@ -72,7 +75,7 @@ type Form = (&'static str, &'static str, Verb, &'static str);
 // of a call in flight, OPERATOR a merge operator, HOW what is made
 // of a value, and the others numbers; `..` stands for more of the word before it, `K V ..` for pairs,
 // and `; ..` for more of all that stands before it.
-const FORMS: [Form; 83] = [
+const FORMS: [Form; 89] = [
     (
         "insert",
         "K V",
@@ -441,6 +444,24 @@ const FORMS: [Form; 83] = [
         "the same for all parts, by one call; a ; stands between two of them, and %3b is the string ;",
     ),
     (
+        "watch",
+        "P",
+        Verb::Listen(Listen::Watch),
+        "adds a subscriber to the keys of the tree that begin with P, and prints its number",
+    ),
+    (
+        "next",
+        "N",
+        Verb::Listen(Listen::Next),
+        "takes the oldest event that waits for a subscriber, and prints it",
+    ),
+    (
+        "unwatch",
+        "N",
+        Verb::Listen(Listen::Unwatch),
+        "gives a subscriber up, with the events that wait for it",
+    ),
+    (
         "owned insert",
         "K V",
         Verb::Owned(Owned::Insert),
@@ -523,6 +544,24 @@ const FORMS: [Form; 83] = [
         "",
         Verb::Owned(Owned::Id),
         "prints the next id, which never came before",
+    ),
+    (
+        "owned watch",
+        "P",
+        Verb::Owned(Owned::Listen(Listen::Watch)),
+        "adds a subscriber, which is counted with the others",
+    ),
+    (
+        "owned next",
+        "N",
+        Verb::Owned(Owned::Listen(Listen::Next)),
+        "takes the oldest event that waits for a subscriber, and prints it",
+    ),
+    (
+        "owned unwatch",
+        "N",
+        Verb::Owned(Owned::Listen(Listen::Unwatch)),
+        "gives a subscriber up, with the events that wait for it",
     ),
     ("help", "", Verb::Help, "prints these lines"),
     ("quit", "", Verb::Quit, "ends"),

@@ -69,19 +69,29 @@ fn typed_of(alloc: Global, words: &[&[u8]]) -> Result<Collection> {
     collection_of(alloc, *kind, words)
 }
 
-// The collections that words spell.
-fn collections_of(alloc: Global, import: Import, words: &[&[u8]]) -> Result<Vec<Collection>> {
+// A list of one collection.
+fn alone(alloc: Global, collection: Collection) -> Result<Vec<Collection>> {
     let mut collections = Vec::new(alloc);
-    match import {
-        Import::Tree => collections.push(collection_of(alloc, b"tree", words)?)?,
-        Import::Typed => collections.push(typed_of(alloc, words)?)?,
-        Import::All => {
-            for part in words.split(is_semicolon) {
-                collections.push(typed_of(alloc, part)?)?;
-            }
-        }
+    collections.push(collection)?;
+    Ok(collections)
+}
+
+// The collections that parts of a line spell.
+fn parts_of(alloc: Global, words: &[&[u8]]) -> Result<Vec<Collection>> {
+    let mut collections = Vec::new(alloc);
+    for part in words.split(is_semicolon) {
+        collections.push(typed_of(alloc, part)?)?;
     }
     Ok(collections)
+}
+
+// The collections that words spell.
+fn collections_of(alloc: Global, import: Import, words: &[&[u8]]) -> Result<Vec<Collection>> {
+    match import {
+        Import::Tree => alone(alloc, collection_of(alloc, b"tree", words)?),
+        Import::Typed => alone(alloc, typed_of(alloc, words)?),
+        Import::All => parts_of(alloc, words),
+    }
 }
 
 /// Imports what a line spells, and adds how that came out.

@@ -19,6 +19,7 @@ mod plain;
 mod pops;
 mod shell;
 mod store;
+mod subscribers;
 
 use line_files::check;
 use shell::{Sessions, run};

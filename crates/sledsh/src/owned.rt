@@ -5,6 +5,7 @@ use crate::counting::Counting;
 use crate::fetch::{Fetch, tell_owned_fetch};
 use crate::look::{tell_found, tell_is, tell_value};
 use crate::operators::Operator;
+use crate::subscribers::{Listen, Subscribers, tell_owned_listen};
 use sled::{CompareAndSwapResult, Db};
 use sled_lines::input::{Stopped, without_end};
 use sled_lines::print::Piece::{Number, Text, Word};
@@ -33,6 +34,7 @@ pub enum Owned {
     Flush,
     Drop,
     Id,
+    Listen(Listen),
 }
 
 fn tell_old(out: &mut Vec<u8>, stood: Answer<Option<IVec>>) -> Result<()> {
@@ -221,6 +223,7 @@ fn make(
     alloc: Global,
     db: &mut Db<Counting<'_>, Operator>,
     tree: &Tree,
+    subscribers: &mut Subscribers,
     owned: Owned,
     words: &[u8],
     out: &mut Vec<u8>,
@@ -237,6 +240,9 @@ fn make(
         Owned::Flush => tell_flushed(out, db.flush()),
         Owned::Drop => drop_tree(alloc, db, words, out),
         Owned::Id => tell_id(out, db.generate_id()),
+        Owned::Listen(listen) => {
+            tell_owned_listen(alloc, db, tree, subscribers, listen, words, out)
+        }
     }
 }
 
@@ -252,11 +258,20 @@ fn words_of(line: &[u8]) -> &[u8] {
 pub fn tell_owned<'a>(
     alloc: Global,
     session: Session<Counting<'a>, Operator>,
+    subscribers: &mut Subscribers,
     owned: Owned,
     line: &[u8],
     out: &mut Vec<u8>,
 ) -> (Session<Counting<'a>, Operator>, Result<()>) {
     let (mut db, tree) = session.into_parts();
-    let told = make(alloc, &mut db, &tree, owned, words_of(line), out);
+    let told = make(
+        alloc,
+        &mut db,
+        &tree,
+        subscribers,
+        owned,
+        words_of(line),
+        out,
+    );
     (Session::with_tree(alloc, db, tree), told)
 }

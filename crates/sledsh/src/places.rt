@@ -241,30 +241,12 @@ fn compare_parts(
     Ok(())
 }
 
-/// Adds why a text does not have the words that a command takes, if it has not; the command by its own words, and by what it takes.
-pub fn compare(
-    alloc: Global,
-    (own, taken): (&'static str, &'static str),
-    text: Option<&[u8]>,
+// Adds how many words a command takes.
+fn push_count(
     why: &mut Vec<u8>,
+    (own, taken): (&'static str, &'static str),
+    takes: Takes<'_>,
 ) -> Result<()> {
-    let all = words_of(
-        alloc,
-        if taken.is_empty() {
-            None
-        } else {
-            Some(taken.as_bytes())
-        },
-    )?;
-    let (tail, said) = tail_of(taken.as_bytes());
-    let takes = Takes {
-        once: &all.as_slice()[..all.len().saturating_sub(said)],
-        tail,
-    };
-    let words = words_of(alloc, text)?;
-    if all_fit(takes, words.as_slice()) {
-        return compare_parts(alloc, takes, words.as_slice(), why);
-    }
     let (count, more) = count_of(takes);
     push_pieces(
         why,
@@ -277,4 +259,34 @@ pub fn compare(
             Text(more.as_bytes()),
         ],
     )
+}
+
+// The text, if it is not empty.
+fn some_text(text: &'static str) -> Option<&'static [u8]> {
+    if text.is_empty() {
+        None
+    } else {
+        Some(text.as_bytes())
+    }
+}
+
+/// Adds why a text does not have the words that a command takes, if it has not; the command by its own words, and by what it takes.
+pub fn compare(
+    alloc: Global,
+    form: (&'static str, &'static str),
+    text: Option<&[u8]>,
+    why: &mut Vec<u8>,
+) -> Result<()> {
+    let all = words_of(alloc, some_text(form.1))?;
+    let (tail, said) = tail_of(form.1.as_bytes());
+    let takes = Takes {
+        once: &all.as_slice()[..all.len().saturating_sub(said)],
+        tail,
+    };
+    let words = words_of(alloc, text)?;
+    if all_fit(takes, words.as_slice()) {
+        compare_parts(alloc, takes, words.as_slice(), why)
+    } else {
+        push_count(why, form, takes)
+    }
 }

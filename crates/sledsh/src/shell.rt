@@ -16,6 +16,7 @@ use crate::operators::Operator;
 use crate::owned::{Owned, tell_owned};
 use crate::pops::tell_pop;
 use crate::store::Kept;
+use crate::subscribers::{Listen, Subscribers, tell_listen, tell_no_subscriber};
 use line_files::Program;
 use sled::Db;
 use sled_lines::command;
@@ -72,6 +73,7 @@ struct Shell<'a> {
     why: Vec<u8>,
     mark: u64,
     names: Names,
+    subscribers: Subscribers,
     // The tree that is told level by level.
     shown: Vec<u8>,
     // The command that changed the store last, or ended; and why the pages cannot be opened after it.
@@ -102,6 +104,16 @@ fn tell_shut(out: &mut Vec<u8>, line: command::Command) -> Result<(), Stopped> {
         tell_turns(out, None)
     } else {
         tell_refused(out, Error::Closed)
+    }
+}
+
+// Adds what a command prints that asks a database, where there is none.
+fn tell_unasked(out: &mut Vec<u8>, verb: Verb) -> Result<(), Stopped> {
+    match verb {
+        Verb::Turns | Verb::Overtake => tell_turns(out, None),
+        Verb::Listen(Listen::Next | Listen::Unwatch)
+        | Verb::Owned(Owned::Listen(Listen::Next | Listen::Unwatch)) => tell_no_subscriber(out),
+        _ => tell_refused(out, Error::Closed),
     }
 }
 
@@ -259,6 +271,22 @@ impl<'a> Shell<'a> {
         )
     }
 
+    // Adds a subscriber, takes an event of one, or ends one.
+    fn listen(
+        &mut self,
+        session: &mut Session<Counting<'a>, Operator>,
+        listen: Listen,
+    ) -> Result<(), Stopped> {
+        tell_listen(
+            self.alloc,
+            session,
+            &mut self.subscribers,
+            listen,
+            self.line.as_slice(),
+            &mut self.out,
+        )
+    }
+
     // Does steps of calls in flight, which the line says.
     fn run_steps(&mut self, session: &mut Session<Counting<'a>, Operator>) -> Result<(), Stopped> {
         run_steps(
@@ -333,6 +361,7 @@ impl<'a> Shell<'a> {
                 let (session, told) = tell_owned(
                     self.alloc,
                     session,
+                    &mut self.subscribers,
                     owned,
                     self.line.as_slice(),
                     &mut self.out,
@@ -341,7 +370,7 @@ impl<'a> Shell<'a> {
             }
             State::Shut(kept) => (
                 State::Shut(kept),
-                tell_refused(&mut self.out, Error::Closed),
+                tell_unasked(&mut self.out, Verb::Owned(owned)),
             ),
         };
         let shut = std::mem::replace(state, next);
@@ -349,36 +378,50 @@ impl<'a> Shell<'a> {
         told
     }
 
+    // Answers a command that makes a call of its own kind, or that counts.
+    fn call(
+        &mut self,
+        session: &mut Session<Counting<'a>, Operator>,
+        verb: Verb,
+        numbers: [u64; 3],
+    ) -> Result<(), Stopped> {
+        match verb {
+            Verb::Named(named) => self.name(session, named),
+            Verb::Import(import) => self.import(session, import),
+            Verb::Fetch(call) => self.fetch(session, call),
+            Verb::Listen(listen) => self.listen(session, listen),
+            Verb::Pop(pop) => tell_pop(session, pop, &mut self.out),
+            verb => {
+                let out = &mut self.out;
+                ask(self.alloc, session, self.reads, verb, numbers, out)
+            }
+        }
+    }
+
+    // Answers a command that asks a session.
+    fn ask_session(
+        &mut self,
+        session: &mut Session<Counting<'a>, Operator>,
+        verb: Verb,
+        numbers: [u64; 3],
+    ) -> Result<(), Stopped> {
+        match verb {
+            Verb::Run => self.run_steps(session),
+            Verb::Handle => {
+                let line = self.line.as_slice();
+                take_handle(self.alloc, session, line, &mut self.out)
+            }
+            Verb::Operator => set_operator(session, self.line.as_slice(), &mut self.out),
+            Verb::Look(which) => self.look(session, which),
+            verb => self.call(session, verb, numbers),
+        }
+    }
+
     // Answers a command that asks a database.
     fn ask(&mut self, state: &mut State<'a>, verb: Verb, numbers: [u64; 3]) -> Result<(), Stopped> {
-        match (state, verb) {
-            (State::Open(session), Verb::Run) => self.run_steps(session),
-            (State::Open(session), Verb::Handle) => take_handle(
-                self.alloc,
-                session,
-                self.line.as_slice(),
-                &mut self.out,
-            ),
-            (State::Open(session), Verb::Look(which)) => self.look(session, which),
-            (State::Open(session), Verb::Operator) => {
-                set_operator(session, self.line.as_slice(), &mut self.out)
-            }
-            (State::Open(session), Verb::Named(named)) => self.name(session, named),
-            (State::Open(session), Verb::Import(import)) => self.import(session, import),
-            (State::Open(session), Verb::Fetch(call)) => self.fetch(session, call),
-            (State::Open(session), Verb::Pop(pop)) => tell_pop(session, pop, &mut self.out),
-            (State::Open(session), verb) => {
-                ask(
-                    self.alloc,
-                    session,
-                    self.reads,
-                    verb,
-                    numbers,
-                    &mut self.out,
-                )
-            }
-            (State::Shut(_), Verb::Turns | Verb::Overtake) => tell_turns(&mut self.out, None),
-            (State::Shut(_), _) => tell_refused(&mut self.out, Error::Closed),
+        match state {
+            State::Open(session) => self.ask_session(session, verb, numbers),
+            State::Shut(_) => tell_unasked(&mut self.out, verb),
         }
     }
 
@@ -397,6 +440,7 @@ impl<'a> Shell<'a> {
             | Verb::Look(_)
             | Verb::Named(_)
             | Verb::Fetch(_)
+            | Verb::Listen(_)
             | Verb::Import(_)
             | Verb::Pop(_) => self.ask(state, verb, numbers),
             Verb::OldTree => self.take_old(state),
@@ -501,6 +545,7 @@ impl<'a> Shell<'a> {
             drop(db.into_pages());
             return Err(Stopped);
         }
+        self.subscribers.clear();
         match Session::over(self.alloc, db) {
             Ok(session) => match self.names.begin(session.tree()) {
                 Ok(()) => self.live_in(State::Open(session), input, output),
@@ -647,6 +692,7 @@ pub fn run<R: BufRead, W: Write>(
         why: Vec::new(alloc),
         mark: 0,
         names: Names::empty(alloc),
+        subscribers: Subscribers::empty(alloc),
         shown: Vec::new(alloc),
         last: Verb::Quit,
         refused: None,

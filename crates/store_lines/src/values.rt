@@ -1,7 +1,7 @@
 //! What values are: their equality, their order, their copies and their texts.
 use crate::line::{Line, Word, named};
 use crate::text::Text;
-use sled_model::{Call, CompareAndSwapError, Event, Tree, Whole};
+use sled_model::{Call, Collection, CompareAndSwapError, Event, Subscriber, Tree, Whole};
 use sled_pages::{Error, Fault, IVec, Result, texts};
 
 /// What the values of a line are.
@@ -177,18 +177,25 @@ enum Point {
     Insert,
     Remove,
     Swap,
+    Merge,
 }
 
-const CALLS: [(&str, Point); 4] = [
+const CALLS: [(&str, Point); 5] = [
     ("get", Point::Get),
     ("insert", Point::Insert),
     ("remove", Point::Remove),
     ("cas", Point::Swap),
+    ("merge", Point::Merge),
 ];
 
 fn read_insert(line: &mut Line) -> Option<Call> {
     let (key, value) = line.read()?;
     Some(Call::Insert(key, value))
+}
+
+fn read_merge(line: &mut Line) -> Option<Call> {
+    let (key, bytes) = line.read()?;
+    Some(Call::Merge(key, bytes))
 }
 
 fn read_swap(line: &mut Line) -> Option<Call> {
@@ -203,6 +210,7 @@ impl Sample for Call {
             Point::Insert => read_insert(line),
             Point::Remove => line.read().map(Call::Remove),
             Point::Swap => read_swap(line),
+            Point::Merge => read_merge(line),
         }
     }
 
@@ -215,13 +223,76 @@ impl Sample for Call {
     }
 }
 
+// What a whole call does.
+#[derive(Clone, Copy)]
+enum Kept {
+    Flush,
+    PopMin,
+    PopMax,
+    Clear,
+    Open,
+    Drop,
+    Id,
+    Import,
+    Watch,
+    Next,
+    Unsubscribe,
+}
+
+const WHOLES: [(&str, Kept); 11] = [
+    ("flush", Kept::Flush),
+    ("pop-min", Kept::PopMin),
+    ("pop-max", Kept::PopMax),
+    ("clear", Kept::Clear),
+    ("tree", Kept::Open),
+    ("drop", Kept::Drop),
+    ("id", Kept::Id),
+    ("import", Kept::Import),
+    ("watch", Kept::Watch),
+    ("next", Kept::Next),
+    ("unwatch", Kept::Unsubscribe),
+];
+
+// A collection with one pair.
+fn read_collection(line: &mut Line) -> Option<Collection> {
+    let kind = line.bytes();
+    let name = line.bytes();
+    let mut pairs = Vec::new(line.alloc());
+    if let Some(pair) = line.read::<(IVec, IVec)>() {
+        line.out.keep(&mut pairs, pair);
+    }
+    Some((kind, name, pairs))
+}
+
+fn read_import(line: &mut Line) -> Option<Whole> {
+    let mut collections = Vec::new(line.alloc());
+    if let Some(collection) = read_collection(line) {
+        line.out.keep(&mut collections, collection);
+    }
+    Some(Whole::Import(collections))
+}
+
+fn read_watch(line: &mut Line) -> Option<Whole> {
+    let tree = Tree::sample(line);
+    let (tree, prefix) = tree.zip(line.read())?;
+    Some(Whole::Watch(tree, prefix))
+}
+
 impl Sample for Whole {
     fn sample(line: &mut Line) -> Option<Whole> {
-        if line.takes("flush") {
-            return Some(Whole::Flush);
+        match line.named(&WHOLES)? {
+            Kept::Flush => Some(Whole::Flush),
+            Kept::PopMin => Tree::sample(line).map(Whole::PopMin),
+            Kept::PopMax => Tree::sample(line).map(Whole::PopMax),
+            Kept::Clear => Tree::sample(line).map(Whole::Clear),
+            Kept::Open => line.read().map(Whole::OpenTree),
+            Kept::Drop => line.read().map(Whole::DropTree),
+            Kept::Id => Some(Whole::GenerateId),
+            Kept::Import => read_import(line),
+            Kept::Watch => read_watch(line),
+            Kept::Next => Some(Whole::Next(Subscriber(line.number()))),
+            Kept::Unsubscribe => Some(Whole::Unsubscribe(Subscriber(line.number()))),
         }
-        line.fail();
-        None
     }
 
     fn copy(&self) -> Result<Whole> {
@@ -229,7 +300,19 @@ impl Sample for Whole {
     }
 
     fn show(&self, out: &mut Text) {
-        out.push("flush");
+        out.push(match self {
+            Whole::Flush => "flush",
+            Whole::PopMin(_) => "pop-min",
+            Whole::PopMax(_) => "pop-max",
+            Whole::Clear(_) => "clear",
+            Whole::OpenTree(_) => "tree",
+            Whole::DropTree(_) => "drop",
+            Whole::GenerateId => "id",
+            Whole::Import(_) => "import",
+            Whole::Watch(_, _) => "watch",
+            Whole::Next(_) => "next",
+            Whole::Unsubscribe(_) => "unwatch",
+        });
     }
 }
 

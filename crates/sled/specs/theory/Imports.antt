@@ -1,14 +1,14 @@
 -- Of Imports, for inner functions and proofs. What comes of some of an import's parts.
-use Rattle.std.specs.Prelude.{◌≡◌, ℕ, List, ◌∷◌, ◌++◌, Option, Some, None}
+use Rattle.std.specs.Prelude.{◌≡◌, ℕ, List, Option, Some, None}
 use Rattle.sled_pages.specs.Store.{Store}
 use Rattle.sled_pages.specs.declared.error.Error.{Error}
 use Rattle.sled_model.specs.Maps.{Maps, Merge}
-use Rattle.sled_model.specs.Imports.{Part, DoesParts, refuses_part, tree_at}
+use Rattle.sled_model.specs.Imports.{Part, Stop, parts_about, DoesParts, refuses_part, tree_at}
 use Rattle.sled_model.specs.State.{CallInFlight}
 use Rattle.sled_model.specs.declared.tree.Tree.{Tree}
 use Rattle.sled.specs.Values.{DbValue, state_of, db_state}
 use Rattle.sled.specs.Direct.{LeavesAll, effects_until}
-use Rattle.sled.specs.Imports.{grows_trees, ImportsBySteps, StopsBySteps}
+use Rattle.sled.specs.Imports.{grows_trees, PartRefusedBySteps, ImportsBySteps}
 
 module _ {P M : Type 0} (store : P → Store) (meant : M → Merge) where
   -- the tree is the one that its name has now
@@ -27,13 +27,14 @@ module _ {P M : Type 0} (store : P → Store) (meant : M → Merge) where
   -- the first of them were done, and the next was refused
   pub record PartsStopped (old : DbValue P M) (parts : List Part) (e : Error) (new : DbValue P M) : Type 0 where
     pub maps : List Maps
-    pub done : List Part
-    pub next : Part
-    pub later : List Part
-    pub all_parts : parts ≡ done ++ next ∷ later
-    pub does : (slots : ℕ → Option CallInFlight) (given : ℕ) → DoesParts (state_of store meant old slots given) done (state_of store meant new slots given) maps
-    pub refuses : (slots : ℕ → Option CallInFlight) (given : ℕ) → refuses_part (state_of store meant new slots given) (store old.pages) (store new.pages) next e
+    pub stop : Stop
+    pub all_parts : parts ≡ parts_about stop
+    pub mid : DbValue P M
+    pub does : (slots : ℕ → Option CallInFlight) (given : ℕ) → DoesParts (state_of store meant old slots given) stop.done (state_of store meant mid slots given) maps
+    pub refuses : (slots : ℕ → Option CallInFlight) (given : ℕ) → refuses_part (state_of store meant mid slots given) (store old.pages) (store new.pages) stop.next e
+    pub stays : (slots : ℕ → Option CallInFlight) (given : ℕ) → state_of store meant new slots given ≡ state_of store meant mid slots given
+    pub did : ImportsBySteps store meant old stop.done mid
+    pub refused : PartRefusedBySteps store meant mid stop.next e new
     pub acts : effects_until (Some e) (store old.pages) (store new.pages)
     pub leaves : LeavesAll store maps None old new
     pub same : grows_trees old new
-    pub steps : StopsBySteps store meant old parts e new

@@ -8,6 +8,3 @@ returns-clause-err c = assumption
 
 pub returns-clause-steps : goal.returns-clause-steps
 returns-clause-steps c = assumption
-
-pub returns-clause-refused : goal.returns-clause-refused
-returns-clause-refused c = assumption

@@ -1,7 +1,7 @@
 use Rattle.std.proofs.Common.{rules, ◌≡◌, true, false, refl}
 use Rattle.sled_pages.specs.Store.{now}
 use Rattle.sled_model.specs.Collections.{contents_of, are_trees}
-use Rattle.sled.proofs.Importing.{import_closed, import_unknown, imported_first, imported_more, imported_stopped, import_stopped, import_stopped_steps, contents_left}
+use Rattle.sled.proofs.Importing.{import_closed, import_unknown, imported_first, imported_more, imported_stopped, import_stopped, contents_left}
 use Rattle.sled.proofs.db.Db.import.Goals as goal
 
 pub returns-then-in_group-clause-err : goal.returns-then-in_group-clause-err
@@ -21,13 +21,6 @@ returns-in-Err-clause-err g c =
     let no_group : (now (g.P.Pages.store c.args.self.now.pages)).in_group ≡ false = search rules in
     let on : are_trees (contents_of c.args.collections.now) ≡ true = search rules in
     import_stopped g.P.Pages.store g.M.MergeOperator.meant c.args.self.now _ no_group on _ _
-    (imported_stopped g.P.Pages.store g.M.MergeOperator.meant c.args.self.now (contents_of c.args.collections.now) _ c.loop-collection.self c.loop-collection.invariant c.audit.ensures.sound _ _ (contents_left c.args.collections.now c.loop-collection.collection-index c.collection-item.result c.loop-collection-test.true c.collection-item.is) _ _ c.in-Err.ensures.err)
-
-pub returns-in-Err-clause-refused : goal.returns-in-Err-clause-refused
-returns-in-Err-clause-refused g c =
-    let no_group : (now (g.P.Pages.store c.args.self.now.pages)).in_group ≡ false = search rules in
-    let on : are_trees (contents_of c.args.collections.now) ≡ true = search rules in
-    import_stopped_steps g.P.Pages.store g.M.MergeOperator.meant c.args.self.now _ no_group on _ _
     (imported_stopped g.P.Pages.store g.M.MergeOperator.meant c.args.self.now (contents_of c.args.collections.now) _ c.loop-collection.self c.loop-collection.invariant c.audit.ensures.sound _ _ (contents_left c.args.collections.now c.loop-collection.collection-index c.collection-item.result c.loop-collection-test.true c.collection-item.is) _ _ c.in-Err.ensures.err)
 
 pub loop-collection-preserved : goal.loop-collection-preserved

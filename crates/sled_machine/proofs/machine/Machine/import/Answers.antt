@@ -2,7 +2,7 @@ use Rattle.std.proofs.Common.{subst}
 use Rattle.sled_model.specs.Collections.{contents_of}
 use Rattle.sled_model.specs.Imports.{parts_of}
 use Rattle.sled_model.specs.declared.call.Whole.TheVariants.{Import}
-use Rattle.sled.specs.Imports.{ImportDecided, ImportRefused, ImportsBySteps, ImportRefusedBySteps}
+use Rattle.sled.specs.Imports.{ImportDecided, ImportRefused, ImportsBySteps}
 use Rattle.sled.proofs.Importing.{import_whole, import_whole_refused}
 use Rattle.sled_machine.proofs.Wholes.{whole_decided, whole_refused, decided_machine, refused_machine}
 use Rattle.sled_machine.proofs.machine.Machine.import.Goals as goal
@@ -11,7 +11,7 @@ pub returns-in-Err : goal.returns-in-Err
 returns-in-Err g c =
     whole_refused g.P.Pages.store g.P.Pages.flush_number g.M.MergeOperator.meant _ _ c.self.view_is c.self.invariant.0 (Import c.args.collections.now) tt _ _
     (import_whole_refused g.P.Pages.store g.M.MergeOperator.meant c.self.inside.db c.import.new.self c.args.collections.now _ (subst (λ xs. ImportRefused g.P.Pages.store g.M.MergeOperator.meant c.self.inside.db (contents_of xs) c.in-Err.e c.import.new.self) c.as_slice.ensures.value c.in-Err.ensures.err)) tt
-    (subst (λ xs. ImportRefusedBySteps g.P.Pages.store g.M.MergeOperator.meant c.self.inside.db (contents_of xs) c.in-Err.e c.import.new.self) c.as_slice.ensures.value c.in-Err.ensures.refused)
+    (subst (λ xs. ImportRefused g.P.Pages.store g.M.MergeOperator.meant c.self.inside.db (contents_of xs) c.in-Err.e c.import.new.self) c.as_slice.ensures.value c.in-Err.ensures.err)
 
 pub returns : goal.returns
 returns g c =

@@ -1,0 +1,81 @@
+-- What a subscriber hears over a list of steps.
+use Rattle.std.specs.Prelude.{◌≡◌, ℕ, false, List, [], ◌∷◌, ◌++◌, Option, Some}
+use Rattle.sled_pages.specs.Order.{Key}
+use Rattle.sled_pages.specs.Store.{Store}
+use Rattle.sled_model.specs.Maps.{Map, Merge}
+use Rattle.sled_model.specs.State.{NamedTree, Queue}
+use Rattle.sled_model.specs.Queues.{waiting_in}
+use Rattle.sled_model.specs.declared.call.Whole.TheVariants.{Watch}
+use Rattle.sled_model.specs.declared.event.Event.{Event}
+use Rattle.sled_model.specs.declared.tree.Tree.{Tree}
+use Rattle.sled_model.specs.declared.reply.Reply.TheVariants.{Subscriber}
+use Rattle.sled_model.specs.declared.outcome.Step.{Step}
+use Rattle.sled_model.specs.declared.outcome.Step.TheVariants as step
+use Rattle.sled_model.specs.declared.outcome.Outcome.{Outcome}
+use Rattle.sled_model.specs.declared.outcome.Outcome.TheVariants.{Decided}
+use Rattle.sled_queues.specs.Values.{queue_at}
+use Rattle.sled_queues.specs.Queues.{queues_of}
+use Rattle.sled_queues.specs.Events.{Turn, after_turns, brought}
+use Rattle.sled_queues.specs.Copies.{IsCopy, after_events}
+use Rattle.sled_queues.specs.Turns.{turns_of, told_at, gives_up}
+use Rattle.sled_queues.specs.Trees.{drops}
+use Rattle.sled.specs.Sound.{IsDb}
+use Rattle.sled.specs.Values.{db_state}
+use Rattle.sled_machine.specs.Run.{MachineSteps, NoCalls, OneCall}
+use Rattle.sled_machine.specs.Step.{MachineStep}
+use Rattle.sled_machine.specs.Values.{MachineValue, configuration_of}
+
+-- the queues of a machine by subscriber
+abbrev pub queues_at : {P M : Type 0} → MachineValue P M → ℕ → Option Queue
+queues_at m = queues_of (queue_at m.db.queues)
+
+-- what a step does to the queues
+abbrev pub turns_of_step : {P M : Type 0} (store : P → Store) (flush_number : P → ℕ) (meant : M → Merge) (old : MachineValue P M) (s : Step) (o : Outcome) (new : MachineValue P M) → MachineStep store flush_number meant old s o new → List Turn
+turns_of_step store flush_number meant old s o new one = turns_of (configuration_of store flush_number meant old) s o (configuration_of store flush_number meant new) one.maps one.step.is
+
+-- .. and what a list of steps does, in order
+abbrev pub turns_of_run : {P M : Type 0} (store : P → Store) (flush_number : P → ℕ) (meant : M → Merge) {old new : MachineValue P M} {steps : List Step} {outcomes : List Outcome}
+    → MachineSteps store flush_number meant old steps outcomes new → List Turn
+turns_of_run store flush_number meant NoCalls = []
+turns_of_run store flush_number meant (OneCall {a = a} {m = m} {step = s} {outcome = o} one rest) = turns_of_step store flush_number meant a s o m one.step ++ turns_of_run store flush_number meant rest
+
+-- the events that a subscriber is told by these steps, in order
+abbrev pub told_to : ℕ → List Step → List Outcome → List Event
+told_to n (s ∷ ss) (o ∷ os) = told_at n s o ++ told_to n ss os
+told_to n ss os = []
+
+-- no step gives the subscriber up
+abbrev pub IsKept : ℕ → List Step → Type 0
+IsKept n [] = Unit {0}
+IsKept n (s ∷ ss) = (gives_up n s ≡ false) × IsKept n ss
+
+-- no step drops the tree of this name
+abbrev pub KeepsTree : Key → List Step → Type 0
+KeepsTree name [] = Unit {0}
+KeepsTree name (s ∷ ss) = (drops name s ≡ false) × KeepsTree name ss
+
+-- the name has the tree of this number, and the copy is one of its map under the prefix
+pub record IsCopyOfTree {P M : Type 0} (store : P → Store) (meant : M → Merge) (m : MachineValue P M) (name : Key) (number : ℕ) (prefix : Key) (copy : Map) : Type 0 where
+  pub tree : NamedTree
+  pub there : (db_state store meant m.db).trees name ≡ Some tree
+  pub same : tree.number ≡ number
+  pub copied : IsCopy prefix copy tree.map
+
+-- What subscribers hear over every list of steps
+pub record Hears {P M : Type 0} (store : P → Store) (flush_number : P → ℕ) (meant : M → Merge) : Type 0 where
+  -- a subscriber that is added watches its prefix of its tree, and nothing waits for it yet
+  pub begins : (a b : MachineValue P M) (tree : Tree) (prefix : Key) (n : ℕ) → MachineStep store flush_number meant a (step.Whole (Watch tree prefix)) (Decided (Subscriber n)) b
+      → queues_at b n ≡ Some (record { tree = tree.number; prefix = prefix; events = [] })
+  -- the queues after the steps are those that their turns make of them
+  pub queues : (a b : MachineValue P M) (steps : List Step) (outcomes : List Outcome) (run : MachineSteps store flush_number meant a steps outcomes b)
+      → queues_at b ≡ after_turns (turns_of_run store flush_number meant run) (queues_at a)
+  -- what its calls told it, and then what waits for it, are what waited at first and then the events under its prefix of its tree that
+  -- the decided calls brought, each once and in the order of their decisions
+  pub hears : (a b : MachineValue P M) (steps : List Step) (outcomes : List Outcome) (run : MachineSteps store flush_number meant a steps outcomes b)
+      → (n : ℕ) (q : Queue) → queues_at a n ≡ Some q → IsKept n steps
+      → told_to n steps outcomes ++ waiting_in (queues_at b n) ≡ q.events ++ brought q (turns_of_run store flush_number meant run)
+  -- a copy that it changes by each event that it is told is, once it is changed by those that wait too, a copy of its tree's map
+  pub follows : (a b : MachineValue P M) (steps : List Step) (outcomes : List Outcome) → MachineSteps store flush_number meant a steps outcomes b → IsDb store a.db
+      → (n : ℕ) (q : Queue) → queues_at a n ≡ Some q → IsKept n steps → (name : Key) → KeepsTree name steps
+      → (copy : Map) → IsCopyOfTree store meant a name q.tree q.prefix (after_events q.events copy)
+      → IsCopyOfTree store meant b name q.tree q.prefix (after_events (waiting_in (queues_at b n)) (after_events (told_to n steps outcomes) copy))

@@ -1,0 +1,134 @@
+-- Copies of a part of a map.
+use Rattle.std.proofs.Common.{◌≡◌, Bool, true, false, cond, not, nat_eq, ◌&&◌, List, [], ◌∷◌, ◌++◌, Option, Some, None, sym, refl, ap, ◌∙◌, is_eq, Less, Equal, Greater}
+use Rattle.std.specs.List.{starts_with}
+use Rattle.std.specs.Cmp.{IsTotalOrder}
+use Rattle.std.specs.Ordering.{eq_by_cmp}
+use Rattle.std.specs.declared.cmp.Ordering.{Ordering}
+use Rattle.std.specs.FinMap.{slice_cmp-IsAntisymmetric, nat_cmp-IsAntisymmetric}
+use Rattle.std.specs.FinMap.Entries.{find, find-put, find-where_key}
+use Rattle.std.proofs.lemmas.Cmp.{nat_list_cmp_total}
+use Rattle.sled_pages.specs.Order.{Key, key_cmp}
+use Rattle.sled_model.specs.Maps.{Map}
+use Rattle.sled_model.specs.Event.{key_of_event}
+use Rattle.sled_model.specs.State.{Queue}
+use Rattle.sled_model.specs.Queues.{waiting_in}
+use Rattle.sled_model.specs.declared.decision.Effect.TheVariants as effect
+use Rattle.sled_model.specs.declared.event.Event.{Event}
+use Rattle.sled_model.specs.declared.event.Event.TheVariants.{Insert, Remove}
+use Rattle.sled_queues.specs.Events.{Turn, Comes, Watches, Takes, Ends, after_turns, taken_by, brought}
+use Rattle.sled_queues.specs.Copies.{after_event, after_events, ChangesLaw, is_under, events_under, IsCopy, CopyLaw, came_to, FollowsLaw}
+use Rattle.sled_queues.proofs.Hearing.{hears_law}
+
+key_total : IsTotalOrder key_cmp
+unfolding key_cmp
+key_total = nat_list_cmp_total
+
+key_same : (a b : Key) → key_cmp a b ≡ Equal → a ≡ b
+unfolding key_cmp
+key_same a b e = slice_cmp-IsAntisymmetric nat_cmp-IsAntisymmetric a b e
+
+differ : {P : Type 0} → true ≡ false → P
+differ e = cc
+
+pub changes_law : ChangesLaw
+changes_law effect.Nothing key m = refl
+changes_law (effect.Set v) key m = refl
+changes_law effect.Remove key m = refl
+
+tied : (a b : Key) → eq_by_cmp key_cmp a b ≡ true → a ≡ b
+tied a b e = go (key_cmp a b) refl e
+  where
+    go : (o : Ordering) → key_cmp a b ≡ o → is_eq o ≡ true → a ≡ b
+    go Less e t = differ (sym t)
+    go Equal e t = key_same a b e
+    go Greater e t = differ (sym t)
+
+-- what is found at a key after a change of the value at another, or the same, of which so much is known: whether they are the same,
+-- whether each is under the prefix, and that the same keys are both or neither
+changed : (v : Option Key) (same here under : Bool) (in_copy in_map : Option Key) → (same ≡ true → here ≡ under) → in_copy ≡ cond here in_map None
+    → cond under (cond same v in_copy) in_copy ≡ cond here (cond same v in_map) None
+changed v true true true in_copy in_map e h = refl
+changed v true true false in_copy in_map e h = differ (e refl)
+changed v true false true in_copy in_map e h = differ (sym (e refl))
+changed v true false false in_copy in_map e h = h
+changed v false true true in_copy in_map e h = h
+changed v false true false in_copy in_map e h = h
+changed v false false true in_copy in_map e h = h
+changed v false false false in_copy in_map e h = h
+
+-- the value that an event leaves at its key
+abbrev value_of : Event → Option Key
+value_of (Insert key value) = Some value
+value_of (Remove key) = None
+
+not_cond : {X : Type 0} (b : Bool) (x y : X) → cond (not b) x y ≡ cond b y x
+not_cond true x y = refl
+not_cond false x y = refl
+
+found_after : (e : Event) (m : Map) (q : Key) → find key_cmp q (after_event e m) ≡ cond (eq_by_cmp key_cmp q (key_of_event e)) (value_of e) (find key_cmp q m)
+found_after (Insert k v) m q = find-put key_cmp key_total q k v m
+found_after (Remove k) m q =
+    find-where_key key_cmp (λ x. not (eq_by_cmp key_cmp k x)) q (λ x e. ap (λ y. not (eq_by_cmp key_cmp k y)) (sym (key_same q x e))) m
+    ∙ not_cond (eq_by_cmp key_cmp k q) (find key_cmp q m) None
+    ∙ ap (λ b. cond b None (find key_cmp q m)) (flip k q)
+  where
+    flip : (a b : Key) → eq_by_cmp key_cmp a b ≡ eq_by_cmp key_cmp b a
+    flip a b = go (eq_by_cmp key_cmp a b) refl (eq_by_cmp key_cmp b a) refl
+      where
+        go : (x : Bool) → eq_by_cmp key_cmp a b ≡ x → (y : Bool) → eq_by_cmp key_cmp b a ≡ y → x ≡ y
+        go true e true f = refl
+        go true e false f = sym e ∙ ap (λ z. eq_by_cmp key_cmp z b) (tied a b e) ∙ ap (λ z. eq_by_cmp key_cmp b z) (sym (tied a b e)) ∙ f
+        go false e true f = sym e ∙ ap (λ z. eq_by_cmp key_cmp z b) (sym (tied b a f)) ∙ ap (λ z. eq_by_cmp key_cmp b z) (tied b a f) ∙ f
+        go false e false f = refl
+
+-- the copy after one event, which changes it where it is under the prefix
+one_copied : (prefix : Key) (e : Event) (copy m : Map) → IsCopy prefix copy m → IsCopy prefix (cond (is_under prefix e) (after_event e copy) copy) (after_event e m)
+one_copied prefix e copy m c = record {
+  has = λ q.
+      pushed (is_under prefix e) q
+      ∙ ap (λ o. cond (is_under prefix e) o (find key_cmp q copy)) (found_after e copy q)
+      ∙ changed (value_of e) (eq_by_cmp key_cmp q (key_of_event e)) (starts_with nat_eq q prefix) (is_under prefix e) (find key_cmp q copy) (find key_cmp q m)
+      (λ s. ap (λ k. starts_with nat_eq k prefix) (tied q (key_of_event e) s)) (c.has q)
+      ∙ ap (λ o. cond (starts_with nat_eq q prefix) o None) (sym (found_after e m q));
+}
+  where
+    pushed : (b : Bool) (q : Key) → find key_cmp q (cond b (after_event e copy) copy) ≡ cond b (find key_cmp q (after_event e copy)) (find key_cmp q copy)
+    pushed true q = refl
+    pushed false q = refl
+
+pub copy_law : CopyLaw
+copy_law prefix [] copy m c = c
+copy_law prefix (e ∷ es) copy m c = go (is_under prefix e) (copy_law prefix es (cond (is_under prefix e) (after_event e copy) copy) (after_event e m) (one_copied prefix e copy m c))
+  where
+    go : (b : Bool) → IsCopy prefix (after_events (events_under prefix es) (cond b (after_event e copy) copy)) (after_events es (after_event e m))
+        → IsCopy prefix (after_events (cond b (e ∷ events_under prefix es) (events_under prefix es)) copy) (after_events es (after_event e m))
+    go true h = h
+    go false h = h
+
+pub after_both : (xs ys : List Event) (m : Map) → after_events (xs ++ ys) m ≡ after_events ys (after_events xs m)
+after_both [] ys m = refl
+after_both (x ∷ xs) ys m = after_both xs ys (after_event x m)
+
+-- what comes for a queue is what comes to its tree under its prefix
+brought_under : (q : Queue) (ts : List Turn) → brought q ts ≡ events_under q.prefix (came_to q.tree ts)
+brought_under q [] = refl
+brought_under q (Watches m tree prefix ∷ ts) = brought_under q ts
+brought_under q (Takes m ∷ ts) = brought_under q ts
+brought_under q (Ends m ∷ ts) = brought_under q ts
+brought_under q (Comes tree e ∷ ts) = go (nat_eq q.tree tree) (is_under q.prefix e) refl (brought_under q ts)
+  where
+    rest : List Event
+    rest = events_under q.prefix (came_to q.tree ts)
+
+    go : (b c : Bool) → is_under q.prefix e ≡ c → brought q ts ≡ rest → cond (b && c) (e ∷ []) [] ++ brought q ts ≡ events_under q.prefix (cond b (e ∷ []) [] ++ came_to q.tree ts)
+    go true true h more = ap (λ l. e ∷ l) more ∙ sym (ap (λ d. cond d (e ∷ rest) rest) h)
+    go true false h more = more ∙ sym (ap (λ d. cond d (e ∷ rest) rest) h)
+    go false c h more = more
+
+pub follows_law : FollowsLaw
+follows_law turns n queues q h s copy m c =
+    same_copy (sym (after_both (taken_by n turns queues) (waiting_in (after_turns turns queues n)) copy) ∙ ap (λ l. after_events l copy) (hears_law turns n queues q h s ∙ ap (λ l. q.events ++ l) (brought_under q turns)) ∙ after_both q.events (events_under q.prefix (came_to q.tree turns)) copy)
+    (copy_law q.prefix (came_to q.tree turns) (after_events q.events copy) m c)
+  where
+    same_copy : {a b : Map} → a ≡ b → IsCopy q.prefix b (after_events (came_to q.tree turns) m) → IsCopy q.prefix a (after_events (came_to q.tree turns) m)
+    same_copy e z = record { has = λ k. ap (find key_cmp k) e ∙ z.has k }

@@ -1,0 +1,64 @@
+-- A copy of a part of a map, which the events of the map keep up to date.
+use Rattle.std.specs.Prelude.{◌≡◌, ℕ, nat_eq, Bool, List, [], ◌∷◌, ◌++◌, Option, Some, None, if◌then◌else◌}
+use Rattle.std.specs.List.{starts_with, filter}
+use Rattle.std.specs.FinMap.Entries.{put, find}
+use Rattle.sled_pages.specs.Order.{Key, key_cmp}
+use Rattle.sled_pages.specs.Node.{without}
+use Rattle.sled_model.specs.Maps.{Map}
+use Rattle.sled_model.specs.Answer.{map_after, event_of}
+use Rattle.sled_model.specs.Event.{key_of_event}
+use Rattle.sled_model.specs.State.{Queue}
+use Rattle.sled_model.specs.Queues.{waiting_in}
+use Rattle.sled_model.specs.declared.decision.Effect.{Effect}
+use Rattle.sled_model.specs.declared.event.Event.{Event}
+use Rattle.sled_model.specs.declared.event.Event.TheVariants.{Insert, Remove}
+use Rattle.sled_queues.specs.Events.{Turn, Comes, after_turns, taken_by, Stays}
+
+-- a map that an event changes, and that events change one after the other
+abbrev pub after_event : Event → Map → Map
+after_event (Insert key value) m = put key_cmp key value m
+after_event (Remove key) m = without key m
+
+abbrev pub after_events : List Event → Map → Map
+after_events [] m = m
+after_events (e ∷ es) m = after_events es (after_event e m)
+
+-- where there may be no event, and then no change
+abbrev pub after_event_of : Option Event → Map → Map
+after_event_of None m = m
+after_event_of (Some e) m = after_event e m
+
+-- the event of a call tells all that the call changes in its tree's map
+abbrev pub ChangesLaw : Type 0
+ChangesLaw = (effect : Effect) (key : Key) (m : Map) → map_after effect key m ≡ after_event_of (event_of effect key) m
+
+-- the event speaks of a key that begins so; those that do, in order
+abbrev pub is_under : Key → Event → Bool
+is_under prefix e = starts_with nat_eq (key_of_event e) prefix
+
+abbrev pub events_under : Key → List Event → List Event
+events_under prefix es = filter (is_under prefix) es
+
+-- the copy has what the map has under the prefix, and nothing else
+pub record IsCopy (prefix : Key) (copy m : Map) : Type 0 where
+  pub has : (key : Key) → find key_cmp key copy ≡ if starts_with nat_eq key prefix then find key_cmp key m else None
+
+-- A copy that is changed by the events under its prefix is a copy of the map that all events change
+abbrev pub CopyLaw : Type 0
+CopyLaw = (prefix : Key) (events : List Event) (copy m : Map) → IsCopy prefix copy m → IsCopy prefix (after_events (events_under prefix events) copy) (after_events events m)
+
+-- the events that came to a tree, in order
+abbrev pub came_to_at : ℕ → Turn → List Event
+came_to_at tree (Comes at e) = if nat_eq tree at then e ∷ [] else []
+came_to_at tree t = []
+
+abbrev pub came_to : ℕ → List Turn → List Event
+came_to tree [] = []
+came_to tree (t ∷ ts) = came_to_at tree t ++ came_to tree ts
+
+-- A subscriber that keeps a copy changes it by each event that it takes. Where the copy, once the events that wait have changed it too,
+-- was a copy of the tree's map, it still is: so where none waits any more, it is one by itself
+abbrev pub FollowsLaw : Type 0
+FollowsLaw = (turns : List Turn) (n : ℕ) (queues : ℕ → Option Queue) (q : Queue) → queues n ≡ Some q → Stays n turns
+    → (copy m : Map) → IsCopy q.prefix (after_events q.events copy) m
+    → IsCopy q.prefix (after_events (waiting_in (after_turns turns queues n)) (after_events (taken_by n turns queues) copy)) (after_events (came_to q.tree turns) m)
