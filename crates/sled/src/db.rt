@@ -152,6 +152,10 @@ impl<P: Pages, M: MergeOperator> Db<P, M> {
     }
 
     /// The tests that come before a call on a key of a tree: those of the tree, and then that it has the operator that the call needs.
+    ///
+    /// ```
+    /// db.check_call(&tree, &call)?; // Refused only where the call would be, before it does anything.
+    /// ```
     pub fn check_call(&self, tree: &Tree, call: &Call) -> Result<()>
         ensures ok { OnOk result (must_refuse (db_state P.store M.meant self.now) (ToPoint tree.now call.now) ≡ None) }
         ensures err { IfErr result (MustBeRefused (must_refuse (db_state P.store M.meant self.now) (ToPoint tree.now call.now))) }
@@ -164,6 +168,10 @@ impl<P: Pages, M: MergeOperator> Db<P, M> {
     }
 
     /// The tests that come before a merge in a tree: those of the tree, and then that it has an operator.
+    ///
+    /// ```
+    /// db.check_operator(&tree)?; // `Unsupported` where the tree has no operator.
+    /// ```
     pub fn check_operator(&self, tree: &Tree) -> Result<()>
         ensures ok { OnOk result ((call : Call) → must_refuse (db_state P.store M.meant self.now) (ToPoint tree.now call) ≡ None) }
         ensures err { IfErr result (λ e. (call : Call) → needs_operator call ≡ true → MustBeRefused (must_refuse (db_state P.store M.meant self.now) (ToPoint tree.now call)) e) }

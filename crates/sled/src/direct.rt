@@ -156,7 +156,8 @@ impl<P: Pages, M: MergeOperator> Db<P, M> {
     }
 
     /// Sets the value at a key, and answers the value that stood there, or `None` where the key was absent. Where an equal
-    /// value stands already, nothing is written.
+    /// value stands already, nothing is written. Else its event comes to the subscribers of the tree that watch the key; where the queue of
+    /// one is full it is refused with `FullQueue`.
     ///
     /// Like a call of a machine it repairs what it meets half done on its way: splits and merges that a call before it did
     /// not finish. These stay also where it is refused itself, and change no map.
@@ -232,6 +233,11 @@ impl<P: Pages, M: MergeOperator> Db<P, M> {
 
     /// Sets the value at a key to what the tree's merge operator makes of it and these bytes, or takes the key out where that is no
     /// value, and answers the new value. It is written also where it is equal.
+    ///
+    /// ```
+    /// db.set_merge_operator(&tree, Adds)?; // An operator that adds numbers.
+    /// let sum = db.merge(&tree, b"ulm", &21u64.to_be_bytes())?;
+    /// ```
     pub fn merge(&mut self, tree: &Tree, key: &[u8], bytes: &[u8]) -> Result<Option<IVec>>
         ensures ok { IfOk result (λ merged. PointDecided P.store M.meant self.old tree.now (call.Merge key.now bytes.now) (told.Value merged) self.new) }
         ensures err { IfErr result (λ e. PointRefused P.store M.meant self.old tree.now (call.Merge key.now bytes.now) e self.new) }

@@ -111,6 +111,10 @@ impl<P: Pages, M: MergeOperator> Machine<P, M> {
 
     /// Gives a tree a merge operator, in place of the one that it has. A merge is decided by the operator that its tree has at the
     /// step that decides it. The calls in flight stay as they are, and a call that is refused lets the operator go.
+    ///
+    /// ```
+    /// machine.set_merge_operator(&tree, Adds)?; // An operator that adds numbers.
+    /// ```
     pub fn set_merge_operator(&mut self, tree: &Tree, operator: M) -> Result<()>
         ensures ok { OnOk result (OperatorSet P.store M.meant self.old.db tree.now (M.meant operator) self.new.db) }
         ensures err { IfErr result (λ e. OperatorNotSet P.store M.meant self.old.db tree.now e self.new.db) }
