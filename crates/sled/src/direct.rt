@@ -30,14 +30,14 @@ fn own_value(alloc: Global, value: Option<&[u8]>) -> Result<Option<IVec>>
     }
 }
 
-// The call that sets a value at a key.
-fn insert_of(alloc: Global, key: &[u8], value: &[u8]) -> Result<Call>
-    ensures ok { IfOk result (λ made. made ≡ call.Insert key.now value.now) }
+// A key and a value of one's own. Refused with `NoMemory` alone.
+fn own_pair(alloc: Global, key: &[u8], value: &[u8]) -> Result<(IVec, IVec)>
+    ensures ok { IfOk result (λ own. own ≡ (key.now, value.now)) }
     ensures err { IfErr result (λ e. e ≡ NoMemory) }
 {
     let key = IVec::from_slice(alloc, key)?;
     match IVec::from_slice(alloc, value) {
-        Ok(value) => Ok(Call::Insert(key, value)),
+        Ok(value) => Ok((key, value)),
         Err(e) => {
             drop(key);
             Err(e)
@@ -45,19 +45,22 @@ fn insert_of(alloc: Global, key: &[u8], value: &[u8]) -> Result<Call>
     }
 }
 
+// The call that sets a value at a key.
+fn insert_of(alloc: Global, key: &[u8], value: &[u8]) -> Result<Call>
+    ensures ok { IfOk result (λ made. made ≡ call.Insert key.now value.now) }
+    ensures err { IfErr result (λ e. e ≡ NoMemory) }
+{
+    let (key, value) = own_pair(alloc, key, value)?;
+    Ok(Call::Insert(key, value))
+}
+
 // The call that merges bytes at a key.
 fn merge_of(alloc: Global, key: &[u8], bytes: &[u8]) -> Result<Call>
     ensures ok { IfOk result (λ made. made ≡ call.Merge key.now bytes.now) }
     ensures err { IfErr result (λ e. e ≡ NoMemory) }
 {
-    let key = IVec::from_slice(alloc, key)?;
-    match IVec::from_slice(alloc, bytes) {
-        Ok(bytes) => Ok(Call::Merge(key, bytes)),
-        Err(e) => {
-            drop(key);
-            Err(e)
-        }
-    }
+    let (key, bytes) = own_pair(alloc, key, bytes)?;
+    Ok(Call::Merge(key, bytes))
 }
 
 // The call that takes a key out.
