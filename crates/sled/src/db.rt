@@ -54,9 +54,11 @@ impl<P: Pages, M: MergeOperator> Db<P, M> {
     ghost use Rattle.sled_tree.specs.Known.{IsKnown};
     ghost use Rattle.sled.specs.Flights.{DbStep, DbSound, DbActs, DbFollows, DbPasses, DbFindsRoom, DbLeaksNoPage, DbKnows, KeepsTreePages, DbStepContract, DbRunsToEnd, call_in_flight_of};
     ghost use Rattle.sled.specs.Flush.{FlushesDb, RefusesFlush};
+    ghost use Rattle.sled_queues.specs.Queues.{AreQueues};
 
     /// What holds of every database: its pages are well formed now and in every state that a crash may leave, its trees are
-    /// those that the pages have roots for, and the pairs of each of its maps rise by key. It does nothing.
+    /// those that the pages have roots for, the pairs of each of its maps rise by key, and at most 1024 events wait for a
+    /// subscriber. It does nothing.
     ///
     /// ```
     /// db.audit(); // From here on a proof knows that `db` is well formed.
@@ -64,8 +66,9 @@ impl<P: Pages, M: MergeOperator> Db<P, M> {
     pub fn audit(&self)
         ensures sound { IsDb P.store self.now }
         ensures ascend { MapsAscend (maps_of (db_state P.store M.meant self.now)) }
+        ensures queues { AreQueues self.now.queues }
     {
-        let _ = &self.pages;
+        self.queues.audit();
     }
 
     /// The allocator that the database was made with.
