@@ -21,7 +21,7 @@ use Rattle.sled_model.specs.declared.reply.Reply.TheVariants as told
 use Rattle.sled_model.specs.declared.tree.Tree.{Tree}
 use Rattle.sled_machine.specs.Run.{MachineSteps, NoCalls, OneCall}
 use Rattle.sled_machine.specs.Values.{MachineValue, configuration_of}
-use Rattle.examples.specs.Ids.{id_of, ids_of, RiseBetween, Rise, Lives, Runs, RunsAgain, IdsLaw}
+use Rattle.examples.specs.Ids.{id_of, ids_of, RiseBetween, Rise, Lives, Runs, RunsAgain, RunsOn, IdsLaw}
 
 -- where no id was given the greatest stays
 stays : (a b : State) → b ≡ a → a.greatest_id ≤ b.greatest_id
@@ -162,12 +162,19 @@ kept_over keep g h s left below crash opens = same (ap (λ (z : Store). z.mark) 
     same : left.mark ≡ s.mark → g ≤ h
     same e = omega arith
 
+-- an opening counts the ids up to the mark as given
+counted : (g m h : ℕ) → g ≤ m → h ≡ m → g ≤ h
+counted g m h below is = omega arith
+
 module _ {P M : Type 0} (store : P → Store) (number : P → ℕ) (meant : M → Merge) where
   lives_rise : {a b : MachineValue P M} {ids : List ℕ} → Lives store number meant a ids b → RiseBetween a.db.greatest_id ids b.db.greatest_id
   lives_rise (Runs {a = a} {b = b} {steps = ss} {outcomes = os} run) = run_rises store number meant a b ss os run
   lives_rise (RunsAgain {a = a} {b = b} {c = c} {d = d} {ids = ids} {keep = keep} {left = left} {steps = ss} {outcomes = os} before db crash opens run) =
       rise_on a.db.greatest_id b.db.greatest_id d.db.greatest_id ids (ids_of ss os) (lives_rise before)
       (rise_on b.db.greatest_id c.db.greatest_id d.db.greatest_id [] (ids_of ss os) (kept_over keep b.db.greatest_id c.db.greatest_id (store b.db.pages) left db.ids crash opens.ids) (run_rises store number meant c d ss os run))
+  lives_rise (RunsOn {a = a} {b = b} {c = c} {d = d} {ids = ids} {steps = ss} {outcomes = os} before db opens run) =
+      rise_on a.db.greatest_id b.db.greatest_id d.db.greatest_id ids (ids_of ss os) (lives_rise before)
+      (rise_on b.db.greatest_id c.db.greatest_id d.db.greatest_id [] (ids_of ss os) (counted b.db.greatest_id (store b.db.pages).mark c.db.greatest_id db.ids opens.ids) (run_rises store number meant c d ss os run))
 
   -- no id comes twice
   pub ids_rise : IdsLaw store number meant

@@ -37,14 +37,17 @@ pub record Rise (ids : List ℕ) : Type 0 where
   pub high : ℕ
   pub between : RiseBetween low ids high
 
--- Any number of runs of machines over a store, one after the other, each on what a crash left of the one before and an opening made of
--- that; and the ids that they gave, in order
+-- Any number of runs of machines over a store, one after the other, each on what an opening made of the pages of the one before, or of
+-- what a crash left of them; and the ids that they gave, in order
 pub data Lives {P M : Type 0} (store : P → Store) (flush_number : P → ℕ) (meant : M → Merge) : MachineValue P M → List ℕ → MachineValue P M → Type 0 where
   Runs : {a b : MachineValue P M} {steps : List Step} {outcomes : List Outcome} → MachineSteps store flush_number meant a steps outcomes b → Lives store flush_number meant a (ids_of steps outcomes) b
   RunsAgain : {a b c d : MachineValue P M} {ids : List ℕ} {keep : ℕ} {left : Store} {name : Key} {steps : List Step} {outcomes : List Outcome}
       → Lives store flush_number meant a ids b → IsDb store b.db → Crashes keep (store b.db.pages) left → Opens store left name c.db
       → MachineSteps store flush_number meant c steps outcomes d → Lives store flush_number meant a (ids ++ ids_of steps outcomes) d
+  RunsOn : {a b c d : MachineValue P M} {ids : List ℕ} {name : Key} {steps : List Step} {outcomes : List Outcome}
+      → Lives store flush_number meant a ids b → IsDb store b.db → Opens store (store b.db.pages) name c.db
+      → MachineSteps store flush_number meant c steps outcomes d → Lives store flush_number meant a (ids ++ ids_of steps outcomes) d
 
--- No id comes twice, over any number of runs and of crashes
+-- No id comes twice, over any number of runs, openings and crashes
 abbrev pub IdsLaw : {P M : Type 0} → (P → Store) → (P → ℕ) → (M → Merge) → Type 0
 IdsLaw {P = P} {M = M} store flush_number meant = (a b : MachineValue P M) (ids : List ℕ) → Lives store flush_number meant a ids b → Rise ids

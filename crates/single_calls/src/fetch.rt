@@ -1,7 +1,8 @@
 //! Calls of a database that make the new value at a key of the one that stands there.
-ghost use Rattle.std.specs.Prelude.{IfOk, IfErr, Option};
+ghost use Rattle.std.specs.Prelude.{◌≡◌, IfOk, IfErr, Option};
+ghost use Rattle.std.specs.Option.{option_copied};
 ghost use Rattle.sled_pages.specs.Order.{Key};
-ghost use Rattle.sled.specs.Fetch.{FetchDecided, FetchRefused};
+ghost use Rattle.sled.specs.Fetch.{Stands, FetchDecided, FetchRefused};
 
 use sled::Db;
 use sled_model::{MergeOperator, Tree};
@@ -17,7 +18,7 @@ pub fn update_and_fetch<P: Pages, M: MergeOperator, F>(
 ) -> Result<Option<IVec>>
 where
     F: FnMut(Option<&[u8]>) -> std::result::Result<Option<Vec<u8>>, AllocError>,
-    requires { (shown : _) → F.pre f shown }
+    requires { (stood : Option Key) → Stands P.store M.meant db.old tree.now key.now stood → (shown : _) → option_copied shown ≡ stood → F.pre f shown }
     ensures ok { IfOk result (λ made. (stood : Option Key) × FetchDecided P.store M.meant F.FnMut f db.old tree.now key.now stood made db.new) }
     ensures err { IfErr result (λ e. FetchRefused P.store M.meant F.FnMut f db.old tree.now key.now e db.new) }
 {

@@ -1,6 +1,6 @@
 //! Calls that make the new value at a key of the one that stands there, by a closure that is called once.
 ghost use Rattle.std.specs.Prelude.{◌≡◌, IfOk, IfErr, OnOk, Ok, Option};
-ghost use Rattle.std.specs.Option.{option_map};
+ghost use Rattle.std.specs.Option.{option_map, option_copied};
 ghost use Rattle.sled_pages.specs.Order.{Key};
 ghost use Rattle.sled_pages.specs.declared.error.Error.TheVariants.{NoMemory};
 ghost use Rattle.sled_model.specs.declared.call.Call.TheVariants as call;
@@ -16,7 +16,7 @@ use std::alloc::{AllocError, Global};
 fn ask<F>(stood: &Option<IVec>, mut f: F) -> std::result::Result<Option<Vec<u8>>, AllocError>
 where
     F: FnMut(Option<&[u8]>) -> std::result::Result<Option<Vec<u8>>, AllocError>,
-    requires { (shown : _) → F.pre f shown }
+    requires { (shown : _) → option_copied shown ≡ stood.now → F.pre f shown }
     ensures { Answers F.FnMut f stood.now result }
 {
     match stood {
@@ -108,7 +108,7 @@ impl<P: Pages, M: MergeOperator> Db<P, M> {
     fn fetch<F>(&mut self, tree: &Tree, key: &[u8], f: F) -> Result<(Option<IVec>, Option<IVec>)>
     where
         F: FnMut(Option<&[u8]>) -> std::result::Result<Option<Vec<u8>>, AllocError>,
-        requires { (shown : _) → F.pre f shown }
+        requires { (stood : Option Key) → Stands P.store M.meant self.old tree.now key.now stood → (shown : _) → option_copied shown ≡ stood → F.pre f shown }
         ensures ok { IfOk result (λ both. FetchDecided P.store M.meant F.FnMut f self.old tree.now key.now both.0 both.1 self.new) }
         ensures err { IfErr result (λ e. FetchRefused P.store M.meant F.FnMut f self.old tree.now key.now e self.new) }
     {
@@ -157,7 +157,7 @@ impl<P: Pages, M: MergeOperator> Db<P, M> {
     pub fn update_and_fetch<F>(&mut self, tree: &Tree, key: &[u8], f: F) -> Result<Option<IVec>>
     where
         F: FnMut(Option<&[u8]>) -> std::result::Result<Option<Vec<u8>>, AllocError>,
-        requires { (shown : _) → F.pre f shown }
+        requires { (stood : Option Key) → Stands P.store M.meant self.old tree.now key.now stood → (shown : _) → option_copied shown ≡ stood → F.pre f shown }
         ensures ok { IfOk result (λ made. (stood : Option Key) × FetchDecided P.store M.meant F.FnMut f self.old tree.now key.now stood made self.new) }
         ensures err { IfErr result (λ e. FetchRefused P.store M.meant F.FnMut f self.old tree.now key.now e self.new) }
     {
@@ -178,7 +178,7 @@ impl<P: Pages, M: MergeOperator> Db<P, M> {
     pub fn fetch_and_update<F>(&mut self, tree: &Tree, key: &[u8], f: F) -> Result<Option<IVec>>
     where
         F: FnMut(Option<&[u8]>) -> std::result::Result<Option<Vec<u8>>, AllocError>,
-        requires { (shown : _) → F.pre f shown }
+        requires { (stood : Option Key) → Stands P.store M.meant self.old tree.now key.now stood → (shown : _) → option_copied shown ≡ stood → F.pre f shown }
         ensures ok { IfOk result (λ stood. (made : Option Key) × FetchDecided P.store M.meant F.FnMut f self.old tree.now key.now stood made self.new) }
         ensures err { IfErr result (λ e. FetchRefused P.store M.meant F.FnMut f self.old tree.now key.now e self.new) }
     {

@@ -1,5 +1,6 @@
 //! A session: a database from its opening to a crash or the end.
 ghost use Rattle.std.specs.Prelude.{◌≡◌, ◌-◌, ◌^◌, ◌++◌, [], false, length, map, min, sum_by, Option, IfOk, IfErr, OnOk, OnErr};
+ghost use Rattle.std.specs.Option.{option_copied};
 ghost use Rattle.std.specs.List.{flat_map};
 ghost use Rattle.sled_pages.specs.Order.{Key};
 ghost use Rattle.sled_pages.specs.Store.{now};
@@ -8,7 +9,7 @@ ghost use Rattle.sled_model.specs.declared.outcome.Step.TheVariants as step;
 ghost use Rattle.sled_model.specs.declared.outcome.Outcome.TheVariants.{Decided};
 ghost use Rattle.tree_laws.specs.Crashes.{IsValid, IsCrashConsistent};
 ghost use Rattle.sled.specs.Operators.{OperatorSet, OperatorNotSet};
-ghost use Rattle.sled.specs.Fetch.{FetchDecided, FetchRefused};
+ghost use Rattle.sled.specs.Fetch.{Stands, FetchDecided, FetchRefused};
 ghost use Rattle.sled_machine.specs.Step.{MachineStepContract};
 ghost use Rattle.sled_machine.specs.Run.{MachineRun, MachineSteps};
 ghost use Rattle.sled_machine.specs.Finish.{Completes};
@@ -201,7 +202,7 @@ impl<P: Pages, M: MergeOperator> Session<P, M> {
     pub fn update_and_fetch<F>(&mut self, key: &[u8], f: F) -> sled_pages::Result<Option<IVec>>
     where
         F: FnMut(Option<&[u8]>) -> Result<Option<Vec<u8>>, AllocError>,
-        requires { (shown : _) → F.pre f shown }
+        requires { (stood : Option Key) → Stands P.store M.meant self.old.machine.db self.old.tree key.now stood → (shown : _) → option_copied shown ≡ stood → F.pre f shown }
         ensures ok { IfOk result (λ made. (stood : Option Key) × FetchDecided P.store M.meant F.FnMut f self.old.machine.db self.old.tree key.now stood made self.new.machine.db) }
         ensures err { IfErr result (λ e. FetchRefused P.store M.meant F.FnMut f self.old.machine.db self.old.tree key.now e self.new.machine.db) }
         ensures same { self.new.machine ≡ record (self.old.machine) { db = self.new.machine.db } }
@@ -215,7 +216,7 @@ impl<P: Pages, M: MergeOperator> Session<P, M> {
     pub fn fetch_and_update<F>(&mut self, key: &[u8], f: F) -> sled_pages::Result<Option<IVec>>
     where
         F: FnMut(Option<&[u8]>) -> Result<Option<Vec<u8>>, AllocError>,
-        requires { (shown : _) → F.pre f shown }
+        requires { (stood : Option Key) → Stands P.store M.meant self.old.machine.db self.old.tree key.now stood → (shown : _) → option_copied shown ≡ stood → F.pre f shown }
         ensures ok { IfOk result (λ stood. (made : Option Key) × FetchDecided P.store M.meant F.FnMut f self.old.machine.db self.old.tree key.now stood made self.new.machine.db) }
         ensures err { IfErr result (λ e. FetchRefused P.store M.meant F.FnMut f self.old.machine.db self.old.tree key.now e self.new.machine.db) }
         ensures same { self.new.machine ≡ record (self.old.machine) { db = self.new.machine.db } }

@@ -99,7 +99,7 @@ module _ {P M : Type 0} (store : P → Store) (number : P → ℕ) (meant : M �
       ∙ hears_law (turns_of_run store number meant run) n (queues_at a) q here h.0
 
   run_trees : {a b : MachineValue P M} {ss : List Step} {os : List Outcome} (run : MachineSteps store number meant a ss os b) → AreNumbered (state_at a)
-      → (name : Key) (t : NamedTree) → (state_at a).trees name ≡ Some t → KeepsTree name ss → IsTreeAfter name t (turns_of_run store number meant run) (state_at b)
+      → (name : Key) (t : NamedTree) → (state_at a).trees name ≡ Some t → KeepsTree name ss os → IsTreeAfter name t (turns_of_run store number meant run) (state_at b)
   run_trees NoCalls numbers name t there kept = record { tree = t; there = there; number = refl; map = refl }
   run_trees {b = b} (OneCall {a = a} {m = m} {step = s} {outcome = o} one rest) numbers name t there kept =
       let one_told = trees_law (configuration_of store number meant a) s o (configuration_of store number meant m) one.step.maps one.step.step.is numbers in
@@ -108,7 +108,7 @@ module _ {P M : Type 0} (store : P → Store) (number : P → ℕ) (meant : M �
       (run_trees rest one_told.numbered name x.tree x.there kept.1)
 
   follows : {a b : MachineValue P M} {ss : List Step} {os : List Outcome} (run : MachineSteps store number meant a ss os b) → IsDb store a.db
-      → (n : ℕ) (q : Queue) → queues_at a n ≡ Some q → IsKept n ss → (name : Key) → KeepsTree name ss
+      → (n : ℕ) (q : Queue) → queues_at a n ≡ Some q → IsKept n ss → (name : Key) → KeepsTree name ss os
       → (copy : Map) → IsCopyOfTree store meant a name q.tree q.prefix (after_events q.events copy)
       → IsCopyOfTree store meant b name q.tree q.prefix (after_events (waiting_in (queues_at b n)) (after_events (told_to n ss os) copy))
   follows {a = a} {b = b} {ss = ss} {os = os} run db n q here kept name keeps copy c =

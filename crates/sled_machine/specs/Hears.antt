@@ -50,9 +50,9 @@ IsKept n [] = Unit {0}
 IsKept n (s ∷ ss) = (gives_up n s ≡ false) × IsKept n ss
 
 -- no step drops the tree of this name
-abbrev pub KeepsTree : Key → List Step → Type 0
-KeepsTree name [] = Unit {0}
-KeepsTree name (s ∷ ss) = (drops name s ≡ false) × KeepsTree name ss
+abbrev pub KeepsTree : Key → List Step → List Outcome → Type 0
+KeepsTree name (s ∷ ss) (o ∷ os) = (drops name s o ≡ false) × KeepsTree name ss os
+KeepsTree name ss os = Unit {0}
 
 -- the name has the tree of this number, and the copy is one of its map under the prefix
 pub record IsCopyOfTree {P M : Type 0} (store : P → Store) (meant : M → Merge) (m : MachineValue P M) (name : Key) (number : ℕ) (prefix : Key) (copy : Map) : Type 0 where
@@ -76,6 +76,6 @@ pub record Hears {P M : Type 0} (store : P → Store) (flush_number : P → ℕ)
       → told_to n steps outcomes ++ waiting_in (queues_at b n) ≡ q.events ++ brought q (turns_of_run store flush_number meant run)
   -- a copy that it changes by each event that it is told is, once it is changed by those that wait too, a copy of its tree's map
   pub follows : (a b : MachineValue P M) (steps : List Step) (outcomes : List Outcome) → MachineSteps store flush_number meant a steps outcomes b → IsDb store a.db
-      → (n : ℕ) (q : Queue) → queues_at a n ≡ Some q → IsKept n steps → (name : Key) → KeepsTree name steps
+      → (n : ℕ) (q : Queue) → queues_at a n ≡ Some q → IsKept n steps → (name : Key) → KeepsTree name steps outcomes
       → (copy : Map) → IsCopyOfTree store meant a name q.tree q.prefix (after_events q.events copy)
       → IsCopyOfTree store meant b name q.tree q.prefix (after_events (waiting_in (queues_at b n)) (after_events (told_to n steps outcomes) copy))

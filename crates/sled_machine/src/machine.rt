@@ -1,6 +1,6 @@
 //! The machine.
 ghost use Rattle.std.specs.Prelude.{◌≡◌, ◌<◌, ◌∷◌, IfOk, IfErr, OnOk, OnErr, None, [], Option};
-ghost use Rattle.std.specs.Option.{option_map};
+ghost use Rattle.std.specs.Option.{option_map, option_copied};
 ghost use Rattle.sled_pages.specs.Order.{Key};
 ghost use Rattle.sled_pages.specs.declared.error.Error.TheVariants.{NoMemory};
 ghost use Rattle.sled_model.specs.Refusal.{must_refuse, ToBegin, must_refuse_of};
@@ -50,7 +50,7 @@ impl<P: Pages, M: MergeOperator> Machine<P, M> {
     ghost use Rattle.sled_machine.specs.Values.{slots_of};
     ghost use Rattle.sled.specs.Values.{db_state};
     ghost use Rattle.sled.specs.Operators.{OperatorSet, OperatorNotSet};
-    ghost use Rattle.sled.specs.Fetch.{FetchDecided, FetchRefused};
+    ghost use Rattle.sled.specs.Fetch.{Stands, FetchDecided, FetchRefused};
     ghost use Rattle.sled_machine.specs.Step.{MachineStep, MachineSound, MachineActs, MachineFollows, MachinePasses, MachineFindsRoom, MachineSlots, MachineKeepsTreePages, MachineLeaksNoPage, MachineStepContract};
     ghost use Rattle.sled_machine.specs.Run.{MachineRun, MachineSteps};
     ghost use Rattle.sled_machine.specs.Finish.{RunsToEnd, Completes};
@@ -135,7 +135,7 @@ impl<P: Pages, M: MergeOperator> Machine<P, M> {
     pub fn update_and_fetch<F>(&mut self, tree: &Tree, key: &[u8], f: F) -> Result<Option<IVec>>
     where
         F: FnMut(Option<&[u8]>) -> std::result::Result<Option<Vec<u8>>, AllocError>,
-        requires { (shown : _) → F.pre f shown }
+        requires { (stood : Option Key) → Stands P.store M.meant self.old.db tree.now key.now stood → (shown : _) → option_copied shown ≡ stood → F.pre f shown }
         ensures ok { IfOk result (λ made. (stood : Option Key) × FetchDecided P.store M.meant F.FnMut f self.old.db tree.now key.now stood made self.new.db) }
         ensures err { IfErr result (λ e. FetchRefused P.store M.meant F.FnMut f self.old.db tree.now key.now e self.new.db) }
         ensures same { self.new ≡ record (self.old) { db = self.new.db } }
@@ -151,7 +151,7 @@ impl<P: Pages, M: MergeOperator> Machine<P, M> {
     pub fn fetch_and_update<F>(&mut self, tree: &Tree, key: &[u8], f: F) -> Result<Option<IVec>>
     where
         F: FnMut(Option<&[u8]>) -> std::result::Result<Option<Vec<u8>>, AllocError>,
-        requires { (shown : _) → F.pre f shown }
+        requires { (stood : Option Key) → Stands P.store M.meant self.old.db tree.now key.now stood → (shown : _) → option_copied shown ≡ stood → F.pre f shown }
         ensures ok { IfOk result (λ stood. (made : Option Key) × FetchDecided P.store M.meant F.FnMut f self.old.db tree.now key.now stood made self.new.db) }
         ensures err { IfErr result (λ e. FetchRefused P.store M.meant F.FnMut f self.old.db tree.now key.now e self.new.db) }
         ensures same { self.new ≡ record (self.old) { db = self.new.db } }

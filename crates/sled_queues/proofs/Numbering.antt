@@ -232,9 +232,6 @@ quiet t a b none e g n = let h = same_trees a b e g n in record {
   maps = λ name u there kept. let x = h.maps name u there kept in record { tree = x.tree; there = x.there; number = x.number; map = x.map ∙ ap (λ l. after_events (l ++ []) u.map) (sym (none u.number)) };
 }
 
-drop_all : {a b : State} (at : Key) → Tells a keeps_all [] b → Tells a (λ name. bytes_eq name at) [] b
-drop_all at h = record { numbered = h.numbered; maps = λ name t there kept. h.maps name t there refl }
-
 -- a decision in a slot does to trees what it does without one
 slot_decided : (a b : State) (slot : ℕ) (name : Key) (t : NamedTree) (call : Call) → b ≡ after_decision a slot name t (answer_of t.merge call t.map) → a.trees name ≡ Some t → AreNumbered a
     → Tells a keeps_all (turns_of_call t call) b
@@ -256,7 +253,7 @@ stop_told {old = old} {new = new} (inl none) n = same_state old new none.1 n
 stop_told (inr s) n = parts_told s.1.does n
 
 whole_told : (a : Configuration) (w : Whole) (o : Outcome) (b : Configuration) (maps : List Maps) (t : transition_as a (step.Whole w) o b maps)
-    → AreNumbered a.state → Tells a.state (λ name. drops name (step.Whole w)) (turns_of a (step.Whole w) o b maps t) b.state
+    → AreNumbered a.state → Tells a.state (λ name. drops name (step.Whole w) o) (turns_of a (step.Whole w) o b maps t) b.state
 whole_told a Flush (outcome.Decided reply) b maps t n = same_state a.state b.state t.2 n
 whole_told a (PopMin tree) (outcome.Decided reply) b maps t n = with_state a.state _ b.state keeps_all _ t.is (popped a.state tree.name t.named t.found t.there n)
 whole_told a (PopMax tree) (outcome.Decided reply) b maps t n = with_state a.state _ b.state keeps_all _ t.is (popped a.state tree.name t.named t.found t.there n)
@@ -273,7 +270,7 @@ whole_told a (PopMin tree) (outcome.Refused e) b maps t n = same_state a.state b
 whole_told a (PopMax tree) (outcome.Refused e) b maps t n = same_state a.state b.state t.1 n
 whole_told a (Clear tree) (outcome.Refused e) b maps t n = removed t.removes n
 whole_told a (OpenTree name) (outcome.Refused e) b maps t n = same_state a.state b.state t.1 n
-whole_told a (DropTree name) (outcome.Refused e) b maps t n = drop_all name (same_state a.state b.state t.1 n)
+whole_told a (DropTree name) (outcome.Refused e) b maps t n = same_state a.state b.state t.1 n
 whole_told a GenerateId (outcome.Refused e) b maps t n = same_state a.state b.state t.1 n
 whole_told a (Import collections) (outcome.Refused e) b maps t n = stop_told t.is n
 whole_told a (Watch tree prefix) (outcome.Refused e) b maps t n = same_state a.state b.state t.1 n
@@ -285,7 +282,7 @@ whole_told a w outcome.Abandoned b maps t n = absurd t
 whole_told a w outcome.NoSuchSlot b maps t n = absurd t
 
 step_told : (a : Configuration) (s : Step) (o : Outcome) (b : Configuration) (maps : List Maps) (t : transition_as a s o b maps)
-    → AreNumbered a.state → Tells a.state (λ name. drops name s) (turns_of a s o b maps t) b.state
+    → AreNumbered a.state → Tells a.state (λ name. drops name s o) (turns_of a s o b maps t) b.state
 step_told a (step.Whole w) o b maps t n = whole_told a w o b maps t n
 step_told a (step.Begin tree call) (outcome.Begun slot) b maps t n = same_trees a.state b.state (ap (λ (s : State). s.trees) t.0.is) (ap (λ (s : State). s.trees_given) t.0.is) n
 step_told a (step.Begin tree call) (outcome.Refused e) b maps t n = same_state a.state b.state t.1 n

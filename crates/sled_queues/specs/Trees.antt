@@ -9,6 +9,7 @@ use Rattle.sled_model.specs.declared.call.Whole.TheVariants.{DropTree}
 use Rattle.sled_model.specs.declared.outcome.Step.{Step}
 use Rattle.sled_model.specs.declared.outcome.Step.TheVariants as step
 use Rattle.sled_model.specs.declared.outcome.Outcome.{Outcome}
+use Rattle.sled_model.specs.declared.outcome.Outcome.TheVariants.{Decided}
 use Rattle.sled_queues.specs.Events.{Turn}
 use Rattle.sled_queues.specs.Copies.{after_events, came_to}
 use Rattle.sled_queues.specs.Turns.{turns_of}
@@ -18,10 +19,10 @@ pub record AreNumbered (s : State) : Type 0 where
   pub given : (name : Key) (t : NamedTree) → s.trees name ≡ Some t → t.number ≤ s.trees_given
   pub apart : (a b : Key) (t u : NamedTree) → s.trees a ≡ Some t → s.trees b ≡ Some u → t.number ≡ u.number → a ≡ b
 
--- the step drops the tree of this name, if it is decided
-abbrev pub drops : Key → Step → Bool
-drops name (step.Whole (DropTree dropped)) = bytes_eq name dropped
-drops name s = false
+-- the step drops the tree of this name, if there is one
+abbrev pub drops : Key → Step → Outcome → Bool
+drops name (step.Whole (DropTree dropped)) (Decided reply) = bytes_eq name dropped
+drops name s o = false
 
 -- the name has the same tree still, and its map is what these events made of it
 pub record IsTreeAfter (name : Key) (t : NamedTree) (turns : List Turn) (new : State) : Type 0 where
@@ -31,10 +32,10 @@ pub record IsTreeAfter (name : Key) (t : NamedTree) (turns : List Turn) (new : S
   pub map : tree.map ≡ after_events (came_to t.number turns) t.map
 
 -- The trees are numbered still; and each that is not dropped has the map that the events which came to it made
-pub record TellsTrees (old : State) (s : Step) (turns : List Turn) (new : State) : Type 0 where
+pub record TellsTrees (old : State) (s : Step) (o : Outcome) (turns : List Turn) (new : State) : Type 0 where
   pub numbered : AreNumbered new
-  pub maps : (name : Key) (t : NamedTree) → old.trees name ≡ Some t → drops name s ≡ false → IsTreeAfter name t turns new
+  pub maps : (name : Key) (t : NamedTree) → old.trees name ≡ Some t → drops name s o ≡ false → IsTreeAfter name t turns new
 
 abbrev pub TreesLaw : Type 0
 TreesLaw = (old : Configuration) (s : Step) (o : Outcome) (new : Configuration) (maps : List Maps) (t : transition_as old s o new maps)
-    → AreNumbered old.state → TellsTrees old.state s (turns_of old s o new maps t) new.state
+    → AreNumbered old.state → TellsTrees old.state s o (turns_of old s o new maps t) new.state
