@@ -14,5 +14,6 @@ mod table;
 pub use laws::law_hears;
 pub use machine::Machine;
 pub use sled_model::{
-    Call, CompareAndSwapError, MergeOperator, Outcome, Reply, Slot, Step, Tree, Whole,
+    Call, Collection, CompareAndSwapError, Event, MergeOperator, Outcome, Reply, Slot, Step,
+    Subscriber, Tree, Whole,
 };
