@@ -1,11 +1,16 @@
-//! An index in memory of the entries of a tree, by how their keys end. A tree finds keys by how they begin; this finds names of
-//! files by their extension, or of hosts by their domain. It follows its tree by the events that it takes.
-ghost use Rattle.std.specs.Prelude.{◌≡◌, reverse, [], IfOk, IfErr, OnOk, OnErr};
+//! An index in memory of the entries of a tree by how their keys end, which follows the tree by its events. A tree finds keys by how
+//! they begin; this finds files by their extension, or hosts by their domain.
+ghost use Rattle.std.specs.Prelude.{◌≡◌, ◌≤◌, ◌++◌, ◌∷◌, [], reverse, length, IfOk, IfErr, OnOk, OnErr};
 ghost use Rattle.sled_pages.specs.Order.{Key};
 ghost use Rattle.sled_pages.specs.declared.error.Error.TheVariants.{NoMemory};
+ghost use Rattle.sled_model.specs.Maps.{Map};
 ghost use Rattle.sled_model.specs.declared.event.Event.TheVariants.{Insert, Remove};
-ghost use Rattle.sled_queues.specs.Copies.{after_event};
-ghost use Rattle.examples.specs.Endings.{turned, HasSame};
+ghost use Rattle.sled_queues.specs.Copies.{IsCopy, after_event};
+ghost use Rattle.sled_model.specs.declared.tree.Tree.{Tree as ModelTree};
+ghost use Rattle.sled.specs.Reads.{ReadsMap};
+ghost use Rattle.sled.specs.Values.{db_state};
+ghost use Rattle.sled.specs.Watch.{WatchesDb, EndsSubscriber};
+ghost use Rattle.examples.specs.Endings.{turned, entries_ending, while_beginning, HasSame, to_come, Follows, Begins, TakesOldest, CatchesUp, CatchesUpBy, FindsEnding, FollowsStill, KeepsFollowing, FindsInTree};
 
 use crate::index::all_of;
 use sled::Db;
@@ -108,8 +113,32 @@ fn filled(alloc: Global, pairs: Vec<(IVec, IVec)>) -> Result<BTreeMap<IVec, IVec
     Ok(entries)
 }
 
+// The entries of a tree under a prefix.
+fn entries_under<P: Pages, M: MergeOperator>(
+    alloc: Global,
+    db: &Db<P, M>,
+    tree: &Tree,
+    prefix: &[u8],
+) -> Result<BTreeMap<IVec, IVec>>
+    ensures { IfOk result (λ entries. ReadsMap P.store M.meant db.now tree.now (IsCopy prefix.now (turned entries.entries))) }
+{
+    let mut scan = match db.scan_prefix(tree, prefix) {
+        Ok(scan) => scan,
+        Err(e) => return Err(e),
+    };
+    let pairs = all_of(alloc, &mut scan);
+    drop(scan);
+    match pairs {
+        Ok(pairs) => filled(alloc, pairs),
+        Err(e) => Err(e),
+    }
+}
+
 // Adds an entry of the index to those that were found.
-fn add(alloc: Global, found: &mut Vec<(IVec, IVec)>, key: &IVec, value: &IVec) -> Result<()> {
+fn add(alloc: Global, found: &mut Vec<(IVec, IVec)>, key: &IVec, value: &IVec) -> Result<()>
+    ensures ok { OnOk result (found.new.items ≡ found.old.items ++ (reverse key.now, value.now) ∷ []) }
+    ensures err { IfErr result (λ e. e ≡ NoMemory) }
+{
     let key = match turn(alloc, key.as_ref()) {
         Ok(key) => key,
         Err(e) => return Err(e),
@@ -127,11 +156,14 @@ fn add(alloc: Global, found: &mut Vec<(IVec, IVec)>, key: &IVec, value: &IVec) -
 }
 
 // The first of these entries, up to one whose key does not begin so.
-fn while_beginning(
+fn beginning_so(
     alloc: Global,
     entries: Range<'_, IVec, IVec>,
     beginning: &[u8],
-) -> Result<Vec<(IVec, IVec)>> {
+) -> Result<Vec<(IVec, IVec)>>
+    ensures ok { IfOk result (λ found. found.items ≡ turned (while_beginning beginning.now entries.entry)) }
+    ensures err { IfErr result (λ e. e ≡ NoMemory) }
+{
     let mut found = Vec::new(alloc);
     for (key, value) in entries {
         if !key.as_ref().starts_with(beginning) {
@@ -155,19 +187,29 @@ pub struct Endings {
     late: Option<Event>,
 }
 
+impl Model for Endings {
+    ghost use Rattle.examples.specs.Endings.{EndingsValue, turned};
+
+    ghost Value = { EndingsValue };
+
+    ghost view = { λ e. record { subscriber = e.subscriber; late = e.late; entries = turned e.entries.entries } };
+}
+
 impl Endings {
-    /// Begins an index.
+    /// An index of the entries of a tree whose keys begin with a prefix. It has those that are there, and is a new subscriber of
+    /// the tree. Refused, nothing changes.
     pub fn begin<P: Pages, M: MergeOperator>(
         db: &mut Db<P, M>,
         tree: &Tree,
         prefix: &[u8],
-    ) -> Result<Endings> {
+    ) -> Result<Endings>
+        ensures ok { IfOk result (λ index. Begins (db_state P.store M.meant db.new) tree.now prefix.now index) }
+        ensures watches { IfOk result (λ index. WatchesDb P.store M.meant db.old tree.now prefix.now index.subscriber db.new) }
+        ensures err { OnErr result (db.new ≡ db.old) }
+    {
         let alloc = db.allocator();
-        let mut scan = db.scan_prefix(tree, prefix)?;
-        let pairs = all_of(alloc, &mut scan);
-        drop(scan);
-        let entries = match pairs {
-            Ok(pairs) => filled(alloc, pairs)?,
+        let entries = match entries_under(alloc, db, tree, prefix) {
+            Ok(entries) => entries,
             Err(e) => return Err(e),
         };
         match db.watch_prefix(tree, prefix) {
@@ -184,22 +226,29 @@ impl Endings {
     }
 
     // Takes the oldest event that has not changed the entries, if there is one.
-    fn oldest<P: Pages, M: MergeOperator>(&mut self, db: &mut Db<P, M>) -> Option<Event> {
+    fn oldest<P: Pages, M: MergeOperator>(&mut self, db: &mut Db<P, M>) -> Option<Event>
+        ensures takes { TakesOldest (db_state P.store M.meant db.old) self.old result (db_state P.store M.meant db.new) self.new }
+        ensures same { db.new ≡ record db.old { queues = db.new.queues } }
+    {
         match self.late.take() {
             Some(event) => Some(event),
             None => db.next(&self.subscriber),
         }
     }
 
-    // Changes the entries by the oldest event that has not yet, if there is one.
-    fn take_one<P: Pages, M: MergeOperator>(&mut self, db: &mut Db<P, M>) -> Result<bool> {
+    // Changes the entries by the oldest event that has not changed them, and answers whether there was none.
+    fn take_one<P: Pages, M: MergeOperator>(&mut self, db: &mut Db<P, M>) -> Result<bool>
+        ensures ok { IfOk result (λ is_done. CatchesUpBy 1 (db_state P.store M.meant db.old) self.old is_done (db_state P.store M.meant db.new) self.new) }
+        ensures err { IfErr result (λ e. (e ≡ NoMemory) × CatchesUp (db_state P.store M.meant db.old) self.old (db_state P.store M.meant db.new) self.new) }
+        ensures same { db.new ≡ record db.old { queues = db.new.queues } }
+    {
         let Some(event) = self.oldest(db) else {
-            return Ok(false);
+            return Ok(true);
         };
         match change(db.allocator(), &mut self.entries, &event) {
             Ok(()) => {
                 drop(event);
-                Ok(true)
+                Ok(false)
             }
             Err(e) => {
                 let none = self.late.replace(event);
@@ -209,22 +258,34 @@ impl Endings {
         }
     }
 
-    /// Takes so many of the events that wait at most, and changes the index by each. It answers whether none waits any more.
+    /// Takes the events that wait, so many at most, and changes the index by each, in order. It answers whether none waits any more:
+    /// then the index has the entries of the tree now. Refused with `NoMemory` alone; then it has changed by the first of them, and
+    /// the next call goes on from there.
     pub fn catch_up<P: Pages, M: MergeOperator>(
         &mut self,
         db: &mut Db<P, M>,
         at_most: usize,
-    ) -> Result<bool> {
+    ) -> Result<bool>
+        ensures ok { IfOk result (λ is_done. CatchesUpBy at_most (db_state P.store M.meant db.old) self.old is_done (db_state P.store M.meant db.new) self.new) }
+        ensures err { IfErr result (λ e. (e ≡ NoMemory) × CatchesUp (db_state P.store M.meant db.old) self.old (db_state P.store M.meant db.new) self.new) }
+        ensures same { db.new ≡ record db.old { queues = db.new.queues } }
+    {
         for _ in 0..at_most {
-            if !self.take_one(db)? {
-                return Ok(true);
+            match self.take_one(db) {
+                Ok(true) => return Ok(true),
+                Ok(false) => {}
+                Err(e) => return Err(e),
             }
         }
         Ok(false)
     }
 
-    /// The entries whose keys end so, in the order of their keys read backwards.
-    pub fn ending_with(&self, alloc: Global, ending: &[u8]) -> Result<Vec<(IVec, IVec)>> {
+    /// The entries whose keys end so, in the order of their keys read from the end. Refused with `NoMemory` alone.
+    pub fn ending_with(&self, alloc: Global, ending: &[u8]) -> Result<Vec<(IVec, IVec)>>
+        ensures ok { IfOk result (λ found. found.items ≡ entries_ending ending.now self.now.entries) }
+        ensures finds { IfOk result (λ found. (prefix : Key) (map : Map) → IsCopy prefix self.now.entries map → FindsEnding prefix ending.now map found.items) }
+        ensures err { IfErr result (λ e. e ≡ NoMemory) }
+    {
         let turned = turn(alloc, ending)?;
         let from = match turned.clone() {
             Ok(from) => from,
@@ -233,14 +294,87 @@ impl Endings {
                 return Err(e);
             }
         };
-        let found = while_beginning(alloc, self.entries.range(from..), turned.as_ref());
+        let found = beginning_so(alloc, self.entries.range(from..), turned.as_ref());
         drop(turned);
         found
     }
 
     /// Ends the index: no event waits for it any more.
-    pub fn end<P: Pages, M: MergeOperator>(self, db: &mut Db<P, M>) {
+    pub fn end<P: Pages, M: MergeOperator>(self, db: &mut Db<P, M>)
+        ensures { EndsSubscriber P.store M.meant db.old self.subscriber db.new }
+    {
         db.unsubscribe(&self.subscriber);
         drop(self);
     }
+}
+
+/// Does nothing. An index follows its tree whatever happens elsewhere, as long as its subscriber is not ended and nobody else takes
+/// its events. What happens is told by turns: `law_turns` and `law_trees` of `sled_queues` have those of each step of a machine.
+pub fn law_follows_still()
+    ensures { FollowsStill }
+{}
+
+// Writes a key of a tree, and takes another out.
+fn write<P: Pages, M: MergeOperator>(
+    db: &mut Db<P, M>,
+    tree: &Tree,
+    key: &[u8],
+    value: &[u8],
+    gone: &[u8],
+) -> Result<()>
+    ensures { OnOk result (KeepsFollowing (db_state P.store M.meant db.old) tree.now 2 (db_state P.store M.meant db.new)) }
+{
+    match db.insert(tree, key, value) {
+        Ok(stood) => drop(stood),
+        Err(e) => return Err(e),
+    }
+    match db.remove(tree, gone) {
+        Ok(stood) => {
+            drop(stood);
+            Ok(())
+        }
+        Err(e) => Err(e),
+    }
+}
+
+// What an index that was up to date finds after a change of its tree that brought it two events at most.
+fn find_after<P: Pages, M: MergeOperator>(
+    db: &mut Db<P, M>,
+    index: &mut Endings,
+    ending: &[u8],
+) -> Result<Vec<(IVec, IVec)>>
+    requires { length (to_come index.old (db_state P.store M.meant db.old)) ≤ 2 }
+    ensures ok { IfOk result (λ found. (tree : ModelTree) (prefix : Key) → Follows (db_state P.store M.meant db.old) tree prefix index.old → FindsInTree (db_state P.store M.meant db.new) tree prefix ending.now found.items) }
+    ensures subscriber { index.new.subscriber ≡ index.old.subscriber }
+{
+    match index.catch_up(db, 3) {
+        Ok(true) => index.ending_with(db.allocator(), ending),
+        Ok(false) => unreachable!(),
+        Err(e) => Err(e),
+    }
+}
+
+/// Begins an index of a tree, writes to the tree, and asks the index, which has caught up: the entries that it finds are those of the
+/// tree now.
+pub fn index_follows<P: Pages, M: MergeOperator>(
+    db: &mut Db<P, M>,
+    tree: &Tree,
+    prefix: &[u8],
+    key: &[u8],
+    value: &[u8],
+    gone: &[u8],
+    ending: &[u8],
+) -> Result<Vec<(IVec, IVec)>>
+    ensures { IfOk result (λ found. FindsInTree (db_state P.store M.meant db.new) tree.now prefix.now ending.now found.items) }
+{
+    let mut index = match Endings::begin(db, tree, prefix) {
+        Ok(index) => index,
+        Err(e) => return Err(e),
+    };
+    let found = match write(db, tree, key, value, gone) {
+        Ok(()) => find_after(db, &mut index, ending),
+        Err(e) => Err(e),
+    };
+    index.end(db);
+    found
 }

@@ -20,7 +20,7 @@ pub use callers::{
 };
 pub use copy::copy_all;
 pub use counters::{Adds, add_to_counter, count, next_ticket};
-pub use endings::Endings;
+pub use endings::{Endings, index_follows, law_follows_still};
 pub use events::{append, open_stream, read_from};
 pub use ids::run_twice;
 pub use index::entries_under;
