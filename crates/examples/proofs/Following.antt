@@ -20,7 +20,12 @@ use Rattle.std.specs.declared.cmp.Ordering.{Ordering}
 use Rattle.std.specs.declared.ops.Bound.TheVariants.{Included, Unbounded}
 use Rattle.sled_pages.specs.Order.{Key, key_cmp}
 use Rattle.sled_pages.specs.theory.Facts.{put_here, put_elsewhere, put_name_here}
-use Rattle.sled_model.specs.Maps.{Map}
+use Rattle.sled_pages.specs.Store.{Store}
+use Rattle.tree_reads.specs.Prefixes.{IsBytes}
+use Rattle.tree_reads.specs.Ranges.{Coming}
+use Rattle.sled.specs.Reads.{ReadsMap, BeginsWith}
+use Rattle.sled.specs.Values.{DbValue}
+use Rattle.sled_model.specs.Maps.{Map, Merge}
 use Rattle.sled_model.specs.Queues.{waiting_in, oldest, without_oldest}
 use Rattle.sled_model.specs.Answer.{key_of, decision_of, map_after, event_of}
 use Rattle.sled_model.specs.Refusal.{MustRefuse, IsClosed, IsDropped, first_of, foreign_test, is_number, must_refuse_of}
@@ -40,6 +45,7 @@ use Rattle.sled_queues.specs.Turns.{turns_of_event}
 use Rattle.sled_queues.specs.Trees.{IsTreeAfter}
 use Rattle.sled_queues.proofs.Hearing.{turned as turned_queue, turned_tree, turned_prefix, after_one}
 use Rattle.sled_queues.proofs.Copied.{copy_law, follows_law, after_both}
+use Rattle.examples.proofs.Turned.{copies_prefix}
 use Rattle.examples.specs.Endings.{turned, entries_ending, while_beginning, HasSame, EndingsValue, to_come, Follows, IsUpToDate, Begins, TakesEvents, TakesOldest, CatchesUp, CatchesUpBy, caught_as, FindsEnding, FollowsStill, KeepsFollowing, FindsInTree}
 
 -- ---- events
@@ -106,23 +112,24 @@ catches_both old i mid j new k c d = catches old i (c.events ++ d.events) new k
 -- ---- the first event to come
 
 -- a late one
-pub takes_late : (s : State) (i : EndingsValue) (e : Event) → i.late ≡ Some e → TakesOldest s i (Some e) s (record i { late = None })
-takes_late s i e is = record {
-  first = ap (λ o. slice_get (option_to_list o ++ waiting_in (s.queues i.subscriber)) 0) (sym is);
-  takes = record {
-    in_order = ap (λ o. option_to_list o ++ waiting_in (s.queues i.subscriber)) is;
-    subscriber = refl;
-    watches = λ q w. (q.events, w);
-    others = λ n off. refl;
-    same = refl;
-  };
-  same = refl;
-}
+module _ (s : State) (n : ℕ) (l o : Option Event) (es : Map) (i : EndingsValue) (is : record { subscriber = n; late = l; entries = es } ≡ i) (none : o ≡ None) where
+  pub takes_late : (e : Event) → Some e ≡ l → TakesOldest s i (Some e) s (record { subscriber = n; late = o; entries = es })
+  takes_late e at = subst (λ i. TakesOldest s i (Some e) s (record { subscriber = n; late = o; entries = es })) is (record {
+    first = ap (λ o. slice_get (option_to_list o ++ waiting_in (s.queues n)) 0) at;
+    takes = record {
+      in_order = ap (λ o. option_to_list o ++ waiting_in (s.queues n)) (sym at) ∙ ap (λ o. e ∷ (option_to_list o ++ waiting_in (s.queues n))) (sym none);
+      subscriber = refl;
+      watches = λ q w. (q.events, w);
+      others = λ n off. refl;
+      same = refl;
+    };
+    same = ap (λ o. record { subscriber = n; late = o; entries = es }) none;
+  })
 
 -- one that waits
-module _ (old new : State) (i : EndingsValue) (event : Option Event) (late : i.late ≡ None) (t : TakesEvent old i.subscriber event new) where
-  left : new.queues i.subscriber ≡ option_map without_oldest (old.queues i.subscriber)
-  left = ap (λ (s : State). s.queues i.subscriber) t.is ∙ put_here old.queues i.subscriber (option_map without_oldest (old.queues i.subscriber))
+module _ (old new : State) (n : ℕ) (l o : Option Event) (es : Map) (i : EndingsValue) (is : record { subscriber = n; late = l; entries = es } ≡ i) (none : o ≡ None) (event : Option Event) (late : None ≡ l) (t : TakesEvent old n event new) where
+  left : new.queues n ≡ option_map without_oldest (old.queues n)
+  left = ap (λ (s : State). s.queues n) t.is ∙ put_here old.queues n (option_map without_oldest (old.queues n))
 
   first : (es : List Event) → es ≡ option_to_list (slice_get es 0) ++ drop 1 es
   first [] = refl
@@ -132,21 +139,22 @@ module _ (old new : State) (i : EndingsValue) (event : Option Event) (late : i.l
   split None = refl
   split (Some q) = first q.events
 
-  pub takes_waiting : TakesOldest old i event new (record i { late = None })
-  takes_waiting = record {
-    first = t.gives ∙ ap (λ o. slice_get (option_to_list o ++ waiting_in (old.queues i.subscriber)) 0) (sym late);
+  pub takes_waiting : TakesOldest old i event new (record { subscriber = n; late = o; entries = es })
+  takes_waiting = subst (λ i. TakesOldest old i event new (record { subscriber = n; late = o; entries = es })) is (record {
+    first = t.gives ∙ ap (λ o. slice_get (option_to_list o ++ waiting_in (old.queues n)) 0) late;
     takes = record {
-      in_order = ap (λ o. option_to_list o ++ waiting_in (old.queues i.subscriber)) late
-          ∙ split (old.queues i.subscriber)
-          ∙ ap (λ o. option_to_list o ++ waiting_in (option_map without_oldest (old.queues i.subscriber))) (sym t.gives)
-          ∙ ap (λ q. option_to_list event ++ waiting_in q) (sym left);
+      in_order = ap (λ o. option_to_list o ++ waiting_in (old.queues n)) (sym late)
+          ∙ split (old.queues n)
+          ∙ ap (λ o. option_to_list o ++ waiting_in (option_map without_oldest (old.queues n))) (sym t.gives)
+          ∙ ap (λ q. option_to_list event ++ waiting_in q) (sym left)
+          ∙ ap (λ o. option_to_list event ++ (option_to_list o ++ waiting_in (new.queues n))) (sym none);
       subscriber = refl;
       watches = λ q w. (drop 1 q.events, left ∙ ap (option_map without_oldest) w);
-      others = λ n off. ap (λ (s : State). s.queues n) t.is ∙ put_elsewhere old.queues i.subscriber n (option_map without_oldest (old.queues i.subscriber)) off;
+      others = λ m off. ap (λ (s : State). s.queues m) t.is ∙ put_elsewhere old.queues n m (option_map without_oldest (old.queues n)) off;
       same = t.is ∙ ap (λ qs. record old { queues = qs }) (sym (ap (λ (s : State). s.queues) t.is));
     };
-    same = refl;
-  }
+    same = ap (λ o. record { subscriber = n; late = o; entries = es }) none;
+  })
 
 -- ---- one step: the first event changed the entries, or it is late, or there was none
 
@@ -164,44 +172,48 @@ module _ (old : State) (i : EndingsValue) (new : State) (j : EndingsValue) where
       let none : to_come j new ≡ [] = sym o.takes.in_order ∙ none_first (to_come i old) o.first in
       record { catches = c; within = omega arith; done = none; has = λ e tree prefix f. up_to_date new tree prefix j none (c.follows tree prefix f) }
 
-  module _ (e : Event) (o : TakesOldest old i (Some e) new j) where
-    -- it changed the entries
-    pub takes_one : (es : Map) → HasSame es (after_event e j.entries) → CatchesUpBy 1 old i false new (record j { entries = es })
-    takes_one es h = record {
-      catches = catches old i (e ∷ []) new (record j { entries = es })
-          (record { in_order = o.takes.in_order; subscriber = o.takes.subscriber; watches = o.takes.watches; others = o.takes.others; same = o.takes.same })
-          (record { has = λ q. h.has q ∙ ap (λ (k : EndingsValue). find key_cmp q (after_event e k.entries)) o.same });
+  -- it changed the entries, or it is late
+  module _ (e : Event) (o : TakesOldest old i (Some e) new j) (s : ℕ) (l : Option Event) (es fs : Map) (is : record { subscriber = s; late = l; entries = es } ≡ j) where
+    seen : TakesOldest old i (Some e) new (record { subscriber = s; late = l; entries = es })
+    seen = subst (λ k. TakesOldest old i (Some e) new k) (sym is) o
+
+    false_true : false ≡ true → ⊥
+    false_true e = cc
+
+    pub takes_one : HasSame fs (after_event e es) → CatchesUpBy 1 old i false new (record { subscriber = s; late = l; entries = fs })
+    takes_one h = record {
+      catches = catches old i (e ∷ []) new (record { subscriber = s; late = l; entries = fs })
+          (record { in_order = seen.takes.in_order; subscriber = seen.takes.subscriber; watches = seen.takes.watches; others = seen.takes.others; same = seen.takes.same })
+          (record { has = λ q. h.has q ∙ ap (λ (k : EndingsValue). find key_cmp q (after_event e k.entries)) seen.same });
       within = omega arith;
       done = refl;
-      has = λ e. absurd (false_true e);
+      has = λ t. absurd (false_true t);
     }
-      where
-        false_true : false ≡ true → ⊥
-        false_true e = cc
 
-    -- it did not
-    pub takes_late_one : CatchesUp old i new (record j { late = Some e })
-    takes_late_one = catches old i [] new (record j { late = Some e })
+    pub takes_late_one : (late : Option Event) → late ≡ Some e → fs ≡ es → CatchesUp old i new (record { subscriber = s; late = late; entries = fs })
+    takes_late_one late at same = catches old i [] new (record { subscriber = s; late = late; entries = fs })
         (record {
-          in_order = o.takes.in_order ∙ ap (λ (k : EndingsValue). e ∷ to_come (record j { late = k.late }) new) o.same;
-          subscriber = o.takes.subscriber;
-          watches = o.takes.watches;
-          others = o.takes.others;
-          same = o.takes.same;
+          in_order = seen.takes.in_order
+              ∙ ap (λ (k : EndingsValue). e ∷ (option_to_list k.late ++ waiting_in (new.queues s))) seen.same
+              ∙ ap (λ o. option_to_list o ++ waiting_in (new.queues s)) (sym at);
+          subscriber = seen.takes.subscriber;
+          watches = seen.takes.watches;
+          others = seen.takes.others;
+          same = seen.takes.same;
         })
-        (record { has = λ q. ap (λ (k : EndingsValue). find key_cmp q k.entries) o.same })
+        (record { has = λ q. ap (find key_cmp q) same ∙ ap (λ (k : EndingsValue). find key_cmp q k.entries) seen.same })
 
 -- and so on, up to a number of them
-pub catches_more : (n : ℕ) (old : State) (i : EndingsValue) (mid : State) (j : EndingsValue) (new : State) (k : EndingsValue) (c : CatchesUp old i mid j) → length c.events ≡ n → (d : CatchesUpBy 1 mid j false new k)
+pub catches_more : (n : ℕ) (old : State) (i : EndingsValue) (mid : State) (j : EndingsValue) (new : State) (k : EndingsValue) (c : CatchesUp old i mid j) → length c.events ≡ n → (is_done : Bool) → is_done ≡ false → CatchesUpBy 1 mid j is_done new k
     → (b : CatchesUp old i new k) × (length b.events ≡ n + 1)
-catches_more n old i mid j new k c len d = (
+catches_more n old i mid j new k c len is_done e up = let d : CatchesUpBy 1 mid j false new k = subst (λ b. CatchesUpBy 1 mid j b new k) e up in (
     catches_both old i mid j new k c d.catches,
     length-append c.events d.catches.events ∙ ap (λ m. m + length d.catches.events) len ∙ ap (λ m. n + m) d.done,
 )
 
-pub catches_all : (n at_most : ℕ) (old : State) (i : EndingsValue) (mid : State) (j : EndingsValue) (new : State) (k : EndingsValue) (c : CatchesUp old i mid j) → length c.events ≡ n → n < at_most → CatchesUpBy 1 mid j true new k
+pub catches_all : (n at_most : ℕ) (old : State) (i : EndingsValue) (mid : State) (j : EndingsValue) (new : State) (k : EndingsValue) (c : CatchesUp old i mid j) → length c.events ≡ n → n < at_most → (is_done : Bool) → is_done ≡ true → CatchesUpBy 1 mid j is_done new k
     → CatchesUpBy at_most old i true new k
-catches_all n at_most old i mid j new k c len l d = record {
+catches_all n at_most old i mid j new k c len l is_done e up = let d : CatchesUpBy 1 mid j true new k = subst (λ b. CatchesUpBy 1 mid j b new k) e up in record {
   catches = catches_both old i mid j new k c d.catches;
   has = λ e tree prefix f. up_to_date new tree prefix k d.done (d.catches.follows tree prefix (c.follows tree prefix f));
   within = at_last (length (c.events ++ d.catches.events)) (length c.events) (length d.catches.events) (length-append c.events d.catches.events) len d.within;
@@ -218,6 +230,13 @@ catches_many at_most old i new k c len = record { catches = c; within = le_of_eq
     false_true e = cc
 
 -- ---- an index that begins
+
+-- the entries of a scan are a copy of what the tree has under the prefix
+module _ {P M : Type 0} (store : P → Store) (meant : M → Merge) (d : DbValue P M) (tree : Tree) (prefix : Key) (coming : Coming P) where
+  pub copies_scan : (pairs es : Map) → BeginsWith store meant d tree prefix coming → pairs ≡ coming.pairs → AllByRecursion (λ e. IsBytes e.0) pairs → HasSame es pairs → ReadsMap store meant d tree (IsCopy prefix es)
+  copies_scan pairs es b is bytes h =
+      let r = b.beginning (subst (λ m. AllByRecursion (λ e. IsBytes e.0) m) is bytes) in
+      record { tested = r.tested; named = r.named; there = r.there; is = copies_prefix prefix es r.named.map (record { has = λ q. h.has q ∙ ap (find key_cmp q) (is ∙ r.is) }) }
 
 -- a tree that passes the tests has its number
 second_none : (a b : Option MustRefuse) → first_of a b ≡ None → b ≡ None
@@ -384,11 +403,15 @@ not_three old i new j few c = absurd (more (length (to_come i old)) (length c.ca
     more : (a b m : ℕ) → a ≤ 2 → a ≡ b + m → b ≡ 3 → ⊥
     more a b m e f g = omega arith
 
-pub finds_now : (old : State) (i : EndingsValue) (new : State) (j : EndingsValue) (n : ℕ) (ending : Key) (found : Map) → CatchesUpBy n old i true new j → ((prefix : Key) (m : Map) → IsCopy prefix j.entries m → FindsEnding prefix ending m found) → (tree : Tree) (prefix : Key) → Follows old tree prefix i → FindsInTree new tree prefix ending found
-finds_now old i new j n ending found c finds tree prefix f =
-    let u = c.has refl tree prefix f in
+pub finds_now : (old : State) (i : EndingsValue) (new : State) (j : EndingsValue) (n : ℕ) (ending : Key) (found : Map) (is_done : Bool) → is_done ≡ true → CatchesUpBy n old i is_done new j → ((prefix : Key) (m : Map) → IsCopy prefix j.entries m → FindsEnding prefix ending m found) → (tree : Tree) (prefix : Key) → Follows old tree prefix i → FindsInTree new tree prefix ending found
+finds_now old i new j n ending found is_done e c finds tree prefix f =
+    let u = c.has e tree prefix f in
     record { named = u.named; there = u.there; is = finds prefix u.named.map u.is }
 
 -- the subscriber is ended, and the tree stays
 pub finds_then : (old new : State) (n : ℕ) (tree : Tree) (prefix ending : Key) (found : Map) → GivesUpQueue old n new → FindsInTree old tree prefix ending found → FindsInTree new tree prefix ending found
 finds_then old new n tree prefix ending found g f = record { named = f.named; there = ap (λ (s : State). s.trees tree.name) g.is ∙ f.there; is = f.is }
+
+pub follows_to_end : (a b c d : State) (tree : Tree) (prefix ending : Key) (i : EndingsValue) (found : Map) (n : ℕ) → Begins a tree prefix i → KeepsFollowing a tree 2 b
+    → ((t : Tree) (p : Key) → Follows b t p i → FindsInTree c t p ending found) → GivesUpQueue c n d → FindsInTree d tree prefix ending found
+follows_to_end a b c d tree prefix ending i found n begun kept finds ends = finds_then c d n tree prefix ending found ends (finds tree prefix (kept.follows prefix i begun.follows))

@@ -102,17 +102,17 @@ puts_turned es fs k v p q =
     ∙ ap (λ b. cond b v (at (reverse q) es)) (same_flipped q k)
     ∙ ap (cond (eq_by_cmp key_cmp q k) v) (sym (found_turned q es))
 
-pub put_turned : (es fs : Map) (k v : Key) → Puts es (reverse k) (Some v) fs → HasSame (turned fs) (after_event (Insert k v) (turned es))
-put_turned es fs k v p = record { has = λ q. puts_turned es fs k (Some v) p q ∙ sym (find-put key_cmp key_total q k v (turned es)) }
+pub put_turned : (es fs : Map) (k v key : Key) → key ≡ reverse k → Puts es key (Some v) fs → HasSame (turned fs) (after_event (Insert k v) (turned es))
+put_turned es fs k v key e p = record { has = λ q. puts_turned es fs k (Some v) (subst (λ key. Puts es key (Some v) fs) e p) q ∙ sym (find-put key_cmp key_total q k v (turned es)) }
 
 not_cond : {X : Type 0} (b : Bool) (x y : X) → cond (not b) x y ≡ cond b y x
 not_cond true x y = refl
 not_cond false x y = refl
 
-pub taken_turned : (es fs : Map) (k : Key) → Puts es (reverse k) None fs → HasSame (turned fs) (after_event (Remove k) (turned es))
-taken_turned es fs k p = record {
+pub taken_turned : (es fs : Map) (k key : Key) → key ≡ reverse k → Puts es key None fs → HasSame (turned fs) (after_event (Remove k) (turned es))
+taken_turned es fs k key e p = record {
   has = λ q.
-      puts_turned es fs k None p q
+      puts_turned es fs k None (subst (λ key. Puts es key None fs) e p) q
       ∙ ap (λ b. cond b None (find key_cmp q (turned es))) (both_ways (eq_by_cmp key_cmp q k) (eq_by_cmp key_cmp k q) (λ e. itself k q (sym (tied q k e))) (λ e. itself q k (sym (tied k q e))))
       ∙ sym (find-where_key key_cmp (λ x. not (eq_by_cmp key_cmp k x)) q (λ x e. ap (λ y. not (eq_by_cmp key_cmp k y)) (sym (key_same q x e))) (turned es)
           ∙ not_cond (eq_by_cmp key_cmp k q) (find key_cmp q (turned es)) None);
@@ -172,7 +172,7 @@ between (b ∷ p) (a ∷ x) y rest le lt e = go (λ l m. between p x (p ++ rest)
     go more Greater c l m = differ (sym l)
 
 -- the entries that begin so, of entries that rise
-abbrev rises : Map → Type 0
+abbrev pub rises : Map → Type 0
 rises es = IsStrictlySortedBy (slice_cmp nat_cmp) (keys_of es)
 
 none_after : (p : Key) (x : Key × Key) (es : Map) → is_le (slice_cmp nat_cmp p x.0) ≡ true → starts_with nat_eq x.0 p ≡ false → AllByRecursion (λ y. slice_cmp nat_cmp x.0 y ≡ Less) (keys_of es) → filter (λ e. starts_with nat_eq e.0 p) es ≡ []
@@ -183,7 +183,7 @@ none_after p x (e ∷ es) le off all = ap (λ b. cond b (e ∷ filter (λ e. sta
     no true e1 = differ (sym (between p x.0 e.0 (drop (length p) e.0) le all.0 (goes_on e.0 p e1)) ∙ off)
     no false e1 = refl
 
-abbrev from : Key → Map → Map
+abbrev pub from : Key → Map → Map
 from p es = entries_between (slice_cmp nat_cmp) (Included p) Unbounded es
 
 all_beginning : (p : Key) (es : Map) → rises es → while_beginning p (from p es) ≡ filter (λ e. starts_with nat_eq e.0 p) es
@@ -202,6 +202,35 @@ all_beginning p (e ∷ es) r = go (all_beginning p es r.1) (is_le (slice_cmp nat
 
 pub finds : (ending : Key) (es : Map) → rises es → turned (while_beginning (reverse ending) (from (reverse ending) es)) ≡ entries_ending ending (turned es)
 finds ending es r = ap turned (all_beginning (reverse ending) es r) ∙ turned_where ending es
+
+-- what is found in the entries from the turned ending on
+module _ (ending beginning start : Key) (es range all found : Map) (same : turned es ≡ all) (r : rises es) where
+  pub finds_at : beginning ≡ reverse ending → start ≡ reverse ending → range ≡ from start es → found ≡ turned (while_beginning beginning range) → found ≡ entries_ending ending all
+  finds_at e f is are =
+      are
+      ∙ ap (λ b. turned (while_beginning b range)) e
+      ∙ ap (λ l. turned (while_beginning (reverse ending) l)) (is ∙ ap (λ b. from b es) f)
+      ∙ finds ending es r
+      ∙ ap (entries_ending ending) same
+
+-- the loop over these entries: what was found, and what is still to be found, are all
+abbrev pub SoFar : Key → Map → Map → Map → Type 0
+SoFar beginning all found left = turned (while_beginning beginning all) ≡ found ++ turned (while_beginning beginning left)
+
+module _ (beginning : Key) (all found left : Map) (s : SoFar beginning all found left) where
+  pub so_on : (more now : Map) (k v : Key) → left ≡ (k, v) ∷ more → starts_with nat_eq k beginning ≡ true → now ≡ found ++ (reverse k, v) ∷ [] → SoFar beginning all now more
+  so_on more now k v e on is =
+      s
+      ∙ ap (λ l. found ++ turned (while_beginning beginning l)) e
+      ∙ ap (λ b. found ++ turned (cond b ((k, v) ∷ while_beginning beginning more) [])) on
+      ∙ sym (append_assoc found ((reverse k, v) ∷ []) (turned (while_beginning beginning more)))
+      ∙ ap (λ l. l ++ turned (while_beginning beginning more)) (sym is)
+
+  pub so_ends : left ≡ [] → found ≡ turned (while_beginning beginning all)
+  so_ends e = sym (s ∙ ap (λ l. found ++ turned (while_beginning beginning l)) e ∙ append-nil found)
+
+  pub so_stops : (more : Map) (k v : Key) → left ≡ (k, v) ∷ more → starts_with nat_eq k beginning ≡ false → found ≡ turned (while_beginning beginning all)
+  so_stops more k v e off = sym (s ∙ ap (λ l. found ++ turned (while_beginning beginning l)) e ∙ ap (λ b. found ++ turned (cond b ((k, v) ∷ while_beginning beginning more) [])) off ∙ append-nil found)
 
 -- the entries that are found rise by their turned keys
 turned_twice : (es : Map) → turned (turned es) ≡ es
@@ -242,6 +271,9 @@ finds_ending prefix ending es m r c = record {
       ∙ ap (is_sorted key_cmp) (turned_twice (filter (λ e. starts_with nat_eq e.0 (reverse ending)) es))
       ∙ true_of (is_sorted key_cmp (filter (λ e. starts_with nat_eq e.0 (reverse ending)) es)) (is_sorted-where_key key_cmp (λ k. starts_with nat_eq k (reverse ending)) es (sorted_rises es r));
 }
+
+pub finds_all : (ending : Key) (es all found : Map) → turned es ≡ all → rises es → found ≡ entries_ending ending all → (prefix : Key) (m : Map) → IsCopy prefix all m → FindsEnding prefix ending m found
+finds_all ending es all found same r are prefix m c = subst (λ l. FindsEnding prefix ending m l) (ap (entries_ending ending) same ∙ sym are) (finds_ending prefix ending es m r (subst (λ l. IsCopy prefix l m) (sym same) c))
 
 -- ---- entries that are put one by one
 

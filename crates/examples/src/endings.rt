@@ -129,7 +129,10 @@ fn entries_under<P: Pages, M: MergeOperator>(
     let pairs = all_of(alloc, &mut scan);
     drop(scan);
     match pairs {
-        Ok(pairs) => filled(alloc, pairs),
+        Ok(pairs) => match filled(alloc, pairs) {
+            Ok(entries) => Ok(entries),
+            Err(e) => Err(e),
+        },
         Err(e) => Err(e),
     }
 }
@@ -230,10 +233,10 @@ impl Endings {
         ensures takes { TakesOldest (db_state P.store M.meant db.old) self.old result (db_state P.store M.meant db.new) self.new }
         ensures same { db.new ≡ record db.old { queues = db.new.queues } }
     {
-        match self.late.take() {
-            Some(event) => Some(event),
-            None => db.next(&self.subscriber),
+        if let Some(event) = self.late.take() {
+            return Some(event);
         }
+        db.next(&self.subscriber)
     }
 
     // Changes the entries by the oldest event that has not changed them, and answers whether there was none.
@@ -294,9 +297,16 @@ impl Endings {
                 return Err(e);
             }
         };
-        let found = beginning_so(alloc, self.entries.range(from..), turned.as_ref());
-        drop(turned);
-        found
+        match beginning_so(alloc, self.entries.range(from..), turned.as_ref()) {
+            Ok(found) => {
+                drop(turned);
+                Ok(found)
+            }
+            Err(e) => {
+                drop(turned);
+                Err(e)
+            }
+        }
     }
 
     /// Ends the index: no event waits for it any more.
@@ -348,7 +358,10 @@ fn find_after<P: Pages, M: MergeOperator>(
     ensures subscriber { index.new.subscriber ≡ index.old.subscriber }
 {
     match index.catch_up(db, 3) {
-        Ok(true) => index.ending_with(db.allocator(), ending),
+        Ok(true) => match index.ending_with(db.allocator(), ending) {
+            Ok(found) => Ok(found),
+            Err(e) => Err(e),
+        },
         Ok(false) => unreachable!(),
         Err(e) => Err(e),
     }
@@ -371,10 +384,18 @@ pub fn index_follows<P: Pages, M: MergeOperator>(
         Ok(index) => index,
         Err(e) => return Err(e),
     };
-    let found = match write(db, tree, key, value, gone) {
-        Ok(()) => find_after(db, &mut index, ending),
-        Err(e) => Err(e),
-    };
-    index.end(db);
-    found
+    if let Err(e) = write(db, tree, key, value, gone) {
+        index.end(db);
+        return Err(e);
+    }
+    match find_after(db, &mut index, ending) {
+        Ok(found) => {
+            index.end(db);
+            Ok(found)
+        }
+        Err(e) => {
+            index.end(db);
+            Err(e)
+        }
+    }
 }
