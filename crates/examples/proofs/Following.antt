@@ -46,7 +46,7 @@ use Rattle.sled_queues.specs.Trees.{IsTreeAfter}
 use Rattle.sled_queues.proofs.Hearing.{turned as turned_queue, turned_tree, turned_prefix, after_one}
 use Rattle.sled_queues.proofs.Copied.{copy_law, follows_law, after_both}
 use Rattle.examples.proofs.Turned.{copies_prefix}
-use Rattle.examples.specs.Endings.{turned, entries_ending, while_beginning, HasSame, EndingsValue, to_come, Follows, IsUpToDate, Begins, TakesEvents, TakesOldest, CatchesUp, CatchesUpBy, caught_as, FindsEnding, FollowsStill, KeepsFollowing, FindsInTree}
+use Rattle.examples.specs.Endings.{turned, entries_ending, while_beginning, HasSame, EndingsValue, to_come, FollowsTree, IsUpToDate, BeginsIndex, TakesEvents, TakesOldest, CatchesUp, CatchesUpBy, caught_as, FindsEnding, StillFollowsLaw, KeepsFollowing, FindsInTree}
 
 -- ---- events
 
@@ -66,7 +66,7 @@ same_copy prefix a b m h c = record { has = λ q. h.has q ∙ c.has q }
 -- ---- what an index has after it took some events
 
 module _ (old : State) (i : EndingsValue) (events : List Event) (new : State) (j : EndingsValue) (t : TakesEvents old i events new j) (h : HasSame j.entries (after_events events i.entries)) where
-  abbrev still : (tree : Tree) (prefix : Key) → Follows old tree prefix i → Follows new tree prefix j
+  abbrev still : (tree : Tree) (prefix : Key) → FollowsTree old tree prefix i → FollowsTree new tree prefix j
   still tree prefix f =
       let w = t.watches f.queue f.watches in
       record {
@@ -158,7 +158,7 @@ module _ (old new : State) (n : ℕ) (l o : Option Event) (es : Map) (i : Ending
 
 -- ---- one step: the first event changed the entries, or it is late, or there was none
 
-pub up_to_date : (s : State) (tree : Tree) (prefix : Key) (i : EndingsValue) → to_come i s ≡ [] → Follows s tree prefix i → IsUpToDate s tree prefix i
+pub up_to_date : (s : State) (tree : Tree) (prefix : Key) (i : EndingsValue) → to_come i s ≡ [] → FollowsTree s tree prefix i → IsUpToDate s tree prefix i
 up_to_date s tree prefix i none f = record { named = f.named; there = f.there; is = subst (λ l. IsCopy prefix (after_events l i.entries) f.named.map) none f.is }
 
 none_first : (es : List Event) → None ≡ slice_get es 0 → es ≡ []
@@ -254,7 +254,7 @@ number_is s tree named tested there =
             (second_none (foreign_test s.name (tree ∷ [])) _ (second_none (cond s.is_open None (Some IsClosed)) _ tested)))
 
 pub begins_index : (old new : State) (tree : Tree) (prefix : Key) (n : ℕ) (es : Map) (named : NamedTree) → must_refuse_of old (tree ∷ []) ≡ None → old.trees tree.name ≡ Some named → IsCopy prefix es named.map → Watches old tree prefix n new
-    → Begins new tree prefix (record { subscriber = n; late = None; entries = es })
+    → BeginsIndex new tree prefix (record { subscriber = n; late = None; entries = es })
 begins_index old new tree prefix n es named tested there c w = record {
   none = none;
   follows = record {
@@ -278,6 +278,10 @@ begins_index old new tree prefix n es named tested there c w = record {
     same : new.trees tree.name ≡ old.trees tree.name
     same = ap (λ (s : State). s.trees tree.name) w.is
 
+-- nothing of a database changes but its queues, in two calls neither
+pub only_queues : {P M : Type 0} (a b c : DbValue P M) → b ≡ record a { queues = b.queues } → c ≡ record b { queues = c.queues } → c ≡ record a { queues = c.queues }
+only_queues a b c e f = f ∙ ap (λ (d : DbValue _ _). record d { queues = c.queues }) e
+
 -- ---- what happens elsewhere
 
 stays_same : (ts : List Turn) (n : ℕ) (queues : ℕ → Option Queue) (q : Queue) → queues n ≡ Some q → Stays n ts → (r : Queue) × (after_turns ts queues n ≡ Some r) × (r.tree ≡ q.tree) × (r.prefix ≡ q.prefix)
@@ -286,8 +290,8 @@ stays_same (t ∷ ts) n queues q h s =
     let k = stays_same ts n (after_turn t queues) (turned_queue n t q) (after_one t n queues q s.0 h) s.1 in
     (k.0, k.1, k.2 ∙ turned_tree n t q, k.3 ∙ turned_prefix n t q)
 
-pub follows_still : FollowsStill
-follows_still old new tree prefix i turns f qs trees stays takes =
+pub still_follows : StillFollowsLaw
+still_follows old new tree prefix i turns f qs trees stays takes =
     let t = trees f.named f.there in
     let r = stays_same turns i.subscriber old.queues f.queue f.watches stays in
     let copy = after_events (option_to_list i.late) i.entries in
@@ -352,8 +356,8 @@ module _ (old new : State) (tree : Tree) (call : Call) (reply : Reply) (d : Deci
     map = came made;
   }
 
-  pub decided_follows : (prefix : Key) (i : EndingsValue) → Follows old tree prefix i → Follows new tree prefix i
-  decided_follows prefix i f = follows_still old new tree prefix i (turns made) f
+  pub decided_follows : (prefix : Key) (i : EndingsValue) → FollowsTree old tree prefix i → FollowsTree new tree prefix i
+  decided_follows prefix i f = still_follows old new tree prefix i (turns made) f
       (ap (λ (s : State). s.queues) d.is ∙ moved made)
       (λ t e. subst (λ (n : NamedTree). IsTreeAfter tree.name n (turns made) new) (some_is (sym d.there ∙ e)) tree_after)
       (stays i.subscriber made)
@@ -403,7 +407,7 @@ not_three old i new j few c = absurd (more (length (to_come i old)) (length c.ca
     more : (a b m : ℕ) → a ≤ 2 → a ≡ b + m → b ≡ 3 → ⊥
     more a b m e f g = omega arith
 
-pub finds_now : (old : State) (i : EndingsValue) (new : State) (j : EndingsValue) (n : ℕ) (ending : Key) (found : Map) (is_done : Bool) → is_done ≡ true → CatchesUpBy n old i is_done new j → ((prefix : Key) (m : Map) → IsCopy prefix j.entries m → FindsEnding prefix ending m found) → (tree : Tree) (prefix : Key) → Follows old tree prefix i → FindsInTree new tree prefix ending found
+pub finds_now : (old : State) (i : EndingsValue) (new : State) (j : EndingsValue) (n : ℕ) (ending : Key) (found : Map) (is_done : Bool) → is_done ≡ true → CatchesUpBy n old i is_done new j → ((prefix : Key) (m : Map) → IsCopy prefix j.entries m → FindsEnding prefix ending m found) → (tree : Tree) (prefix : Key) → FollowsTree old tree prefix i → FindsInTree new tree prefix ending found
 finds_now old i new j n ending found is_done e c finds tree prefix f =
     let u = c.has e tree prefix f in
     record { named = u.named; there = u.there; is = finds prefix u.named.map u.is }
@@ -412,6 +416,6 @@ finds_now old i new j n ending found is_done e c finds tree prefix f =
 pub finds_then : (old new : State) (n : ℕ) (tree : Tree) (prefix ending : Key) (found : Map) → GivesUpQueue old n new → FindsInTree old tree prefix ending found → FindsInTree new tree prefix ending found
 finds_then old new n tree prefix ending found g f = record { named = f.named; there = ap (λ (s : State). s.trees tree.name) g.is ∙ f.there; is = f.is }
 
-pub follows_to_end : (a b c d : State) (tree : Tree) (prefix ending : Key) (i : EndingsValue) (found : Map) (n : ℕ) → Begins a tree prefix i → KeepsFollowing a tree 2 b
-    → ((t : Tree) (p : Key) → Follows b t p i → FindsInTree c t p ending found) → GivesUpQueue c n d → FindsInTree d tree prefix ending found
+pub follows_to_end : (a b c d : State) (tree : Tree) (prefix ending : Key) (i : EndingsValue) (found : Map) (n : ℕ) → BeginsIndex a tree prefix i → KeepsFollowing a tree 2 b
+    → ((t : Tree) (p : Key) → FollowsTree b t p i → FindsInTree c t p ending found) → GivesUpQueue c n d → FindsInTree d tree prefix ending found
 follows_to_end a b c d tree prefix ending i found n begun kept finds ends = finds_then c d n tree prefix ending found ends (finds tree prefix (kept.follows prefix i begun.follows))

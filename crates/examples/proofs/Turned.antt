@@ -41,7 +41,7 @@ use Rattle.sled_queues.specs.Turns.{turns_of_event}
 use Rattle.sled_queues.specs.Trees.{IsTreeAfter}
 use Rattle.sled_queues.proofs.Hearing.{turned as turned_queue, turned_tree, turned_prefix, after_one}
 use Rattle.sled_queues.proofs.Copied.{copy_law, follows_law, after_both}
-use Rattle.examples.specs.Endings.{turned, entries_ending, while_beginning, HasSame, EndingsValue, to_come, Follows, IsUpToDate, Begins, TakesEvents, TakesOldest, CatchesUp, CatchesUpBy, caught_as, FindsEnding, FollowsStill}
+use Rattle.examples.specs.Endings.{turned, entries_ending, while_beginning, HasSame, EndingsValue, to_come, FollowsTree, IsUpToDate, BeginsIndex, TakesEvents, TakesOldest, CatchesUp, CatchesUpBy, caught_as, FindsEnding, StillFollowsLaw}
 
 -- ---- keys, and keys read from their end
 

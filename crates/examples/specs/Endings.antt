@@ -43,7 +43,7 @@ to_come i s = option_to_list i.late ++ waiting_in (s.queues i.subscriber)
 
 -- The index follows the tree: its subscriber watches it under the prefix, and once the events to come have changed the entries too, they
 -- are those of the tree under the prefix
-pub record Follows (s : State) (tree : Tree) (prefix : Key) (i : EndingsValue) : Type 0 where
+pub record FollowsTree (s : State) (tree : Tree) (prefix : Key) (i : EndingsValue) : Type 0 where
   pub named : NamedTree
   pub there : s.trees tree.name ≡ Some named
   pub queue : Queue
@@ -59,9 +59,9 @@ pub record IsUpToDate (s : State) (tree : Tree) (prefix : Key) (i : EndingsValue
   pub is : IsCopy prefix i.entries named.map
 
 -- it is of a subscriber for which no event waits, and has these entries
-pub record Begins (s : State) (tree : Tree) (prefix : Key) (i : EndingsValue) : Type 0 where
+pub record BeginsIndex (s : State) (tree : Tree) (prefix : Key) (i : EndingsValue) : Type 0 where
   pub none : to_come i s ≡ []
-  pub follows : Follows s tree prefix i
+  pub follows : FollowsTree s tree prefix i
   pub has : IsUpToDate s tree prefix i
 
 -- Some of the events to come, the oldest, were taken. Nothing else changes, and the subscriber watches the same as before
@@ -83,7 +83,7 @@ pub record CatchesUp (old : State) (i : EndingsValue) (new : State) (j : Endings
   pub events : List Event
   pub takes : TakesEvents old i events new j
   pub changes : HasSame j.entries (after_events events i.entries)
-  pub follows : (tree : Tree) (prefix : Key) → Follows old tree prefix i → Follows new tree prefix j
+  pub follows : (tree : Tree) (prefix : Key) → FollowsTree old tree prefix i → FollowsTree new tree prefix j
 
 abbrev pub caught_as : ℕ → List Event → List Event → Bool → Type 0
 caught_as at_most events left true = left ≡ []
@@ -94,7 +94,7 @@ pub record CatchesUpBy (at_most : ℕ) (old : State) (i : EndingsValue) (is_done
   pub catches : CatchesUp old i new j
   pub within : length catches.events ≤ at_most
   pub done : caught_as at_most catches.events (to_come j new) is_done
-  pub has : is_done ≡ true → (tree : Tree) (prefix : Key) → Follows old tree prefix i → IsUpToDate new tree prefix j
+  pub has : is_done ≡ true → (tree : Tree) (prefix : Key) → FollowsTree old tree prefix i → IsUpToDate new tree prefix j
 
 -- the entries of the map whose keys begin and end so, each once, in the order of their keys read from the end
 pub record FindsEnding (prefix ending : Key) (m found : Map) : Type 0 where
@@ -103,14 +103,14 @@ pub record FindsEnding (prefix ending : Key) (m found : Map) : Type 0 where
 
 -- An index that follows a tree still does after any turns that do not end its subscriber or take its events elsewhere, where the events
 -- that come to the tree tell what becomes of its map
-abbrev pub FollowsStill : Type 0
-FollowsStill = (old new : State) (tree : Tree) (prefix : Key) (i : EndingsValue) (turns : List Turn) → Follows old tree prefix i
+abbrev pub StillFollowsLaw : Type 0
+StillFollowsLaw = (old new : State) (tree : Tree) (prefix : Key) (i : EndingsValue) (turns : List Turn) → FollowsTree old tree prefix i
     → new.queues ≡ after_turns turns old.queues → ((t : NamedTree) → old.trees tree.name ≡ Some t → IsTreeAfter tree.name t turns new)
-    → Stays i.subscriber turns → taken_by i.subscriber turns old.queues ≡ [] → Follows new tree prefix i
+    → Stays i.subscriber turns → taken_by i.subscriber turns old.queues ≡ [] → FollowsTree new tree prefix i
 
 -- after a change of the tree an index that followed it still does, with so many events more to come at most
 pub record KeepsFollowing (old : State) (tree : Tree) (n : ℕ) (new : State) : Type 0 where
-  pub follows : (prefix : Key) (i : EndingsValue) → Follows old tree prefix i → Follows new tree prefix i
+  pub follows : (prefix : Key) (i : EndingsValue) → FollowsTree old tree prefix i → FollowsTree new tree prefix i
   pub within : (i : EndingsValue) → length (to_come i new) ≤ length (to_come i old) + n
 
 -- the entries of the tree now whose keys begin and end so

@@ -10,7 +10,7 @@ ghost use Rattle.sled_model.specs.declared.tree.Tree.{Tree as ModelTree};
 ghost use Rattle.sled.specs.Reads.{ReadsMap};
 ghost use Rattle.sled.specs.Values.{db_state};
 ghost use Rattle.sled.specs.Watch.{WatchesDb, EndsSubscriber};
-ghost use Rattle.examples.specs.Endings.{turned, entries_ending, while_beginning, HasSame, to_come, Follows, Begins, TakesOldest, CatchesUp, CatchesUpBy, FindsEnding, FollowsStill, KeepsFollowing, FindsInTree};
+ghost use Rattle.examples.specs.Endings.{turned, entries_ending, while_beginning, HasSame, to_come, FollowsTree, BeginsIndex, TakesOldest, CatchesUp, CatchesUpBy, FindsEnding, StillFollowsLaw, KeepsFollowing, FindsInTree};
 
 use crate::index::all_of;
 use sled::Db;
@@ -206,7 +206,7 @@ impl Endings {
         tree: &Tree,
         prefix: &[u8],
     ) -> Result<Endings>
-        ensures ok { IfOk result (λ index. Begins (db_state P.store M.meant db.new) tree.now prefix.now index) }
+        ensures ok { IfOk result (λ index. BeginsIndex (db_state P.store M.meant db.new) tree.now prefix.now index) }
         ensures watches { IfOk result (λ index. WatchesDb P.store M.meant db.old tree.now prefix.now index.subscriber db.new) }
         ensures err { OnErr result (db.new ≡ db.old) }
     {
@@ -320,8 +320,8 @@ impl Endings {
 
 /// Does nothing. An index follows its tree whatever happens elsewhere, as long as its subscriber is not ended and nobody else takes
 /// its events. What happens is told by turns: `law_turns` and `law_trees` of `sled_queues` have those of each step of a machine.
-pub fn law_follows_still()
-    ensures { FollowsStill }
+pub fn law_still_follows()
+    ensures { StillFollowsLaw }
 {}
 
 // Writes a key of a tree, and takes another out.
@@ -354,7 +354,7 @@ fn find_after<P: Pages, M: MergeOperator>(
     ending: &[u8],
 ) -> Result<Vec<(IVec, IVec)>>
     requires { length (to_come index.old (db_state P.store M.meant db.old)) ≤ 2 }
-    ensures ok { IfOk result (λ found. (tree : ModelTree) (prefix : Key) → Follows (db_state P.store M.meant db.old) tree prefix index.old → FindsInTree (db_state P.store M.meant db.new) tree prefix ending.now found.items) }
+    ensures ok { IfOk result (λ found. (tree : ModelTree) (prefix : Key) → FollowsTree (db_state P.store M.meant db.old) tree prefix index.old → FindsInTree (db_state P.store M.meant db.new) tree prefix ending.now found.items) }
     ensures subscriber { index.new.subscriber ≡ index.old.subscriber }
 {
     match index.catch_up(db, 3) {
@@ -367,7 +367,7 @@ fn find_after<P: Pages, M: MergeOperator>(
     }
 }
 
-/// Begins an index of a tree, writes to the tree, and asks the index, which has caught up: the entries that it finds are those of the
+/// BeginsIndex an index of a tree, writes to the tree, and asks the index, which has caught up: the entries that it finds are those of the
 /// tree now.
 pub fn index_follows<P: Pages, M: MergeOperator>(
     db: &mut Db<P, M>,
