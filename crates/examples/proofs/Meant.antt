@@ -141,13 +141,13 @@ module _ {P M : Type 0} (store : P → Store) (number : P → ℕ) (meant : M �
     plain_tested (step.Step slot) o h = h
     plain_tested (step.Abandon slot) o h = h
 
-    plain_pops_as : (tree : Tree) (is_end : Map → Option (Key × Key) → Type 0) (o : Outcome) → pops_as store meant a.db tree is_end o b.db → pops_as store (λ m. m) (plain store meant a.db) tree is_end o (plain store meant b.db)
-    plain_pops_as tree is_end (outcome.Decided reply) h = (h.0, h.1, plain_pops store meant a.db tree is_end h.0 b.db h.2)
-    plain_pops_as tree is_end (outcome.Refused e) h = plain_stops store meant a.db tree is_end e b.db h
-    plain_pops_as tree is_end (outcome.Begun slot) h = h
-    plain_pops_as tree is_end outcome.Moved h = h
-    plain_pops_as tree is_end outcome.Abandoned h = h
-    plain_pops_as tree is_end outcome.NoSuchSlot h = h
+    plain_pops_as : (tree : Tree) (is_end : Map → Option (Key × Key) → Type 0) (of : ℕ → ℕ) (o : Outcome) → pops_as store meant a.db tree is_end of o b.db → pops_as store (λ m. m) (plain store meant a.db) tree is_end of o (plain store meant b.db)
+    plain_pops_as tree is_end of (outcome.Decided reply) h = (h.0, h.1, plain_pops store meant a.db tree is_end h.0 b.db h.2)
+    plain_pops_as tree is_end of (outcome.Refused e) h = plain_stops store meant a.db tree is_end of e b.db h
+    plain_pops_as tree is_end of (outcome.Begun slot) h = h
+    plain_pops_as tree is_end of outcome.Moved h = h
+    plain_pops_as tree is_end of outcome.Abandoned h = h
+    plain_pops_as tree is_end of outcome.NoSuchSlot h = h
 
     plain_clears_as : (tree : Tree) (o : Outcome) → clears_as store meant a.db tree o b.db → clears_as store (λ m. m) (plain store meant a.db) tree o (plain store meant b.db)
     plain_clears_as tree (outcome.Decided reply) h = plain_clears store meant tree h
@@ -183,8 +183,8 @@ module _ {P M : Type 0} (store : P → Store) (number : P → ℕ) (meant : M �
 
     plain_way : (s : Step) (o : Outcome) → way_as store meant a.db s o b.db → way_as store (λ m. m) (plain store meant a.db) s o (plain store meant b.db)
     plain_way (step.Whole Flush) o h = h
-    plain_way (step.Whole (PopMin tree)) o h = plain_pops_as tree IsLeast o h
-    plain_way (step.Whole (PopMax tree)) o h = plain_pops_as tree IsGreatest o h
+    plain_way (step.Whole (PopMin tree)) o h = plain_pops_as tree IsLeast once o h
+    plain_way (step.Whole (PopMax tree)) o h = plain_pops_as tree IsGreatest for_each o h
     plain_way (step.Whole (Clear tree)) o h = plain_clears_as tree o h
     plain_way (step.Whole (OpenTree name)) o h = plain_opens_as name o h
     plain_way (step.Whole (DropTree name)) o h = plain_drops_as name o h

@@ -1,5 +1,5 @@
 -- Databases with the meanings of their operators in place of the operators: they stand for the same states, and make the same steps.
-use Rattle.std.proofs.Common.{◌≡◌, ◌≢◌, ℕ, zero, suc, Bool, cond, not, nat_eq, filter, List, [], ◌∷◌, Option, Some, None, option_map, true, false, sym, refl, ap, ◌∙◌, subst, inl, inr}
+use Rattle.std.proofs.Common.{◌≡◌, ◌≢◌, ◌⊎◌, ℕ, zero, suc, Bool, cond, not, nat_eq, filter, List, [], ◌∷◌, Option, Some, None, option_map, true, false, sym, refl, ap, ◌∙◌, subst, inl, inr}
 use Rattle.std.specs.FinMap.Entries.{find}
 use Rattle.std.specs.Ordering.{nat_cmp, eq_by_cmp}
 use Rattle.sled_pages.specs.Order.{Key}
@@ -10,7 +10,7 @@ use Rattle.sled_pages.specs.declared.error.Error.{Error}
 use Rattle.sled_pages.specs.declared.error.Error.TheVariants as error
 use Rattle.sled_model.specs.Maps.{Map, Maps, Merge, IsLeast}
 use Rattle.sled_model.specs.State.{State, CallInFlight, maps_of}
-use Rattle.sled_model.specs.Refusal.{MustRefuse, Asked, ToStep, must_refuse, must_refuse_of, MeetsFullQueue}
+use Rattle.sled_model.specs.Refusal.{MustRefuse, Asked, ToStep, ToPoint, must_refuse, must_refuse_of, MeetsFullQueue}
 use Rattle.sled_model.specs.Transition.{Configuration, Transition}
 use Rattle.sled_model.specs.Collections.{Content}
 use Rattle.sled_model.specs.Imports.{Part, OpensName, Puts, tree_at, IsAbsent, overwrites_as, refuses_import_as, StopsAtPart}
@@ -156,7 +156,7 @@ module _ {P M : Type 0} (store : P → Store) (meant : M → Merge) where
       refuses = subst (λ (s : State). RefusesPoint s (store old.pages) (store new.pages) tree call e (db_state store (λ m. m) (plain new))) (sym (same_db old)) (subst (λ (s : State). RefusesPoint (db_state store meant old) (store old.pages) (store new.pages) tree call e s) (sym (same_db new)) p.refuses);
       conducts = plain_conducts [] (Some e) p.conducts;
       steps = elim p.steps [
-        | inl same ↦ inl (ap plain same)
+        | inl same ↦ inl (record { why = subst (λ (s : State). (must_refuse s (ToPoint tree call) ≢ None) ⊎ (e ≡ error.NoMemory)) (sym (same_db old)) same.0.why }, ap plain same.1)
         | inr run ↦ inr (run.0, plain_runs old new _ run.0 _ run.1)
       ];
       turns = p.turns;
@@ -336,10 +336,10 @@ module _ {P M : Type 0} (store : P → Store) (meant : M → Merge) where
       ];
     }
 
-    pub plain_stops : (e : Error) (new : DbValue P M) → PopRefusedBySteps store meant d tree is_end e new → PopRefusedBySteps store (λ m. m) (plain d) tree is_end e (plain new)
-    plain_stops e new h = record {
+    pub plain_stops : (of : ℕ → ℕ) (e : Error) (new : DbValue P M) → PopRefusedBySteps store meant d tree is_end of e new → PopRefusedBySteps store (λ m. m) (plain d) tree is_end of e (plain new)
+    plain_stops of e new h = record {
       is = elim h.is [
-        | inl same ↦ inl (ap plain same)
+        | inl same ↦ inl (plain_unread d tree of e same.0, ap plain same.1)
         | inr one ↦ inr (one.0, plain_end one.0 one.1, plain_untaken d new tree one.0 e one.2)
       ];
     }
@@ -349,7 +349,7 @@ module _ {P M : Type 0} (store : P → Store) (meant : M → Merge) where
   plain_clears tree (ClearsMore {mid = mid} {new = new} {pair = pair} {reply = reply} clears at point) = ClearsMore (plain_clears tree clears) (plain_end mid tree IsLeast pair at) (plain_decided mid new tree (Remove pair.0) reply point)
 
   pub plain_clear_stops : (tree : Tree) (old : DbValue P M) (e : Error) (new : DbValue P M) → ClearRefusedBySteps store meant old tree e new → ClearRefusedBySteps store (λ m. m) (plain old) tree e (plain new)
-  plain_clear_stops tree old e new h = record { mid = plain h.mid; clears = plain_clears tree h.clears; refused = plain_stops h.mid tree IsLeast e new h.refused; gives_up = plain_gives_up h.mid tree IsLeast once e h.gives_up }
+  plain_clear_stops tree old e new h = record { mid = plain h.mid; clears = plain_clears tree h.clears; refused = plain_stops h.mid tree IsLeast once e new h.refused; gives_up = plain_gives_up h.mid tree IsLeast once e h.gives_up }
 
   pub plain_opens : (before : Store) (called : Key) (d : DbValue P M) → Opens store before called d → Opens store before called (plain d)
   plain_opens before called d o = record {

@@ -21,7 +21,7 @@ use Rattle.sled_model.specs.declared.reply.Reply.TheVariants as told
 use Rattle.sled_model.specs.declared.tree.Tree.{Tree}
 use Rattle.sled_machine.specs.Run.{MachineSteps, NoCalls, OneCall}
 use Rattle.sled_machine.specs.Values.{MachineValue, configuration_of}
-use Rattle.examples.specs.Ids.{id_of, ids_of, RiseBetween, Rise}
+use Rattle.examples.specs.Ids.{id_of, ids_of, RiseBetween, Rise, Lives, Runs, RunsAgain, IdsLaw}
 
 -- where no id was given the greatest stays
 stays : (a b : State) → b ≡ a → a.greatest_id ≤ b.greatest_id
@@ -84,9 +84,9 @@ whole_rises a b (OpenTree name) (outcome.Decided reply) maps t = at_most _ _ (ap
 whole_rises a b (DropTree name) (outcome.Decided reply) maps t = at_most _ _ (ap (λ (s : State). s.greatest_id) t.is ∙ dropped (a.state.trees name) a.state name)
 whole_rises a b GenerateId (outcome.Decided reply) maps t = one_given a.state.greatest_id b.state.greatest_id reply t.replies (ap (λ (s : State). s.greatest_id) t.is)
 whole_rises a b (Import collections) (outcome.Decided reply) maps t = at_most _ _ (parts_done t.1.does)
-whole_rises a b (Watch tree prefix) (outcome.Decided reply) maps t = at_most _ _ (ap (λ (s : State). s.greatest_id) t.2.0.is)
-whole_rises a b (Next subscriber) (outcome.Decided reply) maps t = at_most _ _ (ap (λ (s : State). s.greatest_id) t.2.0.is)
-whole_rises a b (Unsubscribe subscriber) (outcome.Decided reply) maps t = at_most _ _ (ap (λ (s : State). s.greatest_id) t.1.0.is)
+whole_rises a b (Watch tree prefix) (outcome.Decided reply) maps t = at_most _ _ (ap (λ (s : State). s.greatest_id) t.2.is)
+whole_rises a b (Next subscriber) (outcome.Decided reply) maps t = at_most _ _ (ap (λ (s : State). s.greatest_id) t.2.is)
+whole_rises a b (Unsubscribe subscriber) (outcome.Decided reply) maps t = at_most _ _ (ap (λ (s : State). s.greatest_id) t.1.is)
 whole_rises a b Flush (outcome.Refused e) maps t = stays a.state b.state t.1
 whole_rises a b (PopMin tree) (outcome.Refused e) maps t = stays a.state b.state t.1
 whole_rises a b (PopMax tree) (outcome.Refused e) maps t = stays a.state b.state t.1
@@ -161,3 +161,14 @@ kept_over keep g h s left below crash opens = same (ap (λ (z : Store). z.mark) 
   where
     same : left.mark ≡ s.mark → g ≤ h
     same e = omega arith
+
+module _ {P M : Type 0} (store : P → Store) (number : P → ℕ) (meant : M → Merge) where
+  lives_rise : {a b : MachineValue P M} {ids : List ℕ} → Lives store number meant a ids b → RiseBetween a.db.greatest_id ids b.db.greatest_id
+  lives_rise (Runs {a = a} {b = b} {steps = ss} {outcomes = os} run) = run_rises store number meant a b ss os run
+  lives_rise (RunsAgain {a = a} {b = b} {c = c} {d = d} {ids = ids} {keep = keep} {left = left} {steps = ss} {outcomes = os} before db crash opens run) =
+      rise_on a.db.greatest_id b.db.greatest_id d.db.greatest_id ids (ids_of ss os) (lives_rise before)
+      (rise_on b.db.greatest_id c.db.greatest_id d.db.greatest_id [] (ids_of ss os) (kept_over keep b.db.greatest_id c.db.greatest_id (store b.db.pages) left db.ids crash opens.ids) (run_rises store number meant c d ss os run))
+
+  -- no id comes twice
+  pub ids_rise : IdsLaw store number meant
+  ids_rise a b ids lives = record { low = a.db.greatest_id; high = b.db.greatest_id; between = lives_rise lives }

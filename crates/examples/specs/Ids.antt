@@ -1,11 +1,19 @@
 -- The ids of a run.
 use Rattle.std.specs.Prelude.{ℕ, ◌<◌, ◌≤◌, List, [], ◌∷◌, ◌++◌}
+use Rattle.sled_pages.specs.Order.{Key}
+use Rattle.sled_pages.specs.Store.{Store}
+use Rattle.sled_pages.specs.Crash.{Crashes}
+use Rattle.sled_model.specs.Maps.{Merge}
 use Rattle.sled_model.specs.declared.call.Whole.TheVariants.{GenerateId}
 use Rattle.sled_model.specs.declared.outcome.Step.{Step}
 use Rattle.sled_model.specs.declared.outcome.Step.TheVariants as step
 use Rattle.sled_model.specs.declared.outcome.Outcome.{Outcome}
 use Rattle.sled_model.specs.declared.outcome.Outcome.TheVariants.{Decided}
 use Rattle.sled_model.specs.declared.reply.Reply.TheVariants.{Number}
+use Rattle.sled.specs.Sound.{IsDb}
+use Rattle.sled.specs.Opens.{Opens}
+use Rattle.sled_machine.specs.Run.{MachineSteps}
+use Rattle.sled_machine.specs.Values.{MachineValue}
 
 -- the id that a step gave, if it gave one
 abbrev pub id_of : Step → Outcome → List ℕ
@@ -28,3 +36,15 @@ pub record Rise (ids : List ℕ) : Type 0 where
   pub low : ℕ
   pub high : ℕ
   pub between : RiseBetween low ids high
+
+-- Any number of runs of machines over a store, one after the other, each on what a crash left of the one before and an opening made of
+-- that; and the ids that they gave, in order
+pub data Lives {P M : Type 0} (store : P → Store) (flush_number : P → ℕ) (meant : M → Merge) : MachineValue P M → List ℕ → MachineValue P M → Type 0 where
+  Runs : {a b : MachineValue P M} {steps : List Step} {outcomes : List Outcome} → MachineSteps store flush_number meant a steps outcomes b → Lives store flush_number meant a (ids_of steps outcomes) b
+  RunsAgain : {a b c d : MachineValue P M} {ids : List ℕ} {keep : ℕ} {left : Store} {name : Key} {steps : List Step} {outcomes : List Outcome}
+      → Lives store flush_number meant a ids b → IsDb store b.db → Crashes keep (store b.db.pages) left → Opens store left name c.db
+      → MachineSteps store flush_number meant c steps outcomes d → Lives store flush_number meant a (ids ++ ids_of steps outcomes) d
+
+-- No id comes twice, over any number of runs and of crashes
+abbrev pub IdsLaw : {P M : Type 0} → (P → Store) → (P → ℕ) → (M → Merge) → Type 0
+IdsLaw {P = P} {M = M} store flush_number meant = (a b : MachineValue P M) (ids : List ℕ) → Lives store flush_number meant a ids b → Rise ids

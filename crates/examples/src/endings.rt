@@ -367,7 +367,7 @@ fn find_after<P: Pages, M: MergeOperator>(
     }
 }
 
-/// BeginsIndex an index of a tree, writes to the tree, and asks the index, which has caught up: the entries that it finds are those of the
+/// Begins an index of a tree, writes to the tree, and asks the index, which has caught up: the entries that it finds are those of the
 /// tree now.
 pub fn index_follows<P: Pages, M: MergeOperator>(
     db: &mut Db<P, M>,

@@ -1,14 +1,14 @@
-//! Ids over two runs, with a crash between them.
+//! Ids over runs with crashes between them.
 ghost use Rattle.std.specs.Prelude.{◌≡◌, ◌++◌, false, IfOk};
 ghost use Rattle.sled_pages.specs.Store.{now};
 ghost use Rattle.sled_pages.specs.Memory.{store_of};
 ghost use Rattle.tree_laws.specs.Crashes.{IsValid};
-ghost use Rattle.examples.specs.Ids.{ids_of, Rise};
+ghost use Rattle.examples.specs.Ids.{ids_of, Rise, IdsLaw};
 
 use sled::{Db, crash_pages};
 use sled_machine::Machine;
-use sled_model::{Outcome, Step};
-use sled_pages::{MemPages, Result};
+use sled_model::{MergeOperator, Outcome, Step};
+use sled_pages::{MemPages, Pages, Result};
 use std::alloc::Global;
 
 /// Runs steps on a database, crashes its store, of whose last actions so many are kept, and runs more steps on what is left.
@@ -61,3 +61,9 @@ pub fn run_twice(
         }
     }
 }
+
+/// Over any number of runs, with a crash and an opening between each and the next, every id that is given is above all that were given
+/// before it.
+pub fn law_ids<P: Pages, M: MergeOperator>()
+    ensures { IdsLaw P.store P.flush_number M.meant }
+{}

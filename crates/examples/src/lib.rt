@@ -1,5 +1,5 @@
 //! Callers that are proved from public contracts alone, as a user would write them: what those contracts say is enough to build
-//! on. `callers` are examples of a machine, `index` of a scan, `recovery` of a crash, `ids` of two runs with a crash between them,
+//! on. `callers` are examples of a machine, `index` of a scan, `recovery` of a crash, `ids` of runs with crashes between them,
 //! `queue` of a database that takes pairs out, `copy` of one that gets the trees of another, `typed` of keys and values of a user's own
 //! types, `events` of streams of events in trees that are opened by name, `counters` of a merge operator and of a closure, and
 //! `endings` of a subscriber that keeps an index.
@@ -23,7 +23,7 @@ pub use copy::copy_all;
 pub use counters::{Adds, add_to_counter, count, next_ticket};
 pub use endings::{Endings, index_follows, law_still_follows};
 pub use events::{append, open_stream, read_from};
-pub use ids::run_twice;
+pub use ids::{law_ids, run_twice};
 pub use index::entries_under;
 pub use queue::{add, take};
 pub use recovery::survive;

@@ -6,6 +6,10 @@ ghost use Rattle.ordered_keys.specs.Keys.{spelled_number};
 use sled_pages::Result;
 
 /// Adds a number at the end: eight bytes, the highest first. Refused with `NoMemory` alone, and nothing is added then.
+///
+/// ```
+/// push_number(&mut prefix, 7)?; // All keys whose first part is 7 begin so.
+/// ```
 #[tactic(auto, unfolding(crate::specs::Keys::spelled_number))]
 pub fn push_number(out: &mut Vec<u8>, number: u64) -> Result<()>
     ensures ok { OnOk result (out.new.items ≡ out.old.items ++ spelled_number number) }
@@ -17,6 +21,12 @@ pub fn push_number(out: &mut Vec<u8>, number: u64) -> Result<()>
 
 /// Reads the number that the bytes begin with, and what follows it. `None` where there are fewer than eight bytes, so
 /// that they begin with no number.
+///
+/// ```
+/// if let Some((number, rest)) = read_number(key.as_ref()) {
+///     // `rest` has the parts behind it.
+/// }
+/// ```
 #[tactic(auto, unfolding(crate::specs::Keys::spelled_number))]
 pub fn read_number(bytes: &[u8]) -> Option<(u64, &[u8])>
     ensures some { IfSome result (λ found. bytes.now ≡ spelled_number found.0 ++ found.1.now) }

@@ -29,6 +29,10 @@ pub enum Part {
 }
 
 /// Adds a part at the end. Refused with `NoMemory` alone, and nothing is added then.
+///
+/// ```
+/// push_part(&mut key, &Part::Number(7))?;
+/// ```
 pub fn push_part(out: &mut Vec<u8>, part: &Part) -> Result<()>
     ensures ok { OnOk result (out.new.items ≡ out.old.items ++ spelled_part part.now) }
     ensures err { IfErr result (λ e. (e ≡ NoMemory) × (out.new.items ≡ out.old.items)) }
@@ -40,6 +44,10 @@ pub fn push_part(out: &mut Vec<u8>, part: &Part) -> Result<()>
 }
 
 /// The key of these parts. Refused with `NoMemory` alone.
+///
+/// ```
+/// let key = key_of(alloc, &[Part::Number(7), Part::Text(name)])?;
+/// ```
 pub fn key_of(alloc: Global, parts: &[Part]) -> Result<IVec>
     ensures ok { IfOk result (λ key. key ≡ spelled parts.now) }
     ensures err { IfErr result (λ e. e ≡ NoMemory) }
@@ -53,6 +61,10 @@ pub fn key_of(alloc: Global, parts: &[Part]) -> Result<IVec>
 
 /// Reads a part of this kind, which the bytes begin with, and what follows it. `Ok(None)` where they begin with none. Refused
 /// with `NoMemory` alone.
+///
+/// ```
+/// let first = read_part(alloc, Kind::Number, key.as_ref())?; // `Some`, of a part and what follows it.
+/// ```
 pub fn read_part(alloc: Global, kind: Kind, bytes: &[u8]) -> Result<Option<(Part, &[u8])>>
     ensures some { IfOk result (λ found. IfSome found (λ f. IsOfKind kind f.0 × (bytes.now ≡ spelled_part f.0 ++ f.1.now))) }
     ensures none { IfOk result (λ found. IfNone found ((part : Part) (rest : Key) → IsOfKind kind part → bytes.now ≢ spelled_part part ++ rest)) }
@@ -71,6 +83,10 @@ pub fn read_part(alloc: Global, kind: Kind, bytes: &[u8]) -> Result<Option<(Part
 }
 
 /// The parts of a key of this shape. `Ok(None)` where the bytes are no key of the shape. Refused with `NoMemory` alone.
+///
+/// ```
+/// let parts = parts_of(alloc, &[Kind::Number, Kind::Text], key.as_ref())?;
+/// ```
 pub fn parts_of(alloc: Global, shape: &[Kind], key: &[u8]) -> Result<Option<Vec<Part>>>
     ensures some { IfOk result (λ found. IfSome found (λ parts. HasShape shape.now parts.items × (key.now ≡ spelled parts.items))) }
     ensures none { IfOk result (λ found. IfNone found ((parts : List Part) → HasShape shape.now parts → key.now ≢ spelled parts)) }

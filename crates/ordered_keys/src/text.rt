@@ -34,6 +34,10 @@ fn push_pieces(out: &mut Vec<u8>, text: &[u8]) -> Result<()>
 
 /// Adds a text at the end: its bytes, each 0 as 0, 255, and then 0, 0. Refused with `NoMemory` alone, and nothing is added
 /// then.
+///
+/// ```
+/// push_text(&mut prefix, b"ulm")?; // All keys whose first part is `ulm`, and not those of `ulmer`.
+/// ```
 pub fn push_text(out: &mut Vec<u8>, text: &[u8]) -> Result<()>
     ensures ok { OnOk result (out.new.items ≡ out.old.items ++ spelled_text text.now) }
     ensures err { IfErr result (λ e. (e ≡ NoMemory) × (out.new.items ≡ out.old.items)) }
@@ -61,6 +65,12 @@ fn first_piece(bytes: &[u8]) -> Option<(Option<u8>, &[u8])>
 
 /// Reads the text that the bytes begin with, and what follows it. `Ok(None)` where they begin with no text: where 0, 0 stands
 /// nowhere, or a 0 before it that has no 255 behind it. Refused with `NoMemory` alone.
+///
+/// ```
+/// if let Some((text, rest)) = read_text(alloc, key.as_ref())? {
+///     // `rest` has the parts behind it.
+/// }
+/// ```
 pub fn read_text(alloc: Global, bytes: &[u8]) -> Result<Option<(IVec, &[u8])>>
     ensures some { IfOk result (λ found. IfSome found (λ f. bytes.now ≡ spelled_text f.0 ++ f.1.now)) }
     ensures none { IfOk result (λ found. IfNone found ((text rest : Key) → bytes.now ≢ spelled_text text ++ rest)) }

@@ -23,4 +23,4 @@ pub use machine::{
 };
 pub use pops::{clear, pop_max, pop_min};
 pub use reads::{contains_key, get_lt, len, range};
-pub use watch::watch_prefix;
+pub use watch::{next, unsubscribe, watch_prefix};

@@ -20,7 +20,7 @@ pub fn pop_min<P: Pages, M: MergeOperator>(
     ensures err { IfErr result (λ e. WholeRefused P.store M.meant db.old (PopMin tree.now) e db.new) }
     ensures gives_up { IfErr result (GivesUpPop P.store M.meant db.old tree.now IsLeast once) }
     ensures steps { IfOk result (λ found. PopsBySteps P.store M.meant db.old tree.now IsLeast found db.new) }
-    ensures refused { IfErr result (λ e. PopRefusedBySteps P.store M.meant db.old tree.now IsLeast e db.new) }
+    ensures refused { IfErr result (λ e. PopRefusedBySteps P.store M.meant db.old tree.now IsLeast once e db.new) }
 {
     db.pop_min(tree)
 }
@@ -34,7 +34,7 @@ pub fn pop_max<P: Pages, M: MergeOperator>(
     ensures err { IfErr result (λ e. WholeRefused P.store M.meant db.old (PopMax tree.now) e db.new) }
     ensures gives_up { IfErr result (GivesUpPop P.store M.meant db.old tree.now IsGreatest for_each) }
     ensures steps { IfOk result (λ found. PopsBySteps P.store M.meant db.old tree.now IsGreatest found db.new) }
-    ensures refused { IfErr result (λ e. PopRefusedBySteps P.store M.meant db.old tree.now IsGreatest e db.new) }
+    ensures refused { IfErr result (λ e. PopRefusedBySteps P.store M.meant db.old tree.now IsGreatest for_each e db.new) }
 {
     db.pop_max(tree)
 }

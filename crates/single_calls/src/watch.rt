@@ -1,9 +1,9 @@
 //! Calls of subscribers.
 ghost use Rattle.std.specs.Prelude.{IfOk, IfErr};
-ghost use Rattle.sled.specs.Watch.{WatchesDb, RefusesWatch};
+ghost use Rattle.sled.specs.Watch.{WatchesDb, RefusesWatch, TakesFromDb, EndsSubscriber};
 
 use sled::{Db, Subscriber};
-use sled_model::{MergeOperator, Tree};
+use sled_model::{Event, MergeOperator, Tree};
 use sled_pages::{Pages, Result};
 
 /// A new subscriber to the keys of a tree that begin with a prefix.
@@ -13,7 +13,21 @@ pub fn watch_prefix<P: Pages, M: MergeOperator>(
     prefix: &[u8],
 ) -> Result<Subscriber>
     ensures ok { IfOk result (λ number. WatchesDb P.store M.meant db.old tree.now prefix.now number db.new) }
-    ensures err { IfErr result (λ e. RefusesWatch P.store M.meant db.old tree.now e db.new) }
+    ensures err { IfErr result (λ e. RefusesWatch P.store M.meant db.old tree.now prefix.now e db.new) }
 {
     db.watch_prefix(tree, prefix)
+}
+
+/// The oldest event that waits for a subscriber.
+pub fn next<P: Pages, M: MergeOperator>(db: &mut Db<P, M>, subscriber: &Subscriber) -> Option<Event>
+    ensures { TakesFromDb P.store M.meant db.old subscriber.now result db.new }
+{
+    db.next(subscriber)
+}
+
+/// The queue of a subscriber is given up.
+pub fn unsubscribe<P: Pages, M: MergeOperator>(db: &mut Db<P, M>, subscriber: &Subscriber)
+    ensures { EndsSubscriber P.store M.meant db.old subscriber.now db.new }
+{
+    db.unsubscribe(subscriber)
 }

@@ -31,7 +31,7 @@ use Rattle.sled.specs.Values.{DbValue, state_of, db_state, snapshot_of_db}
 use Rattle.sled.specs.Sound.{IsDb}
 use Rattle.sled.specs.Calls.{MustBeRefused, must_be_refused_as}
 use Rattle.sled.specs.Flights.{call_in_flight_of, maps_added, PagesLast, KeepsTreePages, effect_of_step, IsStepRefused, DbStepContract, DbSteps, Ends, GoesOn, DbRunsToEnd}
-use Rattle.sled.specs.Direct.{ActsOften, NoAction, OneAction, effects_until, StaysInChainOrWent, KeepsOrFreesTreePages, Conducts, begun_flight, PointDecided, PointRefused, LeavesAll}
+use Rattle.sled.specs.Direct.{ActsOften, NoAction, OneAction, effects_until, StaysInChainOrWent, KeepsOrFreesTreePages, Conducts, begun_flight, PointDecided, StopsAtFirst, PointRefused, LeavesAll}
 use Rattle.sled.proofs.Operating.{fails_first, passes_plain}
 use Rattle.sled.proofs.Flying.{loses_nothing, quiet_untold, everywhere, moved_state}
 use Rattle.sled.proofs.Watching.{root_act}
@@ -337,12 +337,16 @@ untold_fault o e t fault is = go o (subst (must_be_refused_as o) is t)
     go (Some HasNoOperator) t = t
 
 module _ {P M : Type 0} (store : P → Store) (meant : M → Merge) (old : DbValue P M) (tree : Tree) (call : Call) (e : Error) where
+  must_some : (o : Option MustRefuse) → must_be_refused_as o e → o ≢ None
+  must_some None t is = t
+  must_some (Some must) t is = none_some (sym is)
+
   -- by the tests
   pub point_untested : MustBeRefused (must_refuse (db_state store meant old) (ToPoint tree call)) e → PointRefused store meant old tree call e old
   point_untested tested = record {
     refuses = record { may = record { is = go (must_refuse (db_state store meant old) (ToPoint tree call)) tested.is }; is = refl };
     conducts = conducts_refused store meant old e (quiet_untold e (store old.pages) (untold_fault (must_refuse (db_state store meant old) (ToPoint tree call)) e tested.is));
-    steps = inl refl;
+    steps = inl (record { why = inl (must_some (must_refuse (db_state store meant old) (ToPoint tree call)) tested.is) }, refl);
     turns = λ tells path clean. absurd (untold_turns (must_refuse (db_state store meant old) (ToPoint tree call)) e tested.is tells);
   }
     where
@@ -359,7 +363,7 @@ module _ {P M : Type 0} (store : P → Store) (meant : M → Merge) (old : DbVal
   point_short must short = subst (λ z. PointRefused store meant old tree call z old) (sym short) (record {
     refuses = record { may = record { is = subst (λ o. may_refuse_as o (db_state store meant old) (store old.pages) (store old.pages) (ToPoint tree call) error.NoMemory) (sym must) tt }; is = refl };
     conducts = conducts_refused store meant old error.NoMemory refl;
-    steps = inl refl;
+    steps = inl (record { why = inr refl }, refl);
     turns = λ tells path clean. absurd tells;
   })
 

@@ -349,8 +349,8 @@ module _ {P M : Type 0} (store : P → Store) (meant : M → Merge) (old : DbVal
     pub taken_steps : (found : Option (Key × Key)) (new : DbValue P M) → TakesOut store meant old tree pair found new → PopsBySteps store meant old tree is_end found new
     taken_steps found new t = record { is = inr (pair, at_end, t) }
 
-    pub untaken_steps : (e : Error) (new : DbValue P M) → RefusesToTake store meant old tree pair e new → PopRefusedBySteps store meant old tree is_end e new
-    untaken_steps e new t = record { is = inr (pair, at_end, t) }
+    pub untaken_steps : (of : ℕ → ℕ) (e : Error) (new : DbValue P M) → RefusesToTake store meant old tree pair e new → PopRefusedBySteps store meant old tree is_end of e new
+    untaken_steps of e new t = record { is = inr (pair, at_end, t) }
 
     pub gives_up_untaken : (of : ℕ → ℕ) (e : Error) (new : DbValue P M) → RefusesToTake store meant old tree pair e new → GivesUpPop store meant old tree is_end of e
     gives_up_untaken of e new t = elim t.is [
@@ -417,8 +417,8 @@ module _ {P M : Type 0} (store : P → Store) (meant : M → Merge) (old : DbVal
   pub none_steps : (is_end : Map → Option (Key × Key) → Type 0) → PopsBySteps store meant old tree is_end None old
   none_steps is_end = record { is = inl (refl, refl) }
 
-  pub unread_steps : (is_end : Map → Option (Key × Key) → Type 0) (e : Error) → PopRefusedBySteps store meant old tree is_end e old
-  unread_steps is_end e = record { is = inl refl }
+  pub unread_steps : (is_end : Map → Option (Key × Key) → Type 0) (of : ℕ → ℕ) (e : Error) → RefusesReading store meant old tree of e → PopRefusedBySteps store meant old tree is_end of e old
+  unread_steps is_end of e r = record { is = inl (r, refl) }
 
   -- what comes of taking out the pair that was read
   module _ (new : DbValue P M) (pair : Key × Key) (read : Option (Key × Key)) (e : read ≡ Some pair) (result : Result (Option (Key × Key)) Error) where
@@ -440,11 +440,11 @@ module _ {P M : Type 0} (store : P → Store) (meant : M → Merge) (old : DbVal
     pub max_steps : ReadsMap store meant old tree (λ map. IsPredecessor Unbounded map read) → IfOk result (λ found. TakesOut store meant old tree pair found new) → IfOk result (λ found. PopsBySteps store meant old tree IsGreatest found new)
     max_steps r t = ok_weaker _ _ (λ found k. taken_steps store meant old tree IsGreatest (PopMax tree) (max_is tree) pair (at_greatest read (Some pair) e r) found new k) result t
 
-    pub min_stopped : ReadsMap store meant old tree (λ map. IsSuccessor Unbounded map read) → IfErr result (λ e. RefusesToTake store meant old tree pair e new) → IfErr result (λ e. PopRefusedBySteps store meant old tree IsLeast e new)
-    min_stopped r t = err_weaker _ _ (λ x k. untaken_steps store meant old tree IsLeast (PopMin tree) (min_is tree) pair (at_least read (Some pair) e r) x new k) result t
+    pub min_stopped : ReadsMap store meant old tree (λ map. IsSuccessor Unbounded map read) → IfErr result (λ e. RefusesToTake store meant old tree pair e new) → IfErr result (λ e. PopRefusedBySteps store meant old tree IsLeast once e new)
+    min_stopped r t = err_weaker _ _ (λ x k. untaken_steps store meant old tree IsLeast (PopMin tree) (min_is tree) pair (at_least read (Some pair) e r) once x new k) result t
 
-    pub max_stopped : ReadsMap store meant old tree (λ map. IsPredecessor Unbounded map read) → IfErr result (λ e. RefusesToTake store meant old tree pair e new) → IfErr result (λ e. PopRefusedBySteps store meant old tree IsGreatest e new)
-    max_stopped r t = err_weaker _ _ (λ x k. untaken_steps store meant old tree IsGreatest (PopMax tree) (max_is tree) pair (at_greatest read (Some pair) e r) x new k) result t
+    pub max_stopped : ReadsMap store meant old tree (λ map. IsPredecessor Unbounded map read) → IfErr result (λ e. RefusesToTake store meant old tree pair e new) → IfErr result (λ e. PopRefusedBySteps store meant old tree IsGreatest for_each e new)
+    max_stopped r t = err_weaker _ _ (λ x k. untaken_steps store meant old tree IsGreatest (PopMax tree) (max_is tree) pair (at_greatest read (Some pair) e r) for_each x new k) result t
 
     pub min_gives_up_later : ReadsMap store meant old tree (λ map. IsSuccessor Unbounded map read) → IfErr result (λ e. RefusesToTake store meant old tree pair e new) → IfErr result (GivesUpPop store meant old tree IsLeast once)
     min_gives_up_later r t = err_weaker _ _ (λ x k. gives_up_untaken store meant old tree IsLeast (PopMin tree) (min_is tree) pair (at_least read (Some pair) e r) once x new k) result t
@@ -544,7 +544,7 @@ module _ {P M : Type 0} (store : P → Store) (meant : M → Merge) (old : DbVal
     clearing_unread db e r = clearing_stops db e mid (min_unread store meant mid tree e r)
 
     pub clearing_unread_steps : (e : Error) → RefusesReading store meant mid tree once e → ClearRefusedBySteps store meant old tree e mid
-    clearing_unread_steps e r = record { mid = mid; clears = k.clears; refused = record { is = inl refl }; gives_up = min_gives_up store meant mid tree e r }
+    clearing_unread_steps e r = record { mid = mid; clears = k.clears; refused = record { is = inl (r, refl) }; gives_up = min_gives_up store meant mid tree e r }
 
     module _ (pair : Key × Key) (read : Option (Key × Key)) (e : read ≡ Some pair) (r : ReadsMap store meant mid tree (λ map. IsSuccessor Unbounded map read)) where
       pub clearing_untaken : IsDb store mid → (x : Error) (new : DbValue P M) → PointRefused store meant mid tree (Remove pair.0) x new → WholeRefused store meant old (Clear tree) x new

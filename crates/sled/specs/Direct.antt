@@ -6,12 +6,13 @@ use Rattle.sled_pages.specs.Order.{Key}
 use Rattle.sled_pages.specs.Store.{Store, now, after_flush}
 use Rattle.sled_pages.specs.declared.node.Node.{Node}
 use Rattle.sled_pages.specs.declared.error.Error.{Error}
+use Rattle.sled_pages.specs.declared.error.Error.TheVariants.{NoMemory}
 use Rattle.sled_model.specs.Maps.{Maps, Merge}
 use Rattle.sled_model.specs.Answer.{key_of}
 use Rattle.sled_model.specs.State.{CallInFlight, maps_of}
 use Rattle.sled_model.specs.Transition.{WholeDecides, WholeRefuses, Kind, Flushing, Telling, Dropping, Listening, kind_of}
 use Rattle.sled_model.specs.Whole.{DecidesPoint, RefusesPoint}
-use Rattle.sled_model.specs.Refusal.{ToCall, must_refuse, TellsTurns, turns_limit}
+use Rattle.sled_model.specs.Refusal.{ToPoint, ToCall, must_refuse, TellsTurns, turns_limit}
 use Rattle.sled_model.specs.declared.call.Call.{Call}
 use Rattle.sled_model.specs.declared.call.Whole.{Whole}
 use Rattle.sled_model.specs.declared.call.Whole.TheVariants.{OpenTree, DropTree, GenerateId, Import, PopMin, PopMax, Clear, Watch, Next, Unsubscribe}
@@ -133,12 +134,16 @@ module _ {P M : Type 0} (store : P → Store) (meant : M → Merge) where
     pub last : InFlight
     pub steps : DbRunsToEnd store meant old (begun_flight tree call) (Decided reply) new last
 
+  -- a call does nothing before its first step: a test refuses it, or there is no memory for it
+  pub record StopsAtFirst (old : DbValue P M) (tree : Tree) (call : Call) (e : Error) : Type 0 where
+    pub why : (must_refuse (db_state store meant old) (ToPoint tree call) ≢ None) ⊎ (e ≡ NoMemory)
+
   -- .. or it was refused: before its first step, or at one of them. It is told that its turns were used up only where there was something to
   -- repair on the way to its key, or where the way has so many levels
   pub record PointRefused (old : DbValue P M) (tree : Tree) (call : Call) (e : Error) (new : DbValue P M) : Type 0 where
     pub refuses : RefusesPoint (db_state store meant old) (store old.pages) (store new.pages) tree call e (db_state store meant new)
     pub conducts : Conducts store [] (Some e) old new
-    pub steps : (new ≡ old) ⊎ ((last : InFlight) × DbRunsToEnd store meant old (begun_flight tree call) (Refused e) new last)
+    pub steps : (StopsAtFirst old tree call e × (new ≡ old)) ⊎ ((last : InFlight) × DbRunsToEnd store meant old (begun_flight tree call) (Refused e) new last)
     pub turns : TellsTurns e → (path : List ℕ) → IsClean (now (store old.pages)) tree.name (Included (key_of call)) path → turns_limit ≤ length path
 
   -- A whole call was decided, in whatever machine the database is

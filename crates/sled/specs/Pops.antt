@@ -15,6 +15,7 @@ use Rattle.tree_laws.specs.Paths.{IsClean, tree_pages}
 use Rattle.tree_reads.specs.Walk.{once}
 use Rattle.tree_reads.specs.declared.TheConstants.{MOST_PAGES}
 use Rattle.sled.specs.Values.{DbValue, db_state}
+use Rattle.sled.specs.Reads.{RefusesReading}
 use Rattle.sled.specs.Direct.{PointDecided, PointRefused}
 
 module _ {P M : Type 0} (store : P → Store) (meant : M → Merge) (old : DbValue P M) (tree : Tree) where
@@ -38,9 +39,10 @@ module _ {P M : Type 0} (store : P → Store) (meant : M → Merge) (old : DbVal
   pub record PopsBySteps (is_end : Map → Option (Key × Key) → Type 0) (found : Option (Key × Key)) (new : DbValue P M) : Type 0 where
     pub is : ((found ≡ None) × (new ≡ old)) ⊎ ((pair : Key × Key) × IsAtEnd is_end pair × TakesOut pair found new)
 
-  -- .. or it was refused: it did nothing, or the steps of that removal until one was refused
-  pub record PopRefusedBySteps (is_end : Map → Option (Key × Key) → Type 0) (e : Error) (new : DbValue P M) : Type 0 where
-    pub is : (new ≡ old) ⊎ ((pair : Key × Key) × IsAtEnd is_end pair × RefusesToTake pair e new)
+  -- .. or it was refused: the read of that pair was, which may look at so many pages of the tree, and nothing was done; or the steps of
+  -- that removal were done until one was refused
+  pub record PopRefusedBySteps (is_end : Map → Option (Key × Key) → Type 0) (of : ℕ → ℕ) (e : Error) (new : DbValue P M) : Type 0 where
+    pub is : (RefusesReading store meant old tree of e × (new ≡ old)) ⊎ ((pair : Key × Key) × IsAtEnd is_end pair × RefusesToTake pair e new)
 
   -- the way to the key of the pair at this end is not clean, or it has as many levels as a call has turns
   pub record IsLongWay (is_end : Map → Option (Key × Key) → Type 0) : Type 0 where
@@ -65,5 +67,5 @@ pub data ClearsBySteps {P M : Type 0} (store : P → Store) (meant : M → Merge
 pub record ClearRefusedBySteps {P M : Type 0} (store : P → Store) (meant : M → Merge) (old : DbValue P M) (tree : Tree) (e : Error) (new : DbValue P M) : Type 0 where
   pub mid : DbValue P M
   pub clears : ClearsBySteps store meant tree old mid
-  pub refused : PopRefusedBySteps store meant mid tree IsLeast e new
+  pub refused : PopRefusedBySteps store meant mid tree IsLeast once e new
   pub gives_up : GivesUpPop store meant mid tree IsLeast once e

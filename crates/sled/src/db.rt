@@ -54,9 +54,11 @@ impl<P: Pages, M: MergeOperator> Db<P, M> {
     ghost use Rattle.sled_tree.specs.Known.{IsKnown};
     ghost use Rattle.sled.specs.Flights.{DbStep, DbSound, DbActs, DbFollows, DbPasses, DbFindsRoom, DbLeaksNoPage, DbKnows, KeepsTreePages, DbStepContract, DbRunsToEnd, call_in_flight_of};
     ghost use Rattle.sled.specs.Flush.{FlushesDb, RefusesFlush};
+    ghost use Rattle.sled_queues.specs.Queues.{AreQueues};
 
     /// What holds of every database: its pages are well formed now and in every state that a crash may leave, its trees are
-    /// those that the pages have roots for, and the pairs of each of its maps rise by key. It does nothing.
+    /// those that the pages have roots for, the pairs of each of its maps rise by key, and at most 1024 events wait for a
+    /// subscriber. It does nothing.
     ///
     /// ```
     /// db.audit(); // From here on a proof knows that `db` is well formed.
@@ -64,8 +66,9 @@ impl<P: Pages, M: MergeOperator> Db<P, M> {
     pub fn audit(&self)
         ensures sound { IsDb P.store self.now }
         ensures ascend { MapsAscend (maps_of (db_state P.store M.meant self.now)) }
+        ensures queues { AreQueues self.now.queues }
     {
-        let _ = &self.pages;
+        self.queues.audit();
     }
 
     /// The allocator that the database was made with.
@@ -152,6 +155,10 @@ impl<P: Pages, M: MergeOperator> Db<P, M> {
     }
 
     /// The tests that come before a call on a key of a tree: those of the tree, and then that it has the operator that the call needs.
+    ///
+    /// ```
+    /// db.check_call(&tree, &call)?; // Refused only where the call would be, before it does anything.
+    /// ```
     pub fn check_call(&self, tree: &Tree, call: &Call) -> Result<()>
         ensures ok { OnOk result (must_refuse (db_state P.store M.meant self.now) (ToPoint tree.now call.now) ≡ None) }
         ensures err { IfErr result (MustBeRefused (must_refuse (db_state P.store M.meant self.now) (ToPoint tree.now call.now))) }
@@ -164,6 +171,10 @@ impl<P: Pages, M: MergeOperator> Db<P, M> {
     }
 
     /// The tests that come before a merge in a tree: those of the tree, and then that it has an operator.
+    ///
+    /// ```
+    /// db.check_operator(&tree)?; // `Unsupported` where the tree has no operator.
+    /// ```
     pub fn check_operator(&self, tree: &Tree) -> Result<()>
         ensures ok { OnOk result ((call : Call) → must_refuse (db_state P.store M.meant self.now) (ToPoint tree.now call) ≡ None) }
         ensures err { IfErr result (λ e. (call : Call) → needs_operator call ≡ true → MustBeRefused (must_refuse (db_state P.store M.meant self.now) (ToPoint tree.now call)) e) }

@@ -30,14 +30,14 @@ fn own_value(alloc: Global, value: Option<&[u8]>) -> Result<Option<IVec>>
     }
 }
 
-// The call that sets a value at a key.
-fn insert_of(alloc: Global, key: &[u8], value: &[u8]) -> Result<Call>
-    ensures ok { IfOk result (λ made. made ≡ call.Insert key.now value.now) }
+// A key and a value of one's own. Refused with `NoMemory` alone.
+fn own_pair(alloc: Global, key: &[u8], value: &[u8]) -> Result<(IVec, IVec)>
+    ensures ok { IfOk result (λ own. own ≡ (key.now, value.now)) }
     ensures err { IfErr result (λ e. e ≡ NoMemory) }
 {
     let key = IVec::from_slice(alloc, key)?;
     match IVec::from_slice(alloc, value) {
-        Ok(value) => Ok(Call::Insert(key, value)),
+        Ok(value) => Ok((key, value)),
         Err(e) => {
             drop(key);
             Err(e)
@@ -45,19 +45,22 @@ fn insert_of(alloc: Global, key: &[u8], value: &[u8]) -> Result<Call>
     }
 }
 
+// The call that sets a value at a key.
+fn insert_of(alloc: Global, key: &[u8], value: &[u8]) -> Result<Call>
+    ensures ok { IfOk result (λ made. made ≡ call.Insert key.now value.now) }
+    ensures err { IfErr result (λ e. e ≡ NoMemory) }
+{
+    let (key, value) = own_pair(alloc, key, value)?;
+    Ok(Call::Insert(key, value))
+}
+
 // The call that merges bytes at a key.
 fn merge_of(alloc: Global, key: &[u8], bytes: &[u8]) -> Result<Call>
     ensures ok { IfOk result (λ made. made ≡ call.Merge key.now bytes.now) }
     ensures err { IfErr result (λ e. e ≡ NoMemory) }
 {
-    let key = IVec::from_slice(alloc, key)?;
-    match IVec::from_slice(alloc, bytes) {
-        Ok(bytes) => Ok(Call::Merge(key, bytes)),
-        Err(e) => {
-            drop(key);
-            Err(e)
-        }
-    }
+    let (key, bytes) = own_pair(alloc, key, bytes)?;
+    Ok(Call::Merge(key, bytes))
 }
 
 // The call that takes a key out.
@@ -156,7 +159,8 @@ impl<P: Pages, M: MergeOperator> Db<P, M> {
     }
 
     /// Sets the value at a key, and answers the value that stood there, or `None` where the key was absent. Where an equal
-    /// value stands already, nothing is written.
+    /// value stands already, nothing is written. Else its event comes to the subscribers of the tree that watch the key; where the queue of
+    /// one is full it is refused with `FullQueue`.
     ///
     /// Like a call of a machine it repairs what it meets half done on its way: splits and merges that a call before it did
     /// not finish. These stay also where it is refused itself, and change no map.
@@ -232,6 +236,11 @@ impl<P: Pages, M: MergeOperator> Db<P, M> {
 
     /// Sets the value at a key to what the tree's merge operator makes of it and these bytes, or takes the key out where that is no
     /// value, and answers the new value. It is written also where it is equal.
+    ///
+    /// ```
+    /// db.set_merge_operator(&tree, Adds)?; // An operator that adds numbers.
+    /// let sum = db.merge(&tree, b"ulm", &21u64.to_be_bytes())?;
+    /// ```
     pub fn merge(&mut self, tree: &Tree, key: &[u8], bytes: &[u8]) -> Result<Option<IVec>>
         ensures ok { IfOk result (λ merged. PointDecided P.store M.meant self.old tree.now (call.Merge key.now bytes.now) (told.Value merged) self.new) }
         ensures err { IfErr result (λ e. PointRefused P.store M.meant self.old tree.now (call.Merge key.now bytes.now) e self.new) }

@@ -128,6 +128,10 @@ impl<P: Pages, M: MergeOperator> Db<P, M> {
     /// The tree's first pages are read, its root is taken out, which decides, and its pages are freed. Refused with `Closed`;
     /// for the default tree with `Unsupported`; and with `Io` and `NoMemory` before the root goes: then the tree stays. A
     /// refusal after that is not told: then pages are left that no tree has.
+    ///
+    /// ```
+    /// let dropped = db.drop_tree(b"orders")?; // `false` where there was none.
+    /// ```
     pub fn drop_tree(&mut self, name: &[u8]) -> Result<bool>
         ensures ok { IfOk result (λ dropped. DropsTree P.store M.meant self.old name.now dropped self.new) }
         ensures err { IfErr result (λ e. RefusesDrop P.store M.meant self.old name.now e self.new) }

@@ -176,6 +176,11 @@ impl<P: Pages, M: MergeOperator> Db<P, M> {
     /// actions, and gets the next number and no merge operator. Refused with `Closed`; with `NoMemory`; and of a new name with
     /// `Unsupported` where all numbers were given, and with `Io` where the store counts a fault. Then no map changes, and at
     /// most a page is left that no tree has.
+    ///
+    /// ```
+    /// let orders = db.open_tree(b"orders")?;
+    /// db.insert(&orders, b"ulm", b"21")?; // In this tree alone.
+    /// ```
     pub fn open_tree(&mut self, name: &[u8]) -> Result<Tree>
         ensures ok { IfOk result (λ tree. WholeDecided P.store M.meant self.old (OpenTree name.now) (told.Tree tree) self.new) }
         ensures err { IfErr result (λ e. WholeRefused P.store M.meant self.old (OpenTree name.now) e self.new) }

@@ -54,6 +54,10 @@ impl<P: Pages, M: MergeOperator> Db<P, M> {
     ghost use Rattle.sled.specs.Operators.{OperatorSet, OperatorNotSet, without_operators};
 
     /// The same database for merge operators of another type. Those that it has are let go.
+    ///
+    /// ```
+    /// let mut db: Db<MemPages, Adds> = db.with_operators();
+    /// ```
     pub fn with_operators<N: MergeOperator>(self) -> Db<P, N>
         ensures { result ≡ without_operators self }
     {
@@ -82,6 +86,11 @@ impl<P: Pages, M: MergeOperator> Db<P, M> {
 
     /// Gives a tree a merge operator, in place of the one that it has. A merge is decided by the operator that its tree has at the
     /// step that decides it. A call that is refused lets the operator go.
+    ///
+    /// ```
+    /// db.set_merge_operator(&tree, Adds)?; // An operator that adds numbers.
+    /// let sum = db.merge(&tree, b"ulm", &21u64.to_be_bytes())?;
+    /// ```
     pub fn set_merge_operator(&mut self, tree: &Tree, operator: M) -> Result<()>
         ensures ok { OnOk result (OperatorSet P.store M.meant self.old tree.now (M.meant operator) self.new) }
         ensures err { IfErr result (λ e. OperatorNotSet P.store M.meant self.old tree.now e self.new) }

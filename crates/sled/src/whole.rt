@@ -50,7 +50,7 @@ impl<P: Pages, M: MergeOperator> Db<P, M> {
         ensures err { IfErr result (λ e. WholeRefused P.store M.meant self.old (PopMin tree.now) e self.new) }
         ensures gives_up { IfErr result (GivesUpPop P.store M.meant self.old tree.now IsLeast once) }
         ensures steps { IfOk result (λ found. PopsBySteps P.store M.meant self.old tree.now IsLeast found self.new) }
-        ensures refused { IfErr result (λ e. PopRefusedBySteps P.store M.meant self.old tree.now IsLeast e self.new) }
+        ensures refused { IfErr result (λ e. PopRefusedBySteps P.store M.meant self.old tree.now IsLeast once e self.new) }
     {
         match self.first(tree) {
             Ok(Some(pair)) => self.pop_pair(tree, pair),
@@ -74,7 +74,7 @@ impl<P: Pages, M: MergeOperator> Db<P, M> {
         ensures err { IfErr result (λ e. WholeRefused P.store M.meant self.old (PopMax tree.now) e self.new) }
         ensures gives_up { IfErr result (GivesUpPop P.store M.meant self.old tree.now IsGreatest for_each) }
         ensures steps { IfOk result (λ found. PopsBySteps P.store M.meant self.old tree.now IsGreatest found self.new) }
-        ensures refused { IfErr result (λ e. PopRefusedBySteps P.store M.meant self.old tree.now IsGreatest e self.new) }
+        ensures refused { IfErr result (λ e. PopRefusedBySteps P.store M.meant self.old tree.now IsGreatest for_each e self.new) }
     {
         match self.last(tree) {
             Ok(Some(pair)) => self.pop_pair(tree, pair),

@@ -213,10 +213,10 @@ pub record MachineTested {P M : Type 0} (store : P → Store) (meant : M → Mer
   pub is : tested_as store meant old s o new
 
 -- The way in which a pop and a clear come to what they answer: the steps of each removal, one after the other, and no others
-abbrev pub pops_as : {P M : Type 0} → (P → Store) → (M → Merge) → DbValue P M → Tree → (Map → Option (Key × Key) → Type 0) → Outcome → DbValue P M → Type 0
-pops_as store meant old tree is_end (Decided reply) new = (found : Option (Key × Key)) × (reply ≡ Pair found) × PopsBySteps store meant old tree is_end found new
-pops_as store meant old tree is_end (Refused e) new = PopRefusedBySteps store meant old tree is_end e new
-pops_as store meant old tree is_end o new = Unit {0}
+abbrev pub pops_as : {P M : Type 0} → (P → Store) → (M → Merge) → DbValue P M → Tree → (Map → Option (Key × Key) → Type 0) → (ℕ → ℕ) → Outcome → DbValue P M → Type 0
+pops_as store meant old tree is_end of (Decided reply) new = (found : Option (Key × Key)) × (reply ≡ Pair found) × PopsBySteps store meant old tree is_end found new
+pops_as store meant old tree is_end of (Refused e) new = PopRefusedBySteps store meant old tree is_end of e new
+pops_as store meant old tree is_end of o new = Unit {0}
 
 abbrev pub clears_as : {P M : Type 0} → (P → Store) → (M → Merge) → DbValue P M → Tree → Outcome → DbValue P M → Type 0
 clears_as store meant old tree (Decided reply) new = ClearsBySteps store meant tree old new
@@ -242,8 +242,8 @@ imports_as store meant old all (Refused e) new = ImportRefused store meant old a
 imports_as store meant old all o new = Unit {0}
 
 abbrev pub way_of_whole : {P M : Type 0} → (P → Store) → (M → Merge) → DbValue P M → Whole → Outcome → DbValue P M → Type 0
-way_of_whole store meant old (PopMin tree) o new = pops_as store meant old tree IsLeast o new
-way_of_whole store meant old (PopMax tree) o new = pops_as store meant old tree IsGreatest o new
+way_of_whole store meant old (PopMin tree) o new = pops_as store meant old tree IsLeast once o new
+way_of_whole store meant old (PopMax tree) o new = pops_as store meant old tree IsGreatest for_each o new
 way_of_whole store meant old (Clear tree) o new = clears_as store meant old tree o new
 way_of_whole store meant old (OpenTree name) o new = opens_as store old name o new
 way_of_whole store meant old (DropTree name) o new = drops_tree_as store meant old name o new

@@ -54,6 +54,7 @@ impl<P: Pages, M: MergeOperator> Machine<P, M> {
     ghost use Rattle.sled_machine.specs.Step.{MachineStep, MachineSound, MachineActs, MachineFollows, MachinePasses, MachineFindsRoom, MachineSlots, MachineKeepsTreePages, MachineLeaksNoPage, MachineStepContract};
     ghost use Rattle.sled_machine.specs.Run.{MachineRun, MachineSteps};
     ghost use Rattle.sled_machine.specs.Finish.{RunsToEnd, Completes};
+    ghost use Rattle.sled_queues.specs.Queues.{AreQueues};
 
     /// A machine over a database, with no call in flight.
     ///
@@ -96,8 +97,8 @@ impl<P: Pages, M: MergeOperator> Machine<P, M> {
         db
     }
 
-    /// What holds of every machine: that its database is as it should be, and the pairs of each of its maps rise by key. It
-    /// does nothing.
+    /// What holds of every machine: that its database is as it should be, the pairs of each of its maps rise by key, and at most
+    /// 1024 events wait for a subscriber. It does nothing.
     ///
     /// ```
     /// machine.audit(); // From here on a proof knows that its database is well formed.
@@ -105,12 +106,17 @@ impl<P: Pages, M: MergeOperator> Machine<P, M> {
     pub fn audit(&self)
         ensures sound { IsDb P.store self.now.db }
         ensures ascend { MapsAscend (maps_of (db_state P.store M.meant self.now.db)) }
+        ensures queues { AreQueues self.now.db.queues }
     {
         self.db.audit();
     }
 
     /// Gives a tree a merge operator, in place of the one that it has. A merge is decided by the operator that its tree has at the
     /// step that decides it. The calls in flight stay as they are, and a call that is refused lets the operator go.
+    ///
+    /// ```
+    /// machine.set_merge_operator(&tree, Adds)?; // An operator that adds numbers.
+    /// ```
     pub fn set_merge_operator(&mut self, tree: &Tree, operator: M) -> Result<()>
         ensures ok { OnOk result (OperatorSet P.store M.meant self.old.db tree.now (M.meant operator) self.new.db) }
         ensures err { IfErr result (λ e. OperatorNotSet P.store M.meant self.old.db tree.now e self.new.db) }

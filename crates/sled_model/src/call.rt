@@ -58,6 +58,10 @@ pub enum Whole {
 
 impl Call {
     /// The key that the call is about.
+    ///
+    /// ```
+    /// let key = call.key(); // Of a swap too, whose values are beside it.
+    /// ```
     pub fn key(&self) -> &IVec
         ensures { result.now ≡ key_of self.now }
     {
@@ -71,6 +75,10 @@ impl Call {
     }
 
     /// Whether the call needs the merge operator of its tree.
+    ///
+    /// ```
+    /// let is_merge = call.needs_operator();
+    /// ```
     pub fn needs_operator(&self) -> bool
         ensures { result ≡ needs_operator self.now }
     {
@@ -78,6 +86,10 @@ impl Call {
     }
 
     /// The same call. Refused with `NoMemory` alone.
+    ///
+    /// ```
+    /// let again = call.clone()?; // To be made a second time.
+    /// ```
     pub fn clone(&self) -> Result<Call>
         ensures ok { IfOk result (λ copy. copy ≡ self.now) }
         ensures err { IfErr result (λ e. e ≡ NoMemory) }
@@ -147,6 +159,10 @@ fn copied_swap(key: &IVec, old: &Option<IVec>, new: &Option<IVec>) -> Result<Cal
 
 impl Whole {
     /// The same call. Refused with `NoMemory` alone.
+    ///
+    /// ```
+    /// let again = whole.clone()?; // To be made a second time.
+    /// ```
     pub fn clone(&self) -> Result<Whole>
         ensures ok { IfOk result (λ copy. IsSameWhole copy self.now) }
         ensures err { IfErr result (λ e. e ≡ NoMemory) }

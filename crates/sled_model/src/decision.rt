@@ -30,6 +30,11 @@ pub struct Decision {
 impl Call {
     /// The reply of the call where this value stands at its key and it changes nothing; without one it is to link its change.
     /// Refused with `NoMemory` alone.
+    ///
+    /// ```
+    /// // A get replies with the value; an insert of another one has to link it.
+    /// let reply = call.at_read(value)?;
+    /// ```
     pub fn at_read(&self, value: Option<IVec>) -> Result<Option<Reply>>
         ensures ok { IfOk result (ReadDecides self.now value) }
         ensures err { IfErr result (λ e. e ≡ NoMemory) }
@@ -53,6 +58,10 @@ impl Call {
 
     /// What the call comes to where this value stands at its key, by the merge operator of its tree, which is called once, and by
     /// a merge alone. Refused with `NoMemory` alone.
+    ///
+    /// ```
+    /// let decision = call.at_link(alloc, value, operator)?; // Its effect on the key, and its reply.
+    /// ```
     pub fn at_link<M: MergeOperator>(
         &self,
         alloc: Global,

@@ -19,6 +19,10 @@ pub struct CompareAndSwapError {
 
 impl CompareAndSwapError {
     /// The same value. Refused with `NoMemory` alone.
+    ///
+    /// ```
+    /// let told = conflict.clone()?; // The value that stands, and the one that was proposed.
+    /// ```
     pub fn clone(&self) -> Result<CompareAndSwapError>
         ensures ok { IfOk result (λ copy. copy ≡ self.now) }
         ensures err { IfErr result (λ e. e ≡ NoMemory) }

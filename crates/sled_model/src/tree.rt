@@ -18,6 +18,10 @@ pub struct Tree {
 
 impl Tree {
     /// The tree's name.
+    ///
+    /// ```
+    /// let name = tree.name().as_ref(); // Its bytes.
+    /// ```
     pub fn name(&self) -> &IVec
         ensures { result.now ≡ self.now.name }
     {
@@ -25,6 +29,10 @@ impl Tree {
     }
 
     /// The same tree. Refused with `NoMemory` alone.
+    ///
+    /// ```
+    /// let handle = tree.clone()?; // Names the same tree.
+    /// ```
     pub fn clone(&self) -> Result<Tree>
         ensures ok { IfOk result (λ copy. copy ≡ self.now) }
         ensures err { IfErr result (λ e. e ≡ NoMemory) }

@@ -36,6 +36,10 @@ pub enum Error {
 
 impl Error {
     /// The same error. Refused with `NoMemory` alone.
+    ///
+    /// ```
+    /// let told = error.clone()?; // With the name of the tree that is not there, say.
+    /// ```
     pub fn clone(&self) -> Result<Error>
         ensures ok { IfOk result (λ copy. copy ≡ self.now) }
         ensures err { IfErr result (λ e. e ≡ NoMemory) }

@@ -116,6 +116,11 @@ impl MemPages {
 
     /// A store of these pages, roots and mark, as if an earlier store had left them. Of one number or name the last entry
     /// stands. Its next page number is greater than all that the image has or names. Refused with `NoMemory` alone.
+    ///
+    /// ```
+    /// // One leaf, the root of a tree.
+    /// let store = MemPages::from_image(alloc, pages, roots, 0)?;
+    /// ```
     pub fn from_image(
         alloc: Global,
         pages: Vec<(Pid, Node)>,

@@ -44,6 +44,10 @@ impl Model for Queues {
 
 impl Queues {
     /// No subscribers.
+    ///
+    /// ```
+    /// let mut queues = Queues::new(alloc);
+    /// ```
     pub fn new(alloc: Global) -> Queues
         ensures { Becomes no_queues 0 result }
     {
@@ -57,6 +61,10 @@ impl Queues {
     /// A new subscriber to the keys of a tree that begin with a prefix; the tree is named by its number. The subscriber's
     /// number is the next one, from 1, and no subscriber ever had it. Refused with `NoMemory`, or with `Unsupported` after
     /// the greatest number of 64 bits; then nothing changes.
+    ///
+    /// ```
+    /// let subscriber = queues.watch(alloc, tree.number, prefix)?;
+    /// ```
     pub fn watch(&mut self, alloc: Global, tree: u64, prefix: IVec) -> Result<Subscriber>
         ensures number { IfOk result (λ n. n ≡ self.old.given + 1) }
         ensures fresh { IfOk result (λ n. queue_at self.old n ≡ None) }
@@ -83,6 +91,12 @@ impl Queues {
 
     /// Whether a tree may have a subscriber. Where it answers `false`, no event of the tree comes into a queue. It costs no more
     /// than to find the tree among those that have one.
+    ///
+    /// ```
+    /// if queues.is_watched(tree.number) {
+    ///     // An event of the tree has to be prepared.
+    /// }
+    /// ```
     pub fn is_watched(&self, tree: u64) -> bool
         ensures { is_watched_as tree (queue_at self.now) result }
     {
@@ -91,6 +105,10 @@ impl Queues {
 
     /// Whether a queue that waits for what happens to a key of a tree is full: it holds 1024 events, waiting and prepared ones
     /// together. Then `prepare` has no room for an event of that key.
+    ///
+    /// ```
+    /// let is_full = queues.is_full(tree.number, key);
+    /// ```
     pub fn is_full(&self, tree: u64, key: &[u8]) -> bool
         ensures { is_full_as tree key.now (queue_at self.now) result }
     {
@@ -100,6 +118,13 @@ impl Queues {
     /// Prepares an event of a tree: a copy comes behind the events of each queue that waits for it, where `next` does not
     /// give it yet. Answers whether there was room: where a queue that waits for it holds 1024 events, waiting and prepared
     /// ones together, nothing changes. Refused with `NoMemory` alone, and then nothing changes.
+    ///
+    /// ```
+    /// if queues.prepare(tree.number, &event)? {
+    ///     // There is room: the change is made, and then the event waits.
+    ///     queues.commit(tree.number);
+    /// }
+    /// ```
     pub fn prepare(&mut self, tree: u64, event: &Event) -> Result<bool>
         ensures ok { IfOk result (λ room. prepares_as tree event.now self.old room self.new) }
         ensures err { OnErr result (self.new ≡ self.old) }
@@ -116,6 +141,10 @@ impl Queues {
     }
 
     /// Makes wait all that is prepared in the queues of a tree. It takes no memory.
+    ///
+    /// ```
+    /// queues.commit(tree.number); // Now `next` gives it.
+    /// ```
     pub fn commit(&mut self, tree: u64)
         ensures { Becomes (committed tree (queue_at self.old)) self.old.given self.new }
     {
@@ -123,6 +152,10 @@ impl Queues {
     }
 
     /// Drops all that is prepared in the queues of a tree.
+    ///
+    /// ```
+    /// queues.cancel(tree.number); // The change was not made.
+    /// ```
     pub fn cancel(&mut self, tree: u64)
         ensures { Becomes (cancelled tree (queue_at self.old)) self.old.given self.new }
     {
@@ -131,6 +164,10 @@ impl Queues {
 
     /// Takes the oldest event that waits for a subscriber: `None` where none waits, and for an unknown subscriber. It takes no
     /// memory, and no longer where many wait.
+    ///
+    /// ```
+    /// let oldest = queues.next(&subscriber);
+    /// ```
     pub fn next(&mut self, subscriber: &Subscriber) -> Option<Event>
         ensures is { result ≡ oldest_in (queue_at self.old subscriber.now) }
         ensures rest { Becomes (without_oldest_of subscriber.now (queue_at self.old)) self.old.given self.new }
@@ -139,6 +176,10 @@ impl Queues {
     }
 
     /// Gives a subscriber's queue up, with its events. It takes no memory. Of an unknown subscriber nothing changes.
+    ///
+    /// ```
+    /// queues.unsubscribe(&subscriber);
+    /// ```
     pub fn unsubscribe(&mut self, subscriber: &Subscriber)
         ensures { Becomes (without_subscriber subscriber.now (queue_at self.old)) self.old.given self.new }
     {
@@ -148,6 +189,10 @@ impl Queues {
     }
 
     /// What always holds: the numbers, and that at most 1024 events wait in a queue. It does nothing.
+    ///
+    /// ```
+    /// queues.audit(); // From here on a proof knows that no queue has more than 1024 events.
+    /// ```
     pub fn audit(&self)
         ensures { AreQueues self.now }
     {

@@ -219,13 +219,13 @@ const FORMS: [Form; 89] = [
         "pages",
         "",
         Verb::Pages,
-        "prints how many pages each level of the current tree has, and the most entries of one of them",
+        "prints how many pages each level of the tree has, and the most entries of one; the store is opened again: slots and subscribers end",
     ),
     (
         "draw",
         "",
         Verb::Draw(Drawing::Text),
-        "draws the current tree level by level, with what is half done; slots end, as at `pages`",
+        "draws the tree level by level, with what is half done; the store is opened again, as at `pages`",
     ),
     (
         "draw dot",

@@ -115,6 +115,19 @@ fn lend(value: &Option<IVec>) -> Option<&[u8]> {
     }
 }
 
+// The key and the value that two words are.
+fn pair_of(alloc: Global, words: &[u8]) -> Result<(IVec, IVec)> {
+    let (key, value) = first_word(words);
+    let key = bytes_of(alloc, key)?;
+    match bytes_of(alloc, value.unwrap_or(b"")) {
+        Ok(value) => Ok((key, value)),
+        Err(stopped) => {
+            drop(key);
+            Err(stopped)
+        }
+    }
+}
+
 fn insert(
     alloc: Global,
     db: &mut Db<Counting<'_>, Operator>,
@@ -123,15 +136,7 @@ fn insert(
     words: &[u8],
     out: &mut Vec<u8>,
 ) -> Result<()> {
-    let (key, value) = first_word(words);
-    let key = bytes_of(alloc, key)?;
-    let value = match bytes_of(alloc, value.unwrap_or(b"")) {
-        Ok(value) => value,
-        Err(stopped) => {
-            drop(key);
-            return Err(stopped);
-        }
-    };
+    let (key, value) = pair_of(alloc, words)?;
     let stood = match owned {
         Owned::Set => db.set(tree, key.as_ref(), value.as_ref()),
         _ => db.insert(tree, key.as_ref(), value.as_ref()),
@@ -203,15 +208,7 @@ fn merge(
     words: &[u8],
     out: &mut Vec<u8>,
 ) -> Result<()> {
-    let (key, bytes) = first_word(words);
-    let key = bytes_of(alloc, key)?;
-    let bytes = match bytes_of(alloc, bytes.unwrap_or(b"")) {
-        Ok(bytes) => bytes,
-        Err(stopped) => {
-            drop(key);
-            return Err(stopped);
-        }
-    };
+    let (key, bytes) = pair_of(alloc, words)?;
     let merged = db.merge(tree, key.as_ref(), bytes.as_ref());
     drop(key);
     drop(bytes);

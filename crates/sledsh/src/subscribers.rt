@@ -83,14 +83,16 @@ fn watch_of(session: &Session<Counting<'_>, Operator>, prefix: IVec) -> sled_pag
 
 // Takes down the subscriber of an outcome that has one, and adds the line.
 fn take(subscribers: &mut Subscribers, outcome: Outcome, out: &mut Vec<u8>) -> Result<()> {
-    match outcome {
-        Outcome::Decided(Reply::Subscriber(subscriber)) => subscribers.push(subscriber, out),
-        other => {
-            let told = tell_outcome(out, &other);
-            drop(other);
-            told
-        }
-    }
+    let number = match &outcome {
+        Outcome::Decided(Reply::Subscriber(subscriber)) => Some(subscriber.0),
+        _ => None,
+    };
+    let told = match number {
+        Some(number) => subscribers.push(Subscriber(number), out),
+        None => tell_outcome(out, &outcome),
+    };
+    drop(outcome);
+    told
 }
 
 // Watches the keys that begin with what a word spells.

@@ -35,9 +35,9 @@ returns-in-BadLine-clause-lives g c =
     let number : there.number ≡ c.next_line.new.buffers.number = ap (λ (b : Buffers). b.number) c.end_at_bad.ensures.same in
     ends_as _ _ _ c.end_at_bad.ensures.end c.end_at_bad.ensures.prints
     (λ prints. c.loop.invariant.lives end.BadLine c.loop.session there
-    (lives_bad g.P.Pages.store g.P.Pages.flush_number g.M.MergeOperator.meant c.loop.session here there _ _
+    (lives_bad g.P.Pages.store g.P.Pages.flush_number g.M.MergeOperator.meant c.loop.session here there (g.W.Write.contents c.next_line.new.output) c.next_line.new.buffers.out.items
     (subst (λ n. Took here.left there.left here.number n None) (sym number) (rw c.in-BadLine.is at read.takes)) (prints_kept _ _ _ _ read.output read.same)
-    (subst (λ n. Prints _ _ there.held there.gathered (bad_line n)) (sym number) prints)))
+    (subst (λ n. Prints (g.W.Write.contents c.next_line.new.output) c.next_line.new.buffers.out.items there.held there.gathered (bad_line n)) (sym number) prints)))
 
 pub returns-in-Crash-clause-lives : goal.returns-in-Crash-clause-lives
 returns-in-Crash-clause-lives g c =

@@ -1,4 +1,5 @@
 use Rattle.sled_model.specs.Maps.{IsGreatest}
+use Rattle.tree_reads.specs.Walk.{for_each}
 use Rattle.sled.proofs.Popping.{max_none, max_found, max_unread, max_untaken, max_gives_up, max_gives_up_later, max_steps, max_stopped, none_steps, unread_steps}
 use Rattle.sled.proofs.db.Db.pop_max.Goals as goal
 
@@ -30,4 +31,4 @@ pub returns-in-Ok-None-clause-steps : goal.returns-in-Ok-None-clause-steps
 returns-in-Ok-None-clause-steps g c = none_steps g.P.Pages.store g.M.MergeOperator.meant _ _ IsGreatest
 
 pub returns-in-Err-clause-refused : goal.returns-in-Err-clause-refused
-returns-in-Err-clause-refused g c = unread_steps g.P.Pages.store g.M.MergeOperator.meant _ _ IsGreatest _
+returns-in-Err-clause-refused g c = unread_steps g.P.Pages.store g.M.MergeOperator.meant _ _ IsGreatest for_each _ c.in-Err.ensures.err

@@ -1,4 +1,5 @@
 use Rattle.sled_model.specs.Maps.{IsLeast}
+use Rattle.tree_reads.specs.Walk.{once}
 use Rattle.sled.proofs.Popping.{min_none, min_found, min_unread, min_untaken, min_gives_up, min_gives_up_later, min_steps, min_stopped, none_steps, unread_steps}
 use Rattle.sled.proofs.db.Db.pop_min.Goals as goal
 
@@ -30,4 +31,4 @@ pub returns-in-Ok-None-clause-steps : goal.returns-in-Ok-None-clause-steps
 returns-in-Ok-None-clause-steps g c = none_steps g.P.Pages.store g.M.MergeOperator.meant _ _ IsLeast
 
 pub returns-in-Err-clause-refused : goal.returns-in-Err-clause-refused
-returns-in-Err-clause-refused g c = unread_steps g.P.Pages.store g.M.MergeOperator.meant _ _ IsLeast _
+returns-in-Err-clause-refused g c = unread_steps g.P.Pages.store g.M.MergeOperator.meant _ _ IsLeast once _ c.in-Err.ensures.err
