@@ -1,23 +1,9 @@
 -- What an index by endings has, and what it has after events.
-use Rattle.std.proofs.Common.{◌≡◌, ◌≢◌, ◌≤◌, ◌+◌, ◌-◌, ℕ, nat_eq, ◌&&◌, Bool, true, false, cond, not, reverse, map, filter, take, drop, length, slice_get, List, [], ◌∷◌, ◌++◌, Option, Some, None, option_map, is_eq, Less, Equal, Greater, T, length-append, le_of_eq, ◌<◌, sym, refl, ap, ◌∙◌, subst, append_assoc, append-nil, arith}
+use Rattle.std.proofs.Common.{◌≡◌, ◌≤◌, ◌+◌, ℕ, nat_eq, Bool, true, false, cond, drop, length, slice_get, List, [], ◌∷◌, ◌++◌, Option, Some, None, option_map, length-append, le_of_eq, ◌<◌, sym, refl, ap, ◌∙◌, subst, append_assoc, arith}
 use Rattle.std.proofs.lemmas.Bool.{eq-eqb, eqb-true}
-use Rattle.std.proofs.lemmas.Bool.Decides.{Decides-eqb}
-use Rattle.std.proofs.lemmas.Cmp.{nat_list_cmp_total, tied_itself}
-use Rattle.std.proofs.lemmas.List.{reverse-reverse, reverse-append}
-use Rattle.std.proofs.lemmas.Slice.Eq.{starts_is, ends_is}
-use Rattle.std.specs.BTreeMap.{is_at}
-use Rattle.std.specs.BTreeMap.Range.{entries_between}
-use Rattle.std.specs.Cmp.{IsTotalOrder, nat_cmp_total}
-use Rattle.std.specs.Cmp.Lexicographic.{slice_cmp}
-use Rattle.std.specs.FinMap.{slice_cmp-IsAntisymmetric, nat_cmp-IsAntisymmetric}
-use Rattle.std.specs.FinMap.Entries.{find, find-put, find-where_key, below_all, is_sorted, is_sorted-where_key}
-use Rattle.std.specs.List.{starts_with, ends_with, AllByRecursion}
-use Rattle.std.specs.List.Sorted.{IsStrictlySortedBy}
-use Rattle.std.specs.Map.{lookup, keys_of}
+use Rattle.std.specs.FinMap.Entries.{find}
+use Rattle.std.specs.List.{starts_with, AllByRecursion}
 use Rattle.std.specs.Option.{option_to_list}
-use Rattle.std.specs.Ordering.{eq_by_cmp, nat_cmp, is_le, is_lt, ordering_then, ordering_reverse}
-use Rattle.std.specs.declared.cmp.Ordering.{Ordering}
-use Rattle.std.specs.declared.ops.Bound.TheVariants.{Included, Unbounded}
 use Rattle.sled_pages.specs.Order.{Key, key_cmp}
 use Rattle.sled_pages.specs.theory.Facts.{put_here, put_elsewhere, put_name_here}
 use Rattle.sled_pages.specs.Store.{Store}
@@ -46,7 +32,7 @@ use Rattle.sled_queues.specs.Trees.{IsTreeAfter}
 use Rattle.sled_queues.proofs.Hearing.{turned as turned_queue, turned_tree, turned_prefix, after_one}
 use Rattle.sled_queues.proofs.Copied.{copy_law, follows_law, after_both}
 use Rattle.examples.proofs.Turned.{copies_prefix}
-use Rattle.examples.specs.Endings.{turned, entries_ending, while_beginning, HasSame, EndingsValue, to_come, FollowsTree, IsUpToDate, BeginsIndex, TakesEvents, TakesOldest, CatchesUp, CatchesUpBy, caught_as, FindsEnding, StillFollowsLaw, KeepsFollowing, FindsInTree}
+use Rattle.examples.specs.Endings.{HasSame, EndingsValue, to_come, FollowsTree, IsUpToDate, BeginsIndex, TakesEvents, TakesOldest, CatchesUp, CatchesUpBy, FindsEnding, StillFollowsLaw, KeepsFollowing, FindsInTree}
 
 -- ---- events
 

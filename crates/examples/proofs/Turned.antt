@@ -1,47 +1,27 @@
 -- The keys of a map, read from their end.
-use Rattle.std.proofs.Common.{◌≡◌, ◌≢◌, ◌≤◌, ◌+◌, ◌-◌, ℕ, nat_eq, ◌&&◌, Bool, true, false, cond, not, reverse, map, filter, take, drop, length, slice_get, List, [], ◌∷◌, ◌++◌, Option, Some, None, option_map, is_eq, Less, Equal, Greater, T, length-append, le_of_eq, ◌<◌, sym, refl, ap, ◌∙◌, subst, append_assoc, append-nil, arith}
-use Rattle.std.proofs.lemmas.Bool.{eq-eqb, eqb-true}
+use Rattle.std.proofs.Common.{◌≡◌, ◌-◌, nat_eq, ◌&&◌, Bool, true, false, cond, not, reverse, filter, take, drop, length, [], ◌∷◌, ◌++◌, Option, Some, None, is_eq, Less, Equal, Greater, T, sym, refl, ap, ◌∙◌, subst, append_assoc, append-nil}
 use Rattle.std.proofs.lemmas.Bool.Decides.{Decides-eqb}
-use Rattle.std.proofs.lemmas.Cmp.{nat_list_cmp_total, tied_itself}
+use Rattle.std.proofs.lemmas.Cmp.{tied_itself}
 use Rattle.std.proofs.lemmas.List.{reverse-reverse, reverse-append}
 use Rattle.std.proofs.lemmas.Slice.Eq.{starts_is, ends_is}
 use Rattle.std.specs.BTreeMap.{is_at}
 use Rattle.std.specs.BTreeMap.Range.{entries_between}
-use Rattle.std.specs.Cmp.{IsTotalOrder, nat_cmp_total}
+use Rattle.std.specs.Cmp.{nat_cmp_total}
 use Rattle.std.specs.Cmp.Lexicographic.{slice_cmp}
 use Rattle.std.specs.FinMap.{nat_cmp-IsAntisymmetric}
 use Rattle.std.specs.FinMap.Entries.{find, find-put, find-where_key, below_all, is_sorted, is_sorted-where_key}
 use Rattle.std.specs.List.{starts_with, ends_with, AllByRecursion}
 use Rattle.std.specs.List.Sorted.{IsStrictlySortedBy}
 use Rattle.std.specs.Map.{lookup, keys_of}
-use Rattle.std.specs.Option.{option_to_list}
 use Rattle.std.specs.Ordering.{eq_by_cmp, nat_cmp, is_le, is_lt, ordering_then, ordering_reverse}
 use Rattle.std.specs.declared.cmp.Ordering.{Ordering}
 use Rattle.std.specs.declared.ops.Bound.TheVariants.{Included, Unbounded}
 use Rattle.sled_pages.specs.Order.{Key, key_cmp}
 use Rattle.examples.proofs.Keys.{key_total, key_same}
-use Rattle.sled_pages.specs.theory.Facts.{put_here, put_elsewhere, put_name_here}
 use Rattle.sled_model.specs.Maps.{Map}
-use Rattle.sled_model.specs.Queues.{waiting_in, oldest, without_oldest}
-use Rattle.sled_model.specs.Answer.{key_of, decision_of, map_after, event_of}
-use Rattle.sled_model.specs.Refusal.{MustRefuse, IsClosed, IsDropped, first_of, foreign_test, is_number, must_refuse_of}
-use Rattle.sled_model.specs.State.{State, NamedTree, Queue, queues_after}
-use Rattle.sled_model.specs.Whole.{TakesEvent, Watches, DecidesPoint}
-use Rattle.sled_model.specs.declared.call.Call.{Call}
-use Rattle.sled_model.specs.declared.decision.Effect.{Effect}
-use Rattle.sled_model.specs.declared.decision.Effect.TheVariants.{Nothing, Set}
-use Rattle.sled_model.specs.declared.decision.Effect.TheVariants as effect
-use Rattle.sled_model.specs.declared.reply.Reply.{Reply}
-use Rattle.sled_model.specs.declared.event.Event.{Event}
 use Rattle.sled_model.specs.declared.event.Event.TheVariants.{Insert, Remove}
-use Rattle.sled_model.specs.declared.tree.Tree.{Tree}
-use Rattle.sled_queues.specs.Copies.{IsCopy, after_event, after_events, came_to}
-use Rattle.sled_queues.specs.Events.{Turn, after_turn, after_turns, taken_by, Stays}
-use Rattle.sled_queues.specs.Turns.{turns_of_event}
-use Rattle.sled_queues.specs.Trees.{IsTreeAfter}
-use Rattle.sled_queues.proofs.Hearing.{turned as turned_queue, turned_tree, turned_prefix, after_one}
-use Rattle.sled_queues.proofs.Copied.{copy_law, follows_law, after_both}
-use Rattle.examples.specs.Endings.{turned, entries_ending, while_beginning, HasSame, EndingsValue, to_come, FollowsTree, IsUpToDate, BeginsIndex, TakesEvents, TakesOldest, CatchesUp, CatchesUpBy, caught_as, FindsEnding, StillFollowsLaw}
+use Rattle.sled_queues.specs.Copies.{IsCopy, after_event}
+use Rattle.examples.specs.Endings.{turned, entries_ending, while_beginning, HasSame, FindsEnding}
 
 -- ---- keys, and keys read from their end
 
