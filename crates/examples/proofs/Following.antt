@@ -91,9 +91,11 @@ catches_none s i = catches s i [] s i (record { in_order = refl; subscriber = re
 abbrev pub catches_both : (old : State) (i : EndingsValue) (mid : State) (j : EndingsValue) (new : State) (k : EndingsValue) → CatchesUp old i mid j → CatchesUp mid j new k → CatchesUp old i new k
 catches_both old i mid j new k c d = catches old i (c.events ++ d.events) new k
     (takes_both old i mid j new k c.events d.events c.takes d.takes)
-    (record { has = λ q. d.changes.has q
-        ∙ (same_events d.events j.entries (after_events c.events i.entries) c.changes).has q
-        ∙ ap (find key_cmp q) (sym (after_both c.events d.events i.entries)) })
+    (record {
+      has = λ q. d.changes.has q
+          ∙ (same_events d.events j.entries (after_events c.events i.entries) c.changes).has q
+          ∙ ap (find key_cmp q) (sym (after_both c.events d.events i.entries));
+    })
 
 -- ---- the first event to come
 
@@ -193,8 +195,8 @@ module _ (old : State) (i : EndingsValue) (new : State) (j : EndingsValue) where
 pub catches_more : (n : ℕ) (old : State) (i : EndingsValue) (mid : State) (j : EndingsValue) (new : State) (k : EndingsValue) (c : CatchesUp old i mid j) → length c.events ≡ n → (is_done : Bool) → is_done ≡ false → CatchesUpBy 1 mid j is_done new k
     → (b : CatchesUp old i new k) × (length b.events ≡ n + 1)
 catches_more n old i mid j new k c len is_done e up = let d : CatchesUpBy 1 mid j false new k = subst (λ b. CatchesUpBy 1 mid j b new k) e up in (
-    catches_both old i mid j new k c d.catches,
-    length-append c.events d.catches.events ∙ ap (λ m. m + length d.catches.events) len ∙ ap (λ m. n + m) d.done,
+  catches_both old i mid j new k c d.catches,
+  length-append c.events d.catches.events ∙ ap (λ m. m + length d.catches.events) len ∙ ap (λ m. n + m) d.done,
 )
 
 pub catches_all : (n at_most : ℕ) (old : State) (i : EndingsValue) (mid : State) (j : EndingsValue) (new : State) (k : EndingsValue) (c : CatchesUp old i mid j) → length c.events ≡ n → n < at_most → (is_done : Bool) → is_done ≡ true → CatchesUpBy 1 mid j is_done new k
@@ -236,8 +238,8 @@ is_one false m e = absurd cc
 number_is : (s : State) (tree : Tree) (named : NamedTree) → must_refuse_of s (tree ∷ []) ≡ None → s.trees tree.name ≡ Some named → named.number ≡ tree.number
 number_is s tree named tested there =
     eqb-true named.number tree.number (sym (ap (is_number tree.number) there)
-        ∙ is_one (is_number tree.number (s.trees tree.name)) (IsDropped tree.name)
-            (second_none (foreign_test s.name (tree ∷ [])) _ (second_none (cond s.is_open None (Some IsClosed)) _ tested)))
+    ∙ is_one (is_number tree.number (s.trees tree.name)) (IsDropped tree.name)
+    (second_none (foreign_test s.name (tree ∷ [])) _ (second_none (cond s.is_open None (Some IsClosed)) _ tested)))
 
 pub begins_index : (old new : State) (tree : Tree) (prefix : Key) (n : ℕ) (es : Map) (named : NamedTree) → must_refuse_of old (tree ∷ []) ≡ None → old.trees tree.name ≡ Some named → IsCopy prefix es named.map → Watches old tree prefix n new
     → BeginsIndex new tree prefix (record { subscriber = n; late = None; entries = es })
@@ -282,8 +284,8 @@ still_follows old new tree prefix i turns f qs trees stays takes =
     let r = stays_same turns i.subscriber old.queues f.queue f.watches stays in
     let copy = after_events (option_to_list i.late) i.entries in
     let law = follows_law turns i.subscriber old.queues f.queue f.watches stays copy f.named.map
-        (subst (λ p. IsCopy p (after_events f.queue.events copy) f.named.map) (sym f.under)
-            (subst (λ m. IsCopy prefix m f.named.map) (ap (λ o. after_events (option_to_list i.late ++ waiting_in o) i.entries) f.watches ∙ after_both (option_to_list i.late) f.queue.events i.entries) f.is)) in
+    (subst (λ p. IsCopy p (after_events f.queue.events copy) f.named.map) (sym f.under)
+    (subst (λ m. IsCopy prefix m f.named.map) (ap (λ o. after_events (option_to_list i.late ++ waiting_in o) i.entries) f.watches ∙ after_both (option_to_list i.late) f.queue.events i.entries) f.is)) in
     record {
       named = t.tree;
       there = t.there;

@@ -95,7 +95,7 @@ taken_turned es fs k key e p = record {
       puts_turned es fs k None (subst (λ key. Puts es key None fs) e p) q
       ∙ ap (λ b. cond b None (find key_cmp q (turned es))) (both_ways (eq_by_cmp key_cmp q k) (eq_by_cmp key_cmp k q) (λ e. itself k q (sym (tied q k e))) (λ e. itself q k (sym (tied k q e))))
       ∙ sym (find-where_key key_cmp (λ x. not (eq_by_cmp key_cmp k x)) q (λ x e. ap (λ y. not (eq_by_cmp key_cmp k y)) (sym (key_same q x e))) (turned es)
-          ∙ not_cond (eq_by_cmp key_cmp k q) (find key_cmp q (turned es)) None);
+      ∙ not_cond (eq_by_cmp key_cmp k q) (find key_cmp q (turned es)) None);
 }
 
 -- ---- what is found
@@ -111,9 +111,9 @@ goes_on key p e = (starts_is Decides-eqb key p (starts_with nat_eq key p) refl).
 pub ends_turned : (key ending : Key) → starts_with nat_eq key (reverse ending) ≡ ends_with nat_eq (reverse key) ending
 ends_turned key ending = both_ways (starts_with nat_eq key (reverse ending)) (ends_with nat_eq (reverse key) ending)
     (λ e. (ends_is Decides-eqb (reverse key) ending (ends_with nat_eq (reverse key) ending) refl).1 (reverse (drop (length (reverse ending)) key))
-        (ap reverse (goes_on key (reverse ending) e) ∙ reverse-append (reverse ending) (drop (length (reverse ending)) key) ∙ ap (λ l. reverse (drop (length (reverse ending)) key) ++ l) (reverse-reverse ending)))
+    (ap reverse (goes_on key (reverse ending) e) ∙ reverse-append (reverse ending) (drop (length (reverse ending)) key) ∙ ap (λ l. reverse (drop (length (reverse ending)) key) ++ l) (reverse-reverse ending)))
     (λ e. begins_is key (reverse ending) (reverse (take (length (reverse key) - length ending) (reverse key)))
-        (turn_back key _ ((ends_is Decides-eqb (reverse key) ending (ends_with nat_eq (reverse key) ending) refl).0 e) ∙ reverse-append (take (length (reverse key) - length ending) (reverse key)) ending))
+    (turn_back key _ ((ends_is Decides-eqb (reverse key) ending (ends_with nat_eq (reverse key) ending) refl).0 e) ∙ reverse-append (take (length (reverse key) - length ending) (reverse key)) ending))
 
 pub turned_where : (ending : Key) (es : Map) → turned (filter (λ e. starts_with nat_eq e.0 (reverse ending)) es) ≡ entries_ending ending (turned es)
 turned_where ending [] = refl

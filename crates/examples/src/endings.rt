@@ -34,12 +34,7 @@ fn turn(alloc: Global, bytes: &[u8]) -> Result<IVec>
 }
 
 // The key has this value from now on.
-fn put(
-    alloc: Global,
-    entries: &mut BTreeMap<IVec, IVec>,
-    key: &IVec,
-    value: IVec,
-) -> Result<()>
+fn put(alloc: Global, entries: &mut BTreeMap<IVec, IVec>, key: &IVec, value: IVec) -> Result<()>
     ensures ok { OnOk result (HasSame (turned entries.new.entries) (after_event (Insert key.now value) (turned entries.old.entries))) }
     ensures err { OnErr result (entries.new.entries ≡ entries.old.entries) }
     ensures cause { IfErr result (λ e. e ≡ NoMemory) }
