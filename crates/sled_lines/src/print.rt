@@ -233,17 +233,23 @@ fn number_name_of(shown: Shown) -> &'static [u8]
     }
 }
 
+// Adds the line of a value, or of none.
+fn push_shown(out: &mut Vec<u8>, shown: Shown, value: &Option<IVec>) -> Result<()>
+    ensures ok { OnOk result (out.new.items ≡ out.old.items ++ (name_of shown ++ word_of value.now ++ end)) }
+    ensures err { IfErr result (λ e. e ≡ NoMemory) }
+{
+    push_text(out, name_of(shown))?;
+    push_value(out, value.as_ref())?;
+    push_text(out, b"\n")
+}
+
 // Adds the line of a reply.
 fn push_reply(out: &mut Vec<u8>, shown: Shown, reply: &Reply) -> Result<()>
     ensures ok { OnOk result (out.new.items ≡ out.old.items ++ reply_line shown reply.now) }
     ensures err { IfErr result (λ e. e ≡ NoMemory) }
 {
     match reply {
-        Reply::Value(value) => {
-            push_text(out, name_of(shown))?;
-            push_value(out, value.as_ref())?;
-            push_text(out, b"\n")
-        }
+        Reply::Value(value) => push_shown(out, shown, value),
         Reply::Swapped(Ok(())) => push_text(out, b"swapped\n"),
         Reply::Swapped(Err(conflict)) => push_conflict(out, conflict),
         Reply::Number(number) => push_numbered(out, number_name_of(shown), *number),
