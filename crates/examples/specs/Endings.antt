@@ -17,11 +17,11 @@ use Rattle.sled_queues.specs.Trees.{IsTreeAfter}
 abbrev pub turned : Map → Map
 turned entries = map (λ e. (reverse e.0, e.1)) entries
 
--- those whose keys end so
+-- the entries whose keys end so
 abbrev pub entries_ending : Key → Map → Map
 entries_ending ending entries = filter (λ e. ends_with nat_eq e.0 ending) entries
 
--- those in front of the first whose key does not begin so
+-- the entries in front of the first whose key does not begin so
 abbrev pub while_beginning : Key → Map → Map
 while_beginning beginning [] = []
 while_beginning beginning (e ∷ es) = if starts_with nat_eq e.0 beginning then e ∷ while_beginning beginning es else []
@@ -52,13 +52,13 @@ pub record FollowsTree (s : State) (tree : Tree) (prefix : Key) (i : EndingsValu
   pub under : queue.prefix ≡ prefix
   pub is : IsCopy prefix (after_events (to_come i s) i.entries) named.map
 
--- it has the entries of the tree under the prefix now, and no others
+-- the index has the entries of the tree under the prefix now, and no others
 pub record IsUpToDate (s : State) (tree : Tree) (prefix : Key) (i : EndingsValue) : Type 0 where
   pub named : NamedTree
   pub there : s.trees tree.name ≡ Some named
   pub is : IsCopy prefix i.entries named.map
 
--- it is of a subscriber for which no event waits, and has these entries
+-- An index begins: no event waits for its subscriber, and it has the entries that the tree has
 pub record BeginsIndex (s : State) (tree : Tree) (prefix : Key) (i : EndingsValue) : Type 0 where
   pub none : to_come i s ≡ []
   pub follows : FollowsTree s tree prefix i
@@ -72,24 +72,25 @@ pub record TakesEvents (old : State) (i : EndingsValue) (events : List Event) (n
   pub others : (n : ℕ) → n ≢ i.subscriber → new.queues n ≡ old.queues n
   pub same : new ≡ record old { queues = new.queues }
 
--- .. the first of them, if there is one; it has not changed the entries yet, and none is late
+-- the oldest of them was taken, if there is one; it has not changed the entries yet, and none is late any more
 pub record TakesOldest (old : State) (i : EndingsValue) (event : Option Event) (new : State) (j : EndingsValue) : Type 0 where
   pub first : event ≡ slice_get (to_come i old) 0
   pub takes : TakesEvents old i (option_to_list event) new j
   pub same : j ≡ record i { late = None }
 
--- .. and each changed the entries, in order
+-- the oldest of them, so many as are listed here, were taken, and each changed the entries, in order
 pub record CatchesUp (old : State) (i : EndingsValue) (new : State) (j : EndingsValue) : Type 0 where
   pub events : List Event
   pub takes : TakesEvents old i events new j
   pub changes : HasSame j.entries (after_events events i.entries)
   pub follows : (tree : Tree) (prefix : Key) → FollowsTree old tree prefix i → FollowsTree new tree prefix j
 
+-- none is left; or so many were taken
 abbrev pub caught_as : ℕ → List Event → List Event → Bool → Type 0
 caught_as at_most events left true = left ≡ []
 caught_as at_most events left false = length events ≡ at_most
 
--- It took all, or so many. Where it took all, it is up to date with the tree that it follows
+-- All of them were taken, or as many as might be. Where none is left, the index is up to date with the tree that it follows
 pub record CatchesUpBy (at_most : ℕ) (old : State) (i : EndingsValue) (is_done : Bool) (new : State) (j : EndingsValue) : Type 0 where
   pub catches : CatchesUp old i new j
   pub within : length catches.events ≤ at_most
