@@ -5,6 +5,7 @@
 mod callers;
 mod copies;
 mod counters;
+mod endings;
 mod events;
 mod fresh;
 mod index;
@@ -15,6 +16,7 @@ mod typed;
 use callers::{is_read, survives};
 use copies::copies_all;
 use counters::counts;
+use endings::follows;
 use events::reads_events;
 use index::finds_entries;
 use sled_lines::input::Stopped;
@@ -62,6 +64,7 @@ fn run(rt: &HostRuntime) -> Result<(), Stopped> {
     )?;
     let what = "events of a stream are read from an id on";
     tell(rt, what, reads_events(alloc))?;
+    tell(rt, "an index by endings follows its tree", follows(alloc))?;
     tell_streams(rt)
 }
 

@@ -13,11 +13,11 @@ use Rattle.sled_model.specs.Answer.{answer_of, decision_of, map_after}
 use Rattle.sled_model.specs.declared.call.Call.TheVariants.{Insert}
 use Rattle.sled_model.specs.declared.decision.Effect.TheVariants.{Nothing, Set}
 
-key_total : IsTotalOrder key_cmp
+pub key_total : IsTotalOrder key_cmp
 unfolding key_cmp
 key_total = nat_list_cmp_total
 
-key_same : (a b : Key) → key_cmp a b ≡ Equal → a ≡ b
+pub key_same : (a b : Key) → key_cmp a b ≡ Equal → a ≡ b
 unfolding key_cmp
 key_same a b e = slice_cmp-IsAntisymmetric nat_cmp-IsAntisymmetric a b e
 

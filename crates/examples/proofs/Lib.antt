@@ -12,3 +12,5 @@ pub mod Counting
 pub mod Typing
 pub mod Walking
 pub mod Streams
+pub mod Turned
+pub mod Following

@@ -7,4 +7,5 @@ pub mod Copies
 pub mod Typed
 pub mod Events
 pub mod Counters
+pub mod Endings
 pub mod theory

@@ -1,12 +1,14 @@
 //! Callers that are proved from public contracts alone, as a user would write them: what those contracts say is enough to build
 //! on. `callers` are examples of a machine, `index` of a scan, `recovery` of a crash, `ids` of runs with crashes between them,
 //! `queue` of a database that takes pairs out, `copy` of one that gets the trees of another, `typed` of keys and values of a user's own
-//! types, `events` of streams of events in trees that are opened by name, and `counters` of a merge operator and of a closure.
+//! types, `events` of streams of events in trees that are opened by name, `counters` of a merge operator and of a closure, and
+//! `endings` of a subscriber that keeps an index.
 #![tactic(auto)]
 
 mod callers;
 mod copy;
 mod counters;
+mod endings;
 mod events;
 mod ids;
 mod index;
@@ -19,6 +21,7 @@ pub use callers::{
 };
 pub use copy::copy_all;
 pub use counters::{Adds, add_to_counter, count, next_ticket};
+pub use endings::{Endings, index_follows, law_still_follows};
 pub use events::{append, open_stream, read_from};
 pub use ids::{law_ids, run_twice};
 pub use index::entries_under;
