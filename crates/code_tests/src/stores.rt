@@ -16,11 +16,17 @@ fn has(db: &Db<LogPages>, tree: &Tree, key: &[u8], value: Option<&[u8]>) -> Resu
     Ok(is)
 }
 
-// Inserts forty pairs, so that pages are split, flushes, and inserts one more. Whether the pairs are read.
-fn fill_tree(db: &mut Db<LogPages>, tree: &Tree) -> Result<bool> {
+// Inserts forty pairs, so that pages are split.
+fn insert_forty(db: &mut Db<LogPages>, tree: &Tree) -> Result<()> {
     for i in 0..40 {
         drop(db.insert(tree, &[i], b"old")?);
     }
+    Ok(())
+}
+
+// Inserts them, flushes, and inserts one more. Whether the pairs are read.
+fn fill_tree(db: &mut Db<LogPages>, tree: &Tree) -> Result<bool> {
+    insert_forty(db, tree)?;
     let count = db.flush()?;
     drop(db.insert(tree, b"ulm", b"21")?);
     Ok(count > 40 && has(db, tree, &[7], Some(b"old"))? && has(db, tree, b"ulm", Some(b"21"))?)
@@ -46,6 +52,22 @@ fn is_as_flushed(db: &Db<LogPages>) -> Result<bool> {
     is
 }
 
+// Whether a crash leaves what was flushed.
+fn has_kept(alloc: Global, db: Db<LogPages>) -> Result<bool> {
+    let left = db.into_pages().crash(0);
+    match Db::open(alloc, left, b"weather") {
+        Ok(db) => {
+            let as_flushed = is_as_flushed(&db);
+            drop(db.into_pages());
+            as_flushed
+        }
+        Err((pages, e)) => {
+            drop(pages);
+            Err(e)
+        }
+    }
+}
+
 /// Whether a database over the small store answers what it should, before and after a crash that keeps nothing since the flush.
 pub fn small_store_works(alloc: Global) -> Result<bool> {
     let mut db = match Db::open(alloc, LogPages::new(alloc), b"weather") {
@@ -56,16 +78,6 @@ pub fn small_store_works(alloc: Global) -> Result<bool> {
         }
     };
     let filled = fill(&mut db);
-    let left = db.into_pages().crash(0);
-    match Db::open(alloc, left, b"weather") {
-        Ok(db) => {
-            let as_flushed = is_as_flushed(&db);
-            drop(db.into_pages());
-            Ok(filled? && as_flushed?)
-        }
-        Err((pages, e)) => {
-            drop(pages);
-            Err(e)
-        }
-    }
+    let as_flushed = has_kept(alloc, db);
+    Ok(filled? && as_flushed?)
 }

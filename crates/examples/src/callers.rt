@@ -81,10 +81,12 @@ pub fn insert_then_get_in_new(
 fn decided_last(outcome: Outcome, is_second: bool, last: Option<bool>) -> Option<bool>
     ensures { result ≡ later outcome is_second last }
 {
-    match outcome {
+    let last = match &outcome {
         Outcome::Decided(_) => Some(is_second),
         _ => last,
-    }
+    };
+    drop(outcome);
+    last
 }
 
 /// Two inserts at one key at once, whose steps go in this order, `true` for a step of the second: which of them was

@@ -75,11 +75,27 @@ pub fn put<P: Pages, M: MergeOperator, K: Spelled, V: Spelled>(
     ensures err { OnErr result (maps_now P.store M.meant db.new ≡ maps_now P.store M.meant db.old) }
 {
     db.audit();
-    let key = key.spell(db.allocator())?;
-    let value = value.spell(db.allocator())?;
-    let stood = db.insert(tree, key.as_ref(), value.as_ref())?;
-    drop(stood);
-    Ok(())
+    let key = match key.spell(db.allocator()) {
+        Ok(key) => key,
+        Err(e) => return Err(e),
+    };
+    let value = match value.spell(db.allocator()) {
+        Ok(value) => value,
+        Err(e) => {
+            drop(key);
+            return Err(e);
+        }
+    };
+    let stood = db.insert(tree, key.as_ref(), value.as_ref());
+    drop(key);
+    drop(value);
+    match stood {
+        Ok(stood) => {
+            drop(stood);
+            Ok(())
+        }
+        Err(e) => Err(e),
+    }
 }
 
 // The value that bytes spell.
@@ -102,11 +118,20 @@ pub fn look_up<P: Pages, M: MergeOperator, K: Spelled, V: Spelled>(
     ensures ok { IfOk result (LooksUp K.spelling V.spelling (maps_now P.store M.meant db.now) tree.now.name key.now) }
     ensures foreign { IfErr result (λ e. e ≡ Foreign → IsForeign K.spelling V.spelling (maps_now P.store M.meant db.now) tree.now.name) }
 {
-    let key = key.spell(db.allocator())?;
-    let Some(bytes) = db.get(tree, key.as_ref())? else {
-        return Ok(None);
+    let key = match key.spell(db.allocator()) {
+        Ok(key) => key,
+        Err(e) => return Err(TypedError::Refused(e)),
     };
-    match read_whole(db.allocator(), bytes.as_ref()) {
+    let found = db.get(tree, key.as_ref());
+    drop(key);
+    let bytes = match found {
+        Ok(Some(bytes)) => bytes,
+        Ok(None) => return Ok(None),
+        Err(e) => return Err(TypedError::Refused(e)),
+    };
+    let read = read_whole(db.allocator(), bytes.as_ref());
+    drop(bytes);
+    match read {
         Ok(value) => Ok(Some(value)),
         Err(e) => Err(e),
     }
@@ -168,18 +193,33 @@ pub fn walk<P: Pages, M: MergeOperator, K: Spelled, V: Spelled>(
 {
     db.audit();
     let alloc = db.allocator();
-    let lo = spelled_bound(alloc, lo)?;
-    let hi = spelled_bound(alloc, hi)?;
-    let mut entries = db.range(tree, borrowed(&lo), borrowed(&hi))?;
-    let pairs = match all_of(alloc, &mut entries) {
-        Ok(pairs) => pairs,
+    let lo = match spelled_bound(alloc, lo) {
+        Ok(lo) => lo,
+        Err(e) => return Err(TypedError::Refused(e)),
+    };
+    let hi = match spelled_bound(alloc, hi) {
+        Ok(hi) => hi,
         Err(e) => {
-            drop(entries);
+            drop(lo);
             return Err(TypedError::Refused(e));
         }
     };
+    let range = db.range(tree, borrowed(&lo), borrowed(&hi));
+    drop(lo);
+    drop(hi);
+    let mut entries = match range {
+        Ok(entries) => entries,
+        Err(e) => return Err(TypedError::Refused(e)),
+    };
+    let pairs = all_of(alloc, &mut entries);
     drop(entries);
-    match typed(alloc, pairs.as_slice()) {
+    let pairs = match pairs {
+        Ok(pairs) => pairs,
+        Err(e) => return Err(TypedError::Refused(e)),
+    };
+    let found = typed(alloc, pairs.as_slice());
+    drop(pairs);
+    match found {
         Ok(found) => Ok(found),
         Err(e) => Err(e),
     }

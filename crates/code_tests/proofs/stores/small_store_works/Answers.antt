@@ -1,4 +1,4 @@
-use Rattle.sled.proofs.Reopening.{empty_is_well, empty_is_calm, left_is_well, left_is_calm}
+use Rattle.sled.proofs.Reopening.{empty_is_well, empty_is_calm}
 use Rattle.code_tests.proofs.stores.small_store_works.Goals as goal
 
 pub open-requires-clause-well : goal.open-requires-clause-well
@@ -6,9 +6,3 @@ open-requires-clause-well c = λ κs. empty_is_well _ c.new.ensures
 
 pub open-requires-clause-no_group : goal.open-requires-clause-no_group
 open-requires-clause-no_group c = λ κs. empty_is_calm _ c.new.ensures
-
-pub open-requires-2-clause-well : goal.open-requires-2-clause-well
-open-requires-2-clause-well c = λ κs. left_is_well _ _ _ c.crash-left.ensures c.into_pages.ensures.safe
-
-pub open-requires-2-clause-no_group : goal.open-requires-2-clause-no_group
-open-requires-2-clause-no_group c = λ κs. left_is_calm _ _ _ c.crash-left.ensures
