@@ -1,4 +1,5 @@
 -- What the steps of a call in flight do to the maps.
+use Rattle.std.specs.Prelude.{MatchOption}
 use Rattle.std.proofs.Common.{◌≡◌, ◌≢◌, ℕ, zero, suc, ◌+◌, Bool, true, false, cond, nat_eq, List, [], ◌∷◌, Option, Some, None, option_map, map, Result, Ok, Err, IfOk, sym, refl, ap, ◌∙◌, subst, inl, inr, ◌⊎◌, arith}
 use Rattle.std.proofs.Math.Path.{fun_ext}
 use Rattle.std.proofs.lemmas.Bool.{eq-eqb, eqb-true}
@@ -268,6 +269,10 @@ module _ {P M : Type 0} (store : P → Store) (number : P → ℕ) (meant : M �
   abbrev pub LastPut : Maps → Tree → Key → Key → Key → Option Bool → Maps → Type 0
   LastPut old tree key first second None new = new ≡ old
   LastPut old tree key first second (Some is_second) new = PutsOne old new tree.name key (cond is_second second first)
+
+  pub last_none : (old new : Maps) (tree : Tree) (key first second : Key) (last : Option Bool) → LastPut old tree key first second last new → MatchOption last (new ≡ old) (λ is_second. Unit {0})
+  last_none old new tree key first second None l = l
+  last_none old new tree key first second (Some is_second) l = tt
 
   last_put : (start old new : Maps) (tree : Tree) (key first second value : Key) (is_second : Bool) (last : Option Bool) → value ≡ cond is_second second first → LastPut start tree key first second last old → PutsOne old new tree.name key value → PutsOne start new tree.name key (cond is_second second first)
   last_put start old new tree key first second value is_second None e l p = subst (λ v. PutsOne start new tree.name key v) e (subst (λ m. PutsOne m new tree.name key value) l p)

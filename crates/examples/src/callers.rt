@@ -6,13 +6,16 @@ ghost use Rattle.sled_pages.specs.Memory.{store_of};
 ghost use Rattle.tree_laws.specs.Contents.{trees_of};
 ghost use Rattle.tree_laws.specs.Crashes.{IsValid};
 ghost use Rattle.sled_model.specs.declared.call.Call.TheVariants as call;
+ghost use Rattle.sled_model.specs.declared.outcome.Outcome.TheVariants as outcome;
+ghost use Rattle.sled_model.specs.declared.outcome.Step.TheVariants as step;
 ghost use Rattle.sled_model.specs.State.{default_name};
 ghost use Rattle.sled.specs.Opens.{IsOnePage};
+ghost use Rattle.sled_machine.specs.Step.{MachineStepContract};
 ghost use Rattle.examples.specs.Reads.{ReadsAs, HasTurns, PutsOne, maps_now, later, found_in};
 
 use sled::{Db, crash_pages, empty_pages};
 use sled_machine::Machine;
-use sled_model::{Call, MergeOperator, Outcome, Tree};
+use sled_model::{Call, MergeOperator, Outcome, Slot, Tree};
 use sled_pages::{Error, IVec, MemPages, Pages, Result};
 use std::alloc::Global;
 
@@ -89,6 +92,19 @@ fn decided_last(outcome: Outcome, is_second: bool, last: Option<bool>) -> Option
     last
 }
 
+// An insert of copies of a key and a value begins.
+fn begin_insert<P: Pages, M: MergeOperator>(
+    machine: &mut Machine<P, M>,
+    tree: &Tree,
+    key: &IVec,
+    value: &IVec,
+) -> Result<Slot>
+    ensures { IfOk result (λ slot. MachineStepContract P.store P.flush_number M.meant machine.old (step.Begin tree.now (call.Insert key.now value.now)) (outcome.Begun slot) machine.new) }
+{
+    let insert = insert_of(key, value)?;
+    machine.begin(tree, insert)
+}
+
 /// Two inserts at one key at once, whose steps go in this order, `true` for a step of the second: which of them was
 /// decided last, if one was.
 pub fn race<P: Pages, M: MergeOperator>(
@@ -102,8 +118,8 @@ pub fn race<P: Pages, M: MergeOperator>(
     ensures none { IfOk result (λ last. MatchOption last (maps_now P.store M.meant machine.new.db ≡ maps_now P.store M.meant machine.old.db) (λ _. Unit {0})) }
     ensures last { IfOk result (λ last. IfSome last (λ is_second. PutsOne (maps_now P.store M.meant machine.old.db) (maps_now P.store M.meant machine.new.db) tree.now.name key.now (if is_second then second.now else first.now))) }
 {
-    let one = machine.begin(tree, insert_of(key, first)?)?;
-    let two = machine.begin(tree, insert_of(key, second)?)?;
+    let one = begin_insert(machine, tree, key, first)?;
+    let two = begin_insert(machine, tree, key, second)?;
     let mut last = None;
     for is_second in order {
         let slot = if *is_second { two } else { one };

@@ -171,6 +171,29 @@ fn spelled_bound<K: Spelled>(alloc: Global, bound: Bound<&K>) -> Result<Bound<IV
     }
 }
 
+// The bytes of two bounds.
+fn spelled_bounds<K: Spelled>(
+    alloc: Global,
+    lo: Bound<&K>,
+    hi: Bound<&K>,
+) -> Result<(Bound<IVec>, Bound<IVec>)>
+    ensures lo { IfOk result (λ made. made.0 ≡ bound_bytes K.spelling (bound_at lo.entry)) }
+    ensures hi { IfOk result (λ made. made.1 ≡ bound_bytes K.spelling (bound_at hi.entry)) }
+    ensures are_values { OnOk result (bounds_value K.spelling (bound_at lo.entry) × bounds_value K.spelling (bound_at hi.entry)) }
+{
+    let lo = match spelled_bound(alloc, lo) {
+        Ok(lo) => lo,
+        Err(e) => return Err(e),
+    };
+    match spelled_bound(alloc, hi) {
+        Ok(hi) => Ok((lo, hi)),
+        Err(e) => {
+            drop(lo);
+            Err(e)
+        }
+    }
+}
+
 fn borrowed(bound: &Bound<IVec>) -> Bound<&[u8]>
     ensures { bound_of result ≡ bound.now }
 {
@@ -193,16 +216,9 @@ pub fn walk<P: Pages, M: MergeOperator, K: Spelled, V: Spelled>(
 {
     db.audit();
     let alloc = db.allocator();
-    let lo = match spelled_bound(alloc, lo) {
-        Ok(lo) => lo,
+    let (lo, hi) = match spelled_bounds(alloc, lo, hi) {
+        Ok(bounds) => bounds,
         Err(e) => return Err(TypedError::Refused(e)),
-    };
-    let hi = match spelled_bound(alloc, hi) {
-        Ok(hi) => hi,
-        Err(e) => {
-            drop(lo);
-            return Err(TypedError::Refused(e));
-        }
     };
     let range = db.range(tree, borrowed(&lo), borrowed(&hi));
     drop(lo);
@@ -219,10 +235,7 @@ pub fn walk<P: Pages, M: MergeOperator, K: Spelled, V: Spelled>(
     };
     let found = typed(alloc, pairs.as_slice());
     drop(pairs);
-    match found {
-        Ok(found) => Ok(found),
-        Err(e) => Err(e),
-    }
+    found
 }
 
 // The key of a text and a number.

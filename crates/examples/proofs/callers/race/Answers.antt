@@ -1,14 +1,14 @@
-use Rattle.std.proofs.Common.{sym, ap, subst, cond}
+use Rattle.std.proofs.Common.{refl, sym, ap, subst, cond}
 use Rattle.sled_model.specs.declared.call.Call.TheVariants.{Insert}
 use Rattle.sled_machine.specs.Values.{slots_of}
 use Rattle.examples.specs.Reads.{maps_now}
-use Rattle.examples.proofs.Calls.{Means, LastPut, races_begin, steps_mean, races}
+use Rattle.examples.proofs.Calls.{Means, LastPut, last_none, races_begin, steps_mean, races}
 use Rattle.examples.proofs.callers.race.Goals as goal
 use Rattle.examples.proofs.callers.race.Goals.{then-is_second, else-is_second}
 
 pub loop-is_second-init : goal.loop-is_second-init
 loop-is_second-init g c =
-    races_begin g.P.Pages.store g.P.Pages.flush_number g.M.MergeOperator.meant _ _ _ _ _ _ _ _ _ _ _ c.in_ok-insert_of.ensures c.in_ok-insert_of-2.ensures c.in_ok-one.ensures.ok c.in_ok-two.ensures.ok
+    races_begin g.P.Pages.store g.P.Pages.flush_number g.M.MergeOperator.meant _ _ _ _ _ _ _ _ _ _ _ refl refl c.in_ok-one.ensures c.in_ok-two.ensures
 
 pub loop-is_second-preserved : goal.loop-is_second-preserved
 loop-is_second-preserved g c =
@@ -25,3 +25,8 @@ loop-is_second-preserved g c =
                 (subst (λ s. Means (slots_of c.loop-is_second.machine.flights) s c.args.tree.now (Insert c.args.key.now c.args.first.now)) (sym w.slot-is) i.0) c.step.ensures.step i.2
           ]),
     )
+
+pub returns-clause-none : goal.returns-clause-none
+returns-clause-none g c =
+    last_none g.P.Pages.store g.P.Pages.flush_number g.M.MergeOperator.meant (maps_now g.P.Pages.store g.M.MergeOperator.meant c.args.machine.now.db) (maps_now g.P.Pages.store g.M.MergeOperator.meant c.loop-is_second.machine.db)
+    c.args.tree.now c.args.key.now c.args.first.now c.args.second.now c.loop-is_second.last c.loop-is_second.invariant.2

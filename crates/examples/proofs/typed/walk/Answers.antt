@@ -1,14 +1,22 @@
-use Rattle.std.proofs.Common.{◌∙◌}
+use Rattle.std.proofs.Common.{◌∙◌, Result, Ok, Err, IfOk, IfErr}
 use Rattle.examples.proofs.Walking.{walks, walks_foreign, ends_empty}
 use Rattle.examples.proofs.typed.walk.Goals as goal
 
 pub all_of-pairs-requires-after_bounds : goal.all_of-pairs-requires-after_bounds
 all_of-pairs-requires-after_bounds g c = λ κs lives. ends_empty g.P.Pages.store g.M.MergeOperator.meant _ _ g.K.Spelled.spelling g.V.Spelled.spelling g.met.K.Spelled.keeps_order _ _ _ c.in-Ok-range.ensures.ok
 
-pub returns-in-Ok-found-clause-ok : goal.returns-in-Ok-found-clause-ok
-returns-in-Ok-found-clause-ok g c = walks g.P.Pages.store g.M.MergeOperator.meant _ _ g.K.Spelled.spelling g.V.Spelled.spelling g.met.K.Spelled.keeps_order _ _ _ _ c.in-Ok.ensures.are_values c.in-Ok-spelled_bound.ensures.are_values (c.borrowed.ensures ∙ c.in-Ok.ensures.ok) (c.borrowed-2.ensures ∙ c.in-Ok-spelled_bound.ensures.ok)
-    c.in-Ok-range.entries c.in-Ok-range.ensures.ok _ (c.as_slice.ensures.value ∙ c.in-Ok-pairs.ensures.all) g.met.K.Spelled.one_to_one g.met.V.Spelled.one_to_one c.audit.ensures.ascend _ c.in-Ok-found.ensures.ok
+ok_weaker : {A E : Type 0} (p q : A → Type 0) → ((a : A) → p a → q a) → (r : Result A E) → IfOk r p → IfOk r q
+ok_weaker p q h (Ok a) k = h a k
+ok_weaker p q h (Err e) k = tt
 
-pub returns-in-Err-found-clause-foreign : goal.returns-in-Err-found-clause-foreign
-returns-in-Err-found-clause-foreign g c = λ e. walks_foreign g.P.Pages.store g.M.MergeOperator.meant _ _ g.K.Spelled.spelling g.V.Spelled.spelling g.met.K.Spelled.keeps_order _ _ _ _ c.in-Ok.ensures.are_values c.in-Ok-spelled_bound.ensures.are_values (c.borrowed.ensures ∙ c.in-Ok.ensures.ok) (c.borrowed-2.ensures ∙ c.in-Ok-spelled_bound.ensures.ok)
-    c.in-Ok-range.entries c.in-Ok-range.ensures.ok _ (c.as_slice.ensures.value ∙ c.in-Ok-pairs.ensures.all) (c.in-Err-found.ensures.foreign e)
+err_weaker : {A E : Type 0} (p q : E → Type 0) → ((e : E) → p e → q e) → (r : Result A E) → IfErr r p → IfErr r q
+err_weaker p q h (Ok a) k = tt
+err_weaker p q h (Err e) k = h e k
+
+pub returns-clause-ok : goal.returns-clause-ok
+returns-clause-ok g c = ok_weaker _ _ (λ found is. walks g.P.Pages.store g.M.MergeOperator.meant _ _ g.K.Spelled.spelling g.V.Spelled.spelling g.met.K.Spelled.keeps_order _ _ _ _ c.in-Ok.ensures.are_values.0 c.in-Ok.ensures.are_values.1 (c.borrowed.ensures ∙ c.in-Ok.ensures.lo) (c.borrowed-2.ensures ∙ c.in-Ok.ensures.hi)
+    c.in-Ok-range.entries c.in-Ok-range.ensures.ok _ (c.as_slice.ensures.value ∙ c.in-Ok-pairs.ensures.all) g.met.K.Spelled.one_to_one g.met.V.Spelled.one_to_one c.audit.ensures.ascend _ is) c.typed-found.result c.typed-found.ensures.ok
+
+pub returns-clause-foreign : goal.returns-clause-foreign
+returns-clause-foreign g c = err_weaker _ _ (λ e told is. walks_foreign g.P.Pages.store g.M.MergeOperator.meant _ _ g.K.Spelled.spelling g.V.Spelled.spelling g.met.K.Spelled.keeps_order _ _ _ _ c.in-Ok.ensures.are_values.0 c.in-Ok.ensures.are_values.1 (c.borrowed.ensures ∙ c.in-Ok.ensures.lo) (c.borrowed-2.ensures ∙ c.in-Ok.ensures.hi)
+    c.in-Ok-range.entries c.in-Ok-range.ensures.ok _ (c.as_slice.ensures.value ∙ c.in-Ok-pairs.ensures.all) (told is)) c.typed-found.result c.typed-found.ensures.foreign
