@@ -22,6 +22,27 @@ fn rises(db: &mut Db<MemPages, Adds>, tree: &Tree) -> Result<bool> {
     Ok(is_first && is_second && is_above)
 }
 
+// How often a closure is asked by a call on this tree.
+fn asks(db: &mut Db<MemPages, Adds>, tree: &Tree) -> u64 {
+    let mut asked: u64 = 0;
+    let made = db.update_and_fetch(tree, b"asked", |_| {
+        asked = asked.wrapping_add(1);
+        Ok(None)
+    });
+    drop(made);
+    asked
+}
+
+// Whether a closure is asked once, and not at all for a tree that was dropped.
+fn asks_once(db: &mut Db<MemPages, Adds>) -> Result<bool> {
+    let tree = db.open_tree(b"short")?;
+    let before = asks(db, &tree);
+    let dropped = db.drop_tree(b"short");
+    let after = asks(db, &tree);
+    drop(tree);
+    Ok(dropped? && before == 1 && after == 0)
+}
+
 fn in_database(db: Db<MemPages, Adds>) -> Result<bool> {
     let mut db = db;
     let tree = match db.default_tree() {
@@ -33,12 +54,13 @@ fn in_database(db: Db<MemPages, Adds>) -> Result<bool> {
     };
     let by_merges = adds(&mut db, &tree);
     let by_closure = rises(&mut db, &tree);
+    let once = asks_once(&mut db);
     drop(tree);
     drop(db.into_pages());
-    Ok(by_merges? && by_closure?)
+    Ok(by_merges? && by_closure? && once?)
 }
 
-/// Whether counters count, and tickets rise, in a new database.
+/// Whether counters count, and tickets rise, in a new database, whose closures are asked once.
 pub fn counts(alloc: Global) -> Result<bool> {
     in_database(opened(alloc, b"shop")?.with_operators())
 }
