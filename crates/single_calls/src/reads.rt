@@ -4,7 +4,7 @@ ghost use Rattle.std.specs.FinMap.Entries.{find};
 ghost use Rattle.std.specs.declared.ops.Bound.TheVariants.{Excluded};
 ghost use Rattle.sled_pages.specs.Among.{bound_of, IsPredecessor};
 ghost use Rattle.sled_pages.specs.Order.{key_cmp};
-ghost use Rattle.sled.specs.Reads.{ReadsMap, Begins};
+ghost use Rattle.sled.specs.Reads.{ReadsMap, Begins, BeginsWith};
 
 use sled::{Db, Iter};
 use sled_model::{MergeOperator, Tree};
@@ -50,4 +50,15 @@ pub fn range<'a, P: Pages, M: MergeOperator>(
     ensures { IfOk result (Begins P.store M.meant db.now tree.now (bound_of lo.entry) (bound_of hi.entry)) }
 {
     db.range(tree, lo, hi)
+}
+
+/// The pairs whose keys begin with a prefix.
+pub fn scan_prefix<'a, P: Pages, M: MergeOperator>(
+    db: &'a Db<P, M>,
+    tree: &Tree,
+    prefix: &[u8],
+) -> Result<Iter<'a, P>>
+    ensures { IfOk result (BeginsWith P.store M.meant db.now tree.now prefix.now) }
+{
+    db.scan_prefix(tree, prefix)
 }
