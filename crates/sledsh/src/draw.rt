@@ -2,10 +2,9 @@
 
 use crate::calls::tell_refused;
 use sled_lines::input::Stopped;
-use sled_lines::print::Piece::{Number, Text};
-use sled_lines::print::{push_number, push_pieces, push_text};
+use sled_lines::print::{push_number, push_text};
 use sled_lines::words::push_word;
-use sled_pages::{Data, IVec, Node, Pages, Pid, Result};
+use sled_pages::{Data, Error, IVec, Node, Pages, Pid, Result};
 use std::alloc::Global;
 
 /// As what a tree is drawn.
@@ -16,212 +15,278 @@ pub enum Drawing {
     Dot,
 }
 
-// Adds a word; within a label of DOT a quote and a backslash have a backslash before them.
-fn push_name(alloc: Global, out: &mut Vec<u8>, name: &[u8], drawing: Drawing) -> Result<()> {
-    if matches!(drawing, Drawing::Text) {
-        return push_word(out, name);
+// What is drawn so far. Want of memory for a part is kept in mind, so that no part has to tell it: then the drawing is cut.
+#[derive(Drop)]
+struct Picture {
+    alloc: Global,
+    drawing: Drawing,
+    out: Vec<u8>,
+    is_cut: bool,
+}
+
+impl Picture {
+    fn is_dot(&self) -> bool {
+        matches!(self.drawing, Drawing::Dot)
     }
-    let mut word = Vec::new(alloc);
-    push_word(&mut word, name)?;
-    for byte in word.as_slice() {
-        if matches!(*byte, b'"' | b'\\') {
-            out.push(b'\\')?;
+
+    fn note(&mut self, pushed: Result<()>) {
+        self.is_cut |= pushed.is_err();
+        drop(pushed);
+    }
+
+    fn text(&mut self, text: &str) {
+        let pushed = push_text(&mut self.out, text.as_bytes());
+        self.note(pushed);
+    }
+
+    fn number(&mut self, number: u64) {
+        let pushed = push_number(&mut self.out, number);
+        self.note(pushed);
+    }
+
+    // Adds a text and a page's number.
+    fn page(&mut self, text: &str, pid: Pid) {
+        self.text(text);
+        self.number(pid.0);
+    }
+
+    // Adds a byte of a label of DOT, in which a quote and a backslash have a backslash before them.
+    fn byte(&mut self, byte: u8) {
+        if matches!(byte, b'"' | b'\\') {
+            self.text("\\");
         }
-        out.push(*byte)?;
+        self.is_cut |= self.out.push(byte).is_err();
     }
-    Ok(())
-}
 
-// Adds a text and a page's number.
-fn push_pid(out: &mut Vec<u8>, text: &[u8], pid: Pid) -> Result<()> {
-    push_text(out, text)?;
-    push_number(out, pid.0)
-}
-
-// Adds the bounds of a page's keys, no upper one being `..`.
-fn push_bounds(alloc: Global, out: &mut Vec<u8>, node: &Node, drawing: Drawing) -> Result<()> {
-    push_text(out, b" from ")?;
-    push_name(alloc, out, node.lo.as_ref(), drawing)?;
-    push_text(out, b" to ")?;
-    if node.hi.len() == 0 {
-        return push_text(out, b"..");
+    // Adds a word of a label of DOT.
+    fn label(&mut self, name: &[u8]) {
+        let mut word = Vec::new(self.alloc);
+        let pushed = push_word(&mut word, name);
+        self.note(pushed);
+        for byte in word.as_slice() {
+            self.byte(*byte);
+        }
+        drop(word);
     }
-    push_name(alloc, out, node.hi.as_ref(), drawing)
-}
 
-// Adds a text and a page's number, if there is the page.
-fn push_link(out: &mut Vec<u8>, text: &[u8], pid: Option<Pid>) -> Result<()> {
-    match pid {
-        Some(pid) => push_pid(out, text, pid),
-        None => Ok(()),
+    fn name(&mut self, name: &[u8]) {
+        if self.is_dot() {
+            return self.label(name);
+        }
+        let pushed = push_word(&mut self.out, name);
+        self.note(pushed);
     }
-}
 
-// Adds what is half done with a page.
-fn push_marks(out: &mut Vec<u8>, node: &Node, is_pointed: bool) -> Result<()> {
-    if node.merging {
-        push_text(out, b" merging")?;
-    }
-    push_link(out, b" merging-child ", node.merging_child)?;
-    if is_pointed {
-        return Ok(());
-    }
-    push_text(out, b" no-pointer")
-}
-
-// Adds what a page is: its bounds, the page to its right, and what is half done with it.
-fn push_head(
-    alloc: Global,
-    out: &mut Vec<u8>,
-    node: &Node,
-    pid: Pid,
-    is_pointed: bool,
-    drawing: Drawing,
-) -> Result<()> {
-    let kind = match &node.content {
-        Data::Leaf(_) => "leaf ",
-        Data::Index(_) => "index ",
-    };
-    push_pid(out, kind.as_bytes(), pid)?;
-    push_bounds(alloc, out, node, drawing)?;
-    push_link(out, b" next ", node.next)?;
-    push_marks(out, node, is_pointed)?;
-    push_text(out, b":")
-}
-
-fn push_pairs(
-    alloc: Global,
-    out: &mut Vec<u8>,
-    pairs: &[(IVec, IVec)],
-    drawing: Drawing,
-) -> Result<()> {
-    for pair in pairs {
-        push_text(out, b" ")?;
-        push_name(alloc, out, pair.0.as_ref(), drawing)?;
-        push_text(out, b"=")?;
-        push_name(alloc, out, pair.1.as_ref(), drawing)?;
-    }
-    Ok(())
-}
-
-// Adds the pointers as text.
-fn push_pointers(alloc: Global, out: &mut Vec<u8>, pointers: &[(IVec, Pid)]) -> Result<()> {
-    for pointer in pointers {
-        push_text(out, b" ")?;
-        push_name(alloc, out, pointer.0.as_ref(), Drawing::Text)?;
-        push_pid(out, b"->", pointer.1)?;
-    }
-    Ok(())
-}
-
-// Adds an arrow for each pointer.
-fn push_arrows(
-    alloc: Global,
-    out: &mut Vec<u8>,
-    from: Pid,
-    pointers: &[(IVec, Pid)],
-) -> Result<()> {
-    for pointer in pointers {
-        push_pid(out, b"  ", from)?;
-        push_pid(out, b" -> ", pointer.1)?;
-        push_text(out, b" [label=\"")?;
-        push_name(alloc, out, pointer.0.as_ref(), Drawing::Dot)?;
-        push_text(out, b"\"]\n")?;
-    }
-    Ok(())
-}
-
-// The pointers of an index. A leaf has none, and its pairs are added.
-fn pointers_of(
-    alloc: Global,
-    out: &mut Vec<u8>,
-    node: &Node,
-    drawing: Drawing,
-) -> Result<Vec<(IVec, Pid)>> {
-    let pairs = match &node.content {
-        Data::Leaf(leaf) => leaf.pairs(alloc)?,
-        Data::Index(index) => return index.pairs(alloc),
-    };
-    let pushed = push_pairs(alloc, out, pairs.as_slice(), drawing);
-    drop(pairs);
-    match pushed {
-        Ok(()) => Ok(Vec::new(alloc)),
-        Err(error) => Err(error),
-    }
-}
-
-// Adds the end of a page's label, and its arrows.
-fn push_dot_end(
-    alloc: Global,
-    out: &mut Vec<u8>,
-    node: &Node,
-    pid: Pid,
-    pointers: &[(IVec, Pid)],
-) -> Result<()> {
-    push_text(out, b"\"]\n")?;
-    push_arrows(alloc, out, pid, pointers)?;
-    let Some(next) = node.next else {
-        return Ok(());
-    };
-    push_pid(out, b"  ", pid)?;
-    push_pid(out, b" -> ", next)?;
-    push_text(out, b" [style=dashed]\n")
-}
-
-// Adds where a page points to.
-fn push_end(
-    alloc: Global,
-    out: &mut Vec<u8>,
-    node: &Node,
-    pid: Pid,
-    pointers: &[(IVec, Pid)],
-    drawing: Drawing,
-) -> Result<()> {
-    match drawing {
-        Drawing::Dot => push_dot_end(alloc, out, node, pid, pointers),
-        Drawing::Text => {
-            push_pointers(alloc, out, pointers)?;
-            push_text(out, b"\n")
+    // Adds the bounds of a page's keys, no upper one being `..`.
+    fn bounds(&mut self, node: &Node) {
+        self.text(" from ");
+        self.name(node.lo.as_ref());
+        self.text(" to ");
+        if node.hi.len() == 0 {
+            self.text("..");
+        } else {
+            self.name(node.hi.as_ref());
         }
     }
-}
 
-// Takes down the pages that these point to.
-fn take_down(below: &mut Vec<Pid>, pointers: &[(IVec, Pid)]) -> Result<()> {
-    for pointer in pointers {
-        below.push(pointer.1)?;
-    }
-    Ok(())
-}
-
-// Adds the beginning of a page's label.
-fn push_start(out: &mut Vec<u8>, pid: Pid, drawing: Drawing) -> Result<()> {
-    match drawing {
-        Drawing::Dot => {
-            push_pid(out, b"  ", pid)?;
-            push_text(out, b" [label=\"")
+    // Adds a text and a page's number, if there is the page.
+    fn link(&mut self, text: &str, pid: Option<Pid>) {
+        if let Some(pid) = pid {
+            self.page(text, pid);
         }
-        Drawing::Text => Ok(()),
     }
-}
 
-// Adds a page, and takes down the pages that it points to.
-fn push_page(
-    alloc: Global,
-    out: &mut Vec<u8>,
-    below: &mut Vec<Pid>,
-    node: &Node,
-    pid: Pid,
-    is_pointed: bool,
-    drawing: Drawing,
-) -> Result<()> {
-    push_start(out, pid, drawing)?;
-    push_head(alloc, out, node, pid, is_pointed, drawing)?;
-    let pointers = pointers_of(alloc, out, node, drawing)?;
-    let pushed = push_end(alloc, out, node, pid, pointers.as_slice(), drawing);
-    let taken = take_down(below, pointers.as_slice());
-    drop(pointers);
-    pushed.and(taken)
+    // Adds what is half done with a page.
+    fn marks(&mut self, node: &Node, is_pointed: bool) {
+        if node.merging {
+            self.text(" merging");
+        }
+        self.link(" merging-child ", node.merging_child);
+        if !is_pointed {
+            self.text(" no-pointer");
+        }
+    }
+
+    // Adds what a page is: its bounds, the page to its right, and what is half done with it.
+    fn head(&mut self, node: &Node, pid: Pid, is_pointed: bool) {
+        let kind = match &node.content {
+            Data::Leaf(_) => "leaf ",
+            Data::Index(_) => "index ",
+        };
+        self.page(kind, pid);
+        self.bounds(node);
+        self.link(" next ", node.next);
+        self.marks(node, is_pointed);
+        self.text(":");
+    }
+
+    fn pairs(&mut self, pairs: &[(IVec, IVec)]) {
+        for pair in pairs {
+            self.text(" ");
+            self.name(pair.0.as_ref());
+            self.text("=");
+            self.name(pair.1.as_ref());
+        }
+    }
+
+    // Adds the pointers as text.
+    fn pointers(&mut self, pointers: &[(IVec, Pid)]) {
+        for pointer in pointers {
+            self.text(" ");
+            self.name(pointer.0.as_ref());
+            self.page("->", pointer.1);
+        }
+    }
+
+    // Adds an arrow for each pointer.
+    fn arrows(&mut self, from: Pid, pointers: &[(IVec, Pid)]) {
+        for pointer in pointers {
+            self.page("  ", from);
+            self.page(" -> ", pointer.1);
+            self.text(" [label=\"");
+            self.label(pointer.0.as_ref());
+            self.text("\"]\n");
+        }
+    }
+
+    // The pointers of an index. A leaf has none, and its pairs are added.
+    fn pointers_of(&mut self, node: &Node) -> Result<Vec<(IVec, Pid)>> {
+        let leaf = match &node.content {
+            Data::Leaf(leaf) => leaf,
+            Data::Index(index) => return index.pairs(self.alloc),
+        };
+        let pairs = leaf.pairs(self.alloc)?;
+        self.pairs(pairs.as_slice());
+        drop(pairs);
+        Ok(Vec::new(self.alloc))
+    }
+
+    // Adds the end of a page's label, and its arrows.
+    fn dot_end(&mut self, node: &Node, pid: Pid, pointers: &[(IVec, Pid)]) {
+        self.text("\"]\n");
+        self.arrows(pid, pointers);
+        if let Some(next) = node.next {
+            self.page("  ", pid);
+            self.page(" -> ", next);
+            self.text(" [style=dashed]\n");
+        }
+    }
+
+    // Adds where a page points to.
+    fn end(&mut self, node: &Node, pid: Pid, pointers: &[(IVec, Pid)]) {
+        if self.is_dot() {
+            return self.dot_end(node, pid, pointers);
+        }
+        self.pointers(pointers);
+        self.text("\n");
+    }
+
+    // Takes down the pages that these point to.
+    fn take_down(&mut self, below: &mut Vec<Pid>, pointers: &[(IVec, Pid)]) {
+        for pointer in pointers {
+            self.is_cut |= below.push(pointer.1).is_err();
+        }
+    }
+
+    // Adds the beginning of a page's label.
+    fn start(&mut self, pid: Pid) {
+        if self.is_dot() {
+            self.page("  ", pid);
+            self.text(" [label=\"");
+        }
+    }
+
+    // Adds a page, and takes down the pages that it points to.
+    fn node(
+        &mut self,
+        below: &mut Vec<Pid>,
+        node: &Node,
+        pid: Pid,
+        is_pointed: bool,
+    ) -> Result<()> {
+        self.start(pid);
+        self.head(node, pid, is_pointed);
+        let pointers = self.pointers_of(node)?;
+        self.end(node, pid, pointers.as_slice());
+        self.take_down(below, pointers.as_slice());
+        drop(pointers);
+        Ok(())
+    }
+
+    // Adds a page by its number: the page to its right.
+    fn view<P: Pages>(
+        &mut self,
+        pages: &P,
+        below: &mut Vec<Pid>,
+        pid: Pid,
+        is_pointed: bool,
+    ) -> Result<Option<Pid>> {
+        let Some(view) = pages.read(self.alloc, pid)? else {
+            return Ok(None);
+        };
+        let added = self.node(below, &view.node, pid, is_pointed);
+        let next = view.node.next;
+        drop(view);
+        added.map(|()| next)
+    }
+
+    // Adds a level, from the first of the pages that the level above points to, and takes down the pages that it points to.
+    fn level<P: Pages>(&mut self, pages: &P, pointed: &[Pid], below: &mut Vec<Pid>) -> Result<()> {
+        let mut next = pointed.first().copied();
+        for _ in 0..u64::MAX {
+            let Some(pid) = next else {
+                break;
+            };
+            next = self.view(pages, below, pid, is_among(pointed, pid))?;
+        }
+        Ok(())
+    }
+
+    // Adds which level it is.
+    fn title(&mut self, level: u64) {
+        if !self.is_dot() {
+            self.text("level ");
+            self.number(level);
+            self.text("\n");
+        }
+    }
+
+    // Adds all levels, from the one of these pages down.
+    fn levels<P: Pages>(&mut self, pages: &P, mut pointed: Vec<Pid>) -> Result<()> {
+        for level in 0..u64::MAX {
+            if pointed.is_empty() {
+                break;
+            }
+            self.title(level);
+            let mut below = Vec::new(self.alloc);
+            let added = self.level(pages, pointed.as_slice(), &mut below);
+            let above = std::mem::replace(&mut pointed, below);
+            drop(above);
+            added?;
+        }
+        Ok(())
+    }
+
+    // Adds the tree of a name, if there is one.
+    fn tree<P: Pages>(&mut self, pages: &P, name: &[u8]) -> Result<()> {
+        let mut roots = Vec::new(self.alloc);
+        if let Some(root) = pages.root(name) {
+            roots.push(root)?;
+        }
+        self.levels(pages, roots)
+    }
+
+    // Adds the whole drawing: whether it was cut.
+    fn draw<P: Pages>(&mut self, pages: &P, name: &[u8]) -> Result<bool> {
+        if !self.is_dot() {
+            self.tree(pages, name)?;
+            return Ok(self.is_cut);
+        }
+        self.text("digraph tree {\n  node [shape=box]\n");
+        self.tree(pages, name)?;
+        self.text("}\n");
+        Ok(self.is_cut)
+    }
 }
 
 fn is_among(pids: &[Pid], pid: Pid) -> bool {
@@ -233,83 +298,6 @@ fn is_among(pids: &[Pid], pid: Pid) -> bool {
     false
 }
 
-// Adds a level, from the first of the pages that the level above points to: the pages that this one points to.
-fn push_level<P: Pages>(
-    alloc: Global,
-    pages: &P,
-    pointed: &[Pid],
-    drawing: Drawing,
-    out: &mut Vec<u8>,
-) -> Result<Vec<Pid>> {
-    let mut below = Vec::new(alloc);
-    let mut next = pointed.first().copied();
-    for _ in 0..u64::MAX {
-        let Some(pid) = next else {
-            break;
-        };
-        let Some(view) = pages.read(alloc, pid)? else {
-            break;
-        };
-        next = view.node.next;
-        let is_pointed = is_among(pointed, pid);
-        let pushed = push_page(alloc, out, &mut below, &view.node, pid, is_pointed, drawing);
-        drop(view);
-        pushed?;
-    }
-    Ok(below)
-}
-
-// The root of a tree, if it has one.
-fn roots_of<P: Pages>(alloc: Global, pages: &P, name: &[u8]) -> Result<Vec<Pid>> {
-    let mut roots = Vec::new(alloc);
-    if let Some(root) = pages.root(name) {
-        roots.push(root)?;
-    }
-    Ok(roots)
-}
-
-// Adds which level it is.
-fn push_title(out: &mut Vec<u8>, level: u64, drawing: Drawing) -> Result<()> {
-    match drawing {
-        Drawing::Text => push_pieces(out, &[Text(b"level "), Number(level), Text(b"\n")]),
-        Drawing::Dot => Ok(()),
-    }
-}
-
-// Adds all levels, from the root down.
-fn push_levels<P: Pages>(
-    alloc: Global,
-    pages: &P,
-    name: &[u8],
-    drawing: Drawing,
-    out: &mut Vec<u8>,
-) -> Result<()> {
-    let mut pointed = roots_of(alloc, pages, name)?;
-    for level in 0..u64::MAX {
-        if pointed.is_empty() {
-            break;
-        }
-        push_title(out, level, drawing)?;
-        pointed = push_level(alloc, pages, pointed.as_slice(), drawing, out)?;
-    }
-    Ok(())
-}
-
-fn push_drawing<P: Pages>(
-    alloc: Global,
-    pages: &P,
-    name: &[u8],
-    drawing: Drawing,
-    out: &mut Vec<u8>,
-) -> Result<()> {
-    if matches!(drawing, Drawing::Text) {
-        return push_levels(alloc, pages, name, drawing, out);
-    }
-    push_text(out, b"digraph tree {\n  node [shape=box]\n")?;
-    push_levels(alloc, pages, name, drawing, out)?;
-    push_text(out, b"}\n")
-}
-
 /// Adds a drawing of the tree of this name, or what there is of it and the refusal of a read.
 pub fn tell_drawing<P: Pages>(
     alloc: Global,
@@ -318,8 +306,19 @@ pub fn tell_drawing<P: Pages>(
     drawing: Drawing,
     out: &mut Vec<u8>,
 ) -> std::result::Result<(), Stopped> {
-    match push_drawing(alloc, pages, name, drawing, out) {
-        Ok(()) => Ok(()),
+    let mut picture = Picture {
+        alloc,
+        drawing,
+        out: std::mem::replace(out, Vec::new(alloc)),
+        is_cut: false,
+    };
+    let drawn = picture.draw(pages, name);
+    let empty = std::mem::replace(out, std::mem::replace(&mut picture.out, Vec::new(alloc)));
+    drop(empty);
+    drop(picture);
+    match drawn {
+        Ok(false) => Ok(()),
+        Ok(true) => tell_refused(out, Error::NoMemory),
         Err(error) => tell_refused(out, error),
     }
 }
