@@ -7,6 +7,7 @@ pub mod Surviving
 pub mod Entries
 pub mod Queueing
 pub mod Copying
+pub mod Keeping
 pub mod Rising
 pub mod Counting
 pub mod Typing
