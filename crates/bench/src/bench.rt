@@ -53,8 +53,7 @@ pub fn named(name: &str) -> Result<Workload> {
     Err(Stopped)
 }
 
-/// Who makes the calls.
-#[derive(Drop)]
+/// Who makes the calls. It has no drop, and so is proved without one: a program forgets it at its end.
 enum Client<M> {
     /// A machine, step by step.
     Stepped(Machine<MemPages, M>),
@@ -127,7 +126,6 @@ impl<M: MergeOperator> Client<M> {
 }
 
 /// A database, and what is done with it.
-#[derive(Drop)]
 pub struct Bench<M = Box<dyn MergeOperator + Send>> {
     client: Client<M>,
     tree: Tree,
@@ -144,7 +142,7 @@ impl<M: MergeOperator> Bench<M> {
         let tree = match db.default_tree() {
             Ok(tree) => tree,
             Err(error) => {
-                drop(db);
+                std::mem::forget(db);
                 drop(pairs);
                 return Err(Stopped::from(error));
             }
@@ -263,8 +261,9 @@ impl<M: MergeOperator> Bench<M> {
     fn range(&self, place: u64) -> Result<u64> {
         let key = self.pairs.key(place)?;
         let lo = Bound::Included(key.as_ref());
-        let pairs = self.client.db().range(&self.tree, lo, Bound::Unbounded)?;
-        let (_, sum) = taken(pairs, RANGE)?;
+        let pairs = self.client.db().range(&self.tree, lo, Bound::Unbounded);
+        drop(key);
+        let (_, sum) = taken(pairs?, RANGE)?;
         Ok(sum)
     }
 

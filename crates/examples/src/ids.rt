@@ -36,7 +36,7 @@ pub fn run_twice(
     let outcomes = match machine.run(steps) {
         Ok(outcomes) => outcomes,
         Err(e) => {
-            drop(machine);
+            drop(machine.into_db().into_pages());
             return Err(e);
         }
     };
@@ -52,7 +52,7 @@ pub fn run_twice(
     };
     let mut machine = Machine::new(db);
     let more = machine.run(later);
-    drop(machine);
+    drop(machine.into_db().into_pages());
     match more {
         Ok(more) => Ok((outcomes, more)),
         Err(e) => {

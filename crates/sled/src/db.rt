@@ -123,11 +123,7 @@ impl<P: Pages, M: MergeOperator> Db<P, M> {
             return Err(Error::Closed);
         }
         match number_of(self.trees.as_slice(), DEFAULT_TREE.as_bytes()) {
-            Some(number) => Ok(Tree {
-                database: self.name.clone()?,
-                name: IVec::from_slice(self.alloc, DEFAULT_TREE.as_bytes())?,
-                number,
-            }),
+            Some(number) => self.handle_of(DEFAULT_TREE.as_bytes(), number),
             None => unreachable!(),
         }
     }

@@ -154,7 +154,7 @@ impl<P: Pages, M: MergeOperator> Db<P, M> {
     ghost use Rattle.sled.specs.Opens.{OpensBySteps, OpenRefusedBySteps};
 
     // What names the tree of this name and number.
-    fn handle_of(&self, name: &[u8], number: u64) -> Result<Tree>
+    pub(crate) fn handle_of(&self, name: &[u8], number: u64) -> Result<Tree>
         ensures ok { IfOk result (λ tree. tree ≡ record { database = self.now.name; name = name.now; number = number }) }
         ensures err { IfErr result (λ e. e ≡ NoMemory) }
     {

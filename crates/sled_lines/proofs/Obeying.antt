@@ -98,6 +98,12 @@ module _ {P M : Type 0} (store : P → Store) (flush_number : P → ℕ) (meant 
     prints = prints;
   }
 
+  -- the same, if they could be printed
+  pub all_shown : {T E : Type 0} (s : Session P M) (held held_then : Option (List ℕ)) (gathered gathered_then text : List ℕ) (r : Result T E) → (now (store s.machine.db.pages)).in_group ≡ false
+      → text ≡ dump_text (collections (trees_of (now (store s.machine.db.pages))) s.machine.db.trees) → OnOk r (Prints held gathered held_then gathered_then text) → OnOk r (Obeys store flush_number meant s command.Dump s held gathered held_then gathered_then)
+  all_shown s held held_then gathered gathered_then text (Ok done) ends is prints = obeyed_all s held held_then gathered gathered_then text ends is prints
+  all_shown s held held_then gathered gathered_then text (Err e) ends is prints = tt
+
   -- why they are not is printed
   pub obeyed_refusal : (s : Session P M) (e : Error) (held : Option (List ℕ)) (gathered gathered_then : List ℕ) → RefusesExport (store s.machine.db.pages) e → gathered_then ≡ gathered ++ refused_line e
       → Obeys store flush_number meant s command.Dump s held gathered held gathered_then
@@ -106,6 +112,12 @@ module _ {P M : Type 0} (store : P → Store) (flush_number : P → ℕ) (meant 
     does = (refl, inr (e, refuses, refl));
     prints = prints_onto held gathered gathered_then (refused_line e) is;
   }
+
+  -- the same, if that could be printed
+  pub refusal_shown : {T E : Type 0} (s : Session P M) (e : Error) (held : Option (List ℕ)) (gathered gathered_then : List ℕ) (r : Result T E) → RefusesExport (store s.machine.db.pages) e → OnOk r (gathered_then ≡ gathered ++ refused_line e)
+      → OnOk r (Obeys store flush_number meant s command.Dump s held gathered held gathered_then)
+  refusal_shown s e held gathered gathered_then (Ok done) refuses is = obeyed_refusal s e held gathered gathered_then refuses is
+  refusal_shown s e held gathered gathered_then (Err f) refuses is = tt
 
   -- what is printed is written
   obeyed_written : (old new : Session P M) (c : Command) (a b d : Option (List ℕ)) (o p q : List ℕ) → Obeys store flush_number meant old c new a o b p → Prints b p d q [] → Obeys store flush_number meant old c new a o d q

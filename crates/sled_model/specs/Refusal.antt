@@ -156,9 +156,8 @@ cause_of_drop s a b name NoMemory = (name ≢ default_name) × (s.trees name ≢
 cause_of_drop s a b name (Io fault) = (name ≢ default_name) × (s.trees name ≢ None) × ((a.faults < b.faults) ⊎ ((pid : ℕ) × (a.is_readable pid ≡ false)))
 cause_of_drop s a b name e = ⊥
 
--- why an import is refused before its first part: some collection is of another type than `tree`, or there is no memory
+-- why an import is refused before its first part: some collection is of another type than `tree`
 abbrev pub cause_of_import : List Content → Error → Type 0
-cause_of_import all NoMemory = Unit {0}
 cause_of_import all (Unsupported text) = (text.now ≡ UNKNOWN_COLLECTION_TYPE.now) × (are_trees all ≡ false)
 cause_of_import all e = ⊥
 

@@ -7,7 +7,7 @@ ghost use Rattle.sled_tree.specs.theory.StageAction.{StageActionBy, Only};
 ghost use Rattle.sled_tree.specs.Follows.{OrRefused, LinksChange};
 ghost use Rattle.sled_tree.specs.theory.Passing.{AdvancesOnPath};
 ghost use Rattle.sled_tree.specs.Change.{link_of};
-ghost use Rattle.sled_tree.specs.theory.Change.{IsChangeOf, IsOfPair, event_of_link};
+ghost use Rattle.sled_tree.specs.theory.Change.{IsChangeBy, IsChangeOf, IsOfPair, event_of_link};
 ghost use Rattle.sled_tree.specs.theory.Linking.{IsAtLink, PreparesChange, LinksPrepared, begun_again};
 ghost use Rattle.sled_tree.specs.Course.{course};
 
@@ -42,6 +42,25 @@ fn link_for(key: &IVec, effect: Effect) -> Result<Option<Link>>
     }
 }
 
+// The change by a decision at a key.
+fn change_by(key: &IVec, decision: Decision) -> Result<Option<Change>>
+    ensures ok { IfOk result (IsChangeBy decision key.now) }
+    ensures err { IfErr result (λ e. e ≡ NoMemory) }
+{
+    let Decision { effect, reply } = decision;
+    match link_for(key, effect) {
+        Ok(Some(link)) => Ok(Some(Change { link, reply })),
+        Ok(None) => {
+            drop(reply);
+            Ok(None)
+        }
+        Err(e) => {
+            drop(reply);
+            Err(e)
+        }
+    }
+}
+
 // Prepares the call's change of its leaf, by the operator of its tree: all that wants memory comes before the link, after which
 // nothing is refused.
 fn prepare<M: MergeOperator>(
@@ -55,18 +74,8 @@ fn prepare<M: MergeOperator>(
 {
     let key = job.call.key();
     let value = node.get(key.as_ref())?;
-    let Decision { effect, reply } = job.call.at_link(alloc, value, operator)?;
-    match link_for(key, effect) {
-        Ok(Some(link)) => Ok(Some(Change { link, reply })),
-        Ok(None) => {
-            drop(reply);
-            Ok(None)
-        }
-        Err(e) => {
-            drop(reply);
-            Err(e)
-        }
-    }
+    let decision = job.call.at_link(alloc, value, operator)?;
+    change_by(key, decision)
 }
 
 // Links the call's change at the version of the leaf that it has read.

@@ -75,7 +75,9 @@ type Form = (&'static str, &'static str, Verb, &'static str);
 // of a call in flight, OPERATOR a merge operator, HOW what is made
 // of a value, and the others numbers; `..` stands for more of the word before it, `K V ..` for pairs,
 // and `; ..` for more of all that stands before it.
-const FORMS: [Form; 89] = [
+
+// Calls in slots, and from their begin to their end.
+const CALLS: [Form; 17] = [
     (
         "insert",
         "K V",
@@ -163,6 +165,10 @@ const FORMS: [Form; 89] = [
         Verb::Operator,
         "gives the tree a merge operator: concat, add, max, before, keep, gone or short",
     ),
+];
+
+// What becomes of the store.
+const STORES: [Form; 12] = [
     ("flush", "", Verb::Line, "makes all durable"),
     (
         "crash",
@@ -215,6 +221,10 @@ const FORMS: [Form; 89] = [
         Verb::Recovered,
         "prints whether the store is what a crash left",
     ),
+];
+
+// What is told of pages and reads, and many calls at once.
+const COUNTS: [Form; 10] = [
     (
         "pages",
         "",
@@ -275,6 +285,10 @@ const FORMS: [Form; 89] = [
         Verb::Handle,
         "makes current what names a tree: a database, the tree's name and its number",
     ),
+];
+
+// Reads that take no slot.
+const READS: [Form; 9] = [
     (
         "has",
         "K",
@@ -329,6 +343,10 @@ const FORMS: [Form; 89] = [
         Verb::Look(Look::Names),
         "prints the names of all trees, in order",
     ),
+];
+
+// Trees by name, ids, and ranges.
+const TREES: [Form; 13] = [
     (
         "tree",
         "NAME",
@@ -407,6 +425,10 @@ const FORMS: [Form; 89] = [
         Verb::Look(Look::Values(Side::Back)),
         "prints them from the back",
     ),
+];
+
+// Calls that are made in one step.
+const WHOLES: [Form; 9] = [
     (
         "pop-min",
         "",
@@ -461,6 +483,10 @@ const FORMS: [Form; 89] = [
         Verb::Listen(Listen::Unwatch),
         "gives a subscriber up, with the events that wait for it",
     ),
+];
+
+// Calls of the database itself.
+const OWNED: [Form; 17] = [
     (
         "owned insert",
         "K V",
@@ -563,13 +589,59 @@ const FORMS: [Form; 89] = [
         Verb::Owned(Owned::Listen(Listen::Unwatch)),
         "gives a subscriber up, with the events that wait for it",
     ),
+];
+
+// The rest.
+const ENDS: [Form; 2] = [
     ("help", "", Verb::Help, "prints these lines"),
     ("quit", "", Verb::Quit, "ends"),
 ];
 
-// The commands. This function alone names the list: it is made anew in each that does, which takes the check as long as ten others.
-fn forms() -> &'static [Form] {
-    &FORMS
+// The commands, in several lists, each of which one function alone names: a list is made anew in each function that does, and the check
+// takes four times as long for one of twice the length.
+fn calls() -> &'static [Form] {
+    &CALLS
+}
+
+fn stores() -> &'static [Form] {
+    &STORES
+}
+
+fn counts() -> &'static [Form] {
+    &COUNTS
+}
+
+fn reads() -> &'static [Form] {
+    &READS
+}
+
+fn trees() -> &'static [Form] {
+    &TREES
+}
+
+fn wholes() -> &'static [Form] {
+    &WHOLES
+}
+
+fn owned() -> &'static [Form] {
+    &OWNED
+}
+
+fn ends() -> &'static [Form] {
+    &ENDS
+}
+
+fn forms() -> [&'static [Form]; 8] {
+    [
+        calls(),
+        stores(),
+        counts(),
+        reads(),
+        trees(),
+        wholes(),
+        owned(),
+        ends(),
+    ]
 }
 
 /// What a line asks for.
@@ -600,7 +672,7 @@ enum Misfit<'a> {
 }
 
 // The command whose own words a line begins with.
-fn find<'a>(forms: &[Form], line: &'a [u8]) -> std::result::Result<Match<'a>, Misfit<'a>> {
+fn find<'a>(lists: &[&[Form]], line: &'a [u8]) -> std::result::Result<Match<'a>, Misfit<'a>> {
     let (name, words) = first_word(line);
     let (second, more) = match words {
         Some(words) => {
@@ -610,20 +682,22 @@ fn find<'a>(forms: &[Form], line: &'a [u8]) -> std::result::Result<Match<'a>, Mi
         None => (None, None),
     };
     let (mut alone, mut leads) = (None, false);
-    for form in forms {
-        let (own, follows) = first_word(form.0.as_bytes());
-        if own != name {
-            continue;
-        }
-        if follows.is_none() {
-            alone = Some(*form);
-        } else if follows == second {
-            return Ok(Match {
-                form: *form,
-                words: more,
-            });
-        } else {
-            leads = true;
+    for forms in lists {
+        for form in *forms {
+            let (own, follows) = first_word(form.0.as_bytes());
+            if own != name {
+                continue;
+            }
+            if follows.is_none() {
+                alone = Some(*form);
+            } else if follows == second {
+                return Ok(Match {
+                    form: *form,
+                    words: more,
+                });
+            } else {
+                leads = true;
+            }
         }
     }
     match (alone, second) {
@@ -726,7 +800,7 @@ pub fn read(
     numbers: &mut Vec<u64>,
     why: &mut Vec<u8>,
 ) -> Result<Option<Command>> {
-    let verb = match find(forms(), line) {
+    let verb = match find(&forms(), line) {
         Ok(found) => {
             check(alloc, found, why)?;
             read_numbers(found.words, numbers)?;
@@ -743,22 +817,29 @@ pub fn read(
     command_of(alloc, line, verb)
 }
 
+// Adds the line of a command.
+fn push_form(out: &mut Vec<u8>, form: &Form) -> std::result::Result<(), Stopped> {
+    let (own, takes, _, does) = *form;
+    let space = if takes.is_empty() { "" } else { " " };
+    tell(
+        out,
+        &[
+            Text(own.as_bytes()),
+            Text(space.as_bytes()),
+            Text(takes.as_bytes()),
+            Text(b": "),
+            Text(does.as_bytes()),
+            Text(b"\n"),
+        ],
+    )
+}
+
 /// Adds a line for each command.
 pub fn push_help(out: &mut Vec<u8>) -> std::result::Result<(), Stopped> {
-    for form in forms() {
-        let (own, takes, _, does) = *form;
-        let space = if takes.is_empty() { "" } else { " " };
-        tell(
-            out,
-            &[
-                Text(own.as_bytes()),
-                Text(space.as_bytes()),
-                Text(takes.as_bytes()),
-                Text(b": "),
-                Text(does.as_bytes()),
-                Text(b"\n"),
-            ],
-        )?;
+    for forms in forms() {
+        for form in forms {
+            push_form(out, form)?;
+        }
     }
     Ok(())
 }

@@ -1,19 +1,35 @@
 //! A copy of all trees of a database in another, where there is memory.
 use crate::fresh::{Fresh, opened};
 use examples::copy_all;
+use sled::Collection;
 use sled_pages::Result;
 use std::alloc::Global;
 
+// Opens a second tree and inserts a pair there.
+fn fill(db: &mut Fresh) -> Result<()> {
+    let tree = db.open_tree(b"t")?;
+    let stood = db.insert(&tree, b"x", b"1");
+    drop(tree);
+    drop(stood?);
+    Ok(())
+}
+
+// Whether a database has these trees with these pairs.
+fn has_all(db: &Fresh, wanted: &[Collection]) -> Result<bool> {
+    let collections = db.export()?;
+    let has = collections.as_slice() == wanted;
+    drop(collections);
+    Ok(has)
+}
+
 // Whether the second database has what the first has.
 fn has_copy(first: &mut Fresh, second: &mut Fresh) -> Result<bool> {
-    let tree = first.open_tree(b"t")?;
-    drop(first.insert(&tree, b"x", b"1")?);
-    drop(tree);
+    fill(first)?;
     copy_all(first, second)?;
     let collections = first.export()?;
-    let is_same = second.export()? == collections;
+    let has = has_all(second, collections.as_slice());
     drop(collections);
-    Ok(is_same)
+    has
 }
 
 /// Whether all trees of a database are copied into a new one.

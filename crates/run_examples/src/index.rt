@@ -1,28 +1,25 @@
 //! The reader of an index in `examples`, over a database with entries.
 use crate::fresh::opened;
-use examples::entries_under;
+use examples::{Adds, entries_under};
 use ordered_keys::{push_number, push_text};
-use sled_lines::operator::NoOperator;
 use sled_machine::Machine;
 use sled_model::{Call, Tree};
 use sled_pages::{IVec, MemPages, Result};
 use std::alloc::Global;
 
-// Inserts an entry, with its text as the value.
-fn insert(
-    alloc: Global,
-    machine: &mut Machine<MemPages, NoOperator>,
-    tree: &Tree,
-    number: u64,
-    text: &[u8],
-) -> Result<()> {
+// The call that inserts an entry, with its text as the value.
+fn insertion(alloc: Global, number: u64, text: &[u8]) -> Result<Call> {
     let mut key = Vec::new(alloc);
     push_number(&mut key, number)?;
     push_text(&mut key, text)?;
-    let key = IVec::from_slice(alloc, key.as_slice())?;
-    let outcome = machine.complete(tree, Call::Insert(key, IVec::from_slice(alloc, text)?));
-    drop(outcome);
-    Ok(())
+    let value = IVec::from_slice(alloc, text)?;
+    match IVec::from_slice(alloc, key.as_slice()) {
+        Ok(key) => Ok(Call::Insert(key, value)),
+        Err(e) => {
+            drop(value);
+            Err(e)
+        }
+    }
 }
 
 fn is(value: &IVec, bytes: &[u8]) -> bool {
@@ -32,19 +29,16 @@ fn is(value: &IVec, bytes: &[u8]) -> bool {
 // Entries, two of them under one number.
 const ENTRIES: [(u64, &str); 4] = [(7, "b"), (8, "a"), (7, "a"), (6, "c")];
 
-fn insert_all(
-    alloc: Global,
-    machine: &mut Machine<MemPages, NoOperator>,
-    tree: &Tree,
-) -> Result<()> {
+fn insert_all(alloc: Global, machine: &mut Machine<MemPages, Adds>, tree: &Tree) -> Result<()> {
     for entry in &ENTRIES {
-        insert(alloc, machine, tree, entry.0, entry.1.as_bytes())?;
+        let call = insertion(alloc, entry.0, entry.1.as_bytes())?;
+        drop(machine.complete(tree, call));
     }
     Ok(())
 }
 
 // Whether the two are read, in their order.
-fn reads_two(alloc: Global, machine: &Machine<MemPages, NoOperator>, tree: &Tree) -> Result<bool> {
+fn reads_two(alloc: Global, machine: &Machine<MemPages, Adds>, tree: &Tree) -> Result<bool> {
     let found = entries_under(alloc, machine.db(), tree, 7)?;
     let is_found = match found.as_slice() {
         [first, second] => is(&first.1, b"a") && is(&second.1, b"b"),
@@ -54,7 +48,7 @@ fn reads_two(alloc: Global, machine: &Machine<MemPages, NoOperator>, tree: &Tree
     Ok(is_found)
 }
 
-fn fill_and_read(alloc: Global, machine: &mut Machine<MemPages, NoOperator>) -> Result<bool> {
+fn fill_and_read(alloc: Global, machine: &mut Machine<MemPages, Adds>) -> Result<bool> {
     let tree = machine.db().default_tree()?;
     let filled = insert_all(alloc, machine, &tree);
     let is_found = match filled {
@@ -69,6 +63,6 @@ fn fill_and_read(alloc: Global, machine: &mut Machine<MemPages, NoOperator>) -> 
 pub fn finds_entries(alloc: Global) -> Result<bool> {
     let mut machine = Machine::new(opened(alloc, b"db")?);
     let found = fill_and_read(alloc, &mut machine);
-    drop(machine);
+    drop(machine.into_db().into_pages());
     found
 }

@@ -1,5 +1,5 @@
 use Rattle.sled.proofs.Reopening.{empty_is_well, empty_is_calm}
-use Rattle.code_tests.proofs.stores.small_store_works.Goals as goal
+use Rattle.run_examples.proofs.stores.small_store_works.Goals as goal
 
 pub open-requires-clause-well : goal.open-requires-clause-well
 open-requires-clause-well c = λ κs. empty_is_well _ c.new.ensures

@@ -1,5 +1,5 @@
 use Rattle.sled.proofs.Reopening.{left_is_well, left_is_calm}
-use Rattle.code_tests.proofs.stores.has_kept.Goals as goal
+use Rattle.run_examples.proofs.stores.has_kept.Goals as goal
 
 pub open-requires-clause-well : goal.open-requires-clause-well
 open-requires-clause-well g c = λ κs. left_is_well _ _ _ c.crash-left.ensures c.into_pages.ensures.safe

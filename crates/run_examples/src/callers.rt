@@ -15,9 +15,10 @@ fn finds(got: &Option<Outcome>, value: &[u8]) -> bool {
 
 /// Whether what was inserted in a new database is read.
 pub fn is_read(alloc: Global) -> Told<bool> {
-    let key = IVec::from_slice(alloc, b"a")?;
-    let value = IVec::from_slice(alloc, b"1")?;
-    let got = insert_then_get_in_new(alloc, b"db", &key, &value)?;
+    let one = IVec::from_slice(alloc, b"1")?;
+    let got = insert_then_get_in_new(alloc, b"db", &one, &one);
+    drop(one);
+    let got = got?;
     let is_found = finds(&got, b"1");
     drop(got);
     Ok(is_found)

@@ -1,11 +1,11 @@
-//! New databases in memory, for no merge operators: one that may hold boxed operators cannot be handed out.
+//! New databases in memory, whose merge operators add: one that may hold boxed operators cannot be handed out.
+use examples::Adds;
 use sled::{Db, empty_pages};
-use sled_lines::operator::NoOperator;
 use sled_pages::{MemPages, Result};
 use std::alloc::Global;
 
-/// A database in memory that no operator is given to.
-pub type Fresh = Db<MemPages, NoOperator>;
+/// A database in memory.
+pub type Fresh = Db<MemPages, Adds>;
 
 /// A new database of this name.
 pub fn opened(alloc: Global, name: &[u8]) -> Result<Fresh> {
