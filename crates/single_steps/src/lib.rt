@@ -1,0 +1,30 @@
+//! One step of a call in flight under the contract that it has. The edits in `must-fail` show what that contract rules out: each
+//! does something to the store or the call before the step, or in its place.
+#![tactic(auto)]
+
+ghost use Rattle.std.specs.Prelude.{◌<◌};
+ghost use Rattle.std.specs.Option.{option_map};
+ghost use Rattle.sled_pages.specs.Store.{now};
+ghost use Rattle.sled_tree.specs.theory.StageAction.{FlightStepBy, Only};
+ghost use Rattle.sled_tree.specs.Passing.{StepsOnPath};
+ghost use Rattle.sled_tree.specs.Follows.{FollowsOn};
+
+use sled_model::{MAX_LOOPS, MergeOperator};
+use sled_pages::Pages;
+use sled_tree::{InFlight, Went, advance};
+use std::alloc::Global;
+
+/// One step of a call in flight that has turns left.
+pub fn advance_flight<P: Pages, M: MergeOperator>(
+    pages: &mut P,
+    alloc: Global,
+    operator: Option<&M>,
+    flight: &mut InFlight,
+) -> Went
+    requires { flight.old.turns < MAX_LOOPS }
+    ensures advances { FlightStepBy (Only (option_map (λ o. M.meant o.now) operator.entry)) (P.store pages.old) flight.old result (P.store pages.new) flight.new }
+    ensures passes { StepsOnPath (now (P.store pages.old)) flight.old result (now (P.store pages.new)) flight.new }
+    ensures follows { FollowsOn (P.store pages.old) flight.old result (P.store pages.new) flight.new }
+{
+    advance(pages, alloc, operator, flight)
+}
