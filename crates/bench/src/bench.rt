@@ -53,7 +53,8 @@ pub fn named(name: &str) -> Result<Workload> {
     Err(Stopped)
 }
 
-/// Who makes the calls. It has no drop, and so is proved without one: a program forgets it at its end.
+/// Who makes the calls.
+#[derive(Drop)]
 enum Client<M> {
     /// A machine, step by step.
     Stepped(Machine<MemPages, M>),
@@ -126,6 +127,7 @@ impl<M: MergeOperator> Client<M> {
 }
 
 /// A database, and what is done with it.
+#[derive(Drop)]
 pub struct Bench<M = Box<dyn MergeOperator + Send>> {
     client: Client<M>,
     tree: Tree,

@@ -834,12 +834,18 @@ fn push_form(out: &mut Vec<u8>, form: &Form) -> std::result::Result<(), Stopped>
     )
 }
 
+// Adds the lines of these commands.
+fn push_forms(out: &mut Vec<u8>, forms: &[Form]) -> std::result::Result<(), Stopped> {
+    for form in forms {
+        push_form(out, form)?;
+    }
+    Ok(())
+}
+
 /// Adds a line for each command.
 pub fn push_help(out: &mut Vec<u8>) -> std::result::Result<(), Stopped> {
     for forms in forms() {
-        for form in forms {
-            push_form(out, form)?;
-        }
+        push_forms(out, forms)?;
     }
     Ok(())
 }
