@@ -89,11 +89,12 @@ def an_owned_call_of_a_tree_that_is_not_there_is_refused(s):
     """A handle of another database, of another name or of another number is refused, and changes nothing. The handle stays
     current."""
     s.line('owned insert a 1', 'old -')
-    for handle, error in (('other __sled__default 1', 'E2'), ('other __sled__default 2', 'E2'), ('sledsh t 1', 'E1'), ('sledsh __sled__default 2', 'E1')):
+    another, gone = 'refused E2', 'refused E1'
+    for handle, refusal in (('other __sled__default 1', another), ('other __sled__default 2', another), ('sledsh t 1', gone), ('sledsh __sled__default 2', gone)):
         s.line(f'handle {handle}', 'done')
         for line in ('insert a 2', 'set a 2', 'remove a', 'del a', 'cas a 1 2', 'pop-min', 'pop-max', 'clear'):
-            s.line(f'owned {line}', f'refused {error}')
-        s.line('get a', f'refused {error}')
+            s.line(f'owned {line}', refusal)
+        s.line('get a', refusal)
     s.line('owned flush', 'flushed 1')
     s.line('handle sledsh __sled__default 1', 'done')
     s.line('owned cas a 1 2', 'swapped')

@@ -210,7 +210,7 @@ class Plain:
         if name in ('step', 'finish') and words[1] in self.calls and last != 'no slot':
             expect(self.calls[words[1]][1].is_there == (last != 'refused E1'), words, last)
         if name in POPS:
-            if not last.endswith(('E1', 'E2', 'E8')):
+            if last not in ('refused E1', 'refused E2', 'refused E8'):
                 self.pops(name, last, shell.contents())
             return
         if name.startswith('import'):

@@ -144,7 +144,7 @@ impl<M: MergeOperator> Bench<M> {
         let tree = match db.default_tree() {
             Ok(tree) => tree,
             Err(error) => {
-                std::mem::forget(db);
+                drop(db);
                 drop(pairs);
                 return Err(Stopped::from(error));
             }

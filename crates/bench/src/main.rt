@@ -72,7 +72,7 @@ fn run_words(rt: &HostRuntime, words: &[String]) -> Result<(), Stopped> {
     let db = match Db::open(rt.alloc(), empty_pages(rt.alloc()), b"bench") {
         Ok(db) => db,
         Err(refused) => {
-            std::mem::forget(refused);
+            drop(refused);
             drop(pairs);
             return Err(Stopped);
         }

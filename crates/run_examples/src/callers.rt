@@ -13,11 +13,19 @@ fn finds(got: &Option<Outcome>, value: &[u8]) -> bool {
     }
 }
 
+// What is read at a key of a new database after `1` was inserted there.
+fn got_at(alloc: Global, key: &IVec) -> Told<Option<Outcome>> {
+    let value = IVec::from_slice(alloc, b"1")?;
+    let got = insert_then_get_in_new(alloc, b"db", key, &value);
+    drop(value);
+    got
+}
+
 /// Whether what was inserted in a new database is read.
 pub fn is_read(alloc: Global) -> Told<bool> {
-    let one = IVec::from_slice(alloc, b"1")?;
-    let got = insert_then_get_in_new(alloc, b"db", &one, &one);
-    drop(one);
+    let key = IVec::from_slice(alloc, b"a")?;
+    let got = got_at(alloc, &key);
+    drop(key);
     let got = got?;
     let is_found = finds(&got, b"1");
     drop(got);
