@@ -4,7 +4,8 @@ use sled::{Db, Iter};
 use sled_lines::input::Stopped;
 use sled_machine::Machine;
 use sled_model::{Call, MergeOperator, Outcome, Reply, Slot, Tree, Whole};
-use sled_pages::{IVec, MemPages};
+use sled_nodes::IVec;
+use sled_pages::MemPages;
 use std::ops::Bound;
 
 type Result<T> = std::result::Result<T, Stopped>;

@@ -1,6 +1,6 @@
 //! Keys and values that look random, the same for the same words of the command line.
 use sled_lines::input::Stopped;
-use sled_pages::{IVec, Result};
+use sled_nodes::{IVec, Result};
 use std::alloc::Global;
 
 // Values are pieces of one row of bytes, and begin at one of so many places.

@@ -5,12 +5,12 @@ use Rattle.std.proofs.Math.Path.{fun_ext}
 use Rattle.std.proofs.lemmas.Bool.{eq-eqb, eqb-true}
 use Rattle.std.specs.Str.{bytes_eq}
 use Rattle.std.specs.declared.ops.Bound.TheVariants.{Included}
-use Rattle.sled_pages.specs.Order.{Key}
-use Rattle.sled_pages.specs.Update.{put_at, put_name}
-use Rattle.sled_pages.specs.theory.Facts.{same_name, put_here, put_elsewhere, put_name_here, put_name_elsewhere}
-use Rattle.sled_pages.specs.State.{State as PageState}
-use Rattle.sled_pages.specs.Store.{Store, now}
-use Rattle.sled_pages.specs.Crash.{crash_states}
+use Rattle.sled_nodes.specs.Order.{Key}
+use Rattle.sled_store.specs.Update.{put_at, put_name}
+use Rattle.sled_store.specs.theory.Facts.{same_name, put_here, put_elsewhere, put_name_here, put_name_elsewhere}
+use Rattle.sled_store.specs.State.{State as PageState}
+use Rattle.sled_store.specs.Store.{Store, now}
+use Rattle.sled_store.specs.Crash.{crash_states}
 use Rattle.tree_laws.specs.Contents.{trees_of}
 use Rattle.tree_laws.proofs.Crashing.{matches_same}
 use Rattle.sled_model.specs.Maps.{Maps, Merge}
@@ -33,7 +33,7 @@ use Rattle.sled_machine.specs.Finish.{RunsToEnd, FinishesWithin, steps_of, outco
 use Rattle.sled.specs.Opens.{IsOnePage}
 use Rattle.tree_laws.specs.Paths.{IsClean}
 use Rattle.sled_model.specs.Refusal.{TellsTurns}
-use Rattle.sled_pages.specs.declared.error.Error.{Error}
+use Rattle.sled_nodes.specs.declared.error.Error.{Error}
 use Rattle.sled_machine.proofs.Runs.{model_run}
 use Rattle.examples.specs.Reads.{ReadsAs, HasTurns, PutsOne, found_in, maps_now, later}
 use Rattle.examples.proofs.Keys.{insert_here, insert_there}

@@ -8,10 +8,10 @@ use Rattle.std.specs.declared.vec.Vec.{Vec}
 use Rattle.std.specs.declared.alloc.Global.{Global}
 use denote.Ref.{Bor}
 use Rattle.std.specs.Int.{w64, to_be_bytes}
-use Rattle.sled_pages.specs.Order.{Key, key_cmp}
-use Rattle.sled_pages.specs.theory.Facts.{put_name_here, put_name_elsewhere}
-use Rattle.sled_pages.specs.Store.{Store}
-use Rattle.sled_pages.specs.declared.error.Error.{Error}
+use Rattle.sled_nodes.specs.Order.{Key, key_cmp}
+use Rattle.sled_store.specs.theory.Facts.{put_name_here, put_name_elsewhere}
+use Rattle.sled_store.specs.Store.{Store}
+use Rattle.sled_nodes.specs.declared.error.Error.{Error}
 use Rattle.sled_model.specs.Maps.{Map, Merge}
 use Rattle.sled_model.specs.Answer.{answer_of, map_after, effect_of_write, same_value}
 use Rattle.sled_model.specs.State.{State, NamedTree, maps_of}

@@ -4,9 +4,9 @@ use Rattle.std.proofs.lemmas.Bool.{eq-eqb, eqb-true}
 use Rattle.std.specs.FinMap.Entries.{find}
 use Rattle.std.specs.List.{starts_with, AllByRecursion}
 use Rattle.std.specs.Option.{option_to_list}
-use Rattle.sled_pages.specs.Order.{Key, key_cmp}
-use Rattle.sled_pages.specs.theory.Facts.{put_here, put_elsewhere, put_name_here}
-use Rattle.sled_pages.specs.Store.{Store}
+use Rattle.sled_nodes.specs.Order.{Key, key_cmp}
+use Rattle.sled_store.specs.theory.Facts.{put_here, put_elsewhere, put_name_here}
+use Rattle.sled_store.specs.Store.{Store}
 use Rattle.tree_reads.specs.Prefixes.{IsBytes}
 use Rattle.tree_reads.specs.Ranges.{Coming}
 use Rattle.sled.specs.Reads.{ReadsMap, BeginsWith}

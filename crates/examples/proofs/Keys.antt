@@ -6,8 +6,8 @@ use Rattle.std.specs.FinMap.Entries.{put, find, find-put}
 use Rattle.std.specs.Str.{bytes_eq}
 use Rattle.std.specs.declared.cmp.Ordering.{Ordering}
 use Rattle.std.proofs.lemmas.Cmp.{nat_list_cmp_total, tied_itself}
-use Rattle.sled_pages.specs.Order.{Key, key_cmp}
-use Rattle.sled_pages.specs.theory.Facts.{same_name}
+use Rattle.sled_nodes.specs.Order.{Key, key_cmp}
+use Rattle.sled_store.specs.theory.Facts.{same_name}
 use Rattle.sled_model.specs.Maps.{Map, Merge}
 use Rattle.sled_model.specs.Answer.{answer_of, decision_of, map_after}
 use Rattle.sled_model.specs.declared.call.Call.TheVariants.{Insert}

@@ -1,7 +1,7 @@
 -- Machines over databases with the meanings of their operators in place of the operators: they make the same steps.
 use Rattle.std.proofs.Common.{◌≡◌, ◌≢◌, ℕ, List, [], ◌∷◌, Option, None, sym, ap, ◌∙◌, subst}
-use Rattle.sled_pages.specs.Order.{Key}
-use Rattle.sled_pages.specs.Store.{Store}
+use Rattle.sled_nodes.specs.Order.{Key}
+use Rattle.sled_store.specs.Store.{Store}
 use Rattle.sled_model.specs.Maps.{Map, Maps, Merge, IsLeast, IsGreatest}
 use Rattle.sled_model.specs.Collections.{Content, contents_of}
 use Rattle.sled_model.specs.State.{State, maps_of}

@@ -2,12 +2,12 @@
 use Rattle.std.proofs.Common.{◌≡◌, ◌≢◌, ◌⊎◌, ℕ, zero, suc, Bool, cond, not, nat_eq, filter, List, [], ◌∷◌, Option, Some, None, option_map, true, false, sym, refl, ap, ◌∙◌, subst, inl, inr}
 use Rattle.std.specs.FinMap.Entries.{find}
 use Rattle.std.specs.Ordering.{nat_cmp, eq_by_cmp}
-use Rattle.sled_pages.specs.Order.{Key}
-use Rattle.sled_pages.specs.Store.{Store, now}
-use Rattle.sled_pages.specs.Node.{without}
-use Rattle.sled_pages.specs.Update.{put_at, put_name}
-use Rattle.sled_pages.specs.declared.error.Error.{Error}
-use Rattle.sled_pages.specs.declared.error.Error.TheVariants as error
+use Rattle.sled_nodes.specs.Order.{Key}
+use Rattle.sled_store.specs.Store.{Store, now}
+use Rattle.sled_nodes.specs.Node.{without}
+use Rattle.sled_store.specs.Update.{put_at, put_name}
+use Rattle.sled_nodes.specs.declared.error.Error.{Error}
+use Rattle.sled_nodes.specs.declared.error.Error.TheVariants as error
 use Rattle.sled_model.specs.Maps.{Map, Maps, Merge, IsLeast}
 use Rattle.sled_model.specs.State.{State, CallInFlight, maps_of}
 use Rattle.sled_model.specs.Refusal.{MustRefuse, Asked, ToStep, ToPoint, must_refuse, must_refuse_of, MeetsFullQueue}

@@ -1,8 +1,8 @@
 -- No id comes twice: over the steps of a machine, and after a crash.
 use Rattle.std.proofs.Common.{◌≡◌, ℕ, zero, suc, ◌+◌, ◌≤◌, List, [], ◌∷◌, ◌++◌, Option, Some, None, refl, ap, ◌∙◌, inl, inr, arith}
-use Rattle.sled_pages.specs.Order.{Key}
-use Rattle.sled_pages.specs.Store.{Store}
-use Rattle.sled_pages.specs.Crash.{Crashes}
+use Rattle.sled_nodes.specs.Order.{Key}
+use Rattle.sled_store.specs.Store.{Store}
+use Rattle.sled_store.specs.Crash.{Crashes}
 use Rattle.sled_model.specs.Maps.{Maps, Merge}
 use Rattle.sled_model.specs.Answer.{answer_of}
 use Rattle.sled_model.specs.Imports.{Part, OpensName, Puts, DoesPart, DoesParts, NoPart, OnePart}

@@ -12,10 +12,10 @@ use Rattle.std.proofs.lemmas.List.{map-append}
 use Rattle.ordered_keys.specs.Keys.{spelled, parts_cmp}
 use Rattle.ordered_keys.specs.declared.part.Kind.TheVariants as kind
 use Rattle.ordered_keys.specs.declared.part.Part.TheVariants.{Number}
-use Rattle.sled_pages.specs.Order.{Key, Below}
-use Rattle.sled_pages.specs.Store.{Store}
-use Rattle.sled_pages.specs.theory.Facts.{same_name, put_name_here, put_name_elsewhere}
-use Rattle.sled_pages.specs.declared.error.Error.{Error}
+use Rattle.sled_nodes.specs.Order.{Key, Below}
+use Rattle.sled_store.specs.Store.{Store}
+use Rattle.sled_store.specs.theory.Facts.{same_name, put_name_here, put_name_elsewhere}
+use Rattle.sled_nodes.specs.declared.error.Error.{Error}
 use Rattle.sled_model.specs.Maps.{Maps, Merge}
 use Rattle.sled_model.specs.Answer.{answer_of}
 use Rattle.sled_model.specs.State.{State, NamedTree, maps_of}

@@ -1,10 +1,10 @@
 -- What is found after a crash is one of the maps that the run kept.
 use Rattle.std.proofs.Common.{◌≡◌, ℕ, List, [], ◌∷◌, map, sym, refl, ap, ◌∙◌, subst, inl, inr}
-use Rattle.sled_pages.specs.Order.{Key}
-use Rattle.sled_pages.specs.In.{In}
-use Rattle.sled_pages.specs.State.{State as PageState}
-use Rattle.sled_pages.specs.Store.{Store, now}
-use Rattle.sled_pages.specs.Crash.{crash_states, IsCrashState, Crashes}
+use Rattle.sled_nodes.specs.Order.{Key}
+use Rattle.sled_store.specs.In.{In}
+use Rattle.sled_store.specs.State.{State as PageState}
+use Rattle.sled_store.specs.Store.{Store, now}
+use Rattle.sled_store.specs.Crash.{crash_states, IsCrashState, Crashes}
 use Rattle.sled_pages.specs.Memory.{store_of, flush_number_of}
 use Rattle.sled_pages.specs.declared.memory.MemPages.{MemPages}
 use Rattle.sled_model.specs.Maps.{Merge}

@@ -8,9 +8,9 @@ use Rattle.std.specs.declared.cmp.Ordering.{Ordering}
 use Rattle.std.specs.declared.ops.Bound.{Bound}
 use Rattle.std.specs.declared.ops.Bound.TheVariants.{Included, Excluded, Unbounded}
 use Rattle.std.proofs.lemmas.Map.Lookups.{exact_bytes}
-use Rattle.sled_pages.specs.Among.{is_up_to, is_from}
-use Rattle.sled_pages.specs.Order.{Key, key_cmp}
-use Rattle.sled_pages.specs.theory.Facts.{same_name}
+use Rattle.sled_nodes.specs.Among.{is_up_to, is_from}
+use Rattle.sled_nodes.specs.Order.{Key, key_cmp}
+use Rattle.sled_store.specs.theory.Facts.{same_name}
 use Rattle.tree_laws.proofs.Order.{key_total}
 use Rattle.tree_reads.specs.Ranges.{pairs_within}
 use Rattle.sled_model.specs.Maps.{Map, Merge}

@@ -5,10 +5,10 @@ use Rattle.std.proofs.lemmas.List.{map-append}
 use Rattle.std.specs.FinMap.Entries.{find, put, is_sorted, is_sorted-where_key}
 use Rattle.std.specs.List.{AllByRecursion}
 use Rattle.std.specs.declared.ops.Bound.{Bound}
-use Rattle.sled_pages.specs.Among.{is_up_to, is_from}
-use Rattle.sled_pages.specs.Order.{Key, key_cmp}
-use Rattle.sled_pages.specs.Store.{Store}
-use Rattle.sled_pages.specs.theory.Facts.{put_name_here, put_name_elsewhere}
+use Rattle.sled_nodes.specs.Among.{is_up_to, is_from}
+use Rattle.sled_nodes.specs.Order.{Key, key_cmp}
+use Rattle.sled_store.specs.Store.{Store}
+use Rattle.sled_store.specs.theory.Facts.{put_name_here, put_name_elsewhere}
 use Rattle.tree_reads.specs.Ranges.{Coming, pairs_within}
 use Rattle.tree_reads.proofs.Ranging.{reversed_none}
 use Rattle.sled_model.specs.Maps.{Map, Merge}

@@ -1,7 +1,7 @@
 -- What an import of an export makes of a database.
 use Rattle.std.specs.Prelude.{◌≡◌, [], Some}
 use Rattle.std.specs.FinMap.Entries.{find}
-use Rattle.sled_pages.specs.Order.{Key, key_cmp}
+use Rattle.sled_nodes.specs.Order.{Key, key_cmp}
 use Rattle.sled_model.specs.State.{State, NamedTree}
 
 -- no tree holds a pair

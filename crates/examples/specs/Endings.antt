@@ -3,7 +3,7 @@ use Rattle.std.specs.Prelude.{◌≡◌, ◌≢◌, ◌≤◌, ◌+◌, ◌&&◌
 use Rattle.std.specs.FinMap.Entries.{find, is_sorted}
 use Rattle.std.specs.List.{starts_with, ends_with}
 use Rattle.std.specs.Option.{option_to_list}
-use Rattle.sled_pages.specs.Order.{Key, key_cmp}
+use Rattle.sled_nodes.specs.Order.{Key, key_cmp}
 use Rattle.sled_model.specs.Maps.{Map}
 use Rattle.sled_model.specs.Queues.{waiting_in}
 use Rattle.sled_model.specs.State.{State, NamedTree, Queue}

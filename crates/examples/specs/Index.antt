@@ -1,7 +1,7 @@
 -- An index: a tree whose keys are a number and a text.
 use Rattle.std.specs.Prelude.{◌≡◌, ◌↔◌, ℕ, ◌<◌, ◌^◌, [], ◌∷◌}
-use Rattle.sled_pages.specs.In.{In}
-use Rattle.sled_pages.specs.Order.{Key}
+use Rattle.sled_store.specs.In.{In}
+use Rattle.sled_nodes.specs.Order.{Key}
 use Rattle.sled_model.specs.Maps.{Map}
 use Rattle.tree_reads.specs.Prefixes.{pairs_beginning}
 use Rattle.ordered_keys.specs.Keys.{spelled}

@@ -1,8 +1,8 @@
 -- A queue of work in a tree of a database.
 use Rattle.std.specs.Prelude.{◌≡◌, [], ◌∷◌, ◌++◌, Option, Some, None}
 use Rattle.std.specs.List.{AllByRecursion}
-use Rattle.sled_pages.specs.Order.{Key, Below}
-use Rattle.sled_pages.specs.Store.{Store}
+use Rattle.sled_nodes.specs.Order.{Key, Below}
+use Rattle.sled_store.specs.Store.{Store}
 use Rattle.sled_model.specs.Maps.{Map, Merge}
 use Rattle.sled_model.specs.declared.tree.Tree.{Tree}
 use Rattle.sled.specs.Values.{DbValue}

@@ -10,7 +10,7 @@ use Rattle.std.proofs.Common.{Bor}
 use Rattle.ordered_keys.specs.Keys.{HasShape, spelled, parts_cmp}
 use Rattle.ordered_keys.specs.declared.part.Kind.{Kind}
 use Rattle.ordered_keys.specs.declared.part.Part.{Part}
-use Rattle.sled_pages.specs.Order.{Key, key_cmp}
+use Rattle.sled_nodes.specs.Order.{Key, key_cmp}
 use Rattle.sled_model.specs.Maps.{Map, Maps}
 
 -- how the values of a type are spelled as byte strings: what is a value of it, the bytes, and the order of the values

@@ -1,7 +1,7 @@
 //! Callers of the machine. Their proofs cite what the contracts below say, and nothing of how it is done.
 ghost use Rattle.std.specs.Prelude.{◌≡◌, IfOk, IfErr, IfSome, IfNone, MatchOption, Some, false, if◌then◌else◌};
-ghost use Rattle.sled_pages.specs.Store.{now};
-ghost use Rattle.sled_pages.specs.Crash.{Crashes};
+ghost use Rattle.sled_store.specs.Store.{now};
+ghost use Rattle.sled_store.specs.Crash.{Crashes};
 ghost use Rattle.sled_pages.specs.Memory.{store_of};
 ghost use Rattle.tree_laws.specs.Contents.{trees_of};
 ghost use Rattle.tree_laws.specs.Crashes.{IsValid};
@@ -16,7 +16,9 @@ ghost use Rattle.examples.specs.Reads.{ReadsAs, HasTurns, PutsOne, maps_now, lat
 use sled::{Db, crash_pages, empty_pages};
 use sled_machine::Machine;
 use sled_model::{Call, MergeOperator, Outcome, Slot, Tree};
-use sled_pages::{Error, IVec, MemPages, Pages, Result};
+use sled_nodes::{Error, IVec, Result};
+use sled_pages::MemPages;
+use sled_store::Pages;
 use std::alloc::Global;
 
 // The insert of copies of a key and a value.

@@ -5,7 +5,8 @@ ghost use Rattle.examples.specs.Copies.{HoldsNothing, HasAllOf, LosesNothing};
 
 use sled::Db;
 use sled_model::MergeOperator;
-use sled_pages::{Pages, Result};
+use sled_nodes::Result;
+use sled_store::Pages;
 
 /// Imports what an export of the first database gives into the second. Where the trees of the second held nothing, each tree of the
 /// first is there then, with the same map. The second loses nothing, also where this is refused midway: what was copied so far stays.

@@ -8,7 +8,8 @@ ghost use Rattle.examples.specs.Reads.{maps_now};
 
 use sled::Db;
 use sled_model::{MergeOperator, Tree};
-use sled_pages::{IVec, Pages, Result};
+use sled_nodes::{IVec, Result};
+use sled_store::Pages;
 use std::alloc::{AllocError, Global};
 
 /// The merge operator that adds two numbers. The sum wraps.

@@ -1,8 +1,8 @@
 //! An index in memory of the entries of a tree by how their keys end, which follows the tree by its events. A tree finds keys by how
 //! they begin; this finds files by their extension, or hosts by their domain.
 ghost use Rattle.std.specs.Prelude.{◌≡◌, ◌≤◌, ◌++◌, ◌∷◌, [], reverse, length, IfOk, IfErr, OnOk, OnErr};
-ghost use Rattle.sled_pages.specs.Order.{Key};
-ghost use Rattle.sled_pages.specs.declared.error.Error.TheVariants.{NoMemory};
+ghost use Rattle.sled_nodes.specs.Order.{Key};
+ghost use Rattle.sled_nodes.specs.declared.error.Error.TheVariants.{NoMemory};
 ghost use Rattle.sled_model.specs.Maps.{Map};
 ghost use Rattle.sled_model.specs.declared.event.Event.TheVariants.{Insert, Remove};
 ghost use Rattle.sled_queues.specs.Copies.{IsCopy, after_event};
@@ -15,7 +15,8 @@ ghost use Rattle.examples.specs.Endings.{turned, entries_ending, while_beginning
 use crate::index::all_of;
 use sled::Db;
 use sled_model::{Event, MergeOperator, Subscriber, Tree};
-use sled_pages::{Error, IVec, Pages, Result};
+use sled_nodes::{Error, IVec, Result};
+use sled_store::Pages;
 use std::alloc::Global;
 use std::collections::BTreeMap;
 use std::collections::btree_map::Range;

@@ -1,14 +1,15 @@
 //! An event store: a stream is a tree of a database, and an event stands in it at its id, which no other event has. Ids rise, and
 //! so does their spelling, so a stream has its events in the order in which they came.
 ghost use Rattle.std.specs.Prelude.{◌≡◌, IfOk, IfErr, OnErr, List};
-ghost use Rattle.sled_pages.specs.Order.{Key};
+ghost use Rattle.sled_nodes.specs.Order.{Key};
 ghost use Rattle.examples.specs.declared.typed.TypedError.TheVariants.{Foreign};
 ghost use Rattle.examples.specs.Events.{Event, HasEvents, KeepsStreams, OpensStream, Appends, ReadsFrom};
 
 use crate::typed::{Spelled, TypedResult, walk};
 use sled::Db;
 use sled_model::{MergeOperator, Tree};
-use sled_pages::{IVec, Pages, Result};
+use sled_nodes::{IVec, Result};
+use sled_store::Pages;
 use std::alloc::Global;
 use std::ops::Bound;
 

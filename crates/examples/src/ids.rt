@@ -1,6 +1,6 @@
 //! Ids over runs with crashes between them.
 ghost use Rattle.std.specs.Prelude.{◌≡◌, ◌++◌, false, IfOk};
-ghost use Rattle.sled_pages.specs.Store.{now};
+ghost use Rattle.sled_store.specs.Store.{now};
 ghost use Rattle.sled_pages.specs.Memory.{store_of};
 ghost use Rattle.tree_laws.specs.Crashes.{IsValid};
 ghost use Rattle.examples.specs.Ids.{ids_of, Rise, IdsLaw};
@@ -8,7 +8,9 @@ ghost use Rattle.examples.specs.Ids.{ids_of, Rise, IdsLaw};
 use sled::{Db, crash_pages};
 use sled_machine::Machine;
 use sled_model::{MergeOperator, Outcome, Step};
-use sled_pages::{MemPages, Pages, Result};
+use sled_nodes::Result;
+use sled_pages::MemPages;
+use sled_store::Pages;
 use std::alloc::Global;
 
 /// Runs steps on a database, crashes its store, of whose last actions so many are kept, and runs more steps on what is left.

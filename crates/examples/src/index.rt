@@ -9,7 +9,8 @@ ghost use Rattle.examples.specs.Index.{FindsUnder};
 use ordered_keys::{law_prefixes, push_number};
 use sled::{Db, Iter, law_bytes};
 use sled_model::{MergeOperator, Tree};
-use sled_pages::{IVec, Pages, Result};
+use sled_nodes::{IVec, Result};
+use sled_store::Pages;
 use std::alloc::Global;
 use std::iter::Iterator;
 

@@ -4,7 +4,8 @@ ghost use Rattle.examples.specs.Queue.{Adds, Takes, waiting};
 
 use sled::Db;
 use sled_model::{MergeOperator, Tree};
-use sled_pages::{IVec, Pages, Result};
+use sled_nodes::{IVec, Result};
+use sled_store::Pages;
 
 /// Adds a job at a ticket that is above those of all jobs that wait: it waits behind them. Refused, the queue is as before.
 pub fn add<P: Pages, M: MergeOperator>(

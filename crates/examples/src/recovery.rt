@@ -1,6 +1,6 @@
 //! What a crash leaves of a run.
 ghost use Rattle.std.specs.Prelude.{◌≡◌, false, IfOk};
-ghost use Rattle.sled_pages.specs.Store.{now};
+ghost use Rattle.sled_store.specs.Store.{now};
 ghost use Rattle.sled_pages.specs.Memory.{store_of};
 ghost use Rattle.tree_laws.specs.Crashes.{IsValid};
 ghost use Rattle.examples.specs.Survive.{Survives};
@@ -8,7 +8,8 @@ ghost use Rattle.examples.specs.Survive.{Survives};
 use sled::{Db, crash_pages};
 use sled_machine::Machine;
 use sled_model::{Outcome, Step};
-use sled_pages::{MemPages, Result};
+use sled_nodes::Result;
+use sled_pages::MemPages;
 use std::alloc::Global;
 
 /// Opens a database, runs steps on it, crashes its store, of whose last actions so many are kept, and opens what is left.

@@ -1,9 +1,9 @@
 //! A map from keys of a type to values of a type, in a tree of a database. Both types are the user's own; each says how its values
 //! are spelled as byte strings.
 ghost use Rattle.std.specs.Prelude.{◌≡◌, ◌≢◌, ◌<◌, ◌^◌, List, [], ◌∷◌, OnOk, OnErr, IfOk, IfErr, IfSome, IfNone};
-ghost use Rattle.sled_pages.specs.Among.{bound_of};
-ghost use Rattle.sled_pages.specs.Order.{Key, key_cmp};
-ghost use Rattle.sled_pages.specs.declared.error.Error.TheVariants.{NoMemory};
+ghost use Rattle.sled_nodes.specs.Among.{bound_of};
+ghost use Rattle.sled_nodes.specs.Order.{Key, key_cmp};
+ghost use Rattle.sled_nodes.specs.declared.error.Error.TheVariants.{NoMemory};
 ghost use Rattle.ordered_keys.specs.Keys.{spelled};
 ghost use Rattle.ordered_keys.specs.declared.part.Part.TheVariants as part;
 ghost use Rattle.examples.specs.Reads.{maps_now};
@@ -14,7 +14,8 @@ use crate::index::all_of;
 use ordered_keys::{Kind, Part, key_of, parts_of};
 use sled::Db;
 use sled_model::{MergeOperator, Tree};
-use sled_pages::{Error, IVec, Pages, Result};
+use sled_nodes::{Error, IVec, Result};
+use sled_store::Pages;
 use std::alloc::Global;
 use std::ops::Bound;
 

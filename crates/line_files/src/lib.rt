@@ -2,7 +2,7 @@
 //! and says by a `Program` how it runs them.
 #![tactic(auto)]
 
-use sled_pages::{Error, Result};
+use sled_nodes::{Error, Result};
 use std::alloc::Global;
 use std::fs;
 use std::io::{self, ErrorKind, Write};

@@ -6,7 +6,7 @@ use Rattle.std.proofs.lemmas.Map.Lookups.{exact_unsigned, exact_bytes}
 use Rattle.std.specs.Ordering.{ordering_then, nat_cmp}
 use Rattle.std.specs.declared.cmp.Ordering.{Ordering}
 use Rattle.std.specs.declared.cmp.Ordering.TheVariants.{Less, Equal, Greater}
-use Rattle.sled_pages.specs.Order.{Key, key_cmp}
+use Rattle.sled_nodes.specs.Order.{Key, key_cmp}
 use Rattle.ordered_keys.specs.declared.part.Kind.{Kind}
 use Rattle.ordered_keys.specs.declared.part.Part.{Part}
 use Rattle.ordered_keys.specs.declared.part.Part.TheVariants.{Number, Text}

@@ -6,7 +6,7 @@ use Rattle.std.proofs.lemmas.List.Concat.{flat_map-append}
 use Rattle.std.proofs.lemmas.Nat.{be_bytes_8}
 use Rattle.std.specs.Int.{w64, from_be_bytes}
 use Rattle.std.specs.List.{flat_map}
-use Rattle.sled_pages.specs.Order.{Key}
+use Rattle.sled_nodes.specs.Order.{Key}
 use Rattle.ordered_keys.specs.Keys.{spelled_byte, spelled_text, spelled_number}
 use Rattle.ordered_keys.specs.theory.Keys.{spelled_piece}
 use Rattle.ordered_keys.proofs.Bytes.{text_on}

@@ -1,9 +1,9 @@
 //! Numbers in eight bytes, the highest first.
 ghost use Rattle.std.specs.Prelude.{◌≡◌, ◌≢◌, ℕ, ◌++◌, List, OnOk, IfErr, IfSome, IfNone};
-ghost use Rattle.sled_pages.specs.declared.error.Error.TheVariants.{NoMemory};
+ghost use Rattle.sled_nodes.specs.declared.error.Error.TheVariants.{NoMemory};
 ghost use Rattle.ordered_keys.specs.Keys.{spelled_number};
 
-use sled_pages::Result;
+use sled_nodes::Result;
 
 /// Adds a number at the end: eight bytes, the highest first. Refused with `NoMemory` alone, and nothing is added then.
 ///

@@ -1,13 +1,13 @@
 //! Parts, and keys of them.
 ghost use Rattle.std.specs.Prelude.{◌≡◌, ◌≢◌, ◌++◌, List, OnOk, IfOk, IfErr, IfSome, IfNone};
-ghost use Rattle.sled_pages.specs.declared.error.Error.TheVariants.{NoMemory};
-ghost use Rattle.sled_pages.specs.Order.{Key};
+ghost use Rattle.sled_nodes.specs.declared.error.Error.TheVariants.{NoMemory};
+ghost use Rattle.sled_nodes.specs.Order.{Key};
 ghost use Rattle.ordered_keys.specs.declared.part.Part.{Part};
 ghost use Rattle.ordered_keys.specs.Keys.{spelled_part, spelled, IsOfKind, HasShape};
 
 use crate::number::{push_number, read_number};
 use crate::text::{push_text, read_text};
-use sled_pages::{IVec, Result};
+use sled_nodes::{IVec, Result};
 use std::alloc::Global;
 
 /// What a part is. The kinds of the parts of a key, in order, are its shape.

@@ -1,11 +1,11 @@
 //! Texts, which are byte strings of any length, spelled so that none begins another.
 ghost use Rattle.std.specs.Prelude.{◌≡◌, ◌≢◌, ℕ, ◌++◌, Option, take, length, OnOk, IfOk, IfErr, IfSome, IfNone};
-ghost use Rattle.sled_pages.specs.declared.error.Error.TheVariants.{NoMemory};
-ghost use Rattle.sled_pages.specs.Order.{Key};
+ghost use Rattle.sled_nodes.specs.declared.error.Error.TheVariants.{NoMemory};
+ghost use Rattle.sled_nodes.specs.Order.{Key};
 ghost use Rattle.ordered_keys.specs.Keys.{spelled_byte, spelled_text};
 ghost use Rattle.ordered_keys.specs.theory.Keys.{spelled_piece};
 
-use sled_pages::{IVec, Result};
+use sled_nodes::{IVec, Result};
 use std::alloc::Global;
 
 // Adds a byte of a text. Refused with `NoMemory` alone, and nothing is added then.

@@ -2,7 +2,8 @@
 use examples::{insert_then_get_in_new, survive};
 use sled::{DEFAULT_TREE, empty_pages};
 use sled_model::{Outcome, Reply};
-use sled_pages::{IVec, Pages, Result as Told};
+use sled_nodes::{IVec, Result as Told};
+use sled_store::Pages;
 use std::alloc::Global;
 
 // Whether a get was decided and found this value.

@@ -2,7 +2,7 @@
 use crate::fresh::{Fresh, opened};
 use examples::copy_all;
 use sled::Collection;
-use sled_pages::Result;
+use sled_nodes::Result;
 use std::alloc::Global;
 
 // Opens a second tree and inserts a pair there.

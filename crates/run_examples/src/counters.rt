@@ -2,7 +2,7 @@
 use crate::fresh::{Fresh, opened};
 use examples::{Adds, add_to_counter, count, next_ticket};
 use sled_model::Tree;
-use sled_pages::Result;
+use sled_nodes::Result;
 use std::alloc::Global;
 
 // Whether two numbers are added to one counter, and another stands at 0.

@@ -2,7 +2,7 @@
 use crate::fresh::{Fresh, opened};
 use examples::index_follows;
 use sled_model::Tree;
-use sled_pages::{IVec, Result};
+use sled_nodes::{IVec, Result};
 use std::alloc::Global;
 
 fn fill(db: &mut Fresh, files: &Tree) -> Result<()> {

@@ -3,7 +3,7 @@ use crate::fresh::{Fresh, opened};
 use crate::typed::told;
 use examples::{TypedResult, append, open_stream, read_from};
 use sled_model::Tree;
-use sled_pages::Result;
+use sled_nodes::Result;
 use std::alloc::Global;
 
 // Appends to two streams by turns. The ids go from 1 on.

@@ -1,7 +1,8 @@
 //! New databases in memory, whose merge operators add: one that may hold boxed operators cannot be handed out.
 use examples::Adds;
 use sled::{Db, empty_pages};
-use sled_pages::{MemPages, Result};
+use sled_nodes::Result;
+use sled_pages::MemPages;
 use std::alloc::Global;
 
 /// A database in memory.

@@ -4,7 +4,8 @@ use examples::{Adds, entries_under};
 use ordered_keys::{push_number, push_text};
 use sled_machine::Machine;
 use sled_model::{Call, Tree};
-use sled_pages::{IVec, MemPages, Result};
+use sled_nodes::{IVec, Result};
+use sled_pages::MemPages;
 use std::alloc::Global;
 
 // The call that inserts an entry, with its text as the value.

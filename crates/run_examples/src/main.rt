@@ -18,7 +18,7 @@ use counters::counts;
 use endings::follows;
 use events::reads_events;
 use index::finds_entries;
-use sled_pages::Result;
+use sled_nodes::Result;
 use std::io;
 use std::process::ExitCode;
 use stores::small_store_works;

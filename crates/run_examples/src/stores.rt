@@ -1,6 +1,7 @@
 //! A database over a store of one's own, the small one in `store_examples`.
 use sled::{Db, Tree};
-use sled_pages::{Pages, Result};
+use sled_nodes::Result;
+use sled_store::Pages;
 use std::alloc::Global;
 use store_examples::LogPages;
 

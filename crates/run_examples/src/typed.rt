@@ -2,7 +2,7 @@
 use crate::fresh::{Fresh, opened};
 use examples::{Reading, TypedError, TypedResult, look_up, put, walk};
 use sled_model::Tree;
-use sled_pages::{IVec, Result};
+use sled_nodes::{IVec, Result};
 use std::alloc::Global;
 use std::ops::Bound;
 

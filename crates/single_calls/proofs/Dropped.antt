@@ -1,8 +1,8 @@
 -- What comes of the values of a tree that was dropped.
 use Rattle.std.proofs.Common.{◌≡◌, ◌≢◌, Bool, true, false, [], ◌∷◌, None, Result, Ok, Err, IfOk, sym, ap, ◌∙◌, subst}
-use Rattle.sled_pages.specs.Order.{Key}
-use Rattle.sled_pages.specs.Store.{Store}
-use Rattle.sled_pages.specs.theory.Facts.{put_name_here}
+use Rattle.sled_nodes.specs.Order.{Key}
+use Rattle.sled_store.specs.Store.{Store}
+use Rattle.sled_store.specs.theory.Facts.{put_name_here}
 use Rattle.sled_model.specs.Maps.{Merge}
 use Rattle.sled_model.specs.State.{State}
 use Rattle.sled_model.specs.Refusal.{is_number, must_refuse_of}

@@ -1,7 +1,7 @@
 //! Calls of a database.
 ghost use Rattle.std.specs.Prelude.{◌≡◌, ◌≢◌, IfOk, IfErr, OnOk, None, [], ◌∷◌, map, false, true};
 ghost use Rattle.std.specs.Option.{option_map};
-ghost use Rattle.sled_pages.specs.Store.{now};
+ghost use Rattle.sled_store.specs.Store.{now};
 ghost use Rattle.sled_model.specs.Answer.{ReadDecides, decision_of};
 ghost use Rattle.sled.specs.Operators.{OperatorSet};
 ghost use Rattle.sled_model.specs.Refusal.{must_refuse_of};
@@ -20,7 +20,8 @@ ghost use Rattle.sled.specs.Values.{db_state, snapshot_of_db};
 use sled::{Collection, Db, empty_pages};
 use sled_machine::Machine;
 use sled_model::{Call, Decision, MergeOperator, Reply, Tree};
-use sled_pages::{IVec, Pages, Result};
+use sled_nodes::{IVec, Result};
+use sled_store::Pages;
 use sled_tree::{InFlight, Went};
 use std::alloc::Global;
 

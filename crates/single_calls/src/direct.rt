@@ -7,7 +7,8 @@ ghost use Rattle.sled.specs.Direct.{PointDecided, PointRefused};
 
 use sled::{CompareAndSwapResult, Db};
 use sled_model::{MergeOperator, Tree};
-use sled_pages::{IVec, Pages, Result};
+use sled_nodes::{IVec, Result};
+use sled_store::Pages;
 
 /// Sets the value at a key.
 pub fn insert<P: Pages, M: MergeOperator>(

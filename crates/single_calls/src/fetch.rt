@@ -1,12 +1,13 @@
 //! Calls of a database that make the new value at a key of the one that stands there.
 ghost use Rattle.std.specs.Prelude.{◌≡◌, IfOk, IfErr, Option};
 ghost use Rattle.std.specs.Option.{option_copied};
-ghost use Rattle.sled_pages.specs.Order.{Key};
+ghost use Rattle.sled_nodes.specs.Order.{Key};
 ghost use Rattle.sled.specs.Fetch.{Stands, FetchDecided, FetchRefused};
 
 use sled::Db;
 use sled_model::{MergeOperator, Tree};
-use sled_pages::{IVec, Pages, Result};
+use sled_nodes::{IVec, Result};
+use sled_store::Pages;
 use std::alloc::AllocError;
 
 /// Sets the value at a key to what a closure makes of it, and answers the new one.

@@ -6,7 +6,8 @@ ghost use Rattle.sled.specs.Imports.{ImportDecided, ImportRefused, ImportsByStep
 
 use sled::{Collection, Db};
 use sled_model::MergeOperator;
-use sled_pages::{Pages, Result};
+use sled_nodes::Result;
+use sled_store::Pages;
 
 /// Opens the trees of collections, and puts their pairs into them.
 pub fn import<P: Pages, M: MergeOperator>(

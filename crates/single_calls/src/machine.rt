@@ -1,7 +1,7 @@
 //! Calls of a machine.
 ghost use Rattle.std.specs.Prelude.{◌≡◌, IfOk, IfErr, OnErr, []};
 ghost use Rattle.std.specs.Option.{option_map};
-ghost use Rattle.sled_pages.specs.declared.error.Error.TheVariants.{NoMemory};
+ghost use Rattle.sled_nodes.specs.declared.error.Error.TheVariants.{NoMemory};
 ghost use Rattle.sled_model.specs.declared.call.Whole.TheVariants.{DropTree};
 ghost use Rattle.sled_model.specs.declared.outcome.Outcome.TheVariants as outcome;
 ghost use Rattle.sled_model.specs.declared.outcome.Step.TheVariants as step;
@@ -13,7 +13,8 @@ ghost use Rattle.sled_machine.specs.Finish.{RunsToEnd, Completes};
 use sled::Db;
 use sled_machine::Machine;
 use sled_model::{Call, MergeOperator, Outcome, Slot, Step, Tree, Whole};
-use sled_pages::{IVec, Pages, Result};
+use sled_nodes::{IVec, Result};
+use sled_store::Pages;
 
 /// A machine over a database, on which no call is in flight.
 pub fn new_machine<P: Pages, M: MergeOperator>(db: Db<P, M>) -> Machine<P, M>

@@ -9,7 +9,8 @@ ghost use Rattle.sled.specs.Pops.{PopsBySteps, PopRefusedBySteps, GivesUpPop, Cl
 
 use sled::Db;
 use sled_model::{MergeOperator, Tree};
-use sled_pages::{IVec, Pages, Result};
+use sled_nodes::{IVec, Result};
+use sled_store::Pages;
 
 /// Takes out the pair with the least key.
 pub fn pop_min<P: Pages, M: MergeOperator>(

@@ -2,13 +2,14 @@
 ghost use Rattle.std.specs.Prelude.{◌≡◌, IfOk, is_some, length};
 ghost use Rattle.std.specs.FinMap.Entries.{find};
 ghost use Rattle.std.specs.declared.ops.Bound.TheVariants.{Excluded};
-ghost use Rattle.sled_pages.specs.Among.{bound_of, IsPredecessor};
-ghost use Rattle.sled_pages.specs.Order.{key_cmp};
+ghost use Rattle.sled_nodes.specs.Among.{bound_of, IsPredecessor};
+ghost use Rattle.sled_nodes.specs.Order.{key_cmp};
 ghost use Rattle.sled.specs.Reads.{ReadsMap, Begins, BeginsWith};
 
 use sled::{Db, Iter};
 use sled_model::{MergeOperator, Tree};
-use sled_pages::{IVec, Pages, Result};
+use sled_nodes::{IVec, Result};
+use sled_store::Pages;
 use std::ops::Bound;
 
 /// Whether a key is there.

@@ -4,7 +4,8 @@ ghost use Rattle.sled.specs.Watch.{WatchesDb, RefusesWatch, TakesFromDb, EndsSub
 
 use sled::{Db, Subscriber};
 use sled_model::{Event, MergeOperator, Tree};
-use sled_pages::{Pages, Result};
+use sled_nodes::Result;
+use sled_store::Pages;
 
 /// A new subscriber to the keys of a tree that begin with a prefix.
 pub fn watch_prefix<P: Pages, M: MergeOperator>(

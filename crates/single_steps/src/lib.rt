@@ -4,13 +4,13 @@
 
 ghost use Rattle.std.specs.Prelude.{◌<◌};
 ghost use Rattle.std.specs.Option.{option_map};
-ghost use Rattle.sled_pages.specs.Store.{now};
+ghost use Rattle.sled_store.specs.Store.{now};
 ghost use Rattle.sled_tree.specs.theory.StageAction.{FlightStepBy, Only};
 ghost use Rattle.sled_tree.specs.Passing.{StepsOnPath};
 ghost use Rattle.sled_tree.specs.Follows.{FollowsOn};
 
 use sled_model::{MAX_LOOPS, MergeOperator};
-use sled_pages::Pages;
+use sled_store::Pages;
 use sled_tree::{InFlight, Went, advance};
 use std::alloc::Global;
 

@@ -1,14 +1,14 @@
 -- Calls that are made at once, in no slot.
 use Rattle.std.proofs.Common.{◌≡◌, ℕ, zero, suc, ◌+◌, ◌<◌, ◌⊎◌, Bool, true, false, List, [], ◌∷◌, ◌++◌, length, Option, Some, None, option_map, sym, refl, ap, ◌∙◌, subst, inl, inr, arith, ◌≢◌}
 use Rattle.std.proofs.lemmas.Bool.{cases_lt}
-use Rattle.sled_pages.specs.Order.{Key}
-use Rattle.sled_pages.specs.In.{In}
-use Rattle.sled_pages.specs.State.{nodes_of}
-use Rattle.sled_pages.specs.Store.{Store, now}
-use Rattle.sled_pages.specs.declared.node.Node.{Node}
-use Rattle.sled_pages.specs.declared.page.Page.{Page}
-use Rattle.sled_pages.specs.declared.error.Error.{Error}
-use Rattle.sled_pages.specs.declared.error.Error.TheVariants as error
+use Rattle.sled_nodes.specs.Order.{Key}
+use Rattle.sled_store.specs.In.{In}
+use Rattle.sled_store.specs.State.{nodes_of}
+use Rattle.sled_store.specs.Store.{Store, now}
+use Rattle.sled_nodes.specs.declared.node.Node.{Node}
+use Rattle.sled_store.specs.declared.page.Page.{Page}
+use Rattle.sled_nodes.specs.declared.error.Error.{Error}
+use Rattle.sled_nodes.specs.declared.error.Error.TheVariants as error
 use Rattle.sled_model.specs.Maps.{Maps, Merge}
 use Rattle.sled_model.specs.State.{State, CallInFlight, maps_of}
 use Rattle.sled_model.specs.Refusal.{MustRefuse, IsClosed, IsForeign, IsDropped, HasNoOperator, ToStep, ToPoint, must_refuse, must_refuse_of, needs_operator, MayRefuse, TellsTurns, cause_of, may_refuse_as, turns_limit}
@@ -69,7 +69,7 @@ acts_of_step (Refused e) a b d = (a, NoAction, d)
 
 -- ---- the pages of the trees
 
-page_there : (s : Rattle.sled_pages.specs.State.State) (p : ℕ) (n : Node) → nodes_of s p ≡ Some n → (g : Page) × (s.pages p ≡ Some g)
+page_there : (s : Rattle.sled_store.specs.State.State) (p : ℕ) (n : Node) → nodes_of s p ≡ Some n → (g : Page) × (s.pages p ≡ Some g)
 page_there s p n e = go (s.pages p) refl e
   where
     go : (o : Option Page) → s.pages p ≡ o → option_map (λ (g : Page). g.node) o ≡ Some n → (g : Page) × (s.pages p ≡ Some g)
@@ -231,13 +231,13 @@ module _ {P M : Type 0} (store : P → Store) (meant : M → Merge) where
   decided_now : (old new : DbValue P M) (f g : InFlight) (reply : Reply) → DbStepContract store meant old f (Decided reply) new g → DecidesPoint (db_state store meant old) f.job.tree f.job.call reply (db_state store meant new)
   decided_now old new f g reply flies = subst (λ (z : CallInFlight). DecidesPoint (db_state store meant old) z.tree z.call reply (db_state store meant new)) (sym (some_is step.here)) (record { free = step.free; named = step.tree; there = step.there; replies = step.replies; is = ap no_slots step.is })
     where
-      step : Decide (state_of store meant old (everywhere f) 0) 0 reply (state_of store meant new (Rattle.sled_pages.specs.Update.put_at (everywhere f) 0 None) 0)
+      step : Decide (state_of store meant old (everywhere f) 0) 0 reply (state_of store meant new (Rattle.sled_store.specs.Update.put_at (everywhere f) 0 None) 0)
       step = (flies.step.steps (everywhere f) 0 0 0 0 refl).is.0
 
   refused_now : (old new : DbValue P M) (f g : InFlight) (e : Error) → DbStepContract store meant old f (Refused e) new g → RefusesPoint (db_state store meant old) (store old.pages) (store new.pages) f.job.tree f.job.call e (db_state store meant new)
   refused_now old new f g e flies = subst (λ (z : CallInFlight). RefusesPoint (db_state store meant old) (store old.pages) (store new.pages) z.tree z.call e (db_state store meant new)) (sym (some_is step.here)) (record { may = may_at store meant old (everywhere f) step.flying (store old.pages) (store new.pages) e step.may; is = ap no_slots step.is })
     where
-      step : RefuseStep (state_of store meant old (everywhere f) 0) (store old.pages) (store new.pages) 0 e (state_of store meant new (Rattle.sled_pages.specs.Update.put_at (everywhere f) 0 None) 0)
+      step : RefuseStep (state_of store meant old (everywhere f) 0) (store old.pages) (store new.pages) 0 e (state_of store meant new (Rattle.sled_store.specs.Update.put_at (everywhere f) 0 None) 0)
       step = (flies.step.steps (everywhere f) 0 0 0 0 refl).is.0
 
   walk_decides : (n : ℕ) (old new : DbValue P M) (f g : InFlight) (reply : Reply) → DbSteps store meant n old f (Decided reply) new g → DecidesPoint (db_state store meant old) f.job.tree f.job.call reply (db_state store meant new)
@@ -325,7 +325,7 @@ untold_turns o (error.Corruption fault) t tells = tells
 untold_turns o error.FullQueue t tells = tells
 untold_turns o error.Closed t tells = tells
 
-untold_fault : (o : Option MustRefuse) (e : Error) → must_be_refused_as o e → (fault : Rattle.sled_pages.specs.declared.error.Fault.Fault) → e ≡ error.Io fault → ⊥
+untold_fault : (o : Option MustRefuse) (e : Error) → must_be_refused_as o e → (fault : Rattle.sled_nodes.specs.declared.error.Fault.Fault) → e ≡ error.Io fault → ⊥
 untold_fault o e t fault is = go o (subst (must_be_refused_as o) is t)
   where
     go : (o : Option MustRefuse) → must_be_refused_as o (error.Io fault) → ⊥

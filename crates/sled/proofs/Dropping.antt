@@ -2,16 +2,16 @@
 use Rattle.std.proofs.Common.{◌≡◌, ℕ, zero, suc, ◌+◌, ◌<◌, ◌^◌, Bool, true, false, cond, nat_eq, List, [], ◌∷◌, ◌++◌, length, length-append, get_or, Option, Some, None, option_map, Result, Ok, sym, refl, ap, ◌∙◌, subst, inl, inr, ◌⊎◌, append_assoc, append-nil, arith}
 use Rattle.std.specs.List.{concat}
 use Rattle.std.proofs.lemmas.List.Folds.{concat-append}
-use Rattle.sled_pages.specs.In.{In}
-use Rattle.sled_pages.specs.Order.{Key}
-use Rattle.sled_pages.specs.Node.{pointers}
-use Rattle.sled_pages.specs.State.{State, Nodes, nodes_of, RootBecomes, PageBecomes}
-use Rattle.sled_pages.specs.Store.{Store, now, after_action, SwapsRoot}
-use Rattle.sled_pages.specs.theory.Facts.{now_acted, put_elsewhere}
-use Rattle.sled_pages.specs.declared.node.Node.{Node}
-use Rattle.sled_pages.specs.declared.node.Data.{Data}
-use Rattle.sled_pages.specs.declared.node.Data.TheVariants as kind
-use Rattle.sled_pages.specs.declared.page.Page.{Page}
+use Rattle.sled_store.specs.In.{In}
+use Rattle.sled_nodes.specs.Order.{Key}
+use Rattle.sled_nodes.specs.Node.{pointers}
+use Rattle.sled_store.specs.State.{State, Nodes, nodes_of, RootBecomes, PageBecomes}
+use Rattle.sled_store.specs.Store.{Store, now, after_action, SwapsRoot}
+use Rattle.sled_store.specs.theory.Facts.{now_acted, put_elsewhere}
+use Rattle.sled_nodes.specs.declared.node.Node.{Node}
+use Rattle.sled_nodes.specs.declared.node.Data.{Data}
+use Rattle.sled_nodes.specs.declared.node.Data.TheVariants as kind
+use Rattle.sled_store.specs.declared.page.Page.{Page}
 use Rattle.tree_laws.specs.Forest.{Tree, Forest, Place, place, head, first_child, WellFormed, IsSized, Holds, Run, contents}
 use Rattle.tree_laws.specs.Contents.{first_of, page_numbers}
 use Rattle.tree_laws.specs.Crashes.{AddsCrashStates}

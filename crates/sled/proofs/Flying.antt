@@ -3,20 +3,20 @@ use Rattle.std.proofs.Common.{◌≡◌, ◌≢◌, ℕ, zero, suc, ◌+◌, ◌
 use Rattle.std.specs.FinMap.Entries.{find}
 use Rattle.std.specs.Ordering.{nat_cmp}
 use Rattle.std.specs.Str.{bytes_eq}
-use Rattle.sled_pages.specs.Order.{Key, key_cmp}
-use Rattle.sled_pages.specs.In.{In}
-use Rattle.sled_pages.specs.Update.{put_at, put_name}
-use Rattle.sled_pages.specs.State.{nodes_of}
-use Rattle.sled_pages.specs.Store.{Store, now, version_now}
-use Rattle.sled_pages.specs.declared.page.Page.{Page}
-use Rattle.sled_pages.specs.declared.error.Fault.{Fault}
-use Rattle.sled_pages.specs.declared.error.Error.{Error}
-use Rattle.sled_pages.specs.declared.error.Error.TheVariants as error
+use Rattle.sled_nodes.specs.Order.{Key, key_cmp}
+use Rattle.sled_store.specs.In.{In}
+use Rattle.sled_store.specs.Update.{put_at, put_name}
+use Rattle.sled_store.specs.State.{nodes_of}
+use Rattle.sled_store.specs.Store.{Store, now, version_now}
+use Rattle.sled_store.specs.declared.page.Page.{Page}
+use Rattle.sled_nodes.specs.declared.error.Fault.{Fault}
+use Rattle.sled_nodes.specs.declared.error.Error.{Error}
+use Rattle.sled_nodes.specs.declared.error.Error.TheVariants as error
 use Rattle.sled_model.specs.Maps.{Map, Merge}
-use Rattle.sled_pages.specs.Node.{value_at, after_link}
-use Rattle.sled_pages.specs.declared.link.Link.{Link}
-use Rattle.sled_pages.specs.declared.node.Node.{Node}
-use Rattle.sled_pages.specs.declared.page.View.{View}
+use Rattle.sled_nodes.specs.Node.{value_at, after_link}
+use Rattle.sled_nodes.specs.declared.link.Link.{Link}
+use Rattle.sled_nodes.specs.declared.node.Node.{Node}
+use Rattle.sled_store.specs.declared.page.View.{View}
 use Rattle.sled_model.specs.Event.{key_of_event}
 use Rattle.sled_model.specs.Answer.{Answer, answer_of, decision_of, event_of, key_of}
 use Rattle.sled_model.specs.State.{State, NamedTree, Queue, CallInFlight, maps_of, matches, queues_after, after_decision}
@@ -79,7 +79,7 @@ some_is : {X : Type 0} {x y : X} → Some x ≡ Some y → x ≡ y
 some_is e = cc
 
 -- a page is there where its node is
-page_gone : (s : Rattle.sled_pages.specs.State.State) (p : ℕ) → nodes_of s p ≡ None → s.pages p ≡ None
+page_gone : (s : Rattle.sled_store.specs.State.State) (p : ℕ) → nodes_of s p ≡ None → s.pages p ≡ None
 page_gone s p e = go (s.pages p) e
   where
     go : (o : Option Page) → option_map (λ (g : Page). g.node) o ≡ None → o ≡ None
@@ -492,7 +492,7 @@ module _ {P M : Type 0} (store : P → Store) (meant : M → Merge) (old : DbVal
         refused_extends = rests_extends rests
 
         refused_calm : (now (store q)).in_group ≡ (now (store old.pages)).in_group
-        refused_calm = ap (λ (s : Rattle.sled_pages.specs.State.State). s.in_group) (now_rests rests)
+        refused_calm = ap (λ (s : Rattle.sled_store.specs.State.State). s.in_group) (now_rests rests)
 
         pub refused_db : IsDb store new
         refused_db = is_db refused.0 refused.1 (record { whole = λ x i. db.safe.whole x (subst (In x) (rests_left rests) i) }) rests.mark (calm_still keeps)
@@ -507,7 +507,7 @@ module _ {P M : Type 0} (store : P → Store) (meant : M → Merge) (old : DbVal
                   here = here;
                   may = may_refuse store meant old f must slots given (store old.pages) (store q) e (cause slots given);
                   limit = λ none all. absurd (below f.turns fits all);
-                  is = state_over q queues keeps slots (put_at slots slot None) given (λ t. ap (λ (s : Rattle.sled_pages.specs.State.State). trees_of s t) (now_rests rests)) refused_calm rests.mark;
+                  is = state_over q queues keeps slots (put_at slots slot None) given (λ t. ap (λ (s : Rattle.sled_store.specs.State.State). trees_of s t) (now_rests rests)) refused_calm rests.mark;
                 },
                 refl,
               );
@@ -569,7 +569,7 @@ module _ {P M : Type 0} (store : P → Store) (meant : M → Merge) (old : DbVal
                 ≡ cond (bytes_eq t f.job.tree.name) (Some (record tree_now { map = answer.map })) (named (numbers_of old.trees t) (trees_of (now (store old.pages)) t) (λ n. option_map meant (find nat_cmp n old.operators)))
             go true e =
                 ap (λ b. named (numbers_of old.trees t) (cond b (Some answer.map) (trees_of (now (store old.pages)) t)) (λ n. option_map meant (find nat_cmp n old.operators))) e
-                ∙ ap (λ n. named n (Some answer.map) (λ n. option_map meant (find nat_cmp n old.operators))) (ap (numbers_of old.trees) (Rattle.sled_pages.specs.theory.Facts.same_name t f.job.tree.name e) ∙ named_now)
+                ∙ ap (λ n. named n (Some answer.map) (λ n. option_map meant (find nat_cmp n old.operators))) (ap (numbers_of old.trees) (Rattle.sled_store.specs.theory.Facts.same_name t f.job.tree.name e) ∙ named_now)
                 ∙ ap (λ b. cond b (Some (record tree_now { map = answer.map })) (named (numbers_of old.trees t) (trees_of (now (store old.pages)) t) (λ n. option_map meant (find nat_cmp n old.operators)))) (sym e)
             go false e =
                 ap (λ b. named (numbers_of old.trees t) (cond b (Some answer.map) (trees_of (now (store old.pages)) t)) (λ n. option_map meant (find nat_cmp n old.operators))) e

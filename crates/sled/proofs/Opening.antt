@@ -7,18 +7,18 @@ use Rattle.std.specs.declared.cmp.Ordering.{Ordering}
 use Rattle.std.proofs.lemmas.Bool.Decides.{nat_tests}
 use Rattle.std.specs.Str.{bytes_eq}
 use Rattle.std.specs.declared.ops.Bound.TheVariants.{Included}
-use Rattle.sled_pages.specs.Order.{Key, key_cmp}
-use Rattle.sled_pages.specs.Among.{is_up_to}
-use Rattle.sled_pages.specs.Node.{count}
-use Rattle.sled_pages.specs.theory.Facts.{same_name, put_elsewhere, put_here, now_allocates, now_acted, fresh_page}
-use Rattle.sled_pages.specs.Crash.{crash_states}
-use Rattle.sled_pages.specs.State.{State, RootBecomes, PageBecomes, nodes_of, after}
-use Rattle.sled_pages.specs.Store.{Store, now, after_action, after_flush, Allocates, SwapsRoot, IsRefused, AreGiven}
-use Rattle.sled_pages.specs.declared.error.Error.{Error}
-use Rattle.sled_pages.specs.declared.error.Error.TheVariants as error
-use Rattle.sled_pages.specs.declared.node.Node.{Node}
-use Rattle.sled_pages.specs.declared.node.Data.TheVariants as kind
-use Rattle.sled_pages.specs.declared.page.Page.{Page}
+use Rattle.sled_nodes.specs.Order.{Key, key_cmp}
+use Rattle.sled_nodes.specs.Among.{is_up_to}
+use Rattle.sled_nodes.specs.Node.{count}
+use Rattle.sled_store.specs.theory.Facts.{same_name, put_elsewhere, put_here, now_allocates, now_acted, fresh_page}
+use Rattle.sled_store.specs.Crash.{crash_states}
+use Rattle.sled_store.specs.State.{State, RootBecomes, PageBecomes, nodes_of, after}
+use Rattle.sled_store.specs.Store.{Store, now, after_action, after_flush, Allocates, SwapsRoot, IsRefused, AreGiven}
+use Rattle.sled_nodes.specs.declared.error.Error.{Error}
+use Rattle.sled_nodes.specs.declared.error.Error.TheVariants as error
+use Rattle.sled_nodes.specs.declared.node.Node.{Node}
+use Rattle.sled_nodes.specs.declared.node.Data.TheVariants as kind
+use Rattle.sled_store.specs.declared.page.Page.{Page}
 use Rattle.sled_model.specs.Maps.{Map, Maps}
 use Rattle.sled_model.specs.State.{default_name}
 use Rattle.tree_laws.specs.Forest.{Tree, Forest, Place, WellFormed, IsSized, contents}
@@ -151,7 +151,7 @@ module _ (name : Key) where
             let e : t ≡ name = same_name t name q in
             ap Some (ap (contents (nodes_of s) v) e ∙ empty) ∙ sym (ap or_empty (contents_law s w f below t ∙ ap (option_map (λ _. contents (nodes_of s) w t)) (ap s.roots e ∙ root)))
         go v others empty t false q =
-            ap (λ c. option_map (λ _. c) (s.roots t)) (others t (λ e. false_true (sym q ∙ ap (λ z. bytes_eq z name) e ∙ Rattle.sled_pages.specs.theory.Facts.name_itself name))) ∙ sym (contents_law s w f below t)
+            ap (λ c. option_map (λ _. c) (s.roots t)) (others t (λ e. false_true (sym q ∙ ap (λ z. bytes_eq z name) e ∙ Rattle.sled_store.specs.theory.Facts.name_itself name))) ∙ sym (contents_law s w f below t)
 
   -- what may be refused still
 
@@ -289,7 +289,7 @@ module _ (name : Key) where
         record {
           grows = record { extends = all; actions = count };
           maps = maps;
-          fresh = λ absent. (pid, λ key. leaf_is_clean (now c) name pid node [] (ap (λ (s : State). s.roots name) at ∙ ap (λ (is_it : Bool). cond is_it (Some pid) ((now b).roots name)) (Rattle.sled_pages.specs.theory.Facts.name_itself name)) (ap (λ (s : State). nodes_of s pid) at ∙ alone.live) alone.lo alone.hi alone.merging alone.merging_child alone.content (omega arith) key);
+          fresh = λ absent. (pid, λ key. leaf_is_clean (now c) name pid node [] (ap (λ (s : State). s.roots name) at ∙ ap (λ (is_it : Bool). cond is_it (Some pid) ((now b).roots name)) (Rattle.sled_store.specs.theory.Facts.name_itself name)) (ap (λ (s : State). nodes_of s pid) at ∙ alone.live) alone.lo alone.hi alone.merging alone.merging_child alone.content (omega arith) key);
           faults = ap (λ (s : Store). s.faults) e ∙ made_faults;
           again = record {
             grows = inr (all, maps);
@@ -461,7 +461,7 @@ module _ (s : Store) {trees : List (Key × ℕ)} (all : AreNumbered (now s) tree
       at = λ i. snapshot_of (e i) (numbers_of (same i)) (given_to d.trees_given)
 
       maps : trees_of (now s) default_name ≡ or_empty (trees_of (now a) default_name)
-      maps = ap (λ (m : Maps). m default_name) h.maps ∙ ap (λ b. cond b (or_empty (trees_of (now a) default_name)) (trees_of (now a) default_name)) (Rattle.sled_pages.specs.theory.Facts.name_itself default_name)
+      maps = ap (λ (m : Maps). m default_name) h.maps ∙ ap (λ b. cond b (or_empty (trees_of (now a) default_name)) (trees_of (now a) default_name)) (Rattle.sled_store.specs.theory.Facts.name_itself default_name)
 
       full : (o : Option Map) → is_some (or_empty o) ≡ true
       full None = refl

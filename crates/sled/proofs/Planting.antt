@@ -7,17 +7,17 @@ use Rattle.std.specs.FinMap.Entries.{put, find, find-put}
 use Rattle.std.specs.Ordering.{nat_cmp, eq_by_cmp}
 use Rattle.std.specs.Str.{bytes_eq}
 use Rattle.std.specs.declared.cmp.Ordering.{Ordering}
-use Rattle.sled_pages.specs.Order.{Key, key_cmp}
-use Rattle.sled_pages.specs.In.{In}
-use Rattle.sled_pages.specs.Update.{put_at, put_name}
-use Rattle.sled_pages.specs.State.{State as PageState}
-use Rattle.sled_pages.specs.Store.{Store, now, IsRefused, is_refused_as, AreGiven}
-use Rattle.sled_pages.specs.declared.error.Error.{Error}
-use Rattle.sled_pages.specs.declared.error.Error.TheVariants as error
-use Rattle.sled_pages.specs.declared.texts.TheConstants.{NUMBERS_USED_UP}
-use Rattle.sled_pages.specs.declared.page.Page.{Page}
-use Rattle.sled_pages.specs.theory.Facts.{same_name, name_itself, put_name_elsewhere}
-use Rattle.sled_pages.proofs.Rising.{rises_put}
+use Rattle.sled_nodes.specs.Order.{Key, key_cmp}
+use Rattle.sled_store.specs.In.{In}
+use Rattle.sled_store.specs.Update.{put_at, put_name}
+use Rattle.sled_store.specs.State.{State as PageState}
+use Rattle.sled_store.specs.Store.{Store, now, IsRefused, is_refused_as, AreGiven}
+use Rattle.sled_nodes.specs.declared.error.Error.{Error}
+use Rattle.sled_nodes.specs.declared.error.Error.TheVariants as error
+use Rattle.sled_nodes.specs.declared.texts.TheConstants.{NUMBERS_USED_UP}
+use Rattle.sled_store.specs.declared.page.Page.{Page}
+use Rattle.sled_store.specs.theory.Facts.{same_name, name_itself, put_name_elsewhere}
+use Rattle.sled_nodes.proofs.Rising.{rises_put}
 use Rattle.sled_model.specs.Maps.{Map, Maps, Merge}
 use Rattle.sled_model.specs.State.{NamedTree, CallInFlight, maps_of, default_name}
 use Rattle.sled_model.specs.Refusal.{IsClosed, first_of, must_refuse, MayRefuse, ToCall, cause_of, may_refuse_as}

@@ -7,18 +7,18 @@ use Rattle.std.specs.FinMap.Entries.{find, find-where_key, is_sorted}
 use Rattle.std.specs.List.{AllByRecursion, IsDistinct, concat}
 use Rattle.std.specs.Ordering.{nat_cmp, eq_by_cmp}
 use Rattle.std.specs.Str.{bytes_eq}
-use Rattle.sled_pages.specs.In.{In}
-use Rattle.sled_pages.specs.Order.{Key, key_cmp}
-use Rattle.sled_pages.specs.Node.{without, count}
-use Rattle.sled_pages.specs.Update.{put_name}
-use Rattle.sled_pages.specs.State.{State, nodes_of, RootBecomes, PageBecomes}
-use Rattle.sled_pages.specs.Store.{Store, now, after_action}
-use Rattle.sled_pages.specs.theory.Facts.{now_acted, put_here, put_elsewhere, same_name, name_itself, put_name_elsewhere}
-use Rattle.sled_pages.proofs.Roots.{root_out, out_ascends}
-use Rattle.sled_pages.specs.declared.node.Node.{Node}
-use Rattle.sled_pages.specs.declared.page.Page.{Page}
-use Rattle.sled_pages.specs.declared.error.Error.{Error}
-use Rattle.sled_pages.specs.declared.error.Error.TheVariants as error
+use Rattle.sled_store.specs.In.{In}
+use Rattle.sled_nodes.specs.Order.{Key, key_cmp}
+use Rattle.sled_nodes.specs.Node.{without, count}
+use Rattle.sled_store.specs.Update.{put_name}
+use Rattle.sled_store.specs.State.{State, nodes_of, RootBecomes, PageBecomes}
+use Rattle.sled_store.specs.Store.{Store, now, after_action}
+use Rattle.sled_store.specs.theory.Facts.{now_acted, put_here, put_elsewhere, same_name, name_itself, put_name_elsewhere}
+use Rattle.sled_store.proofs.Roots.{root_out, out_ascends}
+use Rattle.sled_nodes.specs.declared.node.Node.{Node}
+use Rattle.sled_store.specs.declared.page.Page.{Page}
+use Rattle.sled_nodes.specs.declared.error.Error.{Error}
+use Rattle.sled_nodes.specs.declared.error.Error.TheVariants as error
 use Rattle.sled_model.specs.Maps.{Map, Maps, Merge}
 use Rattle.sled_model.specs.State.{CallInFlight, maps_of, default_name}
 use Rattle.sled_model.specs.Refusal.{must_refuse, must_refuse_of, ToCall, cause_of_drop, may_refuse_as, first_of, IsClosed}

@@ -1,10 +1,10 @@
 -- Stores that can be opened: an empty one, and what a crash leaves of a database's pages.
 use Rattle.std.proofs.Common.{◌≡◌, ℕ, false, sym, ap, ◌∙◌, subst}
-use Rattle.sled_pages.specs.Crash.{Crashes}
-use Rattle.sled_pages.specs.theory.Facts.{may_leave_crashed}
+use Rattle.sled_store.specs.Crash.{Crashes}
+use Rattle.sled_store.specs.theory.Facts.{may_leave_crashed}
 use Rattle.sled_pages.specs.Memory.{empty_store}
-use Rattle.sled_pages.specs.State.{State, after_all}
-use Rattle.sled_pages.specs.Store.{Store, now}
+use Rattle.sled_store.specs.State.{State, after_all}
+use Rattle.sled_store.specs.Store.{Store, now}
 use Rattle.tree_laws.specs.Crashes.{IsValid, IsCrashConsistent}
 use Rattle.tree_laws.specs.theory.Laws.{no_forest}
 use Rattle.tree_laws.proofs.Empty.{empty_law}

@@ -1,10 +1,10 @@
 -- Stores that differ in the count of faults alone, or show the same now.
 use Rattle.std.proofs.Common.{◌≡◌, ℕ, ◌+◌, [], ap, inl, inr}
-use Rattle.sled_pages.specs.State.{after_all}
-use Rattle.sled_pages.specs.Store.{Store, now, after_flush}
-use Rattle.sled_pages.specs.Crash.{crash_states}
-use Rattle.sled_pages.specs.declared.error.Error.{Error}
-use Rattle.sled_pages.specs.declared.error.Error.TheVariants as error
+use Rattle.sled_store.specs.State.{after_all}
+use Rattle.sled_store.specs.Store.{Store, now, after_flush}
+use Rattle.sled_store.specs.Crash.{crash_states}
+use Rattle.sled_nodes.specs.declared.error.Error.{Error}
+use Rattle.sled_nodes.specs.declared.error.Error.TheVariants as error
 use Rattle.tree_laws.specs.Crashes.{AddsCrashStates}
 use Rattle.tree_laws.proofs.Crashing.{extends_nothing, same_left}
 use Rattle.sled_tree.specs.theory.StageAction.{is_action_refused_as}

@@ -1,6 +1,6 @@
 -- The tests that come before a call.
 use Rattle.std.proofs.Common.{◌≡◌, Bool, true, false, not, ◌&&◌, cond, [], ◌∷◌, Option, Some, None, refl, sym, ap, ◌∙◌}
-use Rattle.sled_pages.specs.Store.{Store, now}
+use Rattle.sled_store.specs.Store.{Store, now}
 use Rattle.sled_model.specs.Maps.{Merge}
 use Rattle.sled_model.specs.State.{State}
 use Rattle.sled_model.specs.Refusal.{MustRefuse, IsClosed, HasNoOperator, first_of, must_refuse_of, must_refuse, operator_test, needs_operator, has_operator, foreign_test, dropped_test, ToPoint, ToCall}

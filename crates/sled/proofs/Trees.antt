@@ -4,11 +4,11 @@ use Rattle.std.proofs.Math.Path.{fun_ext}
 use Rattle.std.proofs.lemmas.Bool.{eqb-true}
 use Rattle.std.specs.FinMap.Entries.{is_sorted}
 use Rattle.std.specs.Str.{bytes_eq}
-use Rattle.sled_pages.specs.Order.{Key, key_cmp}
-use Rattle.sled_pages.specs.Update.{put_name}
-use Rattle.sled_pages.specs.theory.Facts.{same_name, put_name_here, put_name_elsewhere}
-use Rattle.sled_pages.specs.State.{nodes_of}
-use Rattle.sled_pages.specs.Store.{Store, now}
+use Rattle.sled_nodes.specs.Order.{Key, key_cmp}
+use Rattle.sled_store.specs.Update.{put_name}
+use Rattle.sled_store.specs.theory.Facts.{same_name, put_name_here, put_name_elsewhere}
+use Rattle.sled_store.specs.State.{nodes_of}
+use Rattle.sled_store.specs.Store.{Store, now}
 use Rattle.sled_model.specs.Maps.{Map, Merge}
 use Rattle.sled_model.specs.State.{State, NamedTree, maps_of}
 use Rattle.sled_model.specs.Refusal.{MustRefuse, IsDropped, first_of, is_number, must_refuse_of}
@@ -56,7 +56,7 @@ trees_put a b numbers given w v is on u n e others = fun_ext (λ t. go t (bytes_
         ∙ ap (λ z. cond z (Some (contents (nodes_of (now b)) v u)) (trees_of (now a) t)) (sym q)
     go t false q =
         trees_at b numbers given v on t
-        ∙ ap (λ c. option_map (λ _. c) (numbers t)) (others t (λ s. apart (sym q ∙ ap (λ z. bytes_eq z u) s ∙ Rattle.sled_pages.specs.theory.Facts.name_itself u)))
+        ∙ ap (λ c. option_map (λ _. c) (numbers t)) (others t (λ s. apart (sym q ∙ ap (λ z. bytes_eq z u) s ∙ Rattle.sled_store.specs.theory.Facts.name_itself u)))
         ∙ sym (trees_at a numbers given w is t)
         ∙ ap (λ z. cond z (Some (contents (nodes_of (now b)) v u)) (trees_of (now a) t)) (sym q)
       where

@@ -1,7 +1,7 @@
 -- Walks over pages that are no longer than there are page numbers.
 use Rattle.std.proofs.Common.{◌≡◌, ℕ, zero, suc, ◌+◌, ◌<◌, ◌≤◌, List, [], ◌∷◌, ◌++◌, Option, Some, None, refl, sym, ap, ◌∙◌, arith, append_assoc, append-nil}
-use Rattle.sled_pages.specs.Order.{Key}
-use Rattle.sled_pages.specs.State.{Nodes}
+use Rattle.sled_nodes.specs.Order.{Key}
+use Rattle.sled_store.specs.State.{Nodes}
 use Rattle.tree_laws.specs.Forest.{node_pairs}
 use Rattle.tree_laws.specs.Contents.{first_of, next_of, first_leaf, along, page_numbers}
 use Rattle.sled.specs.theory.Drops.{first_pages_down}

@@ -3,12 +3,12 @@ use Rattle.std.proofs.Common.{◌≡◌, ◌≢◌, ◌<◌, ◌≤◌, ℕ, Boo
 use Rattle.std.proofs.Math.Path.{fun_ext}
 use Rattle.std.specs.List.{starts_with}
 use mathlib.Core.Bool.{true≢false}
-use Rattle.sled_pages.specs.Order.{Key}
-use Rattle.sled_pages.specs.Node.{after_link}
-use Rattle.sled_pages.specs.Store.{Store, now, IsRefused}
-use Rattle.sled_pages.specs.declared.error.Error.{Error}
-use Rattle.sled_pages.specs.declared.error.Error.TheVariants as error
-use Rattle.sled_pages.specs.declared.page.View.{View}
+use Rattle.sled_nodes.specs.Order.{Key}
+use Rattle.sled_nodes.specs.Node.{after_link}
+use Rattle.sled_store.specs.Store.{Store, now, IsRefused}
+use Rattle.sled_nodes.specs.declared.error.Error.{Error}
+use Rattle.sled_nodes.specs.declared.error.Error.TheVariants as error
+use Rattle.sled_store.specs.declared.page.View.{View}
 use Rattle.sled_model.specs.Event.{key_of_event}
 use Rattle.sled_model.specs.Maps.{Merge}
 use Rattle.sled_model.specs.State.{matches}

@@ -1,15 +1,15 @@
 -- Dropping a tree.
 use Rattle.std.specs.Prelude.{◌≡◌, ◌≢◌, ℕ, suc, ◌+◌, ◌≤◌, Bool, true, false, not, nat_eq, filter, List, [], ◌∷◌, ◌++◌, length, get_or, map, Option, Some, None}
 use Rattle.std.specs.List.{IsDistinct, concat}
-use Rattle.sled_pages.specs.In.{In}
-use Rattle.sled_pages.specs.Order.{Key}
-use Rattle.sled_pages.specs.Update.{put_name}
-use Rattle.sled_pages.specs.Node.{without}
-use Rattle.sled_pages.specs.State.{RootBecomes, PageBecomes}
-use Rattle.sled_pages.specs.Store.{Store, now}
-use Rattle.sled_pages.specs.declared.error.Error.{Error}
-use Rattle.sled_pages.specs.declared.error.Error.TheVariants.{Unsupported, Io, NoMemory, Closed}
-use Rattle.sled_pages.specs.declared.texts.TheConstants.{CORE_STRUCTURES}
+use Rattle.sled_store.specs.In.{In}
+use Rattle.sled_nodes.specs.Order.{Key}
+use Rattle.sled_store.specs.Update.{put_name}
+use Rattle.sled_nodes.specs.Node.{without}
+use Rattle.sled_store.specs.State.{RootBecomes, PageBecomes}
+use Rattle.sled_store.specs.Store.{Store, now}
+use Rattle.sled_nodes.specs.declared.error.Error.{Error}
+use Rattle.sled_nodes.specs.declared.error.Error.TheVariants.{Unsupported, Io, NoMemory, Closed}
+use Rattle.sled_nodes.specs.declared.texts.TheConstants.{CORE_STRUCTURES}
 use Rattle.sled_model.specs.Maps.{Merge}
 use Rattle.sled_model.specs.State.{NamedTree, CallInFlight, maps_of, default_name}
 use Rattle.sled_model.specs.Refusal.{must_refuse_of}

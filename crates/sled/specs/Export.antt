@@ -1,9 +1,9 @@
 -- What an export gives.
 use Rattle.std.specs.Prelude.{◌≡◌, ℕ, true, false, List, map, unwrap_or, [], codes}
-use Rattle.sled_pages.specs.Order.{Key}
-use Rattle.sled_pages.specs.Store.{Store, now}
-use Rattle.sled_pages.specs.declared.error.Error.{Error}
-use Rattle.sled_pages.specs.declared.error.Error.TheVariants.{Io, NoMemory, Closed}
+use Rattle.sled_nodes.specs.Order.{Key}
+use Rattle.sled_store.specs.Store.{Store, now}
+use Rattle.sled_nodes.specs.declared.error.Error.{Error}
+use Rattle.sled_nodes.specs.declared.error.Error.TheVariants.{Io, NoMemory, Closed}
 use Rattle.sled_model.specs.Maps.{Map, Maps}
 
 abbrev pub refuses_read_as : Store → Error → Type 0

@@ -1,12 +1,12 @@
 -- One step of a call in flight on a database.
 use Rattle.std.specs.Prelude.{◌≡◌, ◌≢◌, ℕ, zero, suc, ◌+◌, ◌<◌, ◌≤◌, ◌⊎◌, true, false, List, [], ◌∷◌, length, Option, Some, None}
-use Rattle.sled_pages.specs.In.{In}
-use Rattle.sled_pages.specs.declared.error.Error.{Error}
-use Rattle.sled_pages.specs.declared.error.Error.TheVariants.{Io, NoMemory, FullQueue}
-use Rattle.sled_pages.specs.declared.node.Node.{Node}
-use Rattle.sled_pages.specs.declared.page.View.{View}
-use Rattle.sled_pages.specs.Store.{Store, now}
-use Rattle.sled_pages.specs.Update.{put_at}
+use Rattle.sled_store.specs.In.{In}
+use Rattle.sled_nodes.specs.declared.error.Error.{Error}
+use Rattle.sled_nodes.specs.declared.error.Error.TheVariants.{Io, NoMemory, FullQueue}
+use Rattle.sled_nodes.specs.declared.node.Node.{Node}
+use Rattle.sled_store.specs.declared.page.View.{View}
+use Rattle.sled_store.specs.Store.{Store, now}
+use Rattle.sled_store.specs.Update.{put_at}
 use Rattle.sled_model.specs.Maps.{Maps, Merge}
 use Rattle.sled_model.specs.Answer.{answer_of}
 use Rattle.sled_model.specs.State.{State, NamedTree, CallInFlight, maps_of}

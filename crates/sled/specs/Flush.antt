@@ -1,9 +1,9 @@
 -- A flush of a database.
 use Rattle.std.specs.Prelude.{◌≡◌, ℕ, ◌+◌, [], ◌∷◌, Option, None}
-use Rattle.sled_pages.specs.Store.{Store, now, after_flush}
-use Rattle.sled_pages.specs.Crash.{crash_states}
-use Rattle.sled_pages.specs.declared.error.Error.{Error}
-use Rattle.sled_pages.specs.declared.error.Error.TheVariants.{Io}
+use Rattle.sled_store.specs.Store.{Store, now, after_flush}
+use Rattle.sled_store.specs.Crash.{crash_states}
+use Rattle.sled_nodes.specs.declared.error.Error.{Error}
+use Rattle.sled_nodes.specs.declared.error.Error.TheVariants.{Io}
 use Rattle.sled_model.specs.Maps.{Merge}
 use Rattle.sled_model.specs.State.{CallInFlight, maps_of}
 use Rattle.sled_model.specs.Refusal.{MayRefuse, must_refuse, ToCall}

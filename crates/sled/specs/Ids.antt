@@ -1,10 +1,10 @@
 -- Ids.
 use Rattle.std.specs.Prelude.{◌≡◌, ℕ, ◌+◌, ◌<◌, ◌≤◌, true, false, [], Option, None}
-use Rattle.sled_pages.specs.Crash.{crash_states}
-use Rattle.sled_pages.specs.Store.{Store, now}
-use Rattle.sled_pages.specs.declared.error.Error.{Error}
-use Rattle.sled_pages.specs.declared.error.Error.TheVariants.{Unsupported, Io, NoMemory, Closed}
-use Rattle.sled_pages.specs.declared.texts.TheConstants.{IDS_USED_UP}
+use Rattle.sled_store.specs.Crash.{crash_states}
+use Rattle.sled_store.specs.Store.{Store, now}
+use Rattle.sled_nodes.specs.declared.error.Error.{Error}
+use Rattle.sled_nodes.specs.declared.error.Error.TheVariants.{Unsupported, Io, NoMemory, Closed}
+use Rattle.sled_nodes.specs.declared.texts.TheConstants.{IDS_USED_UP}
 use Rattle.sled_model.specs.Maps.{Merge}
 use Rattle.sled_model.specs.State.{CallInFlight}
 use Rattle.sled_model.specs.Ids.{greatest_of_all, mark_above}

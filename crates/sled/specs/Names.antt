@@ -1,7 +1,7 @@
 -- The names of the trees.
 use Rattle.std.specs.Prelude.{◌≡◌, true, List, [], ◌∷◌, Some}
-use Rattle.sled_pages.specs.In.{In}
-use Rattle.sled_pages.specs.Order.{Key, Below}
+use Rattle.sled_store.specs.In.{In}
+use Rattle.sled_nodes.specs.Order.{Key, Below}
 use Rattle.sled_model.specs.State.{State, NamedTree}
 
 -- each key is below all that come after it

@@ -3,14 +3,14 @@ use Rattle.std.specs.Prelude.{◌≡◌, ℕ, ◌+◌, ◌*◌, ◌≤◌, ◌�
 use Rattle.std.specs.FinMap.Entries.{is_sorted}
 use Rattle.std.specs.Str.{bytes_eq}
 use Rattle.std.specs.declared.ops.Bound.TheVariants.{Included}
-use Rattle.sled_pages.specs.Order.{Key, key_cmp}
-use Rattle.sled_pages.specs.Store.{Store, now, after_action, Allocates, IsRefused, AreGiven}
-use Rattle.sled_pages.specs.State.{State, RootBecomes}
-use Rattle.sled_pages.specs.declared.node.Node.{Node}
-use Rattle.sled_pages.specs.declared.node.Data.TheVariants as kind
-use Rattle.sled_pages.specs.Crash.{crash_states}
-use Rattle.sled_pages.specs.Faults.{IsFault}
-use Rattle.sled_pages.specs.declared.error.Error.{Error}
+use Rattle.sled_nodes.specs.Order.{Key, key_cmp}
+use Rattle.sled_store.specs.Store.{Store, now, after_action, Allocates, IsRefused, AreGiven}
+use Rattle.sled_store.specs.State.{State, RootBecomes}
+use Rattle.sled_nodes.specs.declared.node.Node.{Node}
+use Rattle.sled_nodes.specs.declared.node.Data.TheVariants as kind
+use Rattle.sled_store.specs.Crash.{crash_states}
+use Rattle.sled_store.specs.Faults.{IsFault}
+use Rattle.sled_nodes.specs.declared.error.Error.{Error}
 use Rattle.sled_model.specs.Maps.{Map, Maps}
 use Rattle.sled_model.specs.State.{default_name}
 use Rattle.tree_laws.specs.Contents.{trees_of}

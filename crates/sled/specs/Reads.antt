@@ -3,11 +3,11 @@ use Rattle.std.specs.Prelude.{◌≡◌, ℕ, ◌<◌, ◌≤◌, false, List, [
 use Rattle.std.specs.List.{AllByRecursion}
 use Rattle.std.specs.declared.ops.Bound.{Bound}
 use Rattle.std.specs.declared.ops.Bound.TheVariants.{Included}
-use Rattle.sled_pages.specs.Order.{Key}
-use Rattle.sled_pages.specs.Store.{Store, now}
-use Rattle.sled_pages.specs.declared.error.Error.{Error}
-use Rattle.sled_pages.specs.declared.error.Error.TheVariants.{NoMemory, Io, ReportableBug}
-use Rattle.sled_pages.specs.declared.texts.TheConstants.{WALK_PASSED_TURNS}
+use Rattle.sled_nodes.specs.Order.{Key}
+use Rattle.sled_store.specs.Store.{Store, now}
+use Rattle.sled_nodes.specs.declared.error.Error.{Error}
+use Rattle.sled_nodes.specs.declared.error.Error.TheVariants.{NoMemory, Io, ReportableBug}
+use Rattle.sled_nodes.specs.declared.texts.TheConstants.{WALK_PASSED_TURNS}
 use Rattle.sled_model.specs.Maps.{Map, Merge}
 use Rattle.sled_model.specs.State.{NamedTree}
 use Rattle.sled_model.specs.Refusal.{MustRefuse, must_refuse_of, tells}

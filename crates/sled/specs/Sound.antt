@@ -1,9 +1,9 @@
 -- What holds of a database between two calls.
 use Rattle.std.specs.Prelude.{◌≡◌, ◌≤◌, ℕ, true, Some, ◌<◌, None}
 use Rattle.std.specs.FinMap.Entries.{is_sorted, find}
-use Rattle.sled_pages.specs.Order.{Key, key_cmp}
+use Rattle.sled_nodes.specs.Order.{Key, key_cmp}
 use Rattle.std.specs.Ordering.{nat_cmp}
-use Rattle.sled_pages.specs.Store.{Store}
+use Rattle.sled_store.specs.Store.{Store}
 use Rattle.sled_model.specs.Maps.{Map, Maps}
 use Rattle.sled_model.specs.State.{default_name}
 use Rattle.tree_laws.specs.Forest.{Forest, IsSized}

@@ -1,8 +1,8 @@
 -- Subscribers of trees.
 use Rattle.std.specs.Prelude.{◌≡◌, ℕ, Option}
-use Rattle.sled_pages.specs.Order.{Key}
-use Rattle.sled_pages.specs.Store.{Store}
-use Rattle.sled_pages.specs.declared.error.Error.{Error}
+use Rattle.sled_nodes.specs.Order.{Key}
+use Rattle.sled_store.specs.Store.{Store}
+use Rattle.sled_nodes.specs.declared.error.Error.{Error}
 use Rattle.sled_model.specs.Maps.{Merge}
 use Rattle.sled_model.specs.State.{CallInFlight}
 use Rattle.sled_model.specs.Refusal.{ToCall, MayRefuse}

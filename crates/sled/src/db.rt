@@ -1,8 +1,8 @@
 //! The database.
 ghost use Rattle.std.specs.Prelude.{◌≡◌, ◌≢◌, IfOk, IfErr, OnOk, OnErr, IfSome, false, true, Some, None, [], ◌∷◌, map};
 ghost use Rattle.std.specs.Option.{option_copied};
-ghost use Rattle.sled_pages.specs.declared.error.Error.TheVariants.{NoMemory};
-ghost use Rattle.sled_pages.specs.Store.{now};
+ghost use Rattle.sled_nodes.specs.declared.error.Error.TheVariants.{NoMemory};
+ghost use Rattle.sled_store.specs.Store.{now};
 ghost use Rattle.tree_laws.specs.Crashes.{IsValid, IsCrashConsistent};
 ghost use Rattle.sled_model.specs.Refusal.{must_refuse, must_refuse_of, needs_operator, ToPoint, ToStep};
 ghost use Rattle.sled_model.specs.declared.call.Call.{Call};
@@ -13,9 +13,10 @@ use crate::operators::operator_of;
 use crate::step::advance_over;
 use crate::tree_list::number_of;
 use sled_model::{Call, MAX_LOOPS, MergeOperator, Tree};
-use sled_pages::texts::{HANDLE_OF_ANOTHER_DATABASE, NO_MERGE_OPERATOR, WALK_PASSED_TURNS};
-use sled_pages::{Error, IVec, Pages, Result};
+use sled_nodes::texts::{HANDLE_OF_ANOTHER_DATABASE, NO_MERGE_OPERATOR, WALK_PASSED_TURNS};
+use sled_nodes::{Error, IVec, Result};
 use sled_queues::Queues;
+use sled_store::Pages;
 use sled_tree::{InFlight, Went};
 use std::alloc::Global;
 use std::marker::Model;

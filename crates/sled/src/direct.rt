@@ -3,7 +3,7 @@
 //! They make the same steps as a call in flight, one after the other, repairs included.
 ghost use Rattle.std.specs.Prelude.{◌≡◌, IfOk, IfErr, None};
 ghost use Rattle.std.specs.Option.{option_copied};
-ghost use Rattle.sled_pages.specs.declared.error.Error.TheVariants.{NoMemory};
+ghost use Rattle.sled_nodes.specs.declared.error.Error.TheVariants.{NoMemory};
 ghost use Rattle.sled_model.specs.Refusal.{must_refuse, ToPoint};
 ghost use Rattle.sled_model.specs.declared.call.Call.TheVariants as call;
 ghost use Rattle.sled_model.specs.declared.reply.Reply.TheVariants as told;
@@ -11,7 +11,8 @@ ghost use Rattle.sled.specs.theory.Direct.{IsValue, IsSwap};
 
 use crate::db::Db;
 use sled_model::{Call, CompareAndSwapError, MergeOperator, Reply, Tree};
-use sled_pages::{IVec, Pages, Result};
+use sled_nodes::{IVec, Result};
+use sled_store::Pages;
 use sled_tree::{InFlight, Went};
 use std::alloc::Global;
 

@@ -4,9 +4,9 @@
 //! number is gone. Its pages are freed after that. A refusal there leaves pages that no tree has, and so do a page that
 //! was received by the one before it, and the pages that calls in flight made for themselves: those are not looked for.
 ghost use Rattle.std.specs.Prelude.{◌≡◌, not, nat_eq, filter, length, IfOk, IfErr, OnOk, Some, None};
-ghost use Rattle.sled_pages.specs.Node.{without};
-ghost use Rattle.sled_pages.specs.State.{nodes_of};
-ghost use Rattle.sled_pages.specs.Store.{now};
+ghost use Rattle.sled_nodes.specs.Node.{without};
+ghost use Rattle.sled_store.specs.State.{nodes_of};
+ghost use Rattle.sled_store.specs.Store.{now};
 ghost use Rattle.tree_laws.specs.Contents.{page_numbers};
 ghost use Rattle.sled_tree.specs.theory.StageAction.{is_action_refused_as};
 ghost use Rattle.sled.specs.theory.Drops.{first_pages_down, FreesPage, FreesLevel, FreesFrom, DropsRoot};
@@ -17,8 +17,9 @@ use crate::db::Db;
 use crate::export::first_child;
 use crate::tree_list::number_of;
 use sled_model::MergeOperator;
-use sled_pages::texts::CORE_STRUCTURES;
-use sled_pages::{Error, IVec, Pages, Pid, Result};
+use sled_nodes::texts::CORE_STRUCTURES;
+use sled_nodes::{Error, IVec, Pid, Result};
+use sled_store::Pages;
 use std::alloc::Global;
 
 // The first page of each level of a tree, from its root down.

@@ -1,9 +1,9 @@
 //! The pairs of the trees, read from the pages without repairing anything.
 ghost use Rattle.std.specs.Prelude.{◌≡◌, ◌++◌, IfOk, IfErr, OnOk, Some, false, map};
-ghost use Rattle.sled_pages.specs.declared.error.Error.TheVariants.{NoMemory};
-ghost use Rattle.sled_pages.specs.Node.{pairs};
-ghost use Rattle.sled_pages.specs.State.{nodes_of};
-ghost use Rattle.sled_pages.specs.Store.{now};
+ghost use Rattle.sled_nodes.specs.declared.error.Error.TheVariants.{NoMemory};
+ghost use Rattle.sled_nodes.specs.Node.{pairs};
+ghost use Rattle.sled_store.specs.State.{nodes_of};
+ghost use Rattle.sled_store.specs.Store.{now};
 ghost use Rattle.tree_laws.specs.Forest.{node_pairs};
 ghost use Rattle.tree_laws.specs.Contents.{first_of, next_of, first_leaf as leaf_under, along, pairs_under as pairs_of_root, page_numbers};
 ghost use Rattle.tree_laws.specs.Contents.{trees_of};
@@ -12,7 +12,8 @@ ghost use Rattle.sled.specs.theory.Export.{RefusesRead};
 
 use crate::db::Db;
 use sled_model::{Collection, MergeOperator};
-use sled_pages::{Data, Error, IVec, Node, Pages, Pid, Result};
+use sled_nodes::{Data, Error, IVec, Node, Pid, Result};
+use sled_store::Pages;
 use std::alloc::Global;
 
 // The first pointer of an index, if it has one; a leaf has none.

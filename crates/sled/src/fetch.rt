@@ -1,15 +1,16 @@
 //! Calls that make the new value at a key of the one that stands there, by a closure that is called once.
 ghost use Rattle.std.specs.Prelude.{◌≡◌, IfOk, IfErr, OnOk, Ok, Option};
 ghost use Rattle.std.specs.Option.{option_map, option_copied};
-ghost use Rattle.sled_pages.specs.Order.{Key};
-ghost use Rattle.sled_pages.specs.declared.error.Error.TheVariants.{NoMemory};
+ghost use Rattle.sled_nodes.specs.Order.{Key};
+ghost use Rattle.sled_nodes.specs.declared.error.Error.TheVariants.{NoMemory};
 ghost use Rattle.sled_model.specs.declared.call.Call.TheVariants as call;
 ghost use Rattle.sled_model.specs.declared.reply.Reply.TheVariants as told;
 ghost use Rattle.sled.specs.Fetch.{Answers, Stands};
 
 use crate::db::Db;
 use sled_model::{Call, MergeOperator, Tree};
-use sled_pages::{Error, IVec, Pages, Result};
+use sled_nodes::{Error, IVec, Result};
+use sled_store::Pages;
 use std::alloc::{AllocError, Global};
 
 // What the closure answers to the value that stands, if there is one.

@@ -1,13 +1,14 @@
 //! Ids, which rise strictly.
 ghost use Rattle.std.specs.Prelude.{◌≡◌, ◌≤◌, ◌<◌, ◌⊎◌, IfOk, IfErr, OnOk, OnErr, true};
-ghost use Rattle.sled_pages.specs.Store.{now};
+ghost use Rattle.sled_store.specs.Store.{now};
 ghost use Rattle.sled_model.specs.Ids.{greatest_of_all, raised, mark_above};
 ghost use Rattle.sled.specs.Ids.{RefusesToRaise};
 
 use crate::db::Db;
 use sled_model::MergeOperator;
-use sled_pages::texts::IDS_USED_UP;
-use sled_pages::{Error, Pages, Result};
+use sled_nodes::texts::IDS_USED_UP;
+use sled_nodes::{Error, Result};
+use sled_store::Pages;
 
 // So many ids are set aside at a time.
 const IDS_AT_A_TIME: u64 = 4096;

@@ -7,8 +7,9 @@ ghost use Rattle.sled.specs.theory.Imports.{IsTreeNow, PartsDone, PartsStopped};
 
 use crate::db::Db;
 use sled_model::{Collection, MergeOperator, Tree};
-use sled_pages::texts::{OVERWRITES_DATA, UNKNOWN_COLLECTION_TYPE};
-use sled_pages::{Error, IVec, Pages, Result};
+use sled_nodes::texts::{OVERWRITES_DATA, UNKNOWN_COLLECTION_TYPE};
+use sled_nodes::{Error, IVec, Result};
+use sled_store::Pages;
 
 // Whether every collection is of the type `tree`.
 fn are_trees(collections: &[Collection]) -> bool

@@ -32,10 +32,11 @@ pub use sled_model::{
     Call, Collection, CompareAndSwapError, Decision, Effect, Event, MAX_LOOPS, MergeOperator,
     Outcome, QUEUE_LIMIT, Reply, Slot, Step, Subscriber, Tree, Whole,
 };
-pub use sled_pages::{
-    Data, Error, Fault, IVec, Index, Leaf, Link, MemPages, Node, Page, Pages, Pid, Result, Shared,
-    Version, View,
+pub use sled_nodes::{
+    Data, Error, Fault, IVec, Index, Leaf, Link, Node, Pid, Result, Shared, Version,
 };
+pub use sled_pages::MemPages;
+pub use sled_store::{Page, Pages, View};
 pub use sled_tree::{InFlight, Job, Stage, Went};
 pub use tree_reads::{Iter, Keys, Values, law_bytes, law_prefix};
 

@@ -1,12 +1,13 @@
 //! Stores in memory that can be opened.
 ghost use Rattle.std.specs.Prelude.{◌≡◌, false, IfOk, IfErr};
-ghost use Rattle.sled_pages.specs.declared.error.Error.TheVariants.{NoMemory};
-ghost use Rattle.sled_pages.specs.Crash.{Crashes};
+ghost use Rattle.sled_nodes.specs.declared.error.Error.TheVariants.{NoMemory};
+ghost use Rattle.sled_store.specs.Crash.{Crashes};
 ghost use Rattle.sled_pages.specs.Memory.{store_of, empty_store};
-ghost use Rattle.sled_pages.specs.Store.{now};
+ghost use Rattle.sled_store.specs.Store.{now};
 ghost use Rattle.tree_laws.specs.Crashes.{IsValid, IsCrashConsistent};
 
-use sled_pages::{MemPages, Result};
+use sled_nodes::Result;
+use sled_pages::MemPages;
 use std::alloc::Global;
 
 /// An empty store, which can be opened.

@@ -1,10 +1,11 @@
 //! The trees by their names.
 ghost use Rattle.std.specs.Prelude.{◌≡◌, IfOk, IfErr, map};
-ghost use Rattle.sled_pages.specs.declared.error.Error.TheVariants.{NoMemory};
+ghost use Rattle.sled_nodes.specs.declared.error.Error.TheVariants.{NoMemory};
 
 use crate::db::Db;
 use sled_model::MergeOperator;
-use sled_pages::{Error, IVec, Pages, Result};
+use sled_nodes::{Error, IVec, Result};
+use sled_store::Pages;
 use std::alloc::Global;
 
 // The names of these trees, in their order.

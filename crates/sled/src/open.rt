@@ -1,7 +1,7 @@
 //! Opening a database, and the tree of a name.
 ghost use Rattle.std.specs.Prelude.{◌≡◌, map, false, None, [], IfOk, IfErr, OnOk};
-ghost use Rattle.sled_pages.specs.declared.error.Error.TheVariants.{NoMemory};
-ghost use Rattle.sled_pages.specs.Store.{now};
+ghost use Rattle.sled_nodes.specs.declared.error.Error.TheVariants.{NoMemory};
+ghost use Rattle.sled_store.specs.Store.{now};
 ghost use Rattle.tree_laws.specs.Crashes.{IsValid};
 ghost use Rattle.sled.specs.Opens.{empty_page, MakesTree, StopsMaking, Opens, RefusesOpen, RefusesTree, numbered};
 ghost use Rattle.sled.specs.Values.{numbers_of};
@@ -13,9 +13,10 @@ use crate::DEFAULT_TREE;
 use crate::db::Db;
 use crate::tree_list::{number_of, put_tree, reserve_one};
 use sled_model::{MergeOperator, Tree};
-use sled_pages::texts::NUMBERS_USED_UP;
-use sled_pages::{Data, Error, IVec, Leaf, Node, Pages, Pid, Result, law_given};
+use sled_nodes::texts::NUMBERS_USED_UP;
+use sled_nodes::{Data, Error, IVec, Leaf, Node, Pid, Result};
 use sled_queues::Queues;
+use sled_store::{Pages, law_given};
 use std::alloc::Global;
 
 // A leaf without pairs that covers every key.

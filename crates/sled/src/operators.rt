@@ -3,12 +3,13 @@ ghost use Rattle.std.specs.Prelude.{◌≡◌, IfErr, OnOk, OnErr};
 ghost use Rattle.std.specs.FinMap.Entries.{find};
 ghost use Rattle.std.specs.Ordering.{nat_cmp};
 ghost use Rattle.std.specs.Option.{option_copied};
-ghost use Rattle.sled_pages.specs.declared.error.Error.TheVariants.{NoMemory};
+ghost use Rattle.sled_nodes.specs.declared.error.Error.TheVariants.{NoMemory};
 ghost use Rattle.sled.specs.theory.Operators.{with_operator, place};
 
 use crate::db::Db;
 use sled_model::{MergeOperator, Tree};
-use sled_pages::{Pages, Result};
+use sled_nodes::Result;
+use sled_store::Pages;
 
 // The operator of the tree of this number.
 pub(crate) fn operator_of<M>(operators: &[(u64, M)], number: u64) -> Option<&M>

@@ -2,10 +2,10 @@
 ghost use Rattle.std.specs.Prelude.{◌≡◌, ◌↔◌, IsTrue, IfOk, IfErr, OnOk, is_some, length, [], ◌∷◌, Some, None};
 ghost use Rattle.std.specs.FinMap.Entries.{find};
 ghost use Rattle.std.specs.declared.ops.Bound.TheVariants.{Excluded, Unbounded};
-ghost use Rattle.sled_pages.specs.Among.{bound_of, IsSuccessor, IsPredecessor};
-ghost use Rattle.sled_pages.specs.Order.{key_cmp};
-ghost use Rattle.sled_pages.specs.Store.{now};
-ghost use Rattle.sled_pages.specs.declared.error.Error.TheVariants.{NoMemory};
+ghost use Rattle.sled_nodes.specs.Among.{bound_of, IsSuccessor, IsPredecessor};
+ghost use Rattle.sled_nodes.specs.Order.{key_cmp};
+ghost use Rattle.sled_store.specs.Store.{now};
+ghost use Rattle.sled_nodes.specs.declared.error.Error.TheVariants.{NoMemory};
 ghost use Rattle.sled_model.specs.Refusal.{must_refuse_of};
 ghost use Rattle.tree_reads.specs.Walk.{once, for_each};
 ghost use Rattle.tree_reads.specs.Ranges.{IsRoot};
@@ -14,7 +14,8 @@ ghost use Rattle.sled.specs.Reads.{ReadsMap, Begins, BeginsWith, RefusesReading,
 
 use crate::db::Db;
 use sled_model::{MergeOperator, Tree};
-use sled_pages::{Error, IVec, Pages, Pid, Result};
+use sled_nodes::{Error, IVec, Pid, Result};
+use sled_store::Pages;
 use std::alloc::Global;
 use std::ops::Bound;
 use tree_reads::{Iter, above_prefix, count_pairs, first_from, last_up_to, pairs_of, value_at};

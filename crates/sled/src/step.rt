@@ -11,8 +11,9 @@ ghost use Rattle.sled_tree.specs.theory.Linking.{IsAtLink};
 ghost use Rattle.sled.specs.theory.Watched.{AdvancesOver, meets_full_as};
 
 use sled_model::{MAX_LOOPS, MergeOperator};
-use sled_pages::{Error, Pages};
+use sled_nodes::Error;
 use sled_queues::Queues;
+use sled_store::Pages;
 use sled_tree::{
     InFlight, Stage, Went, advance, begin_again, event_of, link_change, prepare_change,
 };

@@ -1,14 +1,14 @@
 //! The list of the trees, ascending by name. A tree is found by halves.
 ghost use Rattle.std.specs.Prelude.{◌≡◌, ◌<◌, true, None, vec_len, vec_capacity, IfOk, IfErr, OnOk};
 ghost use Rattle.std.specs.FinMap.Entries.{put, find, is_sorted};
-ghost use Rattle.sled_pages.specs.Order.{key_cmp};
-ghost use Rattle.sled_pages.specs.theory.Rising.{IsHit, IsGap};
-ghost use Rattle.sled_pages.specs.declared.error.Error.TheVariants.{NoMemory};
+ghost use Rattle.sled_nodes.specs.Order.{key_cmp};
+ghost use Rattle.sled_nodes.specs.theory.Rising.{IsHit, IsGap};
+ghost use Rattle.sled_nodes.specs.declared.error.Error.TheVariants.{NoMemory};
 
-use sled_pages::{IVec, Result};
+use sled_nodes::{IVec, Result};
 
 // Where the tree of a name stands, or would go.
-#[tactic(auto, unfolding(sled_pages::specs::Order::key_cmp))]
+#[tactic(auto, unfolding(sled_nodes::specs::Order::key_cmp))]
 fn place_of(trees: &[(IVec, u64)], name: &[u8]) -> std::result::Result<usize, usize>
     requires { is_sorted key_cmp trees.now ≡ true }
     ensures ok { IfOk result (IsHit key_cmp name.now trees.now) }

@@ -3,7 +3,8 @@ ghost use Rattle.std.specs.Prelude.{IfOk, IfErr};
 
 use crate::db::Db;
 use sled_model::{Event, MergeOperator, Subscriber, Tree};
-use sled_pages::{IVec, Pages, Result};
+use sled_nodes::{IVec, Result};
+use sled_store::Pages;
 
 impl<P: Pages, M: MergeOperator> Db<P, M> {
     ghost use Rattle.sled.specs.Watch.{WatchesDb, RefusesWatch, TakesFromDb, EndsSubscriber};

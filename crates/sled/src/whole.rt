@@ -7,7 +7,8 @@ ghost use Rattle.tree_reads.specs.Walk.{once, for_each};
 
 use crate::db::Db;
 use sled_model::{Call, MergeOperator, Tree};
-use sled_pages::{IVec, Pages, Result};
+use sled_nodes::{IVec, Result};
+use sled_store::Pages;
 
 impl<P: Pages, M: MergeOperator> Db<P, M> {
     ghost use Rattle.sled.specs.Direct.{WholeDecided, WholeRefused};

@@ -1,6 +1,6 @@
 -- Lines of a session, one by one.
 use Rattle.std.proofs.Common.{◌≡◌, ℕ, ◌+◌, List, [], ◌++◌, Option, Some, None, IfSome, Result, Ok, Err, IfOk, OnOk, sym, subst}
-use Rattle.sled_pages.specs.Store.{Store}
+use Rattle.sled_store.specs.Store.{Store}
 use Rattle.sled_model.specs.Maps.{Merge}
 use Rattle.sled_lines.specs.Print.{Prints, bad_line}
 use Rattle.sled_lines.specs.Session.{Obeys}

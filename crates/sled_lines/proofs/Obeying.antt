@@ -1,8 +1,8 @@
 -- What a session does at a command.
 use Rattle.std.proofs.Common.{◌≡◌, ℕ, false, List, [], ◌++◌, append-nil, Option, Result, Ok, Err, OnOk, refl, sym, subst, ap, ◌∙◌, inl, inr}
-use Rattle.sled_pages.specs.Order.{Key}
-use Rattle.sled_pages.specs.Store.{Store, now}
-use Rattle.sled_pages.specs.declared.error.Error.{Error}
+use Rattle.sled_nodes.specs.Order.{Key}
+use Rattle.sled_store.specs.Store.{Store, now}
+use Rattle.sled_nodes.specs.declared.error.Error.{Error}
 use Rattle.sled_model.specs.Maps.{Merge}
 use Rattle.sled_model.specs.declared.outcome.Outcome.{Outcome}
 use Rattle.tree_laws.specs.Contents.{trees_of}

@@ -1,10 +1,10 @@
 -- Sessions of the program, one after the other.
 use Rattle.std.proofs.Common.{◌≡◌, ℕ, Bool, true, false, List, [], ◌++◌, Option, Some, None, IfSome, codes, refl, ap, ◌∙◌, subst, sym}
 use Rattle.std.specs.Io.KnownBytes.{Keeps}
-use Rattle.sled_pages.specs.Crash.{Crashes}
+use Rattle.sled_store.specs.Crash.{Crashes}
 use Rattle.sled_pages.specs.Memory.{store_of, flush_number_of, empty_store}
-use Rattle.sled_pages.specs.Order.{Key}
-use Rattle.sled_pages.specs.Store.{Store}
+use Rattle.sled_nodes.specs.Order.{Key}
+use Rattle.sled_store.specs.Store.{Store}
 use Rattle.sled_pages.specs.declared.memory.MemPages.{MemPages}
 use Rattle.sled_model.specs.State.{default_name}
 use Rattle.sled.specs.Calls.{IsHandle}

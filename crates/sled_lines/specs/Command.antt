@@ -1,7 +1,7 @@
 -- Commands: what a line asks for.
 use Rattle.std.specs.Prelude.{ℕ, List, [], ◌∷◌, Option, Some, None, is_some, option_map, codes, if◌then◌else◌}
 use Rattle.std.specs.Str.{bytes_eq}
-use Rattle.sled_pages.specs.Order.{Key}
+use Rattle.sled_nodes.specs.Order.{Key}
 use Rattle.sled_model.specs.declared.call.Call.{Call}
 use Rattle.sled_model.specs.declared.call.Call.TheVariants as call
 use Rattle.sled_lines.specs.Words.{words_of, read_word, read_value, read_number}

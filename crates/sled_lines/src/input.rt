@@ -4,7 +4,7 @@ ghost use Rattle.std.specs.Vec.{vec_len};
 ghost use Rattle.std.specs.Io.KnownBytes.{Keeps, IsAtEnd};
 ghost use Rattle.std.specs.Io.BufRead.{take_through, strip_last, DropsThrough};
 
-use sled_pages::Error;
+use sled_nodes::Error;
 use std::alloc::{AllocError, AllocFailed};
 use std::io::{self, BufRead, ErrorKind, Write};
 

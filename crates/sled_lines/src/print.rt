@@ -3,14 +3,14 @@
 ghost use Rattle.std.specs.Prelude.{◌≡◌, ◌++◌, Some, OnOk, IfErr, decimal};
 ghost use Rattle.std.specs.Option.{option_copied};
 ghost use Rattle.std.specs.List.{flat_map};
-ghost use Rattle.sled_pages.specs.declared.error.Error.TheVariants.{NoMemory};
+ghost use Rattle.sled_nodes.specs.declared.error.Error.TheVariants.{NoMemory};
 ghost use Rattle.sled_model.specs.declared.event.Event.TheVariants.{Insert, Remove};
 ghost use Rattle.sled_lines.specs.Words.{word_of};
 ghost use Rattle.sled_lines.specs.Print.{end, piece_text, shown_of, shown_of_whole, name_of, number_name_of, conflict_line, found_line, tree_line, subscriber_line, event_line, reply_line, error_number, refused_line, slot_line, outcome_line, pair_line, end_line, recovered_line, bad_line};
 
 use crate::words::push_word;
 use sled_model::{Call, CompareAndSwapError, Event, Outcome, Reply, Whole};
-use sled_pages::{Error, IVec, Result};
+use sled_nodes::{Error, IVec, Result};
 use std::io::Write;
 
 /// What the value or the number in a call's reply is.

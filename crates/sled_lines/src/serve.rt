@@ -1,7 +1,7 @@
 //! The program as a function: from the lines that it reads to those that it prints.
 ghost use Rattle.std.specs.Prelude.{◌≡◌, ◌≤◌, false, [], IfOk, OnOk, IfSome};
 ghost use Rattle.std.specs.Io.KnownBytes.{Keeps};
-ghost use Rattle.sled_pages.specs.Store.{now};
+ghost use Rattle.sled_store.specs.Store.{now};
 ghost use Rattle.sled_pages.specs.Memory.{store_of, empty_store};
 ghost use Rattle.tree_laws.specs.Crashes.{IsValid, IsCrashConsistent};
 ghost use Rattle.sled_lines.specs.Print.{Prints, bad_line};
@@ -17,7 +17,8 @@ use crate::print::{push_bad_line, push_recovered};
 use crate::session::{Session, write};
 use sled::{Db, crash_pages, empty_pages};
 use sled_model::MergeOperator;
-use sled_pages::{MemPages, Pages};
+use sled_pages::MemPages;
+use sled_store::Pages;
 use std::alloc::Global;
 use std::io::{BufRead, Write};
 

@@ -2,8 +2,8 @@
 ghost use Rattle.std.specs.Prelude.{◌≡◌, ◌-◌, ◌^◌, ◌++◌, [], false, length, map, min, sum_by, Option, IfOk, IfErr, OnOk, OnErr};
 ghost use Rattle.std.specs.Option.{option_copied};
 ghost use Rattle.std.specs.List.{flat_map};
-ghost use Rattle.sled_pages.specs.Order.{Key};
-ghost use Rattle.sled_pages.specs.Store.{now};
+ghost use Rattle.sled_nodes.specs.Order.{Key};
+ghost use Rattle.sled_store.specs.Store.{now};
 ghost use Rattle.sled_model.specs.declared.call.Whole.TheVariants.{Flush, OpenTree};
 ghost use Rattle.sled_model.specs.declared.outcome.Step.TheVariants as step;
 ghost use Rattle.sled_model.specs.declared.outcome.Outcome.TheVariants.{Decided};
@@ -28,7 +28,9 @@ use crate::print::{Shown, push_end, push_outcome, push_pair};
 use sled::{Collection, Db};
 use sled_machine::Machine;
 use sled_model::{Call, MergeOperator, Outcome, Reply, Slot, Step, Tree, Whole};
-use sled_pages::{Error, IVec, MemPages, Pages};
+use sled_nodes::{Error, IVec};
+use sled_pages::MemPages;
+use sled_store::Pages;
 use std::alloc::{AllocError, Global};
 use std::io::Write;
 
@@ -189,7 +191,7 @@ impl<P: Pages, M: MergeOperator> Session<P, M> {
     }
 
     /// Gives the current tree a merge operator.
-    pub fn set_merge_operator(&mut self, operator: M) -> sled_pages::Result<()>
+    pub fn set_merge_operator(&mut self, operator: M) -> sled_nodes::Result<()>
         ensures ok { OnOk result (OperatorSet P.store M.meant self.old.machine.db self.old.tree (M.meant operator) self.new.machine.db) }
         ensures err { IfErr result (λ e. OperatorNotSet P.store M.meant self.old.machine.db self.old.tree e self.new.machine.db) }
         ensures tree { self.new.tree ≡ self.old.tree }
@@ -199,7 +201,7 @@ impl<P: Pages, M: MergeOperator> Session<P, M> {
     }
 
     /// Sets the value at a key of the current tree to what the closure makes of it, and answers the new value.
-    pub fn update_and_fetch<F>(&mut self, key: &[u8], f: F) -> sled_pages::Result<Option<IVec>>
+    pub fn update_and_fetch<F>(&mut self, key: &[u8], f: F) -> sled_nodes::Result<Option<IVec>>
     where
         F: FnMut(Option<&[u8]>) -> Result<Option<Vec<u8>>, AllocError>,
         requires { (stood : Option Key) → Stands P.store M.meant self.old.machine.db self.old.tree key.now stood → (shown : _) → option_copied shown ≡ stood → F.pre f shown }
@@ -213,7 +215,7 @@ impl<P: Pages, M: MergeOperator> Session<P, M> {
     }
 
     /// The same, but that it answers the value that stood there before.
-    pub fn fetch_and_update<F>(&mut self, key: &[u8], f: F) -> sled_pages::Result<Option<IVec>>
+    pub fn fetch_and_update<F>(&mut self, key: &[u8], f: F) -> sled_nodes::Result<Option<IVec>>
     where
         F: FnMut(Option<&[u8]>) -> Result<Option<Vec<u8>>, AllocError>,
         requires { (stood : Option Key) → Stands P.store M.meant self.old.machine.db self.old.tree key.now stood → (shown : _) → option_copied shown ≡ stood → F.pre f shown }
@@ -227,7 +229,7 @@ impl<P: Pages, M: MergeOperator> Session<P, M> {
     }
 
     /// Does a list of steps. They name slots by the machine's numbers.
-    pub fn perform(&mut self, steps: &[Step]) -> sled_pages::Result<Vec<Outcome>>
+    pub fn perform(&mut self, steps: &[Step]) -> sled_nodes::Result<Vec<Outcome>>
         ensures ok { IfOk result (λ outcomes. MachineRun P.store P.flush_number M.meant self.old.machine steps.now outcomes.items self.new.machine) }
         ensures each { IfOk result (λ outcomes. MachineSteps P.store P.flush_number M.meant self.old.machine steps.now outcomes.items self.new.machine) }
         ensures err { OnErr result (self.new.machine ≡ self.old.machine) }

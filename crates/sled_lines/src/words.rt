@@ -8,11 +8,11 @@ ghost use Rattle.std.specs.Str.Parse.{digits_value};
 ghost use Rattle.std.specs.Char.{digit_value};
 ghost use Rattle.std.specs.Int.{IsInRange};
 ghost use Rattle.std.specs.List.{flat_map, list_all};
-ghost use Rattle.sled_pages.specs.declared.error.Error.TheVariants.{NoMemory};
+ghost use Rattle.sled_nodes.specs.declared.error.Error.TheVariants.{NoMemory};
 ghost use Rattle.sled_lines.specs.Words.{is_plain, hex_digit, hex_value, byte_of, escape, spelled, printed, bytes_of, read_word, read_value, number_of, read_number, words_of, words_after, AreBytes, ReadsPrinted, ReadsValues, PrintsShortest, ReadsDecimals};
 ghost use Rattle.sled_lines.specs.theory.Words.{BeginsWith};
 
-use sled_pages::{IVec, Result};
+use sled_nodes::{IVec, Result};
 use std::alloc::Global;
 
 // Whether a byte stands for itself.

@@ -2,7 +2,7 @@
 use Rattle.std.proofs.Common.{◌≡◌, ℕ, zero, suc, ◌<◌, ◌≤◌, true, false, cond, nat_eq, List, [], ◌∷◌, ◌++◌, Option, Some, None, is_some, slice_get, slice_set, sym, refl, ap, ◌∙◌, subst, inl, inr, arith}
 use Rattle.std.specs.List.{filter}
 use Rattle.std.proofs.lemmas.Bool.{eqb-true}
-use Rattle.sled_pages.specs.Update.{put_at}
+use Rattle.sled_store.specs.Update.{put_at}
 use Rattle.sled_machine.specs.Slots.{kept_at}
 use Rattle.sled_machine.specs.theory.Slots.{RiseAbove, Rise}
 use Rattle.sled_machine.specs.Table.{kept_onto, kept, RiseUpTo, IsTable}

@@ -2,9 +2,9 @@
 use Rattle.std.proofs.Common.{◌≡◌, ◌≢◌, ℕ, zero, suc, ◌+◌, ◌<◌, true, false, cond, nat_eq, List, [], ◌∷◌, ◌++◌, length, Some, None, option_map, inr, sym, refl, ap, ◌∙◌, subst, arith}
 use Rattle.std.proofs.lemmas.Bool.{eq-eqb, ne_eqb, eqb-true}
 use Rattle.std.specs.declared.ops.Bound.TheVariants.{Included}
-use Rattle.sled_pages.specs.Update.{put_at}
-use Rattle.sled_pages.specs.Store.{Store, now}
-use Rattle.sled_pages.specs.declared.error.Error.{Error}
+use Rattle.sled_store.specs.Update.{put_at}
+use Rattle.sled_store.specs.Store.{Store, now}
+use Rattle.sled_nodes.specs.declared.error.Error.{Error}
 use Rattle.sled_model.specs.Answer.{key_of}
 use Rattle.sled_model.specs.Maps.{Merge}
 use Rattle.sled_model.specs.Refusal.{TellsTurns, ToBegin, ToStep, must_refuse, turns_limit}

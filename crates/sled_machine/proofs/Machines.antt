@@ -2,9 +2,9 @@
 use Rattle.std.proofs.Common.{◌≡◌, ◌≢◌, ℕ, ◌+◌, ◌<◌, ◌≤◌, true, false, cond, nat_eq, List, [], ◌∷◌, ◌++◌, Option, Some, None, Result, Ok, Err, IfErr, option_map, map, sym, refl, ap, ◌∙◌, subst, inl, inr, ◌⊎◌, arith}
 use Rattle.std.proofs.Math.Path.{fun_ext}
 use Rattle.std.proofs.lemmas.Bool.{eq-eqb, ne_eqb, eqb-true}
-use Rattle.sled_pages.specs.Update.{put_at}
-use Rattle.sled_pages.specs.Store.{Store, now}
-use Rattle.sled_pages.specs.declared.error.Error.{Error}
+use Rattle.sled_store.specs.Update.{put_at}
+use Rattle.sled_store.specs.Store.{Store, now}
+use Rattle.sled_nodes.specs.declared.error.Error.{Error}
 use Rattle.sled_model.specs.Maps.{Maps, Merge}
 use Rattle.sled_model.specs.Answer.{answer_of}
 use Rattle.sled_model.specs.State.{CallInFlight, maps_of}
@@ -479,10 +479,10 @@ module _ {P M : Type 0} (store : P → Store) (number : P → ℕ) (meant : M �
   flush_refused_as db r f = subst (λ z. MachineStepContract store number meant z (step.Whole Flush) (outcome.Refused r) (record inside { db = db })) e (flush_refused store number meant inside im db r f)
 
   -- no memory, where the list of calls may have got room
-  pub memory_as : (tree : Tree) (call : Call) (r : Error) → must_refuse (db_state store meant inside.db) (ToBegin tree call) ≡ None → r ≡ Rattle.sled_pages.specs.declared.error.Error.TheVariants.NoMemory → MachineStepContract store number meant old (step.Begin tree call) (outcome.Refused r) old
-  memory_as tree call r must m = subst (λ x. MachineStepContract store number meant old (step.Begin tree call) (outcome.Refused x) old) (sym m) (caused_as tree call Rattle.sled_pages.specs.declared.error.Error.TheVariants.NoMemory must tt)
+  pub memory_as : (tree : Tree) (call : Call) (r : Error) → must_refuse (db_state store meant inside.db) (ToBegin tree call) ≡ None → r ≡ Rattle.sled_nodes.specs.declared.error.Error.TheVariants.NoMemory → MachineStepContract store number meant old (step.Begin tree call) (outcome.Refused r) old
+  memory_as tree call r must m = subst (λ x. MachineStepContract store number meant old (step.Begin tree call) (outcome.Refused x) old) (sym m) (caused_as tree call Rattle.sled_nodes.specs.declared.error.Error.TheVariants.NoMemory must tt)
 
-  pub room_as : (tree : Tree) (call : Call) (r : Error) → must_refuse (db_state store meant old.db) (ToBegin tree call) ≡ None → r ≡ Rattle.sled_pages.specs.declared.error.Error.TheVariants.NoMemory → (gs : List (ℕ × InFlight)) → gs ≡ inside.flights
+  pub room_as : (tree : Tree) (call : Call) (r : Error) → must_refuse (db_state store meant old.db) (ToBegin tree call) ≡ None → r ≡ Rattle.sled_nodes.specs.declared.error.Error.TheVariants.NoMemory → (gs : List (ℕ × InFlight)) → gs ≡ inside.flights
       → MachineStepContract store number meant old (step.Begin tree call) (outcome.Refused r) (record inside { flights = gs })
   room_as tree call r must m gs g = subst (λ z. MachineStepContract store number meant old (step.Begin tree call) (outcome.Refused r) z) (sym e ∙ ap (λ z. record inside { flights = z }) (sym g)) (memory_as tree call r (tested_inside tree call must) m)
 

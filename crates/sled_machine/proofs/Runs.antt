@@ -1,6 +1,6 @@
 -- Steps one after the other.
 use Rattle.std.proofs.Common.{◌≡◌, ℕ, List, [], ◌∷◌, ◌++◌, sym, subst, append-nil}
-use Rattle.sled_pages.specs.Store.{Store}
+use Rattle.sled_store.specs.Store.{Store}
 use Rattle.sled_model.specs.Maps.{Maps, Merge}
 use Rattle.sled_model.specs.State.{maps_of}
 use Rattle.sled_model.specs.Transition.{Transition}

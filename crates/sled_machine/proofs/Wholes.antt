@@ -1,8 +1,8 @@
 -- Whole calls but the flush: what the database says of one is what the machine promises.
 use Rattle.std.proofs.Common.{◌≡◌, ℕ, List, ◌++◌, Option, None, sym, refl, ap, subst}
-use Rattle.sled_pages.specs.Order.{Key}
-use Rattle.sled_pages.specs.Store.{Store}
-use Rattle.sled_pages.specs.declared.error.Error.{Error}
+use Rattle.sled_nodes.specs.Order.{Key}
+use Rattle.sled_store.specs.Store.{Store}
+use Rattle.sled_nodes.specs.declared.error.Error.{Error}
 use Rattle.sled_model.specs.Maps.{Maps, Merge}
 use Rattle.sled_model.specs.State.{maps_of}
 use Rattle.sled_model.specs.Transition.{Kind, Flushing, Telling, Changing, InParts, Dropping, Listening, kind_of}

@@ -1,7 +1,7 @@
 -- The maps that a crash may leave, and how a step changes the list of them.
 use Rattle.std.specs.Prelude.{List, [], ◌∷◌, ◌++◌, map}
-use Rattle.sled_pages.specs.Store.{Store}
-use Rattle.sled_pages.specs.Crash.{crash_states}
+use Rattle.sled_store.specs.Store.{Store}
+use Rattle.sled_store.specs.Crash.{crash_states}
 use Rattle.sled_model.specs.Maps.{Maps}
 use Rattle.sled_model.specs.declared.call.Whole.TheVariants.{Flush}
 use Rattle.sled_model.specs.declared.outcome.Step.{Step}

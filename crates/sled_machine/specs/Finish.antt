@@ -1,8 +1,8 @@
 -- Calls to their end.
 use Rattle.std.specs.Prelude.{◌≡◌, ◌≢◌, ℕ, zero, suc, ◌<◌, ◌≤◌, ◌⊎◌, List, [], ◌∷◌, length, Some}
 use Rattle.std.specs.declared.ops.Bound.TheVariants.{Included}
-use Rattle.sled_pages.specs.Store.{Store, now}
-use Rattle.sled_pages.specs.declared.error.Error.{Error}
+use Rattle.sled_store.specs.Store.{Store, now}
+use Rattle.sled_nodes.specs.declared.error.Error.{Error}
 use Rattle.sled_model.specs.Maps.{Merge}
 use Rattle.sled_model.specs.Answer.{key_of}
 use Rattle.sled_model.specs.Refusal.{TellsTurns, turns_limit}

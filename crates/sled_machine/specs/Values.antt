@@ -1,6 +1,6 @@
 -- What contracts see of a machine, and the instant of the model that it stands for.
 use Rattle.std.specs.Prelude.{ℕ, List, Option, option_map}
-use Rattle.sled_pages.specs.Store.{Store}
+use Rattle.sled_store.specs.Store.{Store}
 use Rattle.sled_model.specs.Maps.{Merge}
 use Rattle.sled_model.specs.State.{CallInFlight}
 use Rattle.sled_model.specs.Transition.{Configuration}

@@ -12,7 +12,7 @@ ghost use Rattle.sled_machine.specs.theory.StepsInSlot.{StepsInCell, StepsInSlot
 use crate::table::Table;
 use sled::Db;
 use sled_model::{MergeOperator, Outcome};
-use sled_pages::Pages;
+use sled_store::Pages;
 use sled_tree::{InFlight, Went};
 
 // How a step came out, as a machine tells it.

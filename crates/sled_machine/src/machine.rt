@@ -1,8 +1,8 @@
 //! The machine.
 ghost use Rattle.std.specs.Prelude.{◌≡◌, ◌<◌, ◌∷◌, IfOk, IfErr, OnOk, OnErr, None, [], Option};
 ghost use Rattle.std.specs.Option.{option_map, option_copied};
-ghost use Rattle.sled_pages.specs.Order.{Key};
-ghost use Rattle.sled_pages.specs.declared.error.Error.TheVariants.{NoMemory};
+ghost use Rattle.sled_nodes.specs.Order.{Key};
+ghost use Rattle.sled_nodes.specs.declared.error.Error.TheVariants.{NoMemory};
 ghost use Rattle.sled_model.specs.Refusal.{must_refuse, ToBegin, must_refuse_of};
 ghost use Rattle.sled_model.specs.declared.call.Whole.TheVariants.{Flush, PopMin, PopMax, Clear, OpenTree, DropTree, GenerateId, Import, Watch, Next, Unsubscribe};
 ghost use Rattle.sled_model.specs.declared.call.Call.{Call};
@@ -15,8 +15,9 @@ use sled::Db;
 use sled_model::{
     Call, Collection, MergeOperator, Outcome, Reply, Slot, Step, Subscriber, Tree, Whole,
 };
-use sled_pages::texts::NUMBERS_USED_UP;
-use sled_pages::{Error, IVec, Pages, Result};
+use sled_nodes::texts::NUMBERS_USED_UP;
+use sled_nodes::{Error, IVec, Result};
+use sled_store::Pages;
 use sled_tree::InFlight;
 use std::alloc::AllocError;
 use std::marker::Model;

@@ -2,14 +2,14 @@
 //! ends, and the empty cells go when they are more than half of all, so that none of the others is moved more than twice
 //! or so for each call that ends.
 ghost use Rattle.std.specs.Prelude.{◌≡◌, ◌<◌, ◌++◌, ◌∷◌, [], length, Some, None, IfSome, IfNone, OnOk, OnErr, IfErr};
-ghost use Rattle.sled_pages.specs.declared.error.Error.TheVariants.{NoMemory};
+ghost use Rattle.sled_nodes.specs.declared.error.Error.TheVariants.{NoMemory};
 ghost use Rattle.sled_machine.specs.Slots.{kept_at};
 ghost use Rattle.sled_machine.specs.theory.Slots.{Rise};
 ghost use Rattle.sled_machine.specs.Table.{kept};
 ghost use Rattle.sled_machine.specs.theory.Table.{HoldsAt, Empties};
 
 use crate::place::place;
-use sled_pages::{Error, Result};
+use sled_nodes::{Error, Result};
 use std::alloc::Global;
 
 /// Items by number. The numbers rise.

@@ -1,5 +1,5 @@
 -- Events.
-use Rattle.sled_pages.specs.Order.{Key}
+use Rattle.sled_nodes.specs.Order.{Key}
 use Rattle.sled_model.specs.declared.event.Event.{Event}
 use Rattle.sled_model.specs.declared.event.Event.TheVariants.{Insert, Remove}
 

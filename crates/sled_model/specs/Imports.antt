@@ -1,11 +1,11 @@
 -- What an import makes of the state.
 use Rattle.std.specs.Prelude.{◌≡◌, ◌⊎◌, ℕ, true, false, List, [], ◌∷◌, ◌++◌, Option, Some, None}
 use Rattle.std.specs.FinMap.Entries.{find}
-use Rattle.sled_pages.specs.Order.{Key, key_cmp}
-use Rattle.sled_pages.specs.Store.{Store}
-use Rattle.sled_pages.specs.declared.error.Error.{Error}
-use Rattle.sled_pages.specs.declared.error.Error.TheVariants.{NoMemory, Io, Unsupported, ReportableBug}
-use Rattle.sled_pages.specs.declared.texts.TheConstants.{OVERWRITES_DATA, WALK_PASSED_TURNS}
+use Rattle.sled_nodes.specs.Order.{Key, key_cmp}
+use Rattle.sled_store.specs.Store.{Store}
+use Rattle.sled_nodes.specs.declared.error.Error.{Error}
+use Rattle.sled_nodes.specs.declared.error.Error.TheVariants.{NoMemory, Io, Unsupported, ReportableBug}
+use Rattle.sled_nodes.specs.declared.texts.TheConstants.{OVERWRITES_DATA, WALK_PASSED_TURNS}
 use Rattle.sled_model.specs.Maps.{Maps}
 use Rattle.sled_model.specs.Answer.{answer_of}
 use Rattle.sled_model.specs.Collections.{Content, are_trees}

@@ -1,6 +1,6 @@
 -- The maps of a database.
 use Rattle.std.specs.Prelude.{◌≡◌, List, [], ◌∷◌, ◌++◌, Option, Some, None}
-use Rattle.sled_pages.specs.Order.{Key}
+use Rattle.sled_nodes.specs.Order.{Key}
 
 -- a map from byte strings to byte strings: its pairs, by ascending keys
 abbrev pub Map : Type 0

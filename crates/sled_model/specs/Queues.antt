@@ -1,7 +1,7 @@
 -- What becomes of the queues of subscribers, but for the events that they are given (`queues_after`).
 use Rattle.std.specs.Prelude.{ℕ, List, [], drop, Option, Some, None, option_map, slice_get}
-use Rattle.sled_pages.specs.Order.{Key}
-use Rattle.sled_pages.specs.Update.{put_at}
+use Rattle.sled_nodes.specs.Order.{Key}
+use Rattle.sled_store.specs.Update.{put_at}
 use Rattle.sled_model.specs.State.{Queue}
 use Rattle.sled_model.specs.declared.event.Event.{Event}
 

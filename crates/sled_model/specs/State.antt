@@ -2,8 +2,8 @@
 use Rattle.std.specs.Prelude.{ℕ, Bool, List, [], ◌∷◌, ◌++◌, nat_eq, ◌&&◌, Option, Some, None, option_map, codes, if◌then◌else◌}
 use Rattle.std.specs.List.{starts_with}
 use Rattle.std.specs.declared.ops.Bound.{Bound}
-use Rattle.sled_pages.specs.Order.{Key}
-use Rattle.sled_pages.specs.Update.{put_at, put_name}
+use Rattle.sled_nodes.specs.Order.{Key}
+use Rattle.sled_store.specs.Update.{put_at, put_name}
 use Rattle.sled_model.specs.Maps.{Map, Maps, Merge}
 use Rattle.sled_model.specs.Event.{key_of_event}
 use Rattle.sled_model.specs.Answer.{Answer}

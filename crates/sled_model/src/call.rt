@@ -1,6 +1,6 @@
 //! The calls on a database.
 ghost use Rattle.std.specs.Prelude.{◌≡◌, IfOk, IfErr};
-ghost use Rattle.sled_pages.specs.declared.error.Error.TheVariants.{NoMemory};
+ghost use Rattle.sled_nodes.specs.declared.error.Error.TheVariants.{NoMemory};
 ghost use Rattle.sled_model.specs.Answer.{key_of};
 ghost use Rattle.sled_model.specs.Refusal.{needs_operator};
 ghost use Rattle.sled_model.specs.Whole.{IsSameWhole};
@@ -11,7 +11,7 @@ use crate::collection::{Collection, copied_collections};
 use crate::reply::clone_value;
 use crate::subscriber::Subscriber;
 use crate::tree::Tree;
-use sled_pages::{IVec, Result};
+use sled_nodes::{IVec, Result};
 
 /// A call on one key of a tree. It takes effect at one step, its deciding step.
 #[derive(Drop, PartialEq, Eq)]

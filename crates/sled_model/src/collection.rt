@@ -1,9 +1,9 @@
 //! Collections, as an export gives them and an import takes them.
 ghost use Rattle.std.specs.Prelude.{◌≡◌, IfOk, IfErr};
-ghost use Rattle.sled_pages.specs.declared.error.Error.TheVariants.{NoMemory};
+ghost use Rattle.sled_nodes.specs.declared.error.Error.TheVariants.{NoMemory};
 ghost use Rattle.sled_model.specs.Collections.{content_of, contents_of};
 
-use sled_pages::{IVec, Result};
+use sled_nodes::{IVec, Result};
 
 /// What an export has of a tree, and an import makes of one: the type of collection, which is `tree`, the tree's name, and its
 /// pairs.

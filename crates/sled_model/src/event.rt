@@ -1,9 +1,9 @@
 //! Changes of a tree, as subscribers learn of them.
 ghost use Rattle.std.specs.Prelude.{◌≡◌, IfOk, IfErr};
-ghost use Rattle.sled_pages.specs.declared.error.Error.TheVariants.{NoMemory};
+ghost use Rattle.sled_nodes.specs.declared.error.Error.TheVariants.{NoMemory};
 ghost use Rattle.sled_model.specs.Event.{key_of_event};
 
-use sled_pages::{IVec, Result};
+use sled_nodes::{IVec, Result};
 
 /// A change of one key.
 #[derive(Debug, Drop, PartialEq, Eq, PartialOrd, Ord)]

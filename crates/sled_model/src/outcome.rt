@@ -1,6 +1,6 @@
 //! The steps of the machine and how they come out.
 use crate::{Call, Reply, Tree, Whole};
-use sled_pages::Error;
+use sled_nodes::Error;
 use std::marker::Model;
 
 /// Names a call in flight. Slots are numbered from 1, in order of the begins that succeeded.

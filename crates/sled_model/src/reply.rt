@@ -1,11 +1,11 @@
 //! What decided calls answer.
 ghost use Rattle.std.specs.Prelude.{◌≡◌, IfOk, IfErr};
-ghost use Rattle.sled_pages.specs.declared.error.Error.TheVariants.{NoMemory};
+ghost use Rattle.sled_nodes.specs.declared.error.Error.TheVariants.{NoMemory};
 
 use crate::event::Event;
 use crate::subscriber::Subscriber;
 use crate::tree::Tree;
-use sled_pages::{IVec, Result};
+use sled_nodes::{IVec, Result};
 use std::fmt::{self, Display, Formatter, Write};
 
 /// Why a value was not swapped: another one stood at the key. Nothing was written.

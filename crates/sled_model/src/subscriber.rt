@@ -1,7 +1,7 @@
 //! Subscribers of a database.
 ghost use Rattle.std.specs.Prelude.{◌≡◌, Ok};
 
-use sled_pages::Result;
+use sled_nodes::Result;
 use std::marker::Model;
 
 /// Names a subscriber, and by it the queue of its events. Subscribers are numbered from 1, in order of the calls that made

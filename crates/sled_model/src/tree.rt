@@ -1,8 +1,8 @@
 //! A tree of a database, as callers name it.
 ghost use Rattle.std.specs.Prelude.{◌≡◌, IfOk, IfErr};
-ghost use Rattle.sled_pages.specs.declared.error.Error.TheVariants.{NoMemory};
+ghost use Rattle.sled_nodes.specs.declared.error.Error.TheVariants.{NoMemory};
 
-use sled_pages::{IVec, Result};
+use sled_nodes::{IVec, Result};
 
 /// Names a tree of a database: by the database's name, the tree's name, and the number that the tree was given when it
 /// was made. Once the tree is dropped the value is refused with `CollectionNotFound`, also after the name is opened anew.

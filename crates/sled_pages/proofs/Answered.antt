@@ -1,13 +1,13 @@
 -- What the tests of a store in memory tell.
 use Rattle.std.proofs.Common.{◌≡◌, ℕ, List, Option, Some, None, Ok, refl, sym, ap, subst, ◌∙◌}
 use Rattle.std.specs.Option.{option_map}
-use Rattle.sled_pages.specs.declared.page.Page.{Page}
+use Rattle.sled_store.specs.declared.page.Page.{Page}
 use Rattle.sled_pages.specs.declared.memory.MemPages.{MemPages}
 use Rattle.sled_pages.specs.declared.memory.slots.Slot.{Slot}
-use Rattle.sled_pages.specs.Store.{Store, now, version_now, ActsAt, Changes, IsRoots}
-use Rattle.sled_pages.specs.State.{PageBecomes}
-use Rattle.sled_pages.specs.Order.{Key}
-use Rattle.sled_pages.specs.declared.node.Node.{Node}
+use Rattle.sled_store.specs.Store.{Store, now, version_now, ActsAt, Changes, IsRoots}
+use Rattle.sled_store.specs.State.{PageBecomes}
+use Rattle.sled_nodes.specs.Order.{Key}
+use Rattle.sled_nodes.specs.declared.node.Node.{Node}
 use Rattle.sled_pages.specs.Slots.{slots_of}
 use Rattle.sled_pages.specs.Table.{page_of}
 use Rattle.sled_pages.specs.Memory.{store_of}

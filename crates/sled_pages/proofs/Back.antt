@@ -5,18 +5,19 @@ use Rattle.std.specs.List.{list_all}
 use Rattle.std.proofs.lemmas.Bool.{cases_lt}
 use Rattle.std.proofs.lemmas.List.{reverse-append, length-reverse}
 use Rattle.std.proofs.Math.Seq.{take-length, take-append_seam}
-use Rattle.sled_pages.specs.Order.{Key}
-use Rattle.sled_pages.specs.Update.{put_at}
+use Rattle.sled_nodes.specs.Order.{Key}
+use Rattle.sled_store.specs.Update.{put_at}
 use Rattle.sled_pages.specs.declared.memory.slots.Slot.{Slot}
 use Rattle.sled_pages.specs.declared.memory.undo.Undo.{Undo}
 use Rattle.sled_pages.specs.declared.memory.undo.Undo.TheVariants.{UndoSlot}
-use Rattle.sled_pages.specs.State.{State, Action, after_all}
+use Rattle.sled_store.specs.State.{State, Action, after_all}
 use Rattle.sled_pages.specs.Table.{Table, undone, undoes, base_of, recent_of, state_of, has_place, slot_given, undo_given, IsKept}
 use Rattle.sled_pages.specs.theory.Table.{table, state_at, TakesBack, TakenBack}
-use Rattle.sled_pages.specs.Crash.{Crashes}
+use Rattle.sled_store.specs.Crash.{Crashes}
 use Rattle.sled_pages.specs.Memory.{meaning}
 use Rattle.sled_pages.specs.theory.Replay.{replay}
-use Rattle.sled_pages.proofs.Kept.{all_front, here_put}
+use Rattle.sled_nodes.proofs.All.{all_front}
+use Rattle.sled_pages.proofs.Kept.{here_put}
 
 -- as many actions as entries
 length_recent : (log : List Undo) (t : Table) → length (recent_of log t) ≡ length log

@@ -1,5 +1,5 @@
 -- What the parts of a store in memory say of its meaning.
-use Rattle.std.proofs.Common.{◌≡◌, ℕ, ◌+◌, ◌<◌, Bool, true, false, ◌&&◌, nat_lt, cond, List, [], ◌∷◌, ◌++◌, Option, Some, None, refl, sym, ap, subst, ◌∙◌, arith, if◌then◌else◌}
+use Rattle.std.proofs.Common.{◌≡◌, ℕ, ◌+◌, ◌<◌, Bool, true, false, nat_lt, cond, List, [], ◌∷◌, ◌++◌, Option, Some, None, refl, sym, ap, subst, ◌∙◌, arith, if◌then◌else◌}
 use Rattle.std.proofs.Math.Path.{fun_ext}
 use Rattle.std.proofs.lemmas.Bool.Decides.{nat_tests}
 use lib.Dec.{eqb}
@@ -10,21 +10,21 @@ use Rattle.sled_pages.specs.Slots.{slots_of, places_of, given_of}
 use Rattle.sled_pages.specs.theory.Replay.{replay, back_name, slot_placed, placed_given}
 use mathlib.Core.List.{reverse}
 use Rattle.std.specs.Option.{option_map}
-use Rattle.std.proofs.lemmas.List.Folds.{list_all-append}
-use Rattle.sled_pages.specs.theory.Facts.{put_here, put_elsewhere, put_name_here}
+use Rattle.sled_store.specs.theory.Facts.{put_here, put_elsewhere, put_name_here}
 use Rattle.sled_pages.proofs.Places.{one_place}
 use Rattle.std.proofs.lemmas.List.{reverse-append}
-use Rattle.std.specs.List.{list_all}
-use Rattle.sled_pages.specs.Order.{Key}
-use Rattle.sled_pages.specs.Update.{put_at, put_name}
-use Rattle.sled_pages.specs.declared.node.Node.{Node}
+use Rattle.sled_nodes.specs.Order.{Key}
+use Rattle.sled_store.specs.Update.{put_at, put_name}
+use Rattle.sled_nodes.specs.declared.node.Node.{Node}
 use Rattle.sled_pages.specs.declared.memory.slots.Slot.{Slot}
 use Rattle.sled_pages.specs.declared.memory.undo.Undo.{Undo}
 use Rattle.sled_pages.specs.declared.memory.undo.Undo.TheVariants.{UndoSlot, UndoLink, UndoRoot, UndoGroup}
-use Rattle.sled_pages.specs.State.{State, Action, PageBecomes, RootBecomes, GroupBegins, GroupEnds}
-use Rattle.sled_pages.specs.Store.{Store, now, after_action, after_flush, Allocates, ActsAt}
-use Rattle.sled_pages.specs.Table.{Table, page_of, pages_of, roots_of, state_of, undone, undoes, base_of, recent_of, has_place, IsKept, slot_given, undo_given, AreBelow}
+use Rattle.sled_store.specs.State.{State, Action, PageBecomes, RootBecomes, GroupBegins, GroupEnds}
+use Rattle.sled_store.specs.Store.{Store, now, after_action, after_flush, Allocates, ActsAt}
+use Rattle.sled_store.specs.Roots.{roots_of}
+use Rattle.sled_pages.specs.Table.{Table, page_of, pages_of, state_of, undone, undoes, base_of, recent_of, has_place, IsKept, slot_given, undo_given, AreBelow}
 use Rattle.sled_pages.specs.Memory.{meaning, table_of, store_of, empty_store}
+use Rattle.sled_nodes.proofs.All.{all_push, all_weaker}
 
 -- below no version there is none
 none_below : (v : ℕ) → nat_lt v 0 ≡ false
@@ -78,29 +78,6 @@ pub page_commits : (slots slots' : ℕ → Option Slot) (roots : Key → Option 
     meaning (with_slots roots g slots') log' (n + 1) f un mk rc places' nv ≡ after_action (PageBecomes pid (option_map page_of slot)) (meaning (with_slots roots g slots) log n f un mk rc places nv)
 page_commits slots slots' roots g log log' pid slot old n f un mk rc places places' nv s o l h =
     meaning_acted _ _ log log' (UndoSlot pid old) _ n f un mk rc places places' nv l (page_back slots slots' roots g pid slot old s o) (page_told slots slots' roots g pid slot old s) h
-
-pub first : (a b : Bool) → (a && b) ≡ true → a ≡ true
-first true b e = refl
-first false b e = cc
-
-pub second : (a b : Bool) → (a && b) ≡ true → b ≡ true
-second true b e = e
-second false b e = cc
-
-pub both : (a b : Bool) → a ≡ true → b ≡ true → (a && b) ≡ true
-both a b e f = rw (e, f) refl
-
-pub all_push : {X : Type 0} (p : X → Bool) (xs : List X) (x : X) → list_all p xs ≡ true → p x ≡ true → list_all p (xs ++ x ∷ []) ≡ true
-all_push p xs x e f = list_all-append p xs (x ∷ []) ∙ both _ _ e (both _ _ f refl)
-
-pub all_front : {X : Type 0} (p : X → Bool) (xs ys : List X) (x : X) → ys ≡ xs ++ x ∷ [] → list_all p ys ≡ true → (list_all p xs ≡ true) × (p x ≡ true)
-all_front p xs ys x l e =
-    let all : (list_all p xs && (p x && true)) ≡ true = sym (list_all-append p xs (x ∷ [])) ∙ (ap (list_all p) (sym l) ∙ e) in
-    (first _ _ all, first _ _ (second (list_all p xs) _ all))
-
-pub all_weaker : {X : Type 0} (p q : X → Bool) → ((x : X) → p x ≡ true → q x ≡ true) → (xs : List X) → list_all p xs ≡ true → list_all q xs ≡ true
-all_weaker p q h [] e = refl
-all_weaker p q h (x ∷ xs) e = both _ _ (h x (first _ _ e)) (all_weaker p q h xs (second (p x) _ e))
 
 place_stays : (places places' : ℕ → Bool) → ((p : ℕ) → places p ≡ true → places' p ≡ true) → (u : Undo) → has_place places u ≡ true → has_place places' u ≡ true
 place_stays places places' h (UndoSlot pid slot) e = h pid e

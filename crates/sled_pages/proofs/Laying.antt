@@ -1,31 +1,33 @@
 -- An image laid down page by page.
-use Rattle.std.proofs.Common.{◌≡◌, ℕ, ◌+◌, ◌-◌, ◌^◌, ◌<◌, ◌≤◌, Bool, true, false, cond, ◌&&◌, nat_eq, nat_le, nat_lt, take, get_or, add-one, List, [], ◌∷◌, ◌++◌, length, Option, Some, None, refl, sym, ap, ◌∙◌, arith, length-append, slice_get}
+use Rattle.std.proofs.Common.{◌≡◌, ℕ, ◌+◌, ◌-◌, ◌^◌, ◌<◌, ◌≤◌, Bool, true, false, cond, ◌&&◌, nat_eq, nat_le, nat_lt, List, [], ◌∷◌, ◌++◌, length, Option, Some, None, refl, sym, ap, ◌∙◌, arith, length-append, slice_get}
 use Rattle.std.specs.Option.{option_map}
 use Rattle.std.specs.List.{find, list_all}
-use Rattle.std.proofs.Math.Seq.{take-suc}
-use Rattle.sled_pages.specs.Node.{pointers}
-use Rattle.sled_pages.proofs.Kept.{all_push, all_weaker, first, second, both}
+use Rattle.sled_nodes.specs.Node.{pointers}
+use Rattle.sled_nodes.proofs.All.{all_push, all_weaker, first, second, both}
 use Rattle.std.specs.Ordering.{nat_cmp}
 use Rattle.std.specs.Cmp.{unsigned_ties}
 use Rattle.std.specs.BTreeMap.{BTreeMap, get, is_at}
 use Rattle.std.proofs.lemmas.Bool.Decides.{nat_tests}
 use Rattle.std.proofs.lemmas.List.{reverse-append}
 use mathlib.Core.List.{reverse}
-use Rattle.sled_pages.specs.declared.node.Node.{Node}
+use Rattle.sled_nodes.specs.declared.node.Node.{Node}
 use Rattle.sled_pages.specs.declared.memory.slots.Slot.{Slot}
 use Rattle.sled_pages.specs.theory.Held.{Holds}
 use Rattle.sled_pages.specs.Slots.{slot_in, given_in}
 use Rattle.sled_pages.specs.Joined.{joined}
-use Rattle.sled_pages.specs.Table.{slot_given, page_of, roots_of}
+use Rattle.sled_store.specs.Roots.{roots_of}
+use Rattle.sled_pages.specs.Table.{slot_given, page_of}
 use Rattle.sled_pages.specs.theory.Table.{table}
 use Rattle.sled_pages.specs.Memory.{meaning}
-use Rattle.sled_pages.specs.declared.page.Page.{Page}
+use Rattle.sled_store.specs.declared.page.Page.{Page}
 use Rattle.sled_pages.specs.declared.memory.undo.Undo.{Undo}
-use Rattle.sled_pages.specs.Image.{IsImage, last_of, node_in, root_in, all_of, all_named, all_numbers}
+use Rattle.sled_nodes.specs.Image.{last_of, node_in, root_in, all_of, all_named, all_numbers}
+use Rattle.sled_pages.specs.Image.{IsImage}
 use Rattle.std.specs.Str.{bytes_eq}
-use Rattle.sled_pages.specs.Order.{Key}
-use Rattle.sled_pages.specs.Update.{put_name}
-use Rattle.sled_pages.proofs.Roots.{same_test}
+use Rattle.sled_nodes.specs.Order.{Key}
+use Rattle.sled_store.specs.Update.{put_name}
+use Rattle.sled_store.proofs.Roots.{same_test}
+use Rattle.sled_nodes.proofs.All.{le_is, le_later}
 
 -- one entry more
 pub last_more : {K X : Type 0} (passes : K → Bool) (es : List (K × X)) (k : K) (x : X) → last_of passes (es ++ (k, x) ∷ []) ≡ cond (passes k) (Some x) (last_of passes es)
@@ -49,17 +51,6 @@ root_more list roots new name pid e h q =
     ap (λ f. f q) e
     ∙ (ap (λ t. cond t (Some pid) (roots q)) (same_test name q)
     ∙ (ap (λ o. cond (bytes_eq name q) (Some pid) o) (h q) ∙ sym (last_more (λ k. bytes_eq k q) list name pid)))
-
--- numbers that stay below a bound
-le_is : (a b : ℕ) → a ≤ b → nat_le a b ≡ true
-le_is a b h = grind (arith, nat_tests)
-
-le_later : (p a b : ℕ) → a ≤ b → nat_le p a ≡ true → nat_le p b ≡ true
-le_later p a b h e = grind (arith, nat_tests)
-
-pub le_more : (es : List (Key × ℕ)) (i a b : ℕ) (d : Key × ℕ) → i < length es → a ≤ b → (get_or es i d).1 ≤ b → list_all (λ e. nat_le e.1 a) (take i es) ≡ true → list_all (λ e. nat_le e.1 b) (take (i + 1) es) ≡ true
-le_more es i a b d h l k e = rw add-one (ap (list_all (λ x. nat_le x.1 b)) (take-suc es i d h)
-    ∙ all_push (λ x. nat_le x.1 b) (take i es) (get_or es i d) (all_weaker (λ x. nat_le x.1 a) (λ x. nat_le x.1 b) (λ x. le_later x.1 a b l) (take i es) e) (le_is _ _ k))
 
 named_later : (a b : ℕ) (n : Node) → a ≤ b → all_named (λ p. nat_le p a) n ≡ true → all_named (λ p. nat_le p b) n ≡ true
 named_later a b n h e =

@@ -1,11 +1,6 @@
-pub mod Put
-pub mod Returned
 pub mod Places
 pub mod Kept
-pub mod Roots
 pub mod Answered
 pub mod Linked
 pub mod Back
-pub mod Found
 pub mod Laying
-pub mod Rising

@@ -3,27 +3,29 @@ use Rattle.std.proofs.Common.{◌≡◌, ℕ, ◌+◌, Bool, true, false, cond, 
 use Rattle.std.proofs.Math.Path.{fun_ext}
 use Rattle.std.specs.Option.{option_map}
 use lib.Dec.{eqb}
-use Rattle.sled_pages.specs.Order.{Key}
-use Rattle.sled_pages.specs.Update.{put_at}
-use Rattle.sled_pages.specs.Node.{after_link}
-use Rattle.sled_pages.specs.Returning.{put_back, slot_back}
+use Rattle.sled_nodes.specs.Order.{Key}
+use Rattle.sled_store.specs.Update.{put_at}
+use Rattle.sled_nodes.specs.Node.{after_link}
+use Rattle.sled_nodes.specs.Returning.{put_back}
+use Rattle.sled_pages.specs.Returning.{slot_back}
 use Rattle.sled_pages.specs.theory.Returning.{Relinked}
-use Rattle.sled_pages.specs.theory.Facts.{put_here}
-use Rattle.sled_pages.specs.declared.error.Error.{Error}
-use Rattle.sled_pages.specs.declared.link.Link.{Link}
-use Rattle.sled_pages.specs.declared.change.Back.{Back}
-use Rattle.sled_pages.specs.declared.node.Node.{Node}
+use Rattle.sled_store.specs.theory.Facts.{put_here}
+use Rattle.sled_nodes.specs.declared.error.Error.{Error}
+use Rattle.sled_nodes.specs.declared.link.Link.{Link}
+use Rattle.sled_nodes.specs.declared.change.Back.{Back}
+use Rattle.sled_nodes.specs.declared.node.Node.{Node}
 use Rattle.sled_pages.specs.declared.memory.MemPages.{MemPages}
 use Rattle.sled_pages.specs.declared.memory.slots.Slot.{Slot}
 use Rattle.sled_pages.specs.declared.memory.undo.Undo.{Undo}
 use Rattle.sled_pages.specs.declared.memory.undo.Undo.TheVariants.{UndoLink}
-use Rattle.sled_pages.specs.State.{PageBecomes}
-use Rattle.sled_pages.specs.Store.{Store, after_action, version_now, Changes}
+use Rattle.sled_store.specs.State.{PageBecomes}
+use Rattle.sled_store.specs.Store.{Store, after_action, version_now, Changes}
 use Rattle.sled_pages.specs.Slots.{slots_of}
 use Rattle.sled_pages.specs.Table.{page_of, undone, undoes, slot_given, undo_given, IsKept, AreBelow}
 use Rattle.sled_pages.specs.Memory.{meaning, store_of}
 use Rattle.sled_pages.proofs.Places.{one_place}
-use Rattle.sled_pages.proofs.Kept.{with_slots, back_put, meaning_acted, kept_more, here_put, next_given, later, all_push, acts_at, pages_here}
+use Rattle.sled_nodes.proofs.All.{all_push}
+use Rattle.sled_pages.proofs.Kept.{with_slots, back_put, meaning_acted, kept_more, here_put, next_given, later, acts_at, pages_here}
 use Rattle.sled_pages.proofs.Answered.{changes}
 
 -- a slot taken out, and then put in

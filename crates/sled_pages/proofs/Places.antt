@@ -7,7 +7,7 @@ use lib.Dec.{eqb}
 use Rattle.std.specs.BTreeMap.{BTreeMap, get}
 use Rattle.std.specs.Ordering.{nat_cmp}
 use Rattle.sled_pages.specs.declared.memory.slots.Slot.{Slot}
-use Rattle.sled_pages.specs.Update.{put_at}
+use Rattle.sled_store.specs.Update.{put_at}
 use Rattle.sled_pages.specs.Joined.{joined}
 use Rattle.sled_pages.specs.Slots.{slot_in}
 

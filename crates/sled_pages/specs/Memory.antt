@@ -4,9 +4,10 @@ use Rattle.std.specs.List.{list_any}
 use mathlib.Core.List.{reverse}
 use Rattle.sled_pages.specs.declared.memory.MemPages.{MemPages}
 use Rattle.sled_pages.specs.declared.memory.undo.Undo.{Undo}
-use Rattle.sled_pages.specs.Store.{Store}
+use Rattle.sled_store.specs.Store.{Store}
 use Rattle.sled_pages.specs.Slots.{slots_of, given_of}
-use Rattle.sled_pages.specs.Table.{Table, roots_of, state_of, base_of, recent_of}
+use Rattle.sled_store.specs.Roots.{roots_of}
+use Rattle.sled_pages.specs.Table.{Table, state_of, base_of, recent_of}
 
 abbrev pub table_of : MemPages → Table
 table_of m = record { slots = slots_of m.slots; roots = roots_of m.roots.items; in_group = m.in_group }

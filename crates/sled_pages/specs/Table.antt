@@ -2,15 +2,14 @@
 use Rattle.std.specs.Prelude.{◌≡◌, ℕ, true, false, nat_lt, Bool, List, [], ◌∷◌, ◌++◌, Option, Some, None, option_map, if◌then◌else◌}
 use Rattle.std.specs.List.{list_all}
 use mathlib.Core.List.{reverse}
-use Rattle.std.specs.FinMap.Entries.{find}
-use Rattle.sled_pages.specs.Order.{Key, key_cmp}
-use Rattle.sled_pages.specs.Update.{put_at, put_name}
-use Rattle.sled_pages.specs.declared.page.Page.{Page}
+use Rattle.sled_nodes.specs.Order.{Key}
+use Rattle.sled_store.specs.Update.{put_at, put_name}
+use Rattle.sled_store.specs.declared.page.Page.{Page}
 use Rattle.sled_pages.specs.declared.memory.slots.Slot.{Slot}
 use Rattle.sled_pages.specs.declared.memory.undo.Undo.{Undo}
 use Rattle.sled_pages.specs.declared.memory.undo.Undo.TheVariants.{UndoSlot, UndoLink, UndoRoot, UndoGroup}
 use Rattle.sled_pages.specs.Returning.{slot_back}
-use Rattle.sled_pages.specs.State.{State, Action, PageBecomes, RootBecomes, GroupBegins, GroupEnds}
+use Rattle.sled_store.specs.State.{State, Action, PageBecomes, RootBecomes, GroupBegins, GroupEnds}
 
 -- the page that a slot stands for
 abbrev pub page_of : Slot → Page
@@ -21,9 +20,6 @@ pub record Table : Type 0 where
   pub slots : ℕ → Option Slot
   pub roots : Key → Option ℕ
   pub in_group : Bool
-
-abbrev pub roots_of : List (Key × ℕ) → Key → Option ℕ
-roots_of roots name = find key_cmp name roots
 
 -- the pages that the slots stand for
 abbrev pub pages_of : (ℕ → Option Slot) → ℕ → Option Page

@@ -1,5 +1,3 @@
-pub mod Pairs
-pub mod Facts
 pub mod Slots
 pub mod Returning
 pub mod Table
@@ -7,8 +5,6 @@ pub mod Replay
 pub mod Memory
 pub mod Faults
 pub mod Laws
-pub mod Places
 pub mod Laid
 pub mod Known
 pub mod Held
-pub mod Rising

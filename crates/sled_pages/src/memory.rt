@@ -1,29 +1,30 @@
 //! A store in memory. It keeps the pages as they are now, and how to take each action since the last flush back.
 ghost use Rattle.std.specs.Prelude.{◌≡◌, ◌+◌, ◌^◌, ◌<◌, Some, None, true, false, if◌then◌else◌, IfOk, IfErr, OnOk, OnErr, length, [], is_some};
 ghost use Rattle.std.specs.FinMap.{is_sorted};
-ghost use Rattle.sled_pages.specs.declared.error.Error.TheVariants.{NoMemory, Io};
-ghost use Rattle.sled_pages.specs.Order.{key_cmp};
+ghost use Rattle.sled_nodes.specs.declared.error.Error.TheVariants.{NoMemory, Io};
+ghost use Rattle.sled_nodes.specs.Order.{key_cmp};
 ghost use Rattle.sled_pages.specs.Slots.{slots_of, places_of};
-ghost use Rattle.sled_pages.specs.Table.{Table, roots_of, IsKept, AreBelow};
-ghost use Rattle.sled_pages.specs.Faults.{IsFault};
+ghost use Rattle.sled_store.specs.Roots.{roots_of};
+ghost use Rattle.sled_pages.specs.Table.{Table, IsKept, AreBelow};
+ghost use Rattle.sled_store.specs.Faults.{IsFault};
 ghost use Rattle.sled_pages.specs.theory.Faults.{is_named};
 ghost use Rattle.std.specs.Option.{option_map};
-ghost use Rattle.sled_pages.specs.Update.{put_at, put_name};
+ghost use Rattle.sled_store.specs.Update.{put_at, put_name};
 ghost use Rattle.sled_pages.specs.Table.{page_of, slot_given};
-ghost use Rattle.sled_pages.specs.State.{PageBecomes, RootBecomes, GroupBegins, GroupEnds};
-ghost use Rattle.sled_pages.specs.Store.{IsRefused, ActsAt, after_action, after_flush, now, version_now};
-ghost use Rattle.sled_pages.specs.Crash.{Crashes, IsCrashState};
+ghost use Rattle.sled_store.specs.State.{PageBecomes, RootBecomes, GroupBegins, GroupEnds};
+ghost use Rattle.sled_store.specs.Store.{IsRefused, ActsAt, after_action, after_flush, now, version_now};
+ghost use Rattle.sled_store.specs.Crash.{Crashes, IsCrashState};
 ghost use Rattle.sled_pages.specs.Image.{IsImage};
 
 mod back;
 mod slots;
 mod undo;
 
-use crate::error::Result;
-use crate::node::copy_pointers;
-use crate::pairs::value_at;
-use crate::{Error, Fault, IVec, Link, Node, Page, Pages, Pid, Shared, Version, View};
 use back::{forget, greatest_root, set_root, sorted_roots, take_all_back};
+use sled_nodes::{
+    Error, Fault, IVec, Link, Node, Pid, Result, Shared, Version, copy_pointers, value_at,
+};
+use sled_store::{Page, Pages, View};
 use slots::{Slot, Slots, reserve_one};
 use std::alloc::Global;
 use undo::Undo;
@@ -463,7 +464,7 @@ impl Pages for MemPages {
         Ok(Ok(()))
     }
 
-    #[tactic(auto, unfolding(crate::specs::Order::key_cmp))]
+    #[tactic(auto, unfolding(sled_nodes::specs::Order::key_cmp))]
     fn root(&self, name: &[u8]) -> Option<Pid> {
         value_at(self.roots.as_slice(), name, false).copied()
     }

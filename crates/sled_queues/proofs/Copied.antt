@@ -7,7 +7,7 @@ use Rattle.std.specs.declared.cmp.Ordering.{Ordering}
 use Rattle.std.specs.FinMap.{slice_cmp-IsAntisymmetric, nat_cmp-IsAntisymmetric}
 use Rattle.std.specs.FinMap.Entries.{find, find-put, find-where_key}
 use Rattle.std.proofs.lemmas.Cmp.{nat_list_cmp_total}
-use Rattle.sled_pages.specs.Order.{Key, key_cmp}
+use Rattle.sled_nodes.specs.Order.{Key, key_cmp}
 use Rattle.sled_model.specs.Maps.{Map}
 use Rattle.sled_model.specs.Event.{key_of_event}
 use Rattle.sled_model.specs.State.{Queue}

@@ -4,8 +4,8 @@ use Rattle.std.proofs.Math.Path.{fun_ext}
 use mathlib.Core.Bool.{true≢false}
 use Rattle.std.specs.List.{list_any, starts_with}
 use Rattle.std.proofs.lemmas.Bool.{eqb-true}
-use Rattle.sled_pages.specs.Order.{Key}
-use Rattle.sled_pages.specs.Update.{put_at}
+use Rattle.sled_nodes.specs.Order.{Key}
+use Rattle.sled_store.specs.Update.{put_at}
 use Rattle.sled_model.specs.State.{Queue, matches, queues_after}
 use Rattle.sled_model.specs.Refusal.{queue_limit}
 use Rattle.sled_model.specs.Event.{key_of_event}

@@ -6,8 +6,8 @@ use Rattle.std.specs.List.{list_any}
 use Rattle.std.proofs.lemmas.Bool.{eq-eqb, ne_eqb, eqb-true, leb-true, leb-false}
 use Rattle.std.proofs.lemmas.List.{length-append}
 use Rattle.std.proofs.lemmas.List.Folds.{list_any-append}
-use Rattle.sled_pages.specs.Order.{Key}
-use Rattle.sled_pages.specs.Update.{put_at}
+use Rattle.sled_nodes.specs.Order.{Key}
+use Rattle.sled_store.specs.Update.{put_at}
 use Rattle.sled_model.specs.State.{matches}
 use Rattle.sled_model.specs.Refusal.{queue_limit}
 use Rattle.sled_model.specs.declared.event.Event.{Event}

@@ -2,8 +2,8 @@
 use Rattle.std.specs.Prelude.{◌≡◌, ℕ, nat_eq, Bool, List, [], ◌∷◌, ◌++◌, Option, Some, None, if◌then◌else◌}
 use Rattle.std.specs.List.{starts_with, filter}
 use Rattle.std.specs.FinMap.Entries.{put, find}
-use Rattle.sled_pages.specs.Order.{Key, key_cmp}
-use Rattle.sled_pages.specs.Node.{without}
+use Rattle.sled_nodes.specs.Order.{Key, key_cmp}
+use Rattle.sled_nodes.specs.Node.{without}
 use Rattle.sled_model.specs.Maps.{Map}
 use Rattle.sled_model.specs.Answer.{map_after, event_of}
 use Rattle.sled_model.specs.Event.{key_of_event}

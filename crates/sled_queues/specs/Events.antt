@@ -1,7 +1,7 @@
 -- What happens to queues, in order, and what a subscriber gets of it.
 use Rattle.std.specs.Prelude.{ℕ, nat_eq, Bool, false, ◌≡◌, List, [], ◌∷◌, ◌++◌, Option, Some, if◌then◌else◌}
 use Rattle.std.specs.Option.{option_to_list}
-use Rattle.sled_pages.specs.Order.{Key}
+use Rattle.sled_nodes.specs.Order.{Key}
 use Rattle.sled_model.specs.State.{Queue, matches, queues_after}
 use Rattle.sled_model.specs.Queues.{oldest, watched, taken, given_up}
 use Rattle.sled_model.specs.declared.event.Event.{Event}

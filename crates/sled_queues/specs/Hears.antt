@@ -1,6 +1,6 @@
 -- What a subscriber hears: the events under its prefix of its tree since it watched, each once and in order.
 use Rattle.std.specs.Prelude.{◌≡◌, ℕ, List, [], ◌∷◌, ◌++◌, Option, Some, None}
-use Rattle.sled_pages.specs.Order.{Key}
+use Rattle.sled_nodes.specs.Order.{Key}
 use Rattle.sled_model.specs.State.{Queue}
 use Rattle.sled_model.specs.Queues.{waiting_in}
 use Rattle.sled_queues.specs.Events.{Turn, Watches, after_turns, taken_by, brought, Stays}

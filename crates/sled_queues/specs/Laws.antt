@@ -1,7 +1,7 @@
 -- What the calls on queues come to in the model, as laws.
 use Rattle.std.specs.Prelude.{◌≡◌, ℕ, ◌<◌, ◌≤◌, nat_eq, true, length, List, [], ◌∷◌, Option, Some}
 use Rattle.std.specs.List.{list_any}
-use Rattle.sled_pages.specs.Order.{Key}
+use Rattle.sled_nodes.specs.Order.{Key}
 use Rattle.sled_model.specs.State.{Queue, matches, queues_after}
 use Rattle.sled_model.specs.Refusal.{queue_limit}
 use Rattle.sled_model.specs.Queues.{oldest, watched, taken, given_up}

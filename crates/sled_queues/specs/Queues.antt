@@ -1,7 +1,7 @@
 -- What queues are, and what each call makes of them.
 use Rattle.std.specs.Prelude.{◌≡◌, ℕ, ◌+◌, ◌<◌, ◌≤◌, nat_eq, [], ◌∷◌, ◌++◌, length, drop, Option, Some, None, option_map, slice_get, if◌then◌else◌}
-use Rattle.sled_pages.specs.Order.{Key}
-use Rattle.sled_pages.specs.Update.{put_at}
+use Rattle.sled_nodes.specs.Order.{Key}
+use Rattle.sled_store.specs.Update.{put_at}
 use Rattle.sled_model.specs.State.{Queue, matches}
 use Rattle.sled_model.specs.Refusal.{queue_limit}
 use Rattle.sled_model.specs.declared.event.Event.{Event}

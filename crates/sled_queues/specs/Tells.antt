@@ -1,10 +1,10 @@
 -- What the calls on queues answer.
 use Rattle.std.specs.Prelude.{◌≡◌, ℕ, ◌<◌, ◌≤◌, nat_eq, ◌&&◌, Bool, true, false, Some}
 use Rattle.std.specs.List.{starts_with}
-use Rattle.sled_pages.specs.Order.{Key}
-use Rattle.sled_pages.specs.declared.error.Error.{Error}
-use Rattle.sled_pages.specs.declared.error.Error.TheVariants.{Unsupported, NoMemory}
-use Rattle.sled_pages.specs.declared.texts.TheConstants.{NUMBERS_USED_UP}
+use Rattle.sled_nodes.specs.Order.{Key}
+use Rattle.sled_nodes.specs.declared.error.Error.{Error}
+use Rattle.sled_nodes.specs.declared.error.Error.TheVariants.{Unsupported, NoMemory}
+use Rattle.sled_nodes.specs.declared.texts.TheConstants.{NUMBERS_USED_UP}
 use Rattle.sled_model.specs.Event.{key_of_event}
 use Rattle.sled_model.specs.Refusal.{queue_limit}
 use Rattle.sled_model.specs.declared.event.Event.{Event}

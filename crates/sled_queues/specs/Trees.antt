@@ -1,7 +1,7 @@
 -- What a step makes of the map of a tree, told by the events that come to it.
 use Rattle.std.specs.Prelude.{◌≡◌, ◌≤◌, Bool, false, List, Some}
 use Rattle.std.specs.Str.{bytes_eq}
-use Rattle.sled_pages.specs.Order.{Key}
+use Rattle.sled_nodes.specs.Order.{Key}
 use Rattle.sled_model.specs.Maps.{Maps}
 use Rattle.sled_model.specs.State.{State, NamedTree}
 use Rattle.sled_model.specs.Transition.{Configuration, transition_as}

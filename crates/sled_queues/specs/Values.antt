@@ -3,7 +3,7 @@ use Rattle.std.specs.Prelude.{ℕ, List, Option}
 use Rattle.std.specs.Map.{lookup}
 use Rattle.std.specs.BTreeMap.{is_at}
 use Rattle.std.specs.Ordering.{nat_cmp}
-use Rattle.sled_pages.specs.Order.{Key}
+use Rattle.sled_nodes.specs.Order.{Key}
 use Rattle.sled_model.specs.declared.event.Event.{Event}
 
 -- A queue: the tree and the prefix that its subscriber watches, the events that wait, the oldest first, and those that are prepared,

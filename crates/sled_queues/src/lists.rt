@@ -3,15 +3,15 @@ ghost use Rattle.std.specs.Prelude.{◌≡◌, ℕ, nat_eq, ◌++◌, ◌∷◌,
 ghost use Rattle.std.specs.List.{list_any};
 ghost use Rattle.std.specs.Ordering.{nat_cmp};
 ghost use Rattle.std.specs.BTreeMap.{get, keys, IsOrdered};
-ghost use Rattle.sled_pages.specs.declared.error.Error.TheVariants.{NoMemory};
-ghost use Rattle.sled_pages.specs.Update.{put_at};
+ghost use Rattle.sled_nodes.specs.declared.error.Error.TheVariants.{NoMemory};
+ghost use Rattle.sled_store.specs.Update.{put_at};
 ghost use Rattle.sled_queues.specs.Queues.{oldest_in, taken_in};
 ghost use Rattle.sled_queues.specs.Lists.{lists_of, Rise};
 ghost use Rattle.sled_queues.specs.theory.Lists.{without, changed_at, changed_in, gains, loses, tells, forgets, is_full_for};
 
 use crate::waiting::Waiting;
 use sled_model::Event;
-use sled_pages::{Error, Result};
+use sled_nodes::{Error, Result};
 use std::alloc::Global;
 use std::collections::BTreeMap;
 

@@ -1,6 +1,6 @@
 //! The queues of all subscribers.
 ghost use Rattle.std.specs.Prelude.{◌≡◌, ◌+◌, Some, None, OnOk, OnErr, IfOk, IfErr};
-ghost use Rattle.sled_pages.specs.declared.error.Error.TheVariants.{NoMemory};
+ghost use Rattle.sled_nodes.specs.declared.error.Error.TheVariants.{NoMemory};
 ghost use Rattle.sled_queues.specs.Values.{queue_at};
 ghost use Rattle.sled_queues.specs.Queues.{AreQueues, Becomes, no_queues, with_subscriber, committed, cancelled, oldest_in, without_oldest_of, without_subscriber};
 ghost use Rattle.sled_queues.specs.Tells.{prepares_as, is_full_as, is_watched_as, refuses_watch};
@@ -10,8 +10,8 @@ use crate::lists::{
 };
 use crate::waiting::Waiting;
 use sled_model::{Event, Subscriber};
-use sled_pages::texts::NUMBERS_USED_UP;
-use sled_pages::{Error, IVec, Result};
+use sled_nodes::texts::NUMBERS_USED_UP;
+use sled_nodes::{Error, IVec, Result};
 use std::alloc::Global;
 use std::collections::BTreeMap;
 use std::marker::Model;

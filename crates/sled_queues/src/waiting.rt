@@ -1,12 +1,12 @@
 //! One queue.
 ghost use Rattle.std.specs.Prelude.{◌≡◌, ◌++◌, ◌∷◌, [], slice_get, nat_le, OnOk, OnErr, IfErr};
-ghost use Rattle.sled_pages.specs.declared.error.Error.TheVariants.{NoMemory};
+ghost use Rattle.sled_nodes.specs.declared.error.Error.TheVariants.{NoMemory};
 ghost use Rattle.sled_model.specs.Refusal.{queue_limit};
 ghost use Rattle.sled_queues.specs.Queues.{held, taken_in};
 ghost use Rattle.sled_queues.specs.theory.Lists.{begins, has_prefix, gains, loses, tells, forgets};
 
 use sled_model::{Event, QUEUE_LIMIT};
-use sled_pages::{Error, IVec, Result};
+use sled_nodes::{Error, IVec, Result};
 use std::alloc::Global;
 use std::collections::VecDeque;
 use std::marker::Model;

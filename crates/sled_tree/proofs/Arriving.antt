@@ -2,14 +2,14 @@
 use Rattle.std.proofs.Common.{◌≡◌, ◌≢◌, ℕ, ◌≤◌, false, Bool, List, [], Option, Some, None, sym, refl, ap, ◌∙◌, subst, inl, arith}
 use Rattle.std.specs.FinMap.Entries.{find}
 use Rattle.std.specs.declared.ops.Bound.{Bound}
-use Rattle.sled_pages.specs.Order.{Key, key_cmp}
-use Rattle.sled_pages.specs.In.{In}
-use Rattle.sled_pages.specs.Among.{IsPointerBefore, IsPointer}
-use Rattle.sled_pages.specs.Node.{pointers, count, value_at}
-use Rattle.sled_pages.specs.Store.{Store, now, view_of}
-use Rattle.sled_pages.specs.declared.node.Data.{Data}
-use Rattle.sled_pages.specs.declared.node.Data.TheVariants.{Leaf, Index}
-use Rattle.sled_pages.specs.declared.page.View.{View}
+use Rattle.sled_nodes.specs.Order.{Key, key_cmp}
+use Rattle.sled_store.specs.In.{In}
+use Rattle.sled_nodes.specs.Among.{IsPointerBefore, IsPointer}
+use Rattle.sled_nodes.specs.Node.{pointers, count, value_at}
+use Rattle.sled_store.specs.Store.{Store, now, view_of}
+use Rattle.sled_nodes.specs.declared.node.Data.{Data}
+use Rattle.sled_nodes.specs.declared.node.Data.TheVariants.{Leaf, Index}
+use Rattle.sled_store.specs.declared.page.View.{View}
 use Rattle.sled_model.specs.Answer.{decision_of, reply_of_read, read_decides_as, map_after, event_of, key_of}
 use Rattle.sled_model.specs.declared.call.Call.{Call}
 use Rattle.sled_model.specs.declared.decision.Decision.{Decision}

@@ -1,15 +1,15 @@
 -- Steps at pages where nothing is to be repaired.
 use native.Mathlib.Omega.{arith}
 use Rattle.std.proofs.Common.{◌≡◌, ◌↔◌, IsTrue, ℕ, ◌+◌, ◌<◌, ◌≤◌, true, false, Bool, Option, Some, None, Result, Ok, Err, IfOk, IfErr, OnOk, MatchOption, refl, sym, ap, ◌∙◌, subst, inl, inr}
-use Rattle.sled_pages.specs.Order.{Key}
-use Rattle.sled_pages.specs.Among.{IsPointer}
-use Rattle.sled_pages.specs.Node.{count, pointers}
-use Rattle.sled_pages.specs.Store.{Store, now, view_of, IsReadRefused}
-use Rattle.sled_pages.specs.declared.error.Error.{Error}
-use Rattle.sled_pages.specs.declared.error.Error.TheVariants.{NoMemory}
-use Rattle.sled_pages.specs.declared.node.Data.{Data}
-use Rattle.sled_pages.specs.declared.node.Data.TheVariants.{Leaf, Index}
-use Rattle.sled_pages.specs.declared.page.View.{View}
+use Rattle.sled_nodes.specs.Order.{Key}
+use Rattle.sled_nodes.specs.Among.{IsPointer}
+use Rattle.sled_nodes.specs.Node.{count, pointers}
+use Rattle.sled_store.specs.Store.{Store, now, view_of, IsReadRefused}
+use Rattle.sled_nodes.specs.declared.error.Error.{Error}
+use Rattle.sled_nodes.specs.declared.error.Error.TheVariants.{NoMemory}
+use Rattle.sled_nodes.specs.declared.node.Data.{Data}
+use Rattle.sled_nodes.specs.declared.node.Data.TheVariants.{Leaf, Index}
+use Rattle.sled_store.specs.declared.page.View.{View}
 use Rattle.sled_model.specs.declared.reply.Reply.{Reply}
 use Rattle.sled_tree.specs.Change.{reply_at}
 use Rattle.sled_tree.specs.theory.Change.{IsLeaf, IsIndex}

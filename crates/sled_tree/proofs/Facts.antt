@@ -3,18 +3,18 @@ use Rattle.std.proofs.Common.{◌≡◌, ℕ, ◌+◌, ◌<◌, ◌≤◌, ◌�
 use Rattle.std.specs.Ordering.{is_gt, ordering_reverse}
 use Rattle.std.specs.declared.cmp.Ordering.{Ordering}
 use Rattle.std.proofs.lemmas.Bool.Decides.{leb_tells}
-use Rattle.sled_pages.specs.Order.{Key, key_cmp, Below, UpTo}
-use Rattle.sled_pages.specs.In.{In}
-use Rattle.sled_pages.specs.Node.{count}
-use Rattle.sled_pages.specs.Update.{put_at}
-use Rattle.sled_pages.specs.State.{State, PageBecomes, RootBecomes}
-use Rattle.sled_pages.specs.theory.Facts.{now_acts, now_acted, now_allocates}
-use Rattle.sled_pages.specs.Store.{Store, now, after_action, view_of, IsRefused, IsReadRefused, Changes, ActsAt, Allocates}
-use Rattle.sled_pages.specs.declared.error.Error.{Error}
-use Rattle.sled_pages.specs.declared.error.Error.TheVariants as error
-use Rattle.sled_pages.specs.declared.node.Node.{Node}
-use Rattle.sled_pages.specs.declared.page.Page.{Page}
-use Rattle.sled_pages.specs.declared.page.View.{View}
+use Rattle.sled_nodes.specs.Order.{Key, key_cmp, Below, UpTo}
+use Rattle.sled_store.specs.In.{In}
+use Rattle.sled_nodes.specs.Node.{count}
+use Rattle.sled_store.specs.Update.{put_at}
+use Rattle.sled_store.specs.State.{State, PageBecomes, RootBecomes}
+use Rattle.sled_store.specs.theory.Facts.{now_acts, now_acted, now_allocates}
+use Rattle.sled_store.specs.Store.{Store, now, after_action, view_of, IsRefused, IsReadRefused, Changes, ActsAt, Allocates}
+use Rattle.sled_nodes.specs.declared.error.Error.{Error}
+use Rattle.sled_nodes.specs.declared.error.Error.TheVariants as error
+use Rattle.sled_nodes.specs.declared.node.Node.{Node}
+use Rattle.sled_store.specs.declared.page.Page.{Page}
+use Rattle.sled_store.specs.declared.page.View.{View}
 use Rattle.sled_model.specs.Maps.{Merge as Operator}
 use Rattle.tree_laws.specs.Forest.{Tree, Forest, Place, place}
 use Rattle.tree_laws.specs.theory.Laws.{after_replacement, after_allocation, after_free, after_hoist}
@@ -174,7 +174,7 @@ refuses j old new a e t = record {
 pub refused : (j : Course) (old new : Store) (a : Stage) (e : Error) → IsRefused e old new → StageAction j old a (next.Refused e) new
 refused j old new a e r = refuses j old new a e (go e r.is)
   where
-    go : (e : Error) → Rattle.sled_pages.specs.Store.is_refused_as e old new → is_action_refused_as e old new
+    go : (e : Error) → Rattle.sled_store.specs.Store.is_refused_as e old new → is_action_refused_as e old new
     go error.NoMemory t = t
     go (error.Io fault) t = inl t
     go (error.CollectionNotFound name) t = absurd t
@@ -188,7 +188,7 @@ refused j old new a e r = refuses j old new a e (go e r.is)
 pub unread : (j : Course) (s : Store) (a : Stage) (pid : ℕ) (e : Error) → IsReadRefused pid s e → StageAction j s a (next.Refused e) s
 unread j s a pid e r = refuses j s s a e (go e r.is)
   where
-    go : (e : Error) → Rattle.sled_pages.specs.Store.is_read_refused_as pid s e → is_action_refused_as e s s
+    go : (e : Error) → Rattle.sled_store.specs.Store.is_read_refused_as pid s e → is_action_refused_as e s s
     go error.NoMemory t = refl
     go (error.Io fault) t = inr (refl, (pid, t))
     go (error.CollectionNotFound name) t = absurd t

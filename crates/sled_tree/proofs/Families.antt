@@ -1,6 +1,6 @@
 -- Which stages are those of a merge.
 use Rattle.std.proofs.Common.{◌≡◌, refl}
-use Rattle.sled_pages.specs.declared.page.View.{View}
+use Rattle.sled_store.specs.declared.page.View.{View}
 use Rattle.tree_laws.specs.declared.flight.Cap.{Cap}
 use Rattle.tree_laws.specs.declared.flight.Confirm.{Confirm}
 use Rattle.tree_laws.specs.declared.flight.SwapRoot.{SwapRoot}

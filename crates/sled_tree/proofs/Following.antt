@@ -1,9 +1,9 @@
 -- What comes next, by the tests that were made.
 use Rattle.std.proofs.Common.{◌≡◌, ◌<◌, ◌↔◌, IsTrue, ◌⊎◌, true, false, Bool, None, sym, ◌∙◌, subst, inl, inr}
 use Rattle.std.specs.declared.ops.Bound.{Bound}
-use Rattle.sled_pages.specs.Order.{Key}
-use Rattle.sled_pages.specs.Node.{count}
-use Rattle.sled_pages.specs.declared.page.View.{View}
+use Rattle.sled_nodes.specs.Order.{Key}
+use Rattle.sled_nodes.specs.Node.{count}
+use Rattle.sled_store.specs.declared.page.View.{View}
 use Rattle.sled_tree.specs.Course.{Course}
 use Rattle.sled_tree.specs.declared.flight.Next.{Next}
 use Rattle.sled_tree.specs.declared.flight.Next.TheVariants.{Go}

@@ -1,6 +1,6 @@
 -- What an action of one call leaves of what another knows.
 use Rattle.std.proofs.Common.{arith, ℕ, List, [], ◌∷◌, ◌++◌, Option, refl, subst, inl, inr, ◌⊎◌}
-use Rattle.sled_pages.specs.In.{In}
+use Rattle.sled_store.specs.In.{In}
 use Rattle.tree_laws.specs.Forest.{Tree, Forest}
 use Rattle.tree_laws.specs.Snapshot.{Snapshot, nodes_at, HasForest}
 use Rattle.tree_laws.specs.theory.Snapshot.{Guarantee, GrowsByReceiving, KeepsForest}

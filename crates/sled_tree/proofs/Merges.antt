@@ -1,15 +1,15 @@
 -- The steps of a merge.
 use Rattle.std.proofs.Common.{◌≡◌, ◌≢◌, ℕ, ◌≤◌, ◌⊎◌, true, false, [], ◌∷◌, Option, Some, None, Ok, Err, sym, refl, ap, ◌∙◌, subst, inl}
-use Rattle.sled_pages.specs.Order.{Below, UpTo}
-use Rattle.sled_pages.specs.In.{In}
-use Rattle.sled_pages.specs.Halves.{after_receiving}
-use Rattle.sled_pages.specs.Among.{IsPointerBefore}
-use Rattle.sled_pages.specs.Node.{count, after_link, pointers}
-use Rattle.sled_pages.specs.Store.{Store, now, view_of, Changes}
-use Rattle.sled_pages.specs.declared.node.Node.{Node}
-use Rattle.sled_pages.specs.declared.link.Link.TheVariants.{ParentMergeIntention, ParentMergeConfirm, ChildMergeCap}
-use Rattle.sled_pages.specs.declared.page.Page.{Page}
-use Rattle.sled_pages.specs.declared.page.View.{View}
+use Rattle.sled_nodes.specs.Order.{Below, UpTo}
+use Rattle.sled_store.specs.In.{In}
+use Rattle.sled_nodes.specs.Halves.{after_receiving}
+use Rattle.sled_nodes.specs.Among.{IsPointerBefore}
+use Rattle.sled_nodes.specs.Node.{count, after_link, pointers}
+use Rattle.sled_store.specs.Store.{Store, now, view_of, Changes}
+use Rattle.sled_nodes.specs.declared.node.Node.{Node}
+use Rattle.sled_nodes.specs.declared.link.Link.TheVariants.{ParentMergeIntention, ParentMergeConfirm, ChildMergeCap}
+use Rattle.sled_store.specs.declared.page.Page.{Page}
+use Rattle.sled_store.specs.declared.page.View.{View}
 use Rattle.tree_laws.specs.Forest.{Forest, place}
 use Rattle.tree_laws.specs.Snapshot.{Snapshot, snapshot_of, HasForest, StoodInChain}
 use Rattle.tree_laws.specs.theory.Laws.{after_replacement}

@@ -3,15 +3,15 @@ use Rattle.std.proofs.Common.{◌≡◌, ℕ, length, ◌+◌, ◌<◌, ◌≤�
 use Rattle.std.specs.List.{list_any}
 use Rattle.std.specs.declared.ops.Bound.{Bound}
 use Rattle.std.proofs.lemmas.List.Folds.{list_any-append}
-use Rattle.sled_pages.specs.Order.{Key}
-use Rattle.sled_pages.specs.Among.{IsLast, IsPointer, IsPointerFor}
-use Rattle.sled_pages.specs.Node.{count, pointers, value_at}
-use Rattle.sled_pages.specs.State.{State, Nodes, nodes_of}
-use Rattle.sled_pages.specs.Store.{Store, now, view_of, Changes}
-use Rattle.sled_pages.specs.declared.node.Node.{Node}
-use Rattle.sled_pages.specs.declared.node.Data.TheVariants.{Leaf, Index}
-use Rattle.sled_pages.specs.declared.page.Page.{Page}
-use Rattle.sled_pages.specs.declared.page.View.{View}
+use Rattle.sled_nodes.specs.Order.{Key}
+use Rattle.sled_nodes.specs.Among.{IsLast, IsPointer, IsPointerFor}
+use Rattle.sled_nodes.specs.Node.{count, pointers, value_at}
+use Rattle.sled_store.specs.State.{State, Nodes, nodes_of}
+use Rattle.sled_store.specs.Store.{Store, now, view_of, Changes}
+use Rattle.sled_nodes.specs.declared.node.Node.{Node}
+use Rattle.sled_nodes.specs.declared.node.Data.TheVariants.{Leaf, Index}
+use Rattle.sled_store.specs.declared.page.Page.{Page}
+use Rattle.sled_store.specs.declared.page.View.{View}
 use Rattle.sled_model.specs.Maps.{Merge as Operator}
 use Rattle.sled_model.specs.Answer.{key_of}
 use Rattle.sled_model.specs.declared.decision.Effect.TheVariants.{Nothing}
@@ -156,9 +156,9 @@ module _ (j : Course) (view : View) (by : Reached) where
           elim more [
             | inl l ↦ leaf_index (sym (ap (λ (z : Node). z.content) same ∙ b.1) ∙ l.1)
             | inr i ↦ last_any _ i.0 _ i.4.last
-                (subst (λ es. list_any (λ e. Rattle.sled_pages.specs.Among.is_up_to j.aim e.0) es ≡ false) (same_index (sym b.1 ∙ ap (λ (z : Node). z.content) (sym same) ∙ i.1))
-                (subst (λ z. list_any (λ e. Rattle.sled_pages.specs.Among.is_up_to z e.0) b.0 ≡ false) e
-                (subst (λ d. list_any (λ e. Rattle.sled_pages.specs.Among.is_up_to bound e.0) (pointers d) ≡ false) b.1 none)))
+                (subst (λ es. list_any (λ e. Rattle.sled_nodes.specs.Among.is_up_to j.aim e.0) es ≡ false) (same_index (sym b.1 ∙ ap (λ (z : Node). z.content) (sym same) ∙ i.1))
+                (subst (λ z. list_any (λ e. Rattle.sled_nodes.specs.Among.is_up_to z e.0) b.0 ≡ false) e
+                (subst (λ d. list_any (λ e. Rattle.sled_nodes.specs.Among.is_up_to bound e.0) (pointers d) ≡ false) b.1 none)))
           ]
         where
           leaf_index : {P : Type 0} {es : List (Key × ℕ)} {fs : List (Key × Key)} → Index es ≡ Leaf fs → P

@@ -1,6 +1,6 @@
 -- What the read of a call's value tells.
 use Rattle.std.proofs.Common.{◌≡◌, ◌≢◌, Bool, true, false, cond, Option, Some, None, is_some, Ok, Err, refl, subst}
-use Rattle.sled_pages.specs.Order.{Key}
+use Rattle.sled_nodes.specs.Order.{Key}
 use Rattle.sled_model.specs.Maps.{Merge as Operator}
 use Rattle.sled_model.specs.Answer.{decision_of, effect_of_write, reply_of_read, read_decides_as, same_value}
 use Rattle.sled_model.specs.declared.call.Call.{Call}

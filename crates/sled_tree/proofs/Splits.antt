@@ -1,15 +1,15 @@
 -- The steps of a split and of a hoist, and the freeing of a page.
 use Rattle.std.proofs.Common.{◌≡◌, ℕ, ◌≤◌, ◌<◌, ◌^◌, Bool, List, [], ◌∷◌, Option, Some, None, option_map, Result, Ok, Err, sym, refl, ap, ◌∙◌, subst, inl, inr}
-use Rattle.sled_pages.specs.Order.{Key}
-use Rattle.sled_pages.specs.In.{In}
-use Rattle.sled_pages.specs.theory.Facts.{now_allocates, put_here}
-use Rattle.sled_pages.specs.Halves.{left_half, right_half}
-use Rattle.sled_pages.specs.Node.{count}
-use Rattle.sled_pages.specs.Posting.{Posts, with_pointer}
-use Rattle.sled_pages.specs.State.{State}
-use Rattle.sled_pages.specs.Store.{Store, now, Allocates, AreGiven, Changes, Frees, SwapsRoot}
-use Rattle.sled_pages.specs.declared.node.Node.{Node}
-use Rattle.sled_pages.specs.declared.page.Page.{Page}
+use Rattle.sled_nodes.specs.Order.{Key}
+use Rattle.sled_store.specs.In.{In}
+use Rattle.sled_store.specs.theory.Facts.{now_allocates, put_here}
+use Rattle.sled_nodes.specs.Halves.{left_half, right_half}
+use Rattle.sled_nodes.specs.Node.{count}
+use Rattle.sled_nodes.specs.Posting.{Posts, with_pointer}
+use Rattle.sled_store.specs.State.{State}
+use Rattle.sled_store.specs.Store.{Store, now, Allocates, AreGiven, Changes, Frees, SwapsRoot}
+use Rattle.sled_nodes.specs.declared.node.Node.{Node}
+use Rattle.sled_store.specs.declared.page.Page.{Page}
 use Rattle.tree_laws.specs.Forest.{Place}
 use Rattle.tree_laws.specs.Snapshot.{Snapshot, snapshot_of}
 use Rattle.tree_laws.specs.theory.Laws.{after_replacement, after_allocation, after_free, after_hoist}

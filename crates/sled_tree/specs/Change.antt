@@ -1,10 +1,10 @@
 -- The change that a call makes of its leaf.
 use Rattle.std.specs.Prelude.{Option, Some, None}
-use Rattle.sled_pages.specs.Order.{Key}
-use Rattle.sled_pages.specs.Node.{value_at}
-use Rattle.sled_pages.specs.declared.node.Data.{Data}
-use Rattle.sled_pages.specs.declared.link.Link.TheVariants.{Set, Del}
-use Rattle.sled_pages.specs.declared.link.Link.{Link}
+use Rattle.sled_nodes.specs.Order.{Key}
+use Rattle.sled_nodes.specs.Node.{value_at}
+use Rattle.sled_nodes.specs.declared.node.Data.{Data}
+use Rattle.sled_nodes.specs.declared.link.Link.TheVariants.{Set, Del}
+use Rattle.sled_nodes.specs.declared.link.Link.{Link}
 use Rattle.sled_model.specs.declared.call.Call.{Call}
 use Rattle.sled_model.specs.declared.decision.Decision.{Decision}
 use Rattle.sled_model.specs.declared.decision.Effect.{Effect}

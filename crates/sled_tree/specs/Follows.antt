@@ -3,19 +3,19 @@
 -- Each table is total: of its lines the first one whose condition holds says what comes.
 use Rattle.std.specs.Prelude.{◌≡◌, ◌≢◌, ℕ, ◌<◌, ◌≤◌, ◌⊎◌, Bool, true, [], Option, Some, None, MatchOption, Result, Ok, Err}
 use Rattle.std.specs.declared.ops.Bound.{Bound}
-use Rattle.sled_pages.specs.Order.{Key, UpTo}
-use Rattle.sled_pages.specs.Among.{is_up_to, IsPointerFor, IsPointerBefore}
-use Rattle.sled_pages.specs.Halves.{left_half, right_half, after_receiving}
-use Rattle.sled_pages.specs.Node.{count, pointers, after_link}
-use Rattle.sled_pages.specs.Posting.{IsOpen, IsIndex, with_pointer, takes_pointer}
-use Rattle.sled_pages.specs.Store.{Store, now, view_of, Allocates, Changes, Frees, SwapsRoot, IsReadRefused, IsRefused}
-use Rattle.sled_pages.specs.declared.error.Error.{Error}
-use Rattle.sled_pages.specs.declared.error.Error.TheVariants.{NoMemory}
-use Rattle.sled_pages.specs.declared.link.Link.TheVariants.{ParentMergeIntention, ParentMergeConfirm, ChildMergeCap}
-use Rattle.sled_pages.specs.declared.node.Node.{Node}
-use Rattle.sled_pages.specs.declared.node.Data.{Data}
-use Rattle.sled_pages.specs.declared.node.Data.TheVariants.{Leaf, Index}
-use Rattle.sled_pages.specs.declared.page.View.{View}
+use Rattle.sled_nodes.specs.Order.{Key, UpTo}
+use Rattle.sled_nodes.specs.Among.{is_up_to, IsPointerFor, IsPointerBefore}
+use Rattle.sled_nodes.specs.Halves.{left_half, right_half, after_receiving}
+use Rattle.sled_nodes.specs.Node.{count, pointers, after_link}
+use Rattle.sled_nodes.specs.Posting.{IsOpen, IsIndex, with_pointer, takes_pointer}
+use Rattle.sled_store.specs.Store.{Store, now, view_of, Allocates, Changes, Frees, SwapsRoot, IsReadRefused, IsRefused}
+use Rattle.sled_nodes.specs.declared.error.Error.{Error}
+use Rattle.sled_nodes.specs.declared.error.Error.TheVariants.{NoMemory}
+use Rattle.sled_nodes.specs.declared.link.Link.TheVariants.{ParentMergeIntention, ParentMergeConfirm, ChildMergeCap}
+use Rattle.sled_nodes.specs.declared.node.Node.{Node}
+use Rattle.sled_nodes.specs.declared.node.Data.{Data}
+use Rattle.sled_nodes.specs.declared.node.Data.TheVariants.{Leaf, Index}
+use Rattle.sled_store.specs.declared.page.View.{View}
 use Rattle.sled_model.specs.Answer.{key_of}
 use Rattle.sled_model.specs.Maps.{Merge as Operator}
 use Rattle.sled_model.specs.declared.reply.Reply.{Reply}

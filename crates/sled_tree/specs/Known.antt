@@ -1,6 +1,6 @@
 -- What holds of the calls in flight between two steps.
 use Rattle.std.specs.Prelude.{◌≡◌, ℕ, ◌≤◌}
-use Rattle.sled_pages.specs.In.{In}
+use Rattle.sled_store.specs.In.{In}
 use Rattle.sled_model.specs.declared.TheConstants.{MAX_LOOPS}
 use Rattle.tree_laws.specs.Forest.{Forest}
 use Rattle.tree_laws.specs.Snapshot.{Snapshot, HasForest}

@@ -1,9 +1,9 @@
 -- Calls in flight on clean paths: where no other call is in the way, a call goes on by a page a step.
 use Rattle.std.specs.Prelude.{◌≡◌, ℕ, suc, true, false, List, [], Some, None, length}
 use Rattle.std.specs.declared.ops.Bound.{Bound}
-use Rattle.sled_pages.specs.Order.{Key}
-use Rattle.sled_pages.specs.State.{State, Nodes, nodes_of}
-use Rattle.sled_pages.specs.declared.page.View.{View}
+use Rattle.sled_nodes.specs.Order.{Key}
+use Rattle.sled_store.specs.State.{State, Nodes, nodes_of}
+use Rattle.sled_store.specs.declared.page.View.{View}
 use Rattle.tree_laws.specs.Paths.{IsClean, CleanFrom}
 use Rattle.sled_tree.specs.Change.{reply_at}
 use Rattle.sled_tree.specs.Course.{Course, course_of}

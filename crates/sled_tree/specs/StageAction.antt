@@ -1,9 +1,9 @@
 -- What one page action of a call in flight does.
 use Rattle.std.specs.Prelude.{◌≡◌, ℕ, ◌⊎◌, Bool, true, List, [], Some, None}
-use Rattle.sled_pages.specs.In.{In}
-use Rattle.sled_pages.specs.State.{State, Action}
-use Rattle.sled_pages.specs.Store.{Store, after_action, now}
-use Rattle.sled_pages.specs.declared.page.Page.{Page}
+use Rattle.sled_store.specs.In.{In}
+use Rattle.sled_store.specs.State.{State, Action}
+use Rattle.sled_store.specs.Store.{Store, after_action, now}
+use Rattle.sled_store.specs.declared.page.Page.{Page}
 use Rattle.tree_laws.specs.Forest.{Forest, Place}
 use Rattle.tree_laws.specs.Stages.{owned}
 use Rattle.sled_tree.specs.declared.flight.Next.{Next}

@@ -1,8 +1,8 @@
 //! The call's change at its leaf.
 ghost use Rattle.std.specs.Prelude.{◌≡◌, ◌<◌, IfOk, IfErr, Some};
 ghost use Rattle.std.specs.Option.{option_map};
-ghost use Rattle.sled_pages.specs.Store.{now};
-ghost use Rattle.sled_pages.specs.declared.error.Error.TheVariants.{NoMemory};
+ghost use Rattle.sled_store.specs.Store.{now};
+ghost use Rattle.sled_nodes.specs.declared.error.Error.TheVariants.{NoMemory};
 ghost use Rattle.sled_tree.specs.theory.StageAction.{StageActionBy, Only};
 ghost use Rattle.sled_tree.specs.Follows.{OrRefused, LinksChange};
 ghost use Rattle.sled_tree.specs.theory.Passing.{AdvancesOnPath};
@@ -13,7 +13,8 @@ ghost use Rattle.sled_tree.specs.Course.{course};
 
 use crate::flight::{Aim, InFlight, Job, Next, Went};
 use sled_model::{Decision, Effect, Event, MAX_LOOPS, MergeOperator, Reply};
-use sled_pages::{IVec, Link, Node, Pages, Result, View};
+use sled_nodes::{IVec, Link, Node, Result};
+use sled_store::{Pages, View};
 use std::alloc::Global;
 use tree_laws::flight::Stage;
 

@@ -2,13 +2,13 @@
 //! moved nor made anew.
 ghost use Rattle.std.specs.Prelude.{◌≡◌, ◌<◌, false, IfSome, IsTrue, IfOk, IfErr};
 ghost use Rattle.std.specs.declared.ops.Bound.TheVariants.{Included};
-ghost use Rattle.sled_pages.specs.Among.{IsPointerFor};
-ghost use Rattle.sled_pages.specs.Node.{count, pointers};
-ghost use Rattle.sled_pages.specs.Posting.{IsOpen};
-ghost use Rattle.sled_pages.specs.Store.{Store};
+ghost use Rattle.sled_nodes.specs.Among.{IsPointerFor};
+ghost use Rattle.sled_nodes.specs.Node.{count, pointers};
+ghost use Rattle.sled_nodes.specs.Posting.{IsOpen};
+ghost use Rattle.sled_store.specs.Store.{Store};
 ghost use Rattle.tree_laws.specs.Snapshot.{LiesUnder};
 ghost use Rattle.tree_laws.specs.Stages.{by_pointer as reached_by};
-ghost use Rattle.sled_pages.specs.declared.error.Error.TheVariants.{NoMemory};
+ghost use Rattle.sled_nodes.specs.declared.error.Error.TheVariants.{NoMemory};
 ghost use Rattle.sled_tree.specs.theory.Change.{IsLeaf, IsIndex};
 ghost use Rattle.sled_tree.specs.Change.{reply_at};
 ghost use Rattle.sled_tree.specs.Course.{aim_of, course, course_of};
@@ -19,7 +19,8 @@ ghost use Rattle.tree_laws.specs.declared.flight.Stage.TheVariants as variant;
 use crate::flight::{Aim, InFlight, Job, Next, Went};
 use crate::walk::{arrive, by_pointer, lies_under, target};
 use sled_model::{MAX_LOOPS, Reply};
-use sled_pages::{Data, Node, Pages, Pid, Result, View};
+use sled_nodes::{Data, Node, Pid, Result};
+use sled_store::{Pages, View};
 use std::alloc::Global;
 use std::ops::Bound;
 use tree_laws::flight::{Reached, Stage, Walk};
@@ -88,7 +89,7 @@ fn is_plain(stage: &Stage, node: &Node) -> bool
 }
 
 // Whether a key lies within a node's bounds.
-#[tactic(auto, unfolding(sled_pages::specs::Order::key_cmp))]
+#[tactic(auto, unfolding(sled_nodes::specs::Order::key_cmp))]
 fn covers(node: &Node, key: &[u8]) -> bool
     ensures { IsTrue result → LiesUnder (Included key.now) node.now }
 {

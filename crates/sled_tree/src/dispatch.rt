@@ -1,7 +1,7 @@
 //! One page action of a call in flight.
 ghost use Rattle.std.specs.Prelude.{◌≢◌, ◌<◌};
 ghost use Rattle.std.specs.Option.{option_map};
-ghost use Rattle.sled_pages.specs.Store.{now};
+ghost use Rattle.sled_store.specs.Store.{now};
 ghost use Rattle.sled_tree.specs.Course.{course};
 ghost use Rattle.sled_tree.specs.theory.StageAction.{StageAction, StageActionBy, FlightStepBy, Only};
 ghost use Rattle.sled_tree.specs.Follows.{Follows, FollowsOn};
@@ -17,7 +17,7 @@ use crate::merge::{cap, confirm, intend, read_child, receive, seek};
 use crate::split::{free, halve, install_left, post};
 use crate::walk::{read_cursor, read_root};
 use sled_model::{MAX_LOOPS, MergeOperator};
-use sled_pages::Pages;
+use sled_store::Pages;
 use std::alloc::Global;
 use tree_laws::flight::Stage;
 

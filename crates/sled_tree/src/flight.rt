@@ -4,7 +4,7 @@ ghost use Rattle.sled_tree.specs.declared.flight.Aim.TheVariants.{OwnKey};
 ghost use Rattle.tree_laws.specs.declared.flight.Stage.TheVariants.{Root};
 
 use sled_model::{Call, Reply, Tree};
-use sled_pages::{Error, IVec};
+use sled_nodes::{Error, IVec};
 use std::ops::Bound;
 use tree_laws::flight::Stage;
 

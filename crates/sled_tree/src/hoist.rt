@@ -1,13 +1,14 @@
 //! A new root over the old one and the page beside it: it is made, and then it is set.
 ghost use Rattle.std.specs.Prelude.{◌≡◌, [], ◌∷◌, IfOk, IfErr};
-ghost use Rattle.sled_pages.specs.declared.error.Error.TheVariants.{NoMemory};
+ghost use Rattle.sled_nodes.specs.declared.error.Error.TheVariants.{NoMemory};
 ghost use Rattle.tree_laws.specs.Stages.{IsOver};
 ghost use Rattle.sled_tree.specs.Course.{course};
 ghost use Rattle.sled_tree.specs.theory.StageAction.{StageAction};
 ghost use Rattle.sled_tree.specs.Follows.{OrRefused, Hoists, SwapsTheRoot};
 
 use crate::flight::{Aim, Job, Next};
-use sled_pages::{Data, IVec, Index, Node, Pages, Pid, Result, law_given};
+use sled_nodes::{Data, IVec, Index, Node, Pid, Result};
+use sled_store::{Pages, law_given};
 use std::alloc::Global;
 use tree_laws::flight::{Hoist, Orphan, Stage, SwapRoot};
 

@@ -4,8 +4,8 @@
 //!
 //! Whoever meets a half-done merge goes on with it, from what the pages show.
 ghost use Rattle.std.specs.Prelude.{◌≡◌, ◌≢◌, ◌↔◌, ◌⊎◌, [], false, true, Some, None, IsTrue, IfOk, IfErr};
-ghost use Rattle.sled_pages.specs.declared.error.Error.TheVariants.{NoMemory};
-ghost use Rattle.sled_pages.specs.Order.{UpTo};
+ghost use Rattle.sled_nodes.specs.declared.error.Error.TheVariants.{NoMemory};
+ghost use Rattle.sled_nodes.specs.Order.{UpTo};
 ghost use Rattle.sled_tree.specs.Course.{course};
 ghost use Rattle.sled_tree.specs.theory.StageAction.{StageAction};
 ghost use Rattle.sled_tree.specs.Follows.{ResumesMerge, BeginsMerge, follows_child, follows_cursor, follows_search, follows_met, FollowsPage, OrRefused, follows_intend, follows_cap, follows_receive, follows_confirm};
@@ -14,7 +14,8 @@ ghost use Rattle.sled_tree.specs.declared.flight.Next.TheVariants.{Go};
 ghost use Rattle.tree_laws.specs.declared.flight.Stage.TheVariants as stage;
 
 use crate::flight::{Aim, Job, Next};
-use sled_pages::{Link, Node, Pages, Pid, Result, Shared, View};
+use sled_nodes::{Link, Node, Pid, Result, Shared};
+use sled_store::{Pages, View};
 use std::alloc::Global;
 use tree_laws::flight::{Cap, Confirm, Merge, Orphan, Posting, Receive, Seek, Split, Stage};
 
@@ -220,7 +221,7 @@ fn leads_to(view: &View, seek: &Seek) -> bool
 }
 
 // Whether the page reaches to where the merging child begins, or beyond it.
-#[tactic(auto, unfolding(sled_pages::specs::Order::key_cmp))]
+#[tactic(auto, unfolding(sled_nodes::specs::Order::key_cmp))]
 fn reaches(view: &View, seek: &Seek) -> bool
     ensures { IsTrue result ↔ ((view.now.node.hi ≡ []) ⊎ UpTo seek.now.node.lo view.now.node.hi) }
 {

@@ -6,7 +6,7 @@ ghost use Rattle.sled_tree.specs.theory.StageAction.{StageAction};
 ghost use Rattle.sled_tree.specs.Follows.{OrRefused, follows_split, follows_install_left, follows_post, FreesOrphan};
 
 use crate::flight::{Aim, Job, Next};
-use sled_pages::{Pages, law_given};
+use sled_store::{Pages, law_given};
 use std::alloc::Global;
 use tree_laws::flight::{Hoist, InstallLeft, Orphan, Post, Posting, Split, Stage};
 use tree_laws::half::Half;

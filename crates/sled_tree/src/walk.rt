@@ -4,9 +4,9 @@
 //! split or a merge that was left half done, or the call acts at its leaf.
 ghost use Rattle.std.specs.Prelude.{◌≡◌, ◌≢◌, ◌≤◌, ◌↔◌, IsTrue};
 ghost use Rattle.std.specs.Prelude.{None, true, false, []};
-ghost use Rattle.sled_pages.specs.Among.{bound_of, is_up_to};
-ghost use Rattle.sled_pages.specs.Store.{now};
-ghost use Rattle.sled_pages.specs.Node.{count};
+ghost use Rattle.sled_nodes.specs.Among.{bound_of, is_up_to};
+ghost use Rattle.sled_store.specs.Store.{now};
+ghost use Rattle.sled_nodes.specs.Node.{count};
 ghost use Rattle.tree_laws.specs.Snapshot.{LiesUnder};
 ghost use Rattle.tree_laws.specs.Stages.{parent_of, by_pointer as reached_by};
 ghost use Rattle.tree_laws.specs.declared.flight.Reached.{Reached};
@@ -21,7 +21,8 @@ ghost use Rattle.sled_tree.specs.declared.flight.Next.TheVariants.{Go};
 
 use crate::flight::{Aim, Job, Next};
 use crate::merge::{begin, help};
-use sled_pages::{Data, Node, Pages, View};
+use sled_nodes::{Data, Node};
+use sled_store::{Pages, View};
 use std::alloc::Global;
 use std::ops::Bound;
 use tree_laws::flight::{Hoist, Post, Posting, Reached, Split, Stage, Walk};
@@ -62,7 +63,7 @@ pub(crate) fn target<'a>(job: &'a Job, aim: &'a Aim) -> Bound<&'a [u8]>
 }
 
 // Whether a key is within a target.
-#[tactic(auto, unfolding(sled_pages::specs::Order::key_cmp))]
+#[tactic(auto, unfolding(sled_nodes::specs::Order::key_cmp))]
 fn is_within(key: &[u8], target: Bound<&[u8]>) -> bool
     ensures { result ≡ is_up_to (bound_of target.entry) key.now }
 {

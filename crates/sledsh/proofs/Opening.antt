@@ -1,11 +1,11 @@
 -- A refused opening where there is a default tree does no action.
 use Rattle.std.proofs.Common.{◌≡◌, ◌≤◌, inl, inr, Bool, true, List, [], ◌∷◌, ◌++◌, length, Option, Some, None, is_some, option_map, refl, subst, ap, ◌∙◌, arith, append-nil}
 use Rattle.std.proofs.lemmas.Bool.{cond-true}
-use Rattle.sled_pages.specs.In.{In}
-use Rattle.sled_pages.specs.State.{Action}
-use Rattle.sled_pages.specs.Store.{Store, now}
-use Rattle.sled_pages.specs.Crash.{crash_states, left_from}
-use Rattle.sled_pages.specs.declared.error.Error.{Error}
+use Rattle.sled_store.specs.In.{In}
+use Rattle.sled_store.specs.State.{Action}
+use Rattle.sled_store.specs.Store.{Store, now}
+use Rattle.sled_store.specs.Crash.{crash_states, left_from}
+use Rattle.sled_nodes.specs.declared.error.Error.{Error}
 use Rattle.tree_laws.specs.Crashes.{IsCrashConsistent, Trees, AddsCrashStates}
 use Rattle.tree_laws.specs.Contents.{trees_of}
 use Rattle.sled_model.specs.State.{default_name}

@@ -1,6 +1,6 @@
 -- Pages between two openings.
 use Rattle.std.specs.Prelude.{◌≡◌, Bool, true, is_some}
-use Rattle.sled_pages.specs.Store.{Store, now}
+use Rattle.sled_store.specs.Store.{Store, now}
 use Rattle.tree_laws.specs.Crashes.{IsValid, IsCrashConsistent}
 use Rattle.sled.specs.declared.TheConstants.{DEFAULT_TREE}
 

@@ -10,7 +10,7 @@ use sled_lines::print::{Piece, Shown, push_outcome, push_pieces, push_refused};
 use sled_lines::session::Session;
 use sled_lines::words::{first_word, read_number, read_word};
 use sled_model::{Call, Outcome, Reply, Slot, Step, Tree, Whole};
-use sled_pages::{Error, IVec};
+use sled_nodes::{Error, IVec};
 use std::alloc::Global;
 use std::sync::atomic::{AtomicU64, Ordering};
 
@@ -28,7 +28,7 @@ pub fn mixed(number: u64) -> u64 {
 }
 
 /// What was answered, where that was not refused.
-pub fn answered<T: Drop>(answer: sled_pages::Result<T>) -> Result<T> {
+pub fn answered<T: Drop>(answer: sled_nodes::Result<T>) -> Result<T> {
     match answer {
         Ok(value) => Ok(value),
         Err(error) => {

@@ -1,6 +1,8 @@
 //! A store in memory that counts the pages that are read.
 
-use sled_pages::{IVec, Link, MemPages, Node, Pages, Pid, Result as Told, Version, View};
+use sled_nodes::{IVec, Link, Node, Pid, Result as Told, Version};
+use sled_pages::MemPages;
+use sled_store::{Pages, View};
 use std::alloc::Global;
 use std::sync::atomic::{AtomicU64, Ordering};
 

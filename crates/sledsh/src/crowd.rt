@@ -8,7 +8,9 @@ use sled_lines::input::{Stopped, without_end};
 use sled_lines::print::Piece::{Number, Text, Word};
 use sled_machine::Machine;
 use sled_model::{Call, Outcome, Reply, Slot, Tree, Whole};
-use sled_pages::{IVec, MemPages, Pages};
+use sled_nodes::IVec;
+use sled_pages::MemPages;
+use sled_store::Pages;
 use std::alloc::Global;
 
 // What a life does.

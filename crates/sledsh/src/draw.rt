@@ -4,7 +4,8 @@ use crate::calls::tell_refused;
 use sled_lines::input::Stopped;
 use sled_lines::print::{push_number, push_text};
 use sled_lines::words::push_word;
-use sled_pages::{Data, Error, IVec, Node, Pages, Pid, Result};
+use sled_nodes::{Data, Error, IVec, Node, Pid, Result};
+use sled_store::Pages;
 use std::alloc::Global;
 
 /// As what a tree is drawn.

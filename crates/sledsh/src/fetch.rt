@@ -9,7 +9,7 @@ use sled_lines::input::{Stopped, without_end};
 use sled_lines::session::Session;
 use sled_lines::words::first_word;
 use sled_model::Tree;
-use sled_pages::IVec;
+use sled_nodes::IVec;
 use std::alloc::{AllocError, Global};
 
 /// Which call it is.

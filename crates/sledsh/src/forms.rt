@@ -16,7 +16,7 @@ use sled_lines::print::Piece::Text;
 use sled_lines::print::push_pieces;
 use sled_lines::words::{first_word, read_number, read_word};
 use sled_model::Call;
-use sled_pages::Result;
+use sled_nodes::Result;
 use std::alloc::Global;
 
 /// Which command it is.

@@ -8,7 +8,7 @@ use sled_lines::input::{Stopped, without_end};
 use sled_lines::session::Session;
 use sled_lines::words::first_word;
 use sled_model::{Collection, Whole};
-use sled_pages::IVec;
+use sled_nodes::IVec;
 use std::alloc::Global;
 
 /// What a line has of what it imports.

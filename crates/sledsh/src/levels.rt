@@ -4,7 +4,8 @@ use crate::calls::tell_refused;
 use sled_lines::input::Stopped;
 use sled_lines::print::Piece::{Number, Text};
 use sled_lines::print::push_pieces;
-use sled_pages::{Data, Pages, Pid, Result};
+use sled_nodes::{Data, Pid, Result};
+use sled_store::Pages;
 use std::alloc::Global;
 use std::ops::Bound;
 

@@ -8,13 +8,13 @@ use sled_lines::input::Stopped;
 use sled_lines::print::Piece::{Number, Text, Word};
 use sled_lines::words::read_word;
 use sled_model::Tree;
-use sled_pages::IVec;
+use sled_nodes::IVec;
 use std::alloc::Global;
 use std::iter::{DoubleEndedIterator, Iterator};
 use std::ops::Bound;
 
 // What a call of a database answers.
-type Answer<T> = sled_pages::Result<T>;
+type Answer<T> = sled_nodes::Result<T>;
 
 /// From which end pairs are taken.
 #[derive(Clone, Copy)]

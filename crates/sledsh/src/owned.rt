@@ -12,11 +12,11 @@ use sled_lines::print::Piece::{Number, Text, Word};
 use sled_lines::session::Session;
 use sled_lines::words::{first_word, read_value};
 use sled_model::{Outcome, Reply, Tree};
-use sled_pages::IVec;
+use sled_nodes::IVec;
 use std::alloc::Global;
 
 // What a call of a database answers.
-type Answer<T> = sled_pages::Result<T>;
+type Answer<T> = sled_nodes::Result<T>;
 
 /// Which call it is.
 #[derive(Clone, Copy)]

@@ -7,7 +7,7 @@ use crate::operators::operator_of;
 use sled_lines::print::Piece::Text;
 use sled_lines::print::push_pieces;
 use sled_lines::words::{first_word, read_number, read_value, read_word};
-use sled_pages::Result;
+use sled_nodes::Result;
 use std::alloc::Global;
 
 const NO_NUMBER: &str = "is no number: decimal digits without leading zeros";

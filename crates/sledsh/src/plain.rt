@@ -4,7 +4,7 @@ ghost use Rattle.std.specs.Prelude.{◌≤◌, length};
 
 use crate::operators::Operator;
 use sled_model::{Call, Decision, Effect, Outcome, Slot};
-use sled_pages::{IVec, Result};
+use sled_nodes::{IVec, Result};
 use std::alloc::Global;
 
 /// Pairs that ascend by key.

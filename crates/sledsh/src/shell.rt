@@ -24,7 +24,8 @@ use sled_lines::input::{Stopped, read_line, without_end};
 use sled_lines::print::Piece::{Number, Text, Word};
 use sled_lines::session::{Session, write};
 use sled_lines::words::first_word;
-use sled_pages::{Error, Pages};
+use sled_nodes::Error;
+use sled_store::Pages;
 use std::alloc::Global;
 use std::io::{BufRead, Write};
 use std::sync::atomic::{AtomicU64, Ordering};
@@ -710,7 +711,7 @@ pub fn run<R: BufRead, W: Write>(
 pub struct Sessions;
 
 impl Program for Sessions {
-    fn run(&self, alloc: Global, lines: &[u8], printed: &mut Vec<u8>) -> sled_pages::Result<()> {
+    fn run(&self, alloc: Global, lines: &[u8], printed: &mut Vec<u8>) -> sled_nodes::Result<()> {
         let mut input = lines;
         // Nothing is read or written but in memory, so it was that which was missing.
         match run(alloc, &mut input, printed, false) {

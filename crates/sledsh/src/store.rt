@@ -7,7 +7,9 @@ use crate::counting::Counting;
 use sled::{DEFAULT_TREE, Db, crash_pages, empty_pages};
 use sled_lines::input::Stopped;
 use sled_model::MergeOperator;
-use sled_pages::{Error, MemPages, Pages, Pid};
+use sled_nodes::{Error, Pid};
+use sled_pages::MemPages;
+use sled_store::Pages;
 use std::alloc::Global;
 use std::marker::Model;
 

@@ -10,7 +10,7 @@ use sled_lines::print::push_subscriber;
 use sled_lines::session::Session;
 use sled_lines::words::{first_word, read_number};
 use sled_model::{Outcome, Reply, Subscriber, Tree, Whole};
-use sled_pages::IVec;
+use sled_nodes::IVec;
 use std::alloc::Global;
 
 /// Which call it is.
@@ -71,7 +71,7 @@ fn make(
 }
 
 // The call that watches the keys of the current tree that begin with a prefix.
-fn watch_of(session: &Session<Counting<'_>, Operator>, prefix: IVec) -> sled_pages::Result<Whole> {
+fn watch_of(session: &Session<Counting<'_>, Operator>, prefix: IVec) -> sled_nodes::Result<Whole> {
     match session.tree().clone() {
         Ok(tree) => Ok(Whole::Watch(tree, prefix)),
         Err(error) => {

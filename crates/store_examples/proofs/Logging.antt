@@ -11,20 +11,21 @@ use Rattle.std.specs.Option.{option_map}
 use Rattle.std.specs.Ordering.{nat_cmp}
 use Rattle.std.specs.Str.{bytes_eq}
 use mathlib.Core.Bool.{true≢false}
-use Rattle.sled_pages.specs.declared.node.Node.{Node}
-use Rattle.sled_pages.specs.declared.page.Page.{Page}
-use Rattle.sled_pages.specs.Crash.{Crashes}
+use Rattle.sled_nodes.specs.declared.node.Node.{Node}
+use Rattle.sled_store.specs.declared.page.Page.{Page}
+use Rattle.sled_store.specs.Crash.{Crashes}
 use Rattle.sled_pages.specs.Memory.{empty_store}
-use Rattle.sled_pages.specs.Order.{Key, key_cmp}
-use Rattle.sled_pages.specs.Table.{roots_of}
-use Rattle.sled_pages.specs.Update.{put_at, put_name}
-use Rattle.sled_pages.specs.State.{State, Action, PageBecomes, after, after_all}
-use Rattle.sled_pages.specs.Store.{Store, now, after_action, after_flush, version_now, ActsAt, Allocates, IsRoots}
-use Rattle.sled_pages.specs.theory.Facts.{after_last, put_here, put_elsewhere, put_name_here, put_name_elsewhere, same_name, name_itself}
-use Rattle.sled_pages.proofs.Kept.{next_fresh, next_given, next_version, all_push, all_weaker, first, second, both}
+use Rattle.sled_nodes.specs.Order.{Key, key_cmp}
+use Rattle.sled_store.specs.Roots.{roots_of}
+use Rattle.sled_store.specs.Update.{put_at, put_name}
+use Rattle.sled_store.specs.State.{State, Action, PageBecomes, after, after_all}
+use Rattle.sled_store.specs.Store.{Store, now, after_action, after_flush, version_now, ActsAt, Allocates, IsRoots}
+use Rattle.sled_store.specs.theory.Facts.{after_last, put_here, put_elsewhere, put_name_here, put_name_elsewhere, same_name, name_itself}
+use Rattle.sled_nodes.proofs.All.{all_push, all_weaker, first, second, both}
+use Rattle.sled_pages.proofs.Kept.{next_fresh, next_given, next_version}
 use Rattle.sled_pages.proofs.Places.{one_place}
-use Rattle.sled_pages.specs.theory.Rising.{IsHit, IsGap}
-use Rattle.sled_pages.proofs.Rising.{rises_put, searched, hit_stands, gap_goes}
+use Rattle.sled_nodes.specs.theory.Rising.{IsHit, IsGap}
+use Rattle.sled_nodes.proofs.Rising.{rises_put, searched, hit_stands, gap_goes}
 use Rattle.store_examples.specs.declared.log_pages.LogPages.{LogPages}
 use Rattle.store_examples.specs.declared.log_pages.Logged.{Logged}
 use Rattle.store_examples.specs.declared.log_pages.Logged.TheVariants.{PageBecame, RootBecame, GroupBegan, GroupEnded}

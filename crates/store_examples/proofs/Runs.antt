@@ -2,13 +2,13 @@
 use Rattle.std.proofs.Common.{◌≡◌, ℕ, true, [], ◌∷◌, ◌++◌, Option, Some, None, Result, Ok, Err, refl, sym, ap, subst, ◌∙◌, append_assoc}
 use Rattle.std.specs.Result.{is_ok}
 use Rattle.std.specs.Option.{option_map}
-use Rattle.sled_pages.specs.Order.{Key}
-use Rattle.sled_pages.specs.Update.{put_name}
-use Rattle.sled_pages.specs.declared.node.Node.{Node}
-use Rattle.sled_pages.specs.declared.page.Page.{Page}
-use Rattle.sled_pages.specs.State.{Action, PageBecomes}
-use Rattle.sled_pages.specs.Store.{Store, now, after_flush, ActsAt, Allocates, Changes, SwapsRoot, AreGiven}
-use Rattle.sled_pages.specs.theory.Facts.{page_changed, now_allocates, now_swaps, swaps_group, fresh_page}
+use Rattle.sled_nodes.specs.Order.{Key}
+use Rattle.sled_store.specs.Update.{put_name}
+use Rattle.sled_nodes.specs.declared.node.Node.{Node}
+use Rattle.sled_store.specs.declared.page.Page.{Page}
+use Rattle.sled_store.specs.State.{Action, PageBecomes}
+use Rattle.sled_store.specs.Store.{Store, now, after_flush, ActsAt, Allocates, Changes, SwapsRoot, AreGiven}
+use Rattle.sled_store.specs.theory.Facts.{page_changed, now_allocates, now_swaps, swaps_group, fresh_page}
 use Rattle.store_examples.specs.Client.{Twice, Opens, links_as}
 
 recent_two : (a b : Action) (v w : ℕ) (old mid new : Store) → ActsAt a v old mid → ActsAt b w mid new → new.recent ≡ old.recent ++ a ∷ b ∷ []

@@ -1,10 +1,10 @@
 -- What the clients that test the contract of a store say.
 use Rattle.std.specs.Prelude.{◌≡◌, ◌≢◌, ℕ, Bool, true, false, ◌∷◌, [], ◌++◌, Option, Some, None}
-use Rattle.sled_pages.specs.Order.{Key}
-use Rattle.sled_pages.specs.Update.{put_at, put_name}
-use Rattle.sled_pages.specs.declared.node.Node.{Node}
-use Rattle.sled_pages.specs.State.{PageBecomes}
-use Rattle.sled_pages.specs.Store.{Store, now, version_now}
+use Rattle.sled_nodes.specs.Order.{Key}
+use Rattle.sled_store.specs.Update.{put_at, put_name}
+use Rattle.sled_nodes.specs.declared.node.Node.{Node}
+use Rattle.sled_store.specs.State.{PageBecomes}
+use Rattle.sled_store.specs.Store.{Store, now, version_now}
 
 -- two entries more, and the page has both changes now
 pub record Twice (f g : Node → Node) (pid version : ℕ) (old new : Store) : Type 0 where

@@ -1,7 +1,7 @@
 -- A list of all that was ever done to a store, and what it comes to.
 use Rattle.std.specs.Prelude.{◌≡◌, ℕ, ◌+◌, ◌<◌, ◌≤◌, ◌^◌, Bool, true, false, ◌&&◌, nat_le, nat_lt, List, Some, None, length, map, take}
 use Rattle.std.specs.List.{list_all}
-use Rattle.sled_pages.specs.State.{State, Action, PageBecomes, RootBecomes, GroupBegins, GroupEnds, after_all}
+use Rattle.sled_store.specs.State.{State, Action, PageBecomes, RootBecomes, GroupBegins, GroupEnds, after_all}
 use Rattle.sled_pages.specs.Memory.{empty_store}
 use Rattle.store_examples.specs.declared.log_pages.Logged.{Logged}
 use Rattle.store_examples.specs.declared.log_pages.Logged.TheVariants.{PageBecame, RootBecame, GroupBegan, GroupEnded}

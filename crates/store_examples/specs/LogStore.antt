@@ -1,6 +1,6 @@
 -- What a store that keeps a list of all that was done means.
 use Rattle.std.specs.Prelude.{ℕ, Bool, true, List, length, take, drop}
-use Rattle.sled_pages.specs.Store.{Store}
+use Rattle.sled_store.specs.Store.{Store}
 use Rattle.store_examples.specs.declared.log_pages.LogPages.{LogPages}
 use Rattle.store_examples.specs.declared.log_pages.Logged.{Logged}
 use Rattle.store_examples.specs.Log.{actions_of, state_after, up_to, below}

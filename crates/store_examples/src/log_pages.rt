@@ -5,17 +5,18 @@ ghost use Rattle.std.specs.FinMap.Entries.{put, where_key, is_sorted};
 ghost use Rattle.std.specs.Cmp.Lexicographic.{slice_cmp};
 ghost use Rattle.std.specs.Ordering.{nat_cmp, eq_by_cmp};
 ghost use Rattle.std.specs.Option.{option_copied};
-ghost use Rattle.sled_pages.specs.declared.error.Error.TheVariants.{NoMemory};
-ghost use Rattle.sled_pages.specs.Order.{key_cmp};
-ghost use Rattle.sled_pages.specs.Update.{put_name};
-ghost use Rattle.sled_pages.specs.Table.{roots_of};
-ghost use Rattle.sled_pages.specs.Node.{after_link};
-ghost use Rattle.sled_pages.specs.State.{PageBecomes};
-ghost use Rattle.sled_pages.specs.Store.{now, after_action, version_now, ActsAt, IsRefused};
-ghost use Rattle.sled_pages.specs.Crash.{Crashes};
+ghost use Rattle.sled_nodes.specs.declared.error.Error.TheVariants.{NoMemory};
+ghost use Rattle.sled_nodes.specs.Order.{key_cmp};
+ghost use Rattle.sled_store.specs.Update.{put_name};
+ghost use Rattle.sled_store.specs.Roots.{roots_of};
+ghost use Rattle.sled_nodes.specs.Node.{after_link};
+ghost use Rattle.sled_store.specs.State.{PageBecomes};
+ghost use Rattle.sled_store.specs.Store.{now, after_action, version_now, ActsAt, IsRefused};
+ghost use Rattle.sled_store.specs.Crash.{Crashes};
 ghost use Rattle.store_examples.specs.Log.{action_of, state_after, is_given, up_to, below, IsLog, KeepsMost};
 
-use sled_pages::{Error, Fault, IVec, Link, Node, Page, Pages, Pid, Result, Shared, Version, View};
+use sled_nodes::{Error, Fault, IVec, Link, Node, Pid, Result, Shared, Version};
+use sled_store::{Page, Pages, View};
 use std::alloc::Global;
 
 // The code of this store's fault: numbers are used up.

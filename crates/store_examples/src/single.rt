@@ -1,13 +1,15 @@
 //! Public calls one at a time, each under the contract that it has.
 ghost use Rattle.std.specs.Prelude.{◌≡◌, ◌≤◌, IfOk, IfErr, OnOk, false, length};
-ghost use Rattle.sled_pages.specs.Among.{bound_of, IsPredecessor};
-ghost use Rattle.sled_pages.specs.Crash.{Crashes};
-ghost use Rattle.sled_pages.specs.Halves.{left_half, right_half, after_receiving};
+ghost use Rattle.sled_nodes.specs.Among.{bound_of, IsPredecessor};
+ghost use Rattle.sled_store.specs.Crash.{Crashes};
+ghost use Rattle.sled_nodes.specs.Halves.{left_half, right_half, after_receiving};
 ghost use Rattle.sled_pages.specs.Memory.{store_of};
-ghost use Rattle.sled_pages.specs.Node.{after_link, count, pairs};
-ghost use Rattle.sled_pages.specs.Store.{now, after_flush, Allocates, Changes};
+ghost use Rattle.sled_nodes.specs.Node.{after_link, count, pairs};
+ghost use Rattle.sled_store.specs.Store.{now, after_flush, Allocates, Changes};
 
-use sled_pages::{IVec, Link, MemPages, Node, Pages, Pid, Result, Version};
+use sled_nodes::{IVec, Link, Node, Pid, Result, Version};
+use sled_pages::MemPages;
+use sled_store::Pages;
 use std::alloc::Global;
 use std::ops::Bound;
 

@@ -1,11 +1,12 @@
 //! What a layer above can say of a store, whichever it is: tests of the contract, written against its clauses alone.
 ghost use Rattle.std.specs.Prelude.{◌≡◌, ◌++◌, ◌∷◌, [], true, false, Some, None, IfOk};
-ghost use Rattle.sled_pages.specs.Node.{after_link};
+ghost use Rattle.sled_nodes.specs.Node.{after_link};
 ghost use Rattle.store_examples.specs.Client.{links_as, Opens};
-ghost use Rattle.sled_pages.specs.Crash.{IsCrashState, crash_states};
-ghost use Rattle.sled_pages.specs.Store.{now};
+ghost use Rattle.sled_store.specs.Crash.{IsCrashState, crash_states};
+ghost use Rattle.sled_store.specs.Store.{now};
 
-use sled_pages::{Link, Node, Pages, Pid, Result, View, law_given, law_sealed};
+use sled_nodes::{Link, Node, Pid, Result};
+use sled_store::{Pages, View, law_given, law_sealed};
 
 /// Two changes of one page, one after the other. `false` where another was there first.
 pub fn two_links<P: Pages>(pages: &mut P, view: &View, first: Link, second: Link) -> Result<bool>
@@ -41,7 +42,7 @@ pub fn open_tree<P: Pages>(pages: &mut P, name: &[u8], node: Node) -> Result<Opt
 }
 
 /// A crash may always leave the state at the last flush.
-#[tactic(auto, using(sled_pages::specs::theory::Facts::may_leave_base))]
+#[tactic(auto, using(sled_store::specs::theory::Facts::may_leave_base))]
 pub fn may_leave_base<P: Pages>(pages: &P)
     ensures { IsCrashState (P.store pages.now) (P.store pages.now).base }
 {

@@ -4,7 +4,7 @@ use crate::store::Store;
 use crate::text::Text;
 use crate::values::{compare_values, kind_of};
 use line_files::Program;
-use sled_pages::{Error, Result};
+use sled_nodes::{Error, Result};
 use std::alloc::Global;
 use std::str;
 

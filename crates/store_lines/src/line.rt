@@ -1,6 +1,6 @@
 //! Lines: how byte strings and numbers are read.
 use crate::text::Text;
-use sled_pages::{IVec, Pid};
+use sled_nodes::{IVec, Pid};
 use std::alloc::Global;
 
 /// A line that is read word by word, and what it prints. A word that is missing, or is not what is asked for, is taken for an
@@ -307,7 +307,7 @@ impl<A: Word, B: Word> Word for (A, B) {
 }
 
 /// Adds what is in a list, if there was memory for it.
-pub fn push_all<W: Word>(out: &mut Text, list: sled_pages::Result<Vec<W>>) {
+pub fn push_all<W: Word>(out: &mut Text, list: sled_nodes::Result<Vec<W>>) {
     if let Some(list) = out.kept(list) {
         for item in list.as_slice() {
             item.print(out);

@@ -1,10 +1,10 @@
 //! Nodes by themselves, each under a name that lines gave it.
 ghost use Rattle.std.specs.Prelude.{◌≡◌};
-ghost use Rattle.sled_pages.specs.Node.{count};
+ghost use Rattle.sled_nodes.specs.Node.{count};
 
 use crate::line::{Line, Word, push_all};
 use crate::text::Text;
-use sled_pages::{Data, IVec, Index, Leaf, Link, Node, Pid, Result};
+use sled_nodes::{Data, IVec, Index, Leaf, Link, Node, Pid, Result};
 use std::alloc::Global;
 use std::ops::Bound;
 

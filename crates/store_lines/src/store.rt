@@ -3,7 +3,9 @@ use crate::keys::{read_key, spell};
 use crate::line::{Line, Word, push_all};
 use crate::nodes::{Act, Change, Make, Nodes, Question, Search, push_node, read_link};
 use crate::text::Text;
-use sled_pages::{IVec, MemPages, Node, Pages, Pid, Result, Version, View};
+use sled_nodes::{IVec, Node, Pid, Result, Version};
+use sled_pages::MemPages;
+use sled_store::{Pages, View};
 use std::alloc::Global;
 
 type Changed = Result<std::result::Result<Version, Option<Version>>>;

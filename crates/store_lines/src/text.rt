@@ -1,6 +1,6 @@
 //! What is printed: how byte strings, numbers and answers stand in a line.
 use sled_model::CompareAndSwapError;
-use sled_pages::{Error, Result};
+use sled_nodes::{Error, Result};
 use std::alloc::Global;
 
 /// Text that is added to. Where there is no memory for a part of it, that is told at the end alone.

@@ -2,7 +2,7 @@
 use crate::line::{Line, Word, named};
 use crate::text::Text;
 use sled_model::{Call, Collection, CompareAndSwapError, Event, Subscriber, Tree, Whole};
-use sled_pages::{Error, Fault, IVec, Result, texts};
+use sled_nodes::{Error, Fault, IVec, Result, texts};
 
 /// What the values of a line are.
 #[derive(Clone, Copy)]

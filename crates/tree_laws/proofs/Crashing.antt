@@ -1,12 +1,12 @@
 -- What an action adds to the states that a crash may leave.
 use Rattle.std.proofs.Common.{◌≡◌, ℕ, ◌+◌, true, false, cond, List, [], ◌∷◌, ◌++◌, length, map, Some, sym, refl, ap, ◌∙◌, subst, inl, inr, append_assoc, append-nil, length-append, arith}
-use Rattle.sled_pages.specs.In.{In}
-use Rattle.sled_pages.specs.State.{State, Action, PageBecomes, after, after_all}
+use Rattle.sled_store.specs.In.{In}
+use Rattle.sled_store.specs.State.{State, Action, PageBecomes, after, after_all}
 use Rattle.std.proofs.lemmas.List.{map-append}
-use Rattle.sled_pages.specs.Store.{Store, now, after_action, after_flush, Allocates}
-use Rattle.sled_pages.specs.declared.node.Node.{Node}
-use Rattle.sled_pages.specs.Crash.{left_from, crash_states}
-use Rattle.sled_pages.specs.theory.Facts.{after_last}
+use Rattle.sled_store.specs.Store.{Store, now, after_action, after_flush, Allocates}
+use Rattle.sled_nodes.specs.declared.node.Node.{Node}
+use Rattle.sled_store.specs.Crash.{left_from, crash_states}
+use Rattle.sled_store.specs.theory.Facts.{after_last}
 use Rattle.tree_laws.specs.Contents.{trees_of}
 use Rattle.tree_laws.specs.Crashes.{IsValid, Stutters, StutterEquivalent, Trees, AddsCrashStates, Flushes}
 use Rattle.tree_laws.specs.theory.Crashes.{AddsAction}

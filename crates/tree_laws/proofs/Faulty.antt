@@ -1,13 +1,13 @@
 -- The images that no forest has.
 use Rattle.std.proofs.Common.{◌≡◌, ℕ, zero, suc, ◌≤◌, T, List, [], ◌∷◌, ◌++◌, Option, Some, None, sym, refl, ap, ◌∙◌, subst, inl, inr, ◌⊎◌, arith}
 use Rattle.std.specs.FinMap.{is_sorted}
-use Rattle.sled_pages.specs.In.{In}
-use Rattle.sled_pages.specs.Node.{pointers, Within}
-use Rattle.sled_pages.specs.Order.{Key, key_cmp, Below}
-use Rattle.sled_pages.specs.State.{Nodes, nodes_of}
-use Rattle.sled_pages.specs.declared.node.Node.{Node}
-use Rattle.sled_pages.specs.declared.node.Data.{Data}
-use Rattle.sled_pages.specs.declared.node.Data.TheVariants.{Leaf, Index}
+use Rattle.sled_store.specs.In.{In}
+use Rattle.sled_nodes.specs.Node.{pointers, Within}
+use Rattle.sled_nodes.specs.Order.{Key, key_cmp, Below}
+use Rattle.sled_store.specs.State.{Nodes, nodes_of}
+use Rattle.sled_nodes.specs.declared.node.Node.{Node}
+use Rattle.sled_nodes.specs.declared.node.Data.{Data}
+use Rattle.sled_nodes.specs.declared.node.Data.TheVariants.{Leaf, Index}
 use Rattle.tree_laws.specs.Forest.{Tree, Forest, Place, place, head, first_child, first_key, Holds, Run, IsHomed, WellFormed}
 use Rattle.tree_laws.specs.theory.Images.{Refuses, selves, key, leaf, index, capped, merging, one_tree, other_tree, left, right, over, first_only, both, root_is_not_there, leads_to_itself, has_a_gap, ends_early, pointer_to_nothing, wrong_key, not_the_merging_child, first_is_the_merging_child, merging_with_a_merging_child, too_many, too_many_of_a_merging_child, not_ascending, begins_late, root_of_two_trees, ends_below_its_begin, leads_on_without_a_bound, merging_root, merging_without_a_pointer, two_pointers, received_by_two_trees, in_another_tree, in_another_level, pointer_out_of_the_chain, index_beside_a_leaf, merging_child_without_a_pointer, beyond_the_bounds, without_pointers, first_key_above, received_not_ascending, RefusedImages}
 use Rattle.tree_laws.proofs.Replace.{some_is, head_in}

@@ -3,14 +3,14 @@ use Rattle.std.proofs.Common.{◌≡◌, ◌≢◌, ℕ, zero, suc, ◌<◌, ◌
 use Rattle.std.specs.List.{AllByRecursion, IsDistinct, list_any}
 use Rattle.std.proofs.lemmas.Map.Steps.{length-le_from_distinct_below}
 use Rattle.std.proofs.lemmas.Bool.Decides.{nat_tests}
-use Rattle.sled_pages.specs.In.{In}
-use Rattle.sled_pages.specs.Node.{pointers}
-use Rattle.sled_pages.specs.Order.{Key, Below}
-use Rattle.sled_pages.specs.State.{Nodes, nodes_of}
-use Rattle.sled_pages.specs.declared.node.Data.{Data}
-use Rattle.sled_pages.specs.declared.node.Data.TheVariants.{Leaf, Index}
-use Rattle.sled_pages.specs.declared.node.Node.{Node}
-use Rattle.sled_pages.specs.declared.page.Page.{Page}
+use Rattle.sled_store.specs.In.{In}
+use Rattle.sled_nodes.specs.Node.{pointers}
+use Rattle.sled_nodes.specs.Order.{Key, Below}
+use Rattle.sled_store.specs.State.{Nodes, nodes_of}
+use Rattle.sled_nodes.specs.declared.node.Data.{Data}
+use Rattle.sled_nodes.specs.declared.node.Data.TheVariants.{Leaf, Index}
+use Rattle.sled_nodes.specs.declared.node.Node.{Node}
+use Rattle.sled_store.specs.declared.page.Page.{Page}
 use Rattle.tree_laws.specs.Forest.{Tree, Forest, Place, place, head, first_child, Holds, Run, WellFormed, contents, node_pairs}
 use Rattle.tree_laws.specs.theory.Drops.{Different}
 use Rattle.tree_laws.specs.Contents.{page_numbers, next_of, first_of, along, first_leaf, pairs_under}

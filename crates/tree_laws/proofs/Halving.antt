@@ -4,17 +4,17 @@ use Rattle.std.proofs.lemmas.List.{take-append-drop, length-take-le, length-drop
 use Rattle.std.specs.List.{AllByRecursion}
 use Rattle.std.specs.FinMap.{is_sorted}
 use Rattle.std.specs.FinMap.Entries.{below_all}
-use Rattle.sled_pages.specs.In.{In}
-use Rattle.sled_pages.specs.Order.{Key, key_cmp, Below, UpTo}
-use Rattle.sled_pages.specs.Node.{Within, pointers, count}
-use Rattle.sled_pages.specs.Halves.{first_half, second_half, first_half_of, second_half_of, first_key_of, left_half, right_half, appended, after_receiving}
-use Rattle.sled_pages.specs.Halves as halves
-use Rattle.sled_pages.specs.Posting as posting
+use Rattle.sled_store.specs.In.{In}
+use Rattle.sled_nodes.specs.Order.{Key, key_cmp, Below, UpTo}
+use Rattle.sled_nodes.specs.Node.{Within, pointers, count}
+use Rattle.sled_nodes.specs.Halves.{first_half, second_half, first_half_of, second_half_of, first_key_of, left_half, right_half, appended, after_receiving}
+use Rattle.sled_nodes.specs.Halves as halves
+use Rattle.sled_nodes.specs.Posting as posting
 use Rattle.tree_laws.specs.theory.StageLaws.{HalvedLaw, JoinedLaw, BeforeLaw}
-use Rattle.sled_pages.specs.Among.{IsBefore}
-use Rattle.sled_pages.specs.declared.node.Node.{Node}
-use Rattle.sled_pages.specs.declared.node.Data.{Data}
-use Rattle.sled_pages.specs.declared.node.Data.TheVariants.{Leaf, Index}
+use Rattle.sled_nodes.specs.Among.{IsBefore}
+use Rattle.sled_nodes.specs.declared.node.Node.{Node}
+use Rattle.sled_nodes.specs.declared.node.Data.{Data}
+use Rattle.sled_nodes.specs.declared.node.Data.TheVariants.{Leaf, Index}
 use Rattle.tree_laws.specs.Forest.{Holds, IsNodeAt, first_key}
 use Rattle.tree_laws.specs.Action.{AreHalvesOf, IsSplit}
 use Rattle.tree_laws.specs.theory.StageLaws.{IsHalved, IsJoined}

@@ -1,10 +1,10 @@
 -- A page lies within the bounds of the index above that covers its beginning.
 use Rattle.std.proofs.Common.{◌≡◌, ◌≢◌, ℕ, suc, true, List, [], ◌∷◌, ◌++◌, Option, Some, None, sym, ap, ◌∙◌, subst, inl, inr, ◌⊎◌}
-use Rattle.sled_pages.specs.In.{In}
-use Rattle.sled_pages.specs.Node.{Within}
-use Rattle.sled_pages.specs.Order.{Below}
-use Rattle.sled_pages.specs.State.{Nodes}
-use Rattle.sled_pages.specs.declared.node.Node.{Node}
+use Rattle.sled_store.specs.In.{In}
+use Rattle.sled_nodes.specs.Node.{Within}
+use Rattle.sled_nodes.specs.Order.{Below}
+use Rattle.sled_store.specs.State.{Nodes}
+use Rattle.sled_nodes.specs.declared.node.Node.{Node}
 use Rattle.tree_laws.specs.Forest.{Forest, Place, place, Run, WellFormed, head, Tree}
 use Rattle.tree_laws.specs.theory.PageLaws.{InsideLaw, ReachedLaw}
 use Rattle.tree_laws.proofs.Order.{upto-refl, upto-below, upto_cases, upto-trans, below_irrefl, below-trans, below_upto-trans}

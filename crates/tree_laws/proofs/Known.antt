@@ -3,19 +3,19 @@ use Rattle.std.proofs.Common.{◌≡◌, ℕ, zero, suc, ◌+◌, ◌≤◌, Boo
 use Rattle.std.specs.FinMap.Entries.{find, put, by_order}
 use Rattle.std.specs.declared.ops.Bound.{Bound}
 use Rattle.std.specs.declared.ops.Bound.TheVariants.{Included}
-use Rattle.sled_pages.specs.In.{In}
-use Rattle.sled_pages.specs.Order.{Key, key_cmp}
-use Rattle.sled_pages.specs.Node.{pairs, count, Covers, with_pair, value_at, without, after_link}
-use Rattle.sled_pages.specs.State.{State, Nodes, Action, PageBecomes, RootBecomes, nodes_of, after}
-use Rattle.sled_pages.specs.Update.{put_at, put_name}
-use Rattle.sled_pages.specs.Store.{Store, now, after_action, ActsAt, Allocates, AreGiven}
-use Rattle.sled_pages.specs.theory.Facts.{now_acted}
-use Rattle.sled_pages.specs.declared.node.Node.{Node}
-use Rattle.sled_pages.specs.declared.node.Data.{Data}
-use Rattle.sled_pages.specs.declared.node.Data.TheVariants.{Leaf, Index}
-use Rattle.sled_pages.specs.declared.page.Page.{Page}
+use Rattle.sled_store.specs.In.{In}
+use Rattle.sled_nodes.specs.Order.{Key, key_cmp}
+use Rattle.sled_nodes.specs.Node.{pairs, count, Covers, with_pair, value_at, without, after_link}
+use Rattle.sled_store.specs.State.{State, Nodes, Action, PageBecomes, RootBecomes, nodes_of, after}
+use Rattle.sled_store.specs.Update.{put_at, put_name}
+use Rattle.sled_store.specs.Store.{Store, now, after_action, ActsAt, Allocates, AreGiven}
+use Rattle.sled_store.specs.theory.Facts.{now_acted}
+use Rattle.sled_nodes.specs.declared.node.Node.{Node}
+use Rattle.sled_nodes.specs.declared.node.Data.{Data}
+use Rattle.sled_nodes.specs.declared.node.Data.TheVariants.{Leaf, Index}
+use Rattle.sled_store.specs.declared.page.Page.{Page}
 use Rattle.tree_laws.specs.Forest.{Tree, Forest, Place, place, head, Holds, IsNodeAt, Run, WellFormed, IsSized, contents}
-use Rattle.sled_pages.specs.declared.page.View.{View}
+use Rattle.sled_store.specs.declared.page.View.{View}
 use Rattle.tree_laws.specs.Snapshot.{Snapshot, snapshot_of, nodes_at, HasForest, IsReadAs, StoodInChain, IsOpen, IsAtVersion, HasRoomForOne, SeenOpen, LiesUnder, IsActing}
 use Rattle.tree_laws.specs.theory.Snapshot.{Guarantee, GrowsByReceiving}
 use Rattle.tree_laws.specs.theory.Action.{put_node}
@@ -27,7 +27,7 @@ use Rattle.tree_laws.proofs.Stable.{view_law, stood_law, now_law}
 use Rattle.tree_laws.proofs.Leaf.{leaf_at, set_law, del_law}
 use Rattle.tree_laws.proofs.Reading.{find_law}
 use Rattle.tree_laws.proofs.States.{replace_law, nodes_replaced}
-use Rattle.sled_pages.specs.declared.link.Link.TheVariants.{Set, Del}
+use Rattle.sled_nodes.specs.declared.link.Link.TheVariants.{Set, Del}
 use Rattle.tree_laws.proofs.Basics.{none_some}
 
 -- a call that does nothing

@@ -3,13 +3,13 @@ use Rattle.std.proofs.Common.{◌≡◌, ◌≢◌, ℕ, suc, ◌≤◌, true, f
 use Rattle.std.specs.List.{AllByRecursion}
 use Rattle.std.specs.Ordering.{eq_by_cmp}
 use Rattle.std.specs.FinMap.Entries.{put, by_order, is_sorted-put, is_sorted-where_key}
-use Rattle.sled_pages.specs.In.{In}
-use Rattle.sled_pages.specs.Node.{Covers, with_pair, without_key, Within, pairs, pointers, count, without}
-use Rattle.sled_pages.specs.Order.{Key, key_cmp, Below}
-use Rattle.sled_pages.specs.State.{Nodes}
-use Rattle.sled_pages.specs.declared.node.Data.{Data}
-use Rattle.sled_pages.specs.declared.node.Data.TheVariants.{Leaf, Index}
-use Rattle.sled_pages.specs.declared.node.Node.{Node}
+use Rattle.sled_store.specs.In.{In}
+use Rattle.sled_nodes.specs.Node.{Covers, with_pair, without_key, Within, pairs, pointers, count, without}
+use Rattle.sled_nodes.specs.Order.{Key, key_cmp, Below}
+use Rattle.sled_store.specs.State.{Nodes}
+use Rattle.sled_nodes.specs.declared.node.Data.{Data}
+use Rattle.sled_nodes.specs.declared.node.Data.TheVariants.{Leaf, Index}
+use Rattle.sled_nodes.specs.declared.node.Node.{Node}
 use Rattle.tree_laws.specs.theory.Action.{put_node}
 use Rattle.tree_laws.specs.Forest.{IsSized, first_child, later, Holds, IsNodeAt, Forest, Place, place, IsPointer, WellFormed, contents, node_pairs, Tree}
 use Rattle.tree_laws.specs.theory.Snapshot.{GrowsByReceiving, KeepsNodes}

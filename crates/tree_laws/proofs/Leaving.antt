@@ -1,9 +1,9 @@
 -- The pages of a dropped tree are freed, level by level along `next`.
 use Rattle.std.proofs.Common.{◌≡◌, ◌≢◌, ℕ, List, [], ◌∷◌, Option, Some, None, sym, refl, ap, ◌∙◌, subst, inl, inr}
-use Rattle.sled_pages.specs.In.{In}
-use Rattle.sled_pages.specs.Order.{Key}
-use Rattle.sled_pages.specs.State.{Nodes}
-use Rattle.sled_pages.specs.declared.node.Node.{Node}
+use Rattle.sled_store.specs.In.{In}
+use Rattle.sled_nodes.specs.Order.{Key}
+use Rattle.sled_store.specs.State.{Nodes}
+use Rattle.sled_nodes.specs.declared.node.Node.{Node}
 use Rattle.tree_laws.specs.Forest.{Tree, Forest, Place, place, head, Run}
 use Rattle.tree_laws.specs.Snapshot.{Snapshot, nodes_at, IsOrphan}
 use Rattle.tree_laws.specs.theory.Drops.{Leads, Different, IsLeft}

@@ -1,6 +1,6 @@
 -- What steps do to the contents of all trees, as a function of the state, and to what a crash may leave.
 use Rattle.std.proofs.Common.{◌≡◌, ℕ, suc, [], Option, Some, None, MatchOption, option_map, sym, refl, ap, ◌∙◌, subst, inl}
-use Rattle.sled_pages.specs.declared.node.Data.TheVariants.{Leaf}
+use Rattle.sled_nodes.specs.declared.node.Data.TheVariants.{Leaf}
 use Rattle.tree_laws.specs.Forest.{Tree, Forest, place, head, contents}
 use Rattle.tree_laws.specs.Contents.{trees_of}
 use Rattle.tree_laws.specs.Snapshot.{Snapshot, snapshot_of, nodes_at, HasForest}

@@ -7,10 +7,10 @@ use Rattle.std.specs.declared.ops.Bound.TheVariants.{Included, Excluded, Unbound
 use Rattle.std.specs.Cmp.{IsTotalOrder}
 use Rattle.std.specs.FinMap.{slice_cmp-IsAntisymmetric, nat_cmp-IsAntisymmetric}
 use Rattle.std.proofs.lemmas.Cmp.{nat_list_cmp_total, upto, tied_itself}
-use Rattle.sled_pages.specs.Order.{Key, key_cmp, Below, UpTo}
-use Rattle.sled_pages.specs.Among.{is_up_to}
-use Rattle.sled_pages.specs.Node.{Covers}
-use Rattle.sled_pages.specs.declared.node.Node.{Node}
+use Rattle.sled_nodes.specs.Order.{Key, key_cmp, Below, UpTo}
+use Rattle.sled_nodes.specs.Among.{is_up_to}
+use Rattle.sled_nodes.specs.Node.{Covers}
+use Rattle.sled_nodes.specs.declared.node.Node.{Node}
 use Rattle.tree_laws.specs.Snapshot.{LiesUnder}
 
 pub key_total : IsTotalOrder key_cmp

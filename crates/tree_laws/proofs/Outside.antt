@@ -1,10 +1,10 @@
 -- A change of pages that have no place.
 use Rattle.std.proofs.Common.{flat_map, ◌≡◌, ℕ, suc, Bool, true, false, le_of_eq, List, [], ◌∷◌, Option, Some, None, sym, refl, ap, ◌∙◌, subst, inl, inr, ◌⊎◌}
-use Rattle.sled_pages.specs.In.{In}
-use Rattle.sled_pages.specs.Node.{count}
-use Rattle.sled_pages.specs.Order.{Key}
-use Rattle.sled_pages.specs.State.{Nodes}
-use Rattle.sled_pages.specs.declared.node.Node.{Node}
+use Rattle.sled_store.specs.In.{In}
+use Rattle.sled_nodes.specs.Node.{count}
+use Rattle.sled_nodes.specs.Order.{Key}
+use Rattle.sled_store.specs.State.{Nodes}
+use Rattle.sled_nodes.specs.declared.node.Node.{Node}
 use Rattle.tree_laws.specs.Forest.{IsSized, Forest, Place, place, IsHomed, IsPointer, WellFormed, contents, node_pairs, head, Tree}
 use Rattle.tree_laws.proofs.Cover.{child_below}
 use Rattle.tree_laws.specs.Snapshot.{IsOrphan}

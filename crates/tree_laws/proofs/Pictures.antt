@@ -6,14 +6,14 @@ use Rattle.std.specs.Bool.{Decides}
 use Rattle.std.proofs.lemmas.Slice.Eq.{bytes_eq-Decides}
 use Rattle.std.proofs.lemmas.Bool.Decides.{nat_tests}
 use mathlib.Core.List.{reverse}
-use Rattle.sled_pages.specs.In.{In}
-use Rattle.sled_pages.specs.Image.{root_in}
-use Rattle.sled_pages.specs.Node.{pointers, count}
-use Rattle.sled_pages.specs.Order.{Key, key_cmp, Below}
-use Rattle.sled_pages.specs.State.{Nodes, nodes_of}
-use Rattle.sled_pages.specs.declared.node.Node.{Node}
-use Rattle.sled_pages.specs.declared.node.Data.TheVariants.{Leaf}
-use Rattle.sled_pages.specs.declared.page.Page.{Page}
+use Rattle.sled_store.specs.In.{In}
+use Rattle.sled_nodes.specs.Image.{root_in}
+use Rattle.sled_nodes.specs.Node.{pointers, count}
+use Rattle.sled_nodes.specs.Order.{Key, key_cmp, Below}
+use Rattle.sled_store.specs.State.{Nodes, nodes_of}
+use Rattle.sled_nodes.specs.declared.node.Node.{Node}
+use Rattle.sled_nodes.specs.declared.node.Data.TheVariants.{Leaf}
+use Rattle.sled_store.specs.declared.page.Page.{Page}
 use Rattle.tree_laws.specs.Forest.{Tree, Forest, Place, place, head, first_child, later, Run, IsNodeAt, IsPointer, contents}
 use Rattle.tree_laws.specs.theory.Images.{image, Accepts, selves, key, leaf, capped, merging, one_tree, root, left, right, over, first_only, both, all_in_one, fresh, not_hoisted, not_posted, intended, child_capped, child_received, confirmed, unnamed, AcceptedImages}
 use Rattle.tree_laws.specs.Paths.{tree_pages, pages_below}

@@ -1,12 +1,12 @@
 -- A pointer goes into an index.
 use Rattle.std.proofs.Common.{◌≡◌, ℕ, suc, ◌≤◌, false, List, [], ◌∷◌, ◌++◌, length, Option, Some, None, Less, Equal, Greater, sym, refl, ap, ◌∙◌, subst, inl, inr, ◌⊎◌, arith}
 use Rattle.std.specs.FinMap.Entries.{put, by_order, is_sorted-put}
-use Rattle.sled_pages.specs.In.{In}
-use Rattle.sled_pages.specs.Node.{Within, pairs, pointers}
-use Rattle.sled_pages.specs.Order.{Key, key_cmp, Below}
-use Rattle.sled_pages.specs.State.{Nodes}
-use Rattle.sled_pages.specs.declared.node.Data.TheVariants.{Index}
-use Rattle.sled_pages.specs.declared.node.Node.{Node}
+use Rattle.sled_store.specs.In.{In}
+use Rattle.sled_nodes.specs.Node.{Within, pairs, pointers}
+use Rattle.sled_nodes.specs.Order.{Key, key_cmp, Below}
+use Rattle.sled_store.specs.State.{Nodes}
+use Rattle.sled_nodes.specs.declared.node.Data.TheVariants.{Index}
+use Rattle.sled_nodes.specs.declared.node.Node.{Node}
 use Rattle.tree_laws.specs.theory.Action.{put_node}
 use Rattle.tree_laws.specs.Forest.{IsNodeAt, later, first_key, first_child, Holds, Forest, Place, place, IsPointer, WellFormed, node_pairs, Tree}
 use Rattle.tree_laws.specs.theory.PageLaws.{IsOpenAt, Unseen, PostLaw}

@@ -3,13 +3,13 @@ use Rattle.std.proofs.Common.{◌≢◌, ◌≡◌, ℕ, zero, suc, ◌≤◌, B
 use Rattle.std.specs.List.{AllByRecursion}
 use Rattle.std.specs.Ordering.{eq_by_cmp}
 use Rattle.std.specs.FinMap.Entries.{find, is_sorted, below_all}
-use Rattle.sled_pages.specs.In.{In}
-use Rattle.sled_pages.specs.Node.{Within, pairs, pointers}
-use Rattle.sled_pages.specs.Order.{Key, key_cmp, Below, UpTo}
-use Rattle.sled_pages.specs.State.{Nodes}
-use Rattle.sled_pages.specs.declared.node.Data.{Data}
-use Rattle.sled_pages.specs.declared.node.Data.TheVariants.{Leaf, Index}
-use Rattle.sled_pages.specs.declared.node.Node.{Node}
+use Rattle.sled_store.specs.In.{In}
+use Rattle.sled_nodes.specs.Node.{Within, pairs, pointers}
+use Rattle.sled_nodes.specs.Order.{Key, key_cmp, Below, UpTo}
+use Rattle.sled_store.specs.State.{Nodes}
+use Rattle.sled_nodes.specs.declared.node.Data.{Data}
+use Rattle.sled_nodes.specs.declared.node.Data.TheVariants.{Leaf, Index}
+use Rattle.sled_nodes.specs.declared.node.Node.{Node}
 use Rattle.tree_laws.specs.Forest.{first_child, Holds, Forest, Place, place, Run, WellFormed, node_pairs, head, Tree}
 use Rattle.tree_laws.specs.theory.Laws.{RangeLaw, FindLaw, SortedLaw, OneLaw}
 use Rattle.tree_laws.proofs.Order.{below_upto-trans}

@@ -1,10 +1,10 @@
 -- One page of a chain changes its flags or its pointers, and keeps its bounds and its successor. A page may lose its place.
 use Rattle.std.proofs.Common.{◌≡◌, ◌≢◌, ℕ, suc, ◌≤◌, true, false, List, [], ◌∷◌, Option, Some, None, sym, refl, ap, ◌∙◌, subst, inl, inr, ◌⊎◌, arith, le_trans, le_of_eq}
-use Rattle.sled_pages.specs.In.{In}
-use Rattle.sled_pages.specs.Node.{pairs, pointers, count}
-use Rattle.sled_pages.specs.Order.{Key, Below}
-use Rattle.sled_pages.specs.State.{Nodes}
-use Rattle.sled_pages.specs.declared.node.Node.{Node}
+use Rattle.sled_store.specs.In.{In}
+use Rattle.sled_nodes.specs.Node.{pairs, pointers, count}
+use Rattle.sled_nodes.specs.Order.{Key, Below}
+use Rattle.sled_store.specs.State.{Nodes}
+use Rattle.sled_nodes.specs.declared.node.Node.{Node}
 use Rattle.tree_laws.specs.Forest.{first_child, later, IsNodeAt, Forest, Place, place, Run, IsHomed, IsPointer, WellFormed, IsSized, contents, node_pairs, head, Tree}
 use Rattle.tree_laws.specs.theory.Snapshot.{KeepsNodes, GrowsByReceiving}
 use Rattle.tree_laws.proofs.Replace.{same_number, some_is, false_true, pairs_of}

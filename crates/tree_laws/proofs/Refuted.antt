@@ -1,14 +1,14 @@
 -- Laws that are false.
 use Rattle.std.proofs.Common.{◌≡◌, ◌≢◌, ℕ, ◌<◌, ◌≤◌, ◌^◌, true, false, [], ◌∷◌, Some, None, sym, refl, ap, ◌∙◌, subst, inl, inr, arith}
-use Rattle.sled_pages.specs.In.{In}
-use Rattle.sled_pages.specs.Image.{root_in}
-use Rattle.sled_pages.specs.Node.{count, Within, after_link}
-use Rattle.sled_pages.specs.Order.{Key, key_cmp}
-use Rattle.sled_pages.specs.State.{Nodes, nodes_of}
-use Rattle.sled_pages.specs.Update.{put_at, put_name}
-use Rattle.sled_pages.specs.declared.link.Link.TheVariants.{Set}
-use Rattle.sled_pages.specs.declared.node.Node.{Node}
-use Rattle.sled_pages.specs.declared.page.Page.{Page}
+use Rattle.sled_store.specs.In.{In}
+use Rattle.sled_nodes.specs.Image.{root_in}
+use Rattle.sled_nodes.specs.Node.{count, Within, after_link}
+use Rattle.sled_nodes.specs.Order.{Key, key_cmp}
+use Rattle.sled_store.specs.State.{Nodes, nodes_of}
+use Rattle.sled_store.specs.Update.{put_at, put_name}
+use Rattle.sled_nodes.specs.declared.link.Link.TheVariants.{Set}
+use Rattle.sled_nodes.specs.declared.node.Node.{Node}
+use Rattle.sled_store.specs.declared.page.Page.{Page}
 use Rattle.tree_laws.specs.Action.{IsSplit}
 use Rattle.tree_laws.specs.theory.Action.{put_node, IsReceived}
 use Rattle.tree_laws.specs.theory.FalseLaws.{SetOfMany, ReceiveOfAny, SplitToAny, ReplaceOfStray, FalseLaws}

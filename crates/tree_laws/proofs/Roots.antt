@@ -1,14 +1,14 @@
 -- A new level, a new tree, and a tree that goes.
 use Rattle.std.proofs.Common.{◌≡◌, ◌≢◌, ℕ, suc, ◌≤◌, true, false, T, ◌&&◌, is_lt, List, [], ◌∷◌, ◌++◌, Option, Some, None, MatchOption, sym, refl, ap, ◌∙◌, subst, inl, inr, ◌⊎◌, arith, length}
 use Rattle.std.specs.FinMap.{is_sorted}
-use Rattle.sled_pages.specs.In.{In}
-use Rattle.sled_pages.specs.Node.{pairs, pointers, count}
-use Rattle.sled_pages.specs.Order.{Key, key_cmp, Below}
-use Rattle.sled_pages.specs.State.{Nodes}
-use Rattle.sled_pages.specs.Update.{put_at, put_name}
-use Rattle.sled_pages.specs.declared.node.Data.{Data}
-use Rattle.sled_pages.specs.declared.node.Data.TheVariants.{Leaf, Index}
-use Rattle.sled_pages.specs.declared.node.Node.{Node}
+use Rattle.sled_store.specs.In.{In}
+use Rattle.sled_nodes.specs.Node.{pairs, pointers, count}
+use Rattle.sled_nodes.specs.Order.{Key, key_cmp, Below}
+use Rattle.sled_store.specs.State.{Nodes}
+use Rattle.sled_store.specs.Update.{put_at, put_name}
+use Rattle.sled_nodes.specs.declared.node.Data.{Data}
+use Rattle.sled_nodes.specs.declared.node.Data.TheVariants.{Leaf, Index}
+use Rattle.sled_nodes.specs.declared.node.Node.{Node}
 use Rattle.tree_laws.specs.Forest.{first_child, later, Holds, IsNodeAt, Forest, Place, place, Run, IsHomed, IsPointer, WellFormed, contents, node_pairs, head, Tree}
 use Rattle.tree_laws.specs.Snapshot.{IsOrphan}
 use Rattle.tree_laws.specs.theory.Laws.{Rooted, HoistLaw, PlantLaw, DropLaw}

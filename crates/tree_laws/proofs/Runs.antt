@@ -1,9 +1,9 @@
 -- Parts of chains.
 use Rattle.std.proofs.Common.{◌≡◌, ℕ, List, [], ◌∷◌, ◌++◌, Option, Some, None, sym, refl, ap, ◌∙◌, subst, inl, inr, ◌⊎◌}
-use Rattle.sled_pages.specs.In.{In}
-use Rattle.sled_pages.specs.Order.{Key, Below, UpTo}
-use Rattle.sled_pages.specs.State.{Nodes}
-use Rattle.sled_pages.specs.declared.node.Node.{Node}
+use Rattle.sled_store.specs.In.{In}
+use Rattle.sled_nodes.specs.Order.{Key, Below, UpTo}
+use Rattle.sled_store.specs.State.{Nodes}
+use Rattle.sled_nodes.specs.declared.node.Node.{Node}
 use Rattle.tree_laws.specs.Forest.{Run}
 use Rattle.tree_laws.proofs.Order.{upto-trans, upto-refl, upto-below, below_upto-trans}
 

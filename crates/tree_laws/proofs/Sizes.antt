@@ -1,9 +1,9 @@
 -- The size, where one page of a chain is replaced.
 use Rattle.std.proofs.Common.{◌≡◌, ◌≢◌, ℕ, suc, ◌≤◌, le_of_eq, List, Option, Some, None, sym, ap, ◌∙◌, subst, inl, inr, ◌⊎◌}
-use Rattle.sled_pages.specs.In.{In}
-use Rattle.sled_pages.specs.Node.{count}
-use Rattle.sled_pages.specs.State.{Nodes}
-use Rattle.sled_pages.specs.declared.node.Node.{Node}
+use Rattle.sled_store.specs.In.{In}
+use Rattle.sled_nodes.specs.Node.{count}
+use Rattle.sled_store.specs.State.{Nodes}
+use Rattle.sled_nodes.specs.declared.node.Node.{Node}
 use Rattle.tree_laws.specs.Forest.{Tree, Forest, Place, place, WellFormed, IsSized}
 use Rattle.tree_laws.specs.theory.Snapshot.{GrowsByReceiving}
 use Rattle.tree_laws.proofs.Replace.{same_number, some_is, Replaces, p_home, chained_before}

@@ -1,13 +1,13 @@
 -- The split of a page, and the merge of a page into its left sibling.
 use Rattle.std.proofs.Common.{◌≡◌, ◌≢◌, ℕ, zero, suc, ◌≤◌, false, [], ◌∷◌, ◌++◌, Option, Some, None, sym, refl, ap, ◌∙◌, subst, inl, inr, ◌⊎◌, append_assoc, arith, le_trans, length, length-append, ◌+◌}
-use Rattle.sled_pages.specs.In.{In}
-use Rattle.sled_pages.specs.Node.{pairs, pointers, count}
-use Rattle.sled_pages.specs.Order.{Key, Below}
-use Rattle.sled_pages.specs.State.{Nodes}
-use Rattle.sled_pages.specs.Update.{put_at}
-use Rattle.sled_pages.specs.declared.node.Data.{Data}
-use Rattle.sled_pages.specs.declared.node.Data.TheVariants.{Leaf, Index}
-use Rattle.sled_pages.specs.declared.node.Node.{Node}
+use Rattle.sled_store.specs.In.{In}
+use Rattle.sled_nodes.specs.Node.{pairs, pointers, count}
+use Rattle.sled_nodes.specs.Order.{Key, Below}
+use Rattle.sled_store.specs.State.{Nodes}
+use Rattle.sled_store.specs.Update.{put_at}
+use Rattle.sled_nodes.specs.declared.node.Data.{Data}
+use Rattle.sled_nodes.specs.declared.node.Data.TheVariants.{Leaf, Index}
+use Rattle.sled_nodes.specs.declared.node.Node.{Node}
 use Rattle.tree_laws.specs.Action.{AreHalvesOf, IsSplit}
 use Rattle.tree_laws.specs.theory.Action.{put_node}
 use Rattle.tree_laws.specs.Forest.{first_child, Holds, Forest, Place, place, Run, IsPointer, WellFormed, node_pairs, Tree}

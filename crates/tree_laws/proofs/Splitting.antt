@@ -2,17 +2,17 @@
 use Rattle.std.proofs.Common.{◌≡◌, ℕ, suc, ◌+◌, ◌<◌, ◌≤◌, ◌^◌, false, List, [], ◌∷◌, length, Some, None, option_map, sym, refl, ap, ◌∙◌, subst, inl, inr, ◌⊎◌, le_of_eq, append-nil, arith}
 use Rattle.std.specs.FinMap.Entries.{put}
 use Rattle.std.specs.declared.ops.Bound.{Bound}
-use Rattle.sled_pages.specs.In.{In}
-use Rattle.sled_pages.specs.Node.{Covers, count}
-use Rattle.sled_pages.specs.Order.{Key, key_cmp, Below}
-use Rattle.sled_pages.specs.Halves.{left_half, right_half}
-use Rattle.sled_pages.specs.Posting.{with_pointer}
-use Rattle.sled_pages.specs.declared.node.Node.{Node}
-use Rattle.sled_pages.specs.declared.node.Data.TheVariants.{Index}
-use Rattle.sled_pages.specs.declared.page.Page.{Page}
+use Rattle.sled_store.specs.In.{In}
+use Rattle.sled_nodes.specs.Node.{Covers, count}
+use Rattle.sled_nodes.specs.Order.{Key, key_cmp, Below}
+use Rattle.sled_nodes.specs.Halves.{left_half, right_half}
+use Rattle.sled_nodes.specs.Posting.{with_pointer}
+use Rattle.sled_nodes.specs.declared.node.Node.{Node}
+use Rattle.sled_nodes.specs.declared.node.Data.TheVariants.{Index}
+use Rattle.sled_store.specs.declared.page.Page.{Page}
 use Rattle.tree_laws.specs.Forest.{Tree, Forest, Place, place, IsSized, contents}
 use Rattle.tree_laws.specs.theory.Action.{put_node}
-use Rattle.sled_pages.specs.declared.page.View.{View}
+use Rattle.sled_store.specs.declared.page.View.{View}
 use Rattle.tree_laws.specs.Snapshot.{Snapshot, HasForest, nodes_at, StoodInChain, IsAtVersion, HasRoomForOne, SeenOpen}
 use Rattle.tree_laws.specs.theory.Snapshot.{Guarantee, GrowsByReceiving, KeepsForest}
 use Rattle.tree_laws.specs.theory.Laws.{IsNodeNow, IsAlone, after_replacement, after_allocation, after_free, after_hoist}

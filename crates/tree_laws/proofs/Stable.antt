@@ -1,7 +1,7 @@
 -- What a call in flight knows survives the actions of others.
 use Rattle.std.proofs.Common.{◌≡◌, ◌≢◌, ℕ, true, false, List, Option, Some, None, option_map, sym, refl, ap, ◌∙◌, subst, inl, inr, ◌⊎◌}
-use Rattle.sled_pages.specs.declared.node.Node.{Node}
-use Rattle.sled_pages.specs.declared.page.Page.{Page}
+use Rattle.sled_nodes.specs.declared.node.Node.{Node}
+use Rattle.sled_store.specs.declared.page.Page.{Page}
 use Rattle.tree_laws.specs.Forest.{Tree, Forest}
 use Rattle.tree_laws.specs.Snapshot.{Snapshot}
 use Rattle.tree_laws.specs.theory.Snapshot.{Guarantee}

@@ -1,14 +1,14 @@
 -- What a call in flight knows of its stage survives the actions of others.
 use Rattle.std.proofs.Common.{◌≡◌, ◌≢◌, ◌≤◌, ℕ, suc, Bool, true, false, List, [], ◌∷◌, ◌++◌, Option, Some, None, MatchOption, option_map, sym, refl, ap, ◌∙◌, subst, inl, inr, ◌⊎◌, le_trans}
 use Rattle.std.specs.declared.ops.Bound.{Bound}
-use Rattle.sled_pages.specs.In.{In}
-use Rattle.sled_pages.specs.Node.{Within, count}
-use Rattle.sled_pages.specs.Order.{Key}
-use Rattle.sled_pages.specs.State.{Nodes}
-use Rattle.sled_pages.specs.declared.node.Node.{Node}
-use Rattle.sled_pages.specs.declared.page.Page.{Page}
+use Rattle.sled_store.specs.In.{In}
+use Rattle.sled_nodes.specs.Node.{Within, count}
+use Rattle.sled_nodes.specs.Order.{Key}
+use Rattle.sled_store.specs.State.{Nodes}
+use Rattle.sled_nodes.specs.declared.node.Node.{Node}
+use Rattle.sled_store.specs.declared.page.Page.{Page}
 use Rattle.tree_laws.specs.Forest.{Tree, Forest, Place, place, head, WellFormed}
-use Rattle.sled_pages.specs.declared.page.View.{View}
+use Rattle.sled_store.specs.declared.page.View.{View}
 use Rattle.tree_laws.specs.Snapshot.{Snapshot, HasForest, nodes_at, IsReadAs, StoodInChain, IsAtVersion}
 use Rattle.tree_laws.specs.theory.Snapshot.{Guarantee, GrowsByReceiving}
 use Rattle.tree_laws.specs.Stages.{IsParent, IsBelowParent, IsReached, IsWalking, IsPlace, IsSplitting, IsOwn, IsReplacing, IsUnder, IsPosting, IsHoisting, IsSwapping, IsFreeing, IsIntending, IsFrozen, IsChild, IsWanted, IsMerger, IsMerging, IsReadingChild, child_of, IsCapping, IsSeeking, IsReceiving, IsOut, IsConfirming}

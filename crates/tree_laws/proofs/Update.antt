@@ -2,8 +2,8 @@
 use Rattle.std.proofs.Common.{Decides, bytes_eq, Bool, ◌≡◌, ◌≢◌, ℕ, true, false, cond, nat_eq, List, refl, inl, inr, arith}
 use Rattle.std.proofs.lemmas.Bool.Decides.{nat_tests}
 use Rattle.std.proofs.lemmas.Slice.Eq.{bytes_eq-Decides}
-use Rattle.sled_pages.specs.Update.{put_at, put_name}
-use Rattle.sled_pages.specs.Order.{Key}
+use Rattle.sled_store.specs.Update.{put_at, put_name}
+use Rattle.sled_nodes.specs.Order.{Key}
 use Rattle.tree_laws.specs.Forest.{Place}
 use Rattle.tree_laws.proofs.Replace.{same_place}
 

@@ -2,17 +2,17 @@
 use Rattle.std.proofs.Common.{◌≡◌, ◌≢◌, ℕ, suc, ◌≤◌, Bool, true, false, List, [], ◌∷◌, ◌++◌, Option, Some, None, option_map, sym, refl, ap, ◌∙◌, subst, inl, inr, ◌⊎◌}
 use Rattle.std.specs.FinMap.Entries.{find}
 use Rattle.std.specs.declared.ops.Bound.{Bound}
-use Rattle.sled_pages.specs.In.{In}
-use Rattle.sled_pages.specs.Among.{IsBefore, is_up_to}
-use Rattle.sled_pages.specs.Node.{Covers, pairs, pointers, count, value_at}
-use Rattle.sled_pages.specs.Order.{Key, key_cmp, Below, UpTo}
-use Rattle.sled_pages.specs.State.{Nodes}
-use Rattle.sled_pages.specs.declared.node.Node.{Node}
-use Rattle.sled_pages.specs.declared.node.Data.{Data}
-use Rattle.sled_pages.specs.declared.node.Data.TheVariants.{Leaf, Index}
-use Rattle.sled_pages.specs.declared.page.Page.{Page}
+use Rattle.sled_store.specs.In.{In}
+use Rattle.sled_nodes.specs.Among.{IsBefore, is_up_to}
+use Rattle.sled_nodes.specs.Node.{Covers, pairs, pointers, count, value_at}
+use Rattle.sled_nodes.specs.Order.{Key, key_cmp, Below, UpTo}
+use Rattle.sled_store.specs.State.{Nodes}
+use Rattle.sled_nodes.specs.declared.node.Node.{Node}
+use Rattle.sled_nodes.specs.declared.node.Data.{Data}
+use Rattle.sled_nodes.specs.declared.node.Data.TheVariants.{Leaf, Index}
+use Rattle.sled_store.specs.declared.page.Page.{Page}
 use Rattle.tree_laws.specs.Forest.{Tree, Forest, Place, place, Run, Holds, WellFormed, contents, head, later}
-use Rattle.sled_pages.specs.declared.page.View.{View}
+use Rattle.sled_store.specs.declared.page.View.{View}
 use Rattle.tree_laws.specs.Snapshot.{Snapshot, HasForest, nodes_at, StoodInChain, IsOpen, HasRoomForOne, IsAtVersion, SeenOpen, LiesUnder, IsActing}
 use Rattle.tree_laws.specs.Stages.{parent_of, by_pointer, IsParent, IsBelowParent, IsReached, IsWalking, IsPlace, IsSplitting, IsPosting, IsHoisting, IsUnder, IsIntending, IsMerging}
 use Rattle.tree_laws.specs.theory.Stages.{IsHere}

@@ -1,11 +1,11 @@
 -- Clean paths of images, and ways that are not clean.
 use Rattle.std.proofs.Common.{◌≡◌, ℕ, ◌≤◌, true, false, List, [], ◌∷◌, Some, None, sym, refl, ◌∙◌, subst, inl, inr, arith}
 use Rattle.std.specs.declared.ops.Bound.TheVariants.{Included}
-use Rattle.sled_pages.specs.Among.{IsPointer}
-use Rattle.sled_pages.specs.Node.{count, Covers}
-use Rattle.sled_pages.specs.Order.{Key, key_cmp}
-use Rattle.sled_pages.specs.State.{State, Nodes, nodes_of}
-use Rattle.sled_pages.specs.declared.node.Node.{Node}
+use Rattle.sled_nodes.specs.Among.{IsPointer}
+use Rattle.sled_nodes.specs.Node.{count, Covers}
+use Rattle.sled_nodes.specs.Order.{Key, key_cmp}
+use Rattle.sled_store.specs.State.{State, Nodes, nodes_of}
+use Rattle.sled_nodes.specs.declared.node.Node.{Node}
 use Rattle.tree_laws.specs.Forest.{Tree}
 use Rattle.tree_laws.specs.theory.Images.{Pages, Unclean, image, selves, key, leaf, capped, merging, one_tree, root, left, right, over, first_only, both, not_hoisted, not_posted, intended, unnamed, too_many_in_the_root, CleanPaths}
 use Rattle.tree_laws.specs.Paths.{NeedsNoRepair, CleanFrom, IsClean}

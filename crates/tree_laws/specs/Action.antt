@@ -1,10 +1,10 @@
 -- What page actions make of a page.
 use Rattle.std.specs.Prelude.{◌≡◌, ℕ, false, ◌++◌, Some, None}
-use Rattle.sled_pages.specs.Order.{Below}
-use Rattle.sled_pages.specs.Node.{Within}
-use Rattle.sled_pages.specs.declared.node.Node.{Node}
-use Rattle.sled_pages.specs.declared.node.Data.{Data}
-use Rattle.sled_pages.specs.declared.node.Data.TheVariants.{Leaf, Index}
+use Rattle.sled_nodes.specs.Order.{Below}
+use Rattle.sled_nodes.specs.Node.{Within}
+use Rattle.sled_nodes.specs.declared.node.Node.{Node}
+use Rattle.sled_nodes.specs.declared.node.Data.{Data}
+use Rattle.sled_nodes.specs.declared.node.Data.TheVariants.{Leaf, Index}
 use Rattle.tree_laws.specs.Forest.{IsNodeAt}
 
 -- two halves of the same kind

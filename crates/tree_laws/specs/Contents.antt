@@ -1,9 +1,9 @@
 -- The contents of every tree, as a total function of the pages and the roots.
 use Rattle.std.specs.Prelude.{ℕ, List, [], ◌++◌, Option, Some, None, option_map}
-use Rattle.sled_pages.specs.Order.{Key}
-use Rattle.sled_pages.specs.Node.{pointers}
-use Rattle.sled_pages.specs.State.{Nodes, State, nodes_of}
-use Rattle.sled_pages.specs.declared.node.Node.{Node}
+use Rattle.sled_nodes.specs.Order.{Key}
+use Rattle.sled_nodes.specs.Node.{pointers}
+use Rattle.sled_store.specs.State.{Nodes, State, nodes_of}
+use Rattle.sled_nodes.specs.declared.node.Node.{Node}
 use Rattle.tree_laws.specs.Forest.{Tree, first_child, node_pairs}
 
 -- How many page numbers there are: no way by pages that are all different is longer.

@@ -1,10 +1,10 @@
 -- Stores whose every state that a crash may leave is well formed, and what an action adds to those states.
 use Rattle.std.specs.Prelude.{◌≡◌, ◌+◌, ◌⊎◌, List, [], ◌∷◌, ◌++◌, Option, length, map}
-use Rattle.sled_pages.specs.Order.{Key}
-use Rattle.sled_pages.specs.In.{In}
-use Rattle.sled_pages.specs.State.{State, Action, nodes_of}
-use Rattle.sled_pages.specs.Store.{Store, now}
-use Rattle.sled_pages.specs.Crash.{crash_states}
+use Rattle.sled_nodes.specs.Order.{Key}
+use Rattle.sled_store.specs.In.{In}
+use Rattle.sled_store.specs.State.{State, Action, nodes_of}
+use Rattle.sled_store.specs.Store.{Store, now}
+use Rattle.sled_store.specs.Crash.{crash_states}
 use Rattle.tree_laws.specs.Forest.{Tree, Forest, WellFormed, IsSized}
 use Rattle.tree_laws.specs.Contents.{trees_of}
 

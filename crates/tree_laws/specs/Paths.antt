@@ -1,12 +1,12 @@
 -- Ways down a tree that repair nothing, and how many pages a tree has.
 use Rattle.std.specs.Prelude.{◌≡◌, ℕ, ◌+◌, ◌≤◌, ◌⊎◌, Bool, true, List, [], ◌∷◌, ◌++◌, Option, Some, None, length}
 use Rattle.std.specs.declared.ops.Bound.{Bound}
-use Rattle.sled_pages.specs.Order.{Key}
-use Rattle.sled_pages.specs.Among.{IsPointer}
-use Rattle.sled_pages.specs.Node.{count}
-use Rattle.sled_pages.specs.State.{State, Nodes, nodes_of}
-use Rattle.sled_pages.specs.declared.node.Node.{Node}
-use Rattle.sled_pages.specs.declared.node.Data.TheVariants.{Leaf, Index}
+use Rattle.sled_nodes.specs.Order.{Key}
+use Rattle.sled_nodes.specs.Among.{IsPointer}
+use Rattle.sled_nodes.specs.Node.{count}
+use Rattle.sled_store.specs.State.{State, Nodes, nodes_of}
+use Rattle.sled_nodes.specs.declared.node.Node.{Node}
+use Rattle.sled_nodes.specs.declared.node.Data.TheVariants.{Leaf, Index}
 use Rattle.tree_laws.specs.Forest.{Tree, Forest, place}
 use Rattle.tree_laws.specs.Contents.{page_numbers, next_of, first_of}
 use Rattle.tree_laws.specs.Snapshot.{IsOpen, LiesUnder}

@@ -1,13 +1,13 @@
 -- What a call in flight knows of the store, by its stage.
 use Rattle.std.specs.Prelude.{◌≡◌, ◌≢◌, ℕ, suc, ◌≤◌, Bool, true, false, List, ◌⊎◌, [], ◌∷◌, Option, Some, None}
 use Rattle.std.specs.declared.ops.Bound.{Bound}
-use Rattle.sled_pages.specs.Order.{Key, Below}
-use Rattle.sled_pages.specs.In.{In}
-use Rattle.sled_pages.specs.Among.{IsBefore}
-use Rattle.sled_pages.specs.Node.{pointers, count, Covers}
-use Rattle.sled_pages.specs.declared.node.Node.{Node}
-use Rattle.sled_pages.specs.declared.node.Data.TheVariants.{Index}
-use Rattle.sled_pages.specs.declared.page.View.{View}
+use Rattle.sled_nodes.specs.Order.{Key, Below}
+use Rattle.sled_store.specs.In.{In}
+use Rattle.sled_nodes.specs.Among.{IsBefore}
+use Rattle.sled_nodes.specs.Node.{pointers, count, Covers}
+use Rattle.sled_nodes.specs.declared.node.Node.{Node}
+use Rattle.sled_nodes.specs.declared.node.Data.TheVariants.{Index}
+use Rattle.sled_store.specs.declared.page.View.{View}
 use Rattle.tree_laws.specs.Forest.{Tree, Forest, Place, place, later}
 use Rattle.tree_laws.specs.Action.{IsSplit}
 use Rattle.tree_laws.specs.Snapshot.{Snapshot, nodes_at, IsOrphan, IsReadAs, StoodInChain, IsOpen, IsAtVersion, HasRoomForOne, SeenOpen, LiesUnder, IsActing}

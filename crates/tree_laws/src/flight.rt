@@ -1,7 +1,8 @@
 //! Where a call in flight stands, as values: what it goes on to, and what of the pages it has read for that.
 
 use crate::half::Half;
-use sled_pages::{IVec, Pid, Shared, Version, View};
+use sled_nodes::{IVec, Pid, Shared, Version};
+use sled_store::View;
 
 /// How a walk comes to a page: by nothing, where the page is the root, or below the index that it came through to the page's
 /// level.

@@ -1,8 +1,8 @@
 //! The left half of a split, before it stands in its page. It lies apart, so that a call in flight is small.
 ghost use Rattle.std.specs.Prelude.{◌≡◌, Some, IfOk, IfErr};
-ghost use Rattle.sled_pages.specs.declared.error.Error.TheVariants.{NoMemory};
+ghost use Rattle.sled_nodes.specs.declared.error.Error.TheVariants.{NoMemory};
 
-use sled_pages::{Node, Pid, Result};
+use sled_nodes::{Node, Pid, Result};
 use std::alloc::Global;
 use std::marker::Model;
 
@@ -14,7 +14,7 @@ pub struct Half {
 
 impl Model for Half {
     ghost use Rattle.std.specs.Prelude.{box_value};
-    ghost use Rattle.sled_pages.specs.declared.node.Node.{Node};
+    ghost use Rattle.sled_nodes.specs.declared.node.Node.{Node};
 
     ghost Value = { Node };
 

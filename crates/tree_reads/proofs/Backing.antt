@@ -8,16 +8,16 @@ use Rattle.std.specs.declared.cmp.Ordering.{Ordering}
 use Rattle.std.specs.declared.cmp.Ordering.TheVariants.{Less, Equal, Greater}
 use Rattle.std.specs.declared.ops.Bound.{Bound}
 use Rattle.std.specs.declared.ops.Bound.TheVariants.{Excluded}
-use Rattle.sled_pages.specs.Order.{Key, key_cmp, Below, UpTo}
-use Rattle.sled_pages.specs.In.{In}
-use Rattle.sled_pages.specs.Among.{is_up_to, IsLast, IsPredecessor}
-use Rattle.sled_pages.specs.Node.{pairs}
-use Rattle.sled_pages.specs.State.{State, Nodes, nodes_of}
-use Rattle.sled_pages.specs.Store.{Store, now, AreGiven}
-use Rattle.sled_pages.specs.declared.node.Node.{Node}
-use Rattle.sled_pages.specs.declared.page.View.{View}
-use Rattle.sled_pages.specs.declared.error.Error.{Error}
-use Rattle.sled_pages.specs.declared.error.Error.TheVariants.{CollectionNotFound, Unsupported, ReportableBug, Io, Corruption, NoMemory, FullQueue, Closed}
+use Rattle.sled_nodes.specs.Order.{Key, key_cmp, Below, UpTo}
+use Rattle.sled_store.specs.In.{In}
+use Rattle.sled_nodes.specs.Among.{is_up_to, IsLast, IsPredecessor}
+use Rattle.sled_nodes.specs.Node.{pairs}
+use Rattle.sled_store.specs.State.{State, Nodes, nodes_of}
+use Rattle.sled_store.specs.Store.{Store, now, AreGiven}
+use Rattle.sled_nodes.specs.declared.node.Node.{Node}
+use Rattle.sled_store.specs.declared.page.View.{View}
+use Rattle.sled_nodes.specs.declared.error.Error.{Error}
+use Rattle.sled_nodes.specs.declared.error.Error.TheVariants.{CollectionNotFound, Unsupported, ReportableBug, Io, Corruption, NoMemory, FullQueue, Closed}
 use Rattle.tree_laws.specs.Forest.{Tree, Forest, place, head, Run, WellFormed, contents}
 use Rattle.tree_laws.specs.Paths.{tree_pages, pages_below}
 use Rattle.tree_laws.proofs.Cover.{chain_run}

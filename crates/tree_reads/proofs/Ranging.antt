@@ -7,12 +7,12 @@ use Rattle.std.specs.declared.cmp.Ordering.{Ordering}
 use Rattle.std.specs.declared.cmp.Ordering.TheVariants.{Less, Equal, Greater}
 use Rattle.std.specs.declared.ops.Bound.{Bound}
 use Rattle.std.specs.declared.ops.Bound.TheVariants.{Included, Excluded, Unbounded}
-use Rattle.sled_pages.specs.Order.{Key, key_cmp, Below}
-use Rattle.sled_pages.specs.In.{In}
-use Rattle.sled_pages.specs.Among.{is_up_to, is_from, IsFirst, IsLast, IsSuccessor, IsPredecessor}
-use Rattle.sled_pages.specs.State.{nodes_of}
-use Rattle.sled_pages.specs.Store.{Store, now, AreGiven}
-use Rattle.sled_pages.specs.declared.page.View.{View}
+use Rattle.sled_nodes.specs.Order.{Key, key_cmp, Below}
+use Rattle.sled_store.specs.In.{In}
+use Rattle.sled_nodes.specs.Among.{is_up_to, is_from, IsFirst, IsLast, IsSuccessor, IsPredecessor}
+use Rattle.sled_store.specs.State.{nodes_of}
+use Rattle.sled_store.specs.Store.{Store, now, AreGiven}
+use Rattle.sled_store.specs.declared.page.View.{View}
 use Rattle.tree_laws.specs.Forest.{contents}
 use Rattle.tree_laws.specs.Contents.{pairs_under}
 use Rattle.tree_laws.proofs.Order.{key_total, below_irrefl, below_upto-trans, upto_below-trans, upto-trans}

@@ -6,14 +6,14 @@ use Rattle.std.specs.declared.cmp.Ordering.{Ordering}
 use Rattle.std.specs.declared.cmp.Ordering.TheVariants.{Less, Equal, Greater}
 use Rattle.std.specs.declared.ops.Bound.{Bound}
 use Rattle.std.specs.declared.ops.Bound.TheVariants.{Included, Excluded, Unbounded}
-use Rattle.sled_pages.specs.Order.{Key, key_cmp, Below}
-use Rattle.sled_pages.specs.In.{In}
-use Rattle.sled_pages.specs.Among.{is_up_to, IsPointer, IsPointerFor, IsBefore, IsPointerBefore}
-use Rattle.sled_pages.specs.Node.{pointers}
-use Rattle.sled_pages.specs.State.{Nodes}
-use Rattle.sled_pages.specs.declared.node.Node.{Node}
-use Rattle.sled_pages.specs.declared.node.Data.{Data}
-use Rattle.sled_pages.specs.declared.node.Data.TheVariants.{Leaf, Index}
+use Rattle.sled_nodes.specs.Order.{Key, key_cmp, Below}
+use Rattle.sled_store.specs.In.{In}
+use Rattle.sled_nodes.specs.Among.{is_up_to, IsPointer, IsPointerFor, IsBefore, IsPointerBefore}
+use Rattle.sled_nodes.specs.Node.{pointers}
+use Rattle.sled_store.specs.State.{Nodes}
+use Rattle.sled_nodes.specs.declared.node.Node.{Node}
+use Rattle.sled_nodes.specs.declared.node.Data.{Data}
+use Rattle.sled_nodes.specs.declared.node.Data.TheVariants.{Leaf, Index}
 use Rattle.tree_laws.specs.Forest.{Tree, Forest, place, WellFormed, Holds}
 use Rattle.tree_laws.specs.Paths.{NeedsNoRepair, IsAhead}
 use Rattle.tree_laws.proofs.Order.{upto-below, below_upto-trans, below-trans}

@@ -2,13 +2,13 @@
 use Rattle.std.proofs.Common.{◌≡◌, ℕ, suc, ◌+◌, ◌<◌, ◌≤◌, Bool, true, List, [], ◌∷◌, length, Option, Some, None, option_map, sym, refl, ap, ◌∙◌, subst, inl, arith}
 use Rattle.std.specs.declared.ops.Bound.{Bound}
 use Rattle.std.specs.declared.ops.Bound.TheVariants.{Included}
-use Rattle.sled_pages.specs.Order.{Key}
-use Rattle.sled_pages.specs.In.{In}
-use Rattle.sled_pages.specs.Among.{is_up_to}
-use Rattle.sled_pages.specs.State.{State, nodes_of}
-use Rattle.sled_pages.specs.Store.{Store, now, AreGiven, view_of}
-use Rattle.sled_pages.specs.declared.page.Page.{Page}
-use Rattle.sled_pages.specs.declared.page.View.{View}
+use Rattle.sled_nodes.specs.Order.{Key}
+use Rattle.sled_store.specs.In.{In}
+use Rattle.sled_nodes.specs.Among.{is_up_to}
+use Rattle.sled_store.specs.State.{State, nodes_of}
+use Rattle.sled_store.specs.Store.{Store, now, AreGiven, view_of}
+use Rattle.sled_store.specs.declared.page.Page.{Page}
+use Rattle.sled_store.specs.declared.page.View.{View}
 use Rattle.tree_laws.specs.Forest.{Tree, Forest, Place, place, WellFormed}
 use Rattle.tree_laws.specs.Paths.{CleanFrom, IsAhead, tree_pages}
 use Rattle.tree_laws.proofs.Known.{root_in}

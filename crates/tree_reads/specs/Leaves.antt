@@ -1,12 +1,12 @@
 -- Searches along the leaves of a tree, and the leaves at which they stand.
 use Rattle.std.specs.Prelude.{◌≡◌, ◌≢◌, ℕ, ◌+◌, ◌*◌, ◌<◌, ◌≤◌, ◌^◌, false, List, [], ◌∷◌, ◌++◌, length, Option, Some, None}
 use Rattle.std.specs.declared.ops.Bound.{Bound}
-use Rattle.sled_pages.specs.Order.{Key, Below, UpTo}
-use Rattle.sled_pages.specs.In.{In}
-use Rattle.sled_pages.specs.Among.{is_up_to, is_from}
-use Rattle.sled_pages.specs.State.{State, nodes_of}
-use Rattle.sled_pages.specs.declared.page.Page.{Page}
-use Rattle.sled_pages.specs.declared.page.View.{View}
+use Rattle.sled_nodes.specs.Order.{Key, Below, UpTo}
+use Rattle.sled_store.specs.In.{In}
+use Rattle.sled_nodes.specs.Among.{is_up_to, is_from}
+use Rattle.sled_store.specs.State.{State, nodes_of}
+use Rattle.sled_store.specs.declared.page.Page.{Page}
+use Rattle.sled_store.specs.declared.page.View.{View}
 use Rattle.tree_laws.specs.Forest.{Tree, Forest, place, WellFormed, contents}
 use Rattle.tree_laws.specs.Paths.{IsAhead, tree_pages}
 

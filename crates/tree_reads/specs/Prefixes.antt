@@ -3,8 +3,8 @@ use Rattle.std.specs.Prelude.{◌≡◌, ◌+◌, ◌<◌, ◌&&◌, ℕ, nat_eq
 use Rattle.std.specs.List.{starts_with, AllByRecursion}
 use Rattle.std.specs.declared.ops.Bound.{Bound}
 use Rattle.std.specs.declared.ops.Bound.TheVariants.{Included, Excluded, Unbounded}
-use Rattle.sled_pages.specs.Order.{Key}
-use Rattle.sled_pages.specs.Among.{is_up_to, is_from}
+use Rattle.sled_nodes.specs.Order.{Key}
+use Rattle.sled_nodes.specs.Among.{is_up_to, is_from}
 
 -- what every byte string is
 abbrev pub IsBytes : Key → Type 0

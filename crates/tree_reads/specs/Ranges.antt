@@ -4,11 +4,11 @@ use Rattle.std.specs.Iterator.{Count, at_most}
 use Rattle.std.specs.Ordering.{is_lt, is_gt}
 use Rattle.std.specs.declared.ops.Bound.{Bound}
 use Rattle.std.specs.declared.ops.Bound.TheVariants.{Included, Excluded, Unbounded}
-use Rattle.sled_pages.specs.Order.{Key, key_cmp}
-use Rattle.sled_pages.specs.Among.{is_up_to, is_from}
-use Rattle.sled_pages.specs.State.{State, nodes_of}
-use Rattle.sled_pages.specs.Store.{Store}
-use Rattle.sled_pages.specs.declared.error.Error.{Error}
+use Rattle.sled_nodes.specs.Order.{Key, key_cmp}
+use Rattle.sled_nodes.specs.Among.{is_up_to, is_from}
+use Rattle.sled_store.specs.State.{State, nodes_of}
+use Rattle.sled_store.specs.Store.{Store}
+use Rattle.sled_nodes.specs.declared.error.Error.{Error}
 use Rattle.tree_laws.specs.Forest.{Tree, Forest, WellFormed}
 use Rattle.tree_reads.specs.Walk.{RefusesWalk, once, for_each}
 

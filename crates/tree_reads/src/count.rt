@@ -1,15 +1,15 @@
 //! How many pairs a tree has.
 ghost use Rattle.std.specs.Prelude.{◌≡◌, ◌+◌, length, IfSome, IfOk, IfErr};
-ghost use Rattle.sled_pages.specs.Node.{pairs as pairs_in};
-ghost use Rattle.sled_pages.specs.Store.{now};
+ghost use Rattle.sled_nodes.specs.Node.{pairs as pairs_in};
+ghost use Rattle.sled_store.specs.Store.{now};
 ghost use Rattle.tree_reads.specs.Walk.{RefusesWalk, once};
 ghost use Rattle.tree_reads.specs.Leaves.{OfContents};
 
 use crate::MOST_PAGES;
 use crate::reads::{Reads, law_given};
 use crate::walk::leaf_at;
-use sled_pages::texts::WALK_PASSED_TURNS;
-use sled_pages::{Data, Error, Node, Pid, Result};
+use sled_nodes::texts::WALK_PASSED_TURNS;
+use sled_nodes::{Data, Error, Node, Pid, Result};
 use std::alloc::Global;
 use std::mem;
 use std::ops::Bound;

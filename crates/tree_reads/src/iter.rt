@@ -2,10 +2,10 @@
 ghost use Rattle.std.specs.Prelude.{◌≡◌, false, true, [], IfOk, IfErr, OnOk};
 ghost use Rattle.std.specs.Iterator.{at_most};
 ghost use Rattle.std.specs.declared.ops.Bound.TheVariants.{Excluded};
-ghost use Rattle.sled_pages.specs.Among.{bound_of};
-ghost use Rattle.sled_pages.specs.Store.{now};
-ghost use Rattle.sled_pages.specs.State.{nodes_of};
-ghost use Rattle.sled_pages.specs.declared.error.Error.TheVariants.{NoMemory};
+ghost use Rattle.sled_nodes.specs.Among.{bound_of};
+ghost use Rattle.sled_store.specs.Store.{now};
+ghost use Rattle.sled_store.specs.State.{nodes_of};
+ghost use Rattle.sled_nodes.specs.declared.error.Error.TheVariants.{NoMemory};
 ghost use Rattle.tree_laws.specs.Contents.{pairs_under};
 ghost use Rattle.tree_reads.specs.Walk.{RefusesWalk, once, for_each};
 ghost use Rattle.tree_reads.specs.Leaves.{SeeksAt, SeeksBackAt};
@@ -15,7 +15,8 @@ ghost use Rattle.tree_reads.specs.theory.Ranges.{Advances, Retreats, shown_of};
 use crate::nearest::{first_at, last_at};
 use crate::reads::{Reads, law_given};
 use crate::walk::{is_from, is_up_to};
-use sled_pages::{IVec, Pid, Result, View};
+use sled_nodes::{IVec, Pid, Result};
+use sled_store::View;
 use std::alloc::Global;
 use std::iter::{DoubleEndedIterator, Iterator};
 use std::marker::Model;
@@ -37,7 +38,7 @@ fn lend(bound: &Bound<IVec>) -> Bound<&[u8]>
 const LEAST: &[u8] = &[];
 
 // Whether a range starts above its end, or at it where not both are included.
-#[tactic(auto, unfolding(sled_pages::specs::Order::key_cmp))]
+#[tactic(auto, unfolding(sled_nodes::specs::Order::key_cmp))]
 fn is_reversed(lo: Bound<&[u8]>, hi: Bound<&[u8]>) -> bool
     ensures { result ≡ ends_before (bound_of lo.entry) (bound_of hi.entry) }
 {
@@ -147,8 +148,8 @@ pub struct Iter<'a, R: Reads> {
 }
 
 impl<'a, R: Reads> Model for Iter<'a, R> {
-    ghost use Rattle.sled_pages.specs.Store.{now};
-    ghost use Rattle.sled_pages.specs.State.{nodes_of};
+    ghost use Rattle.sled_store.specs.Store.{now};
+    ghost use Rattle.sled_store.specs.State.{nodes_of};
     ghost use Rattle.tree_laws.specs.Contents.{pairs_under};
     ghost use Rattle.tree_reads.specs.Leaves.{SeeksAt, SeeksBackAt};
     ghost use Rattle.tree_reads.specs.Ranges.{pairs_within, Coming, IsRoot};

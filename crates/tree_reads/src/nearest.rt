@@ -1,9 +1,9 @@
 //! The value at a key, and the pairs of a tree that are nearest to a bound.
 ghost use Rattle.std.specs.Prelude.{◌≡◌, ◌≤◌, IfOk, IfErr};
 ghost use Rattle.std.specs.FinMap.Entries.{find};
-ghost use Rattle.sled_pages.specs.Among.{bound_of, IsSuccessor, IsPredecessor};
-ghost use Rattle.sled_pages.specs.Order.{key_cmp};
-ghost use Rattle.sled_pages.specs.Store.{now};
+ghost use Rattle.sled_nodes.specs.Among.{bound_of, IsSuccessor, IsPredecessor};
+ghost use Rattle.sled_nodes.specs.Order.{key_cmp};
+ghost use Rattle.sled_store.specs.Store.{now};
 ghost use Rattle.std.specs.declared.ops.Bound.TheVariants.{Included};
 ghost use Rattle.tree_reads.specs.Walk.{RefusesWalk, GivesUp, once, for_each};
 ghost use Rattle.tree_reads.specs.Leaves.{OfContents, Seeks, SeeksBack, SeeksAt, SeeksBackAt};
@@ -12,8 +12,9 @@ ghost use Rattle.tree_reads.specs.theory.Leaves.{StartsAt};
 use crate::MOST_PAGES;
 use crate::reads::{Reads, law_given};
 use crate::walk::{is_up_to, leaf_at};
-use sled_pages::texts::WALK_PASSED_TURNS;
-use sled_pages::{Error, IVec, Pid, Result, View};
+use sled_nodes::texts::WALK_PASSED_TURNS;
+use sled_nodes::{Error, IVec, Pid, Result};
+use sled_store::View;
 use std::alloc::Global;
 use std::mem;
 use std::ops::Bound;

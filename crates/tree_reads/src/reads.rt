@@ -1,8 +1,9 @@
 //! What reads ask of a store.
 ghost use Rattle.std.specs.Prelude.{◌≡◌, IfOk, IfErr};
-ghost use Rattle.sled_pages.specs.Store.{Store, now, AreGiven, IsReadRefused, view_of};
+ghost use Rattle.sled_store.specs.Store.{Store, now, AreGiven, IsReadRefused, view_of};
 
-use sled_pages::{Pages, Pid, Result, View};
+use sled_nodes::{Pid, Result};
+use sled_store::{Pages, View};
 use std::alloc::Global;
 
 /// The one call of a store that reads make. Every store of pages has it.

@@ -1,6 +1,6 @@
 -- The spellings of a reading and of a number keep the order and are one to one, since keys of one shape are.
 use Rattle.std.proofs.Common.{◌≡◌, ℕ, List, [], ◌∷◌, ◌++◌, ap}
-use Rattle.sled_pages.specs.Order.{key_cmp}
+use Rattle.sled_nodes.specs.Order.{key_cmp}
 use Rattle.ordered_keys.specs.Keys.{HasShape, spelled, parts_cmp}
 use Rattle.ordered_keys.specs.declared.part.Kind.{Kind}
 use Rattle.ordered_keys.specs.declared.part.Kind.TheVariants as kind

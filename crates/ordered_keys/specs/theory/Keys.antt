@@ -1,6 +1,6 @@
 -- Of Keys, for proofs. Keys of several parts, the bytes that spell them, and their order.
 use Rattle.std.specs.Prelude.{ℕ, [], ◌∷◌, Option, Some, None}
-use Rattle.sled_pages.specs.Order.{Key}
+use Rattle.sled_nodes.specs.Order.{Key}
 use Rattle.ordered_keys.specs.Keys.{spelled_byte}
 
 -- one piece of a spelled text: a byte, or the end

@@ -1,6 +1,6 @@
 -- Of Direct, for proofs. Calls that are made at once, in no slot.
 use Rattle.std.specs.Prelude.{◌≡◌, Option, Result}
-use Rattle.sled_pages.specs.Order.{Key}
+use Rattle.sled_nodes.specs.Order.{Key}
 use Rattle.sled_model.specs.declared.reply.Reply.{Reply}
 use Rattle.sled_model.specs.declared.reply.Reply.TheVariants.{Value, Swapped}
 use Rattle.sled_model.specs.declared.reply.CompareAndSwapError.{CompareAndSwapError}

@@ -1,11 +1,11 @@
 -- Of Drops, for proofs. Dropping a tree.
 use Rattle.std.specs.Prelude.{◌≡◌, ℕ, ◌+◌, ◌<◌, ◌^◌, ◌⊎◌, List, [], ◌∷◌, length, get_or, Option, Some, None}
 use Rattle.std.specs.List.{concat}
-use Rattle.sled_pages.specs.In.{In}
-use Rattle.sled_pages.specs.Order.{Key}
-use Rattle.sled_pages.specs.State.{Nodes, nodes_of, RootBecomes, PageBecomes}
-use Rattle.sled_pages.specs.Store.{Store, now, after_action}
-use Rattle.sled_pages.specs.declared.page.Page.{Page}
+use Rattle.sled_store.specs.In.{In}
+use Rattle.sled_nodes.specs.Order.{Key}
+use Rattle.sled_store.specs.State.{Nodes, nodes_of, RootBecomes, PageBecomes}
+use Rattle.sled_store.specs.Store.{Store, now, after_action}
+use Rattle.sled_store.specs.declared.page.Page.{Page}
 use Rattle.tree_laws.specs.Forest.{Tree, Forest, place, head, WellFormed}
 use Rattle.tree_laws.specs.Contents.{first_of}
 use Rattle.sled.specs.Drops.{IsBeginning}

@@ -1,7 +1,7 @@
 -- Of Imports, for inner functions and proofs. What comes of some of an import's parts.
 use Rattle.std.specs.Prelude.{◌≡◌, ℕ, List, Option, Some, None}
-use Rattle.sled_pages.specs.Store.{Store}
-use Rattle.sled_pages.specs.declared.error.Error.{Error}
+use Rattle.sled_store.specs.Store.{Store}
+use Rattle.sled_nodes.specs.declared.error.Error.{Error}
 use Rattle.sled_model.specs.Maps.{Maps, Merge}
 use Rattle.sled_model.specs.Imports.{Part, Stop, parts_about, DoesParts, refuses_part, tree_at}
 use Rattle.sled_model.specs.State.{CallInFlight}

@@ -1,8 +1,8 @@
 -- Of Opens, for proofs. What opening a database does.
 use Rattle.std.specs.Prelude.{◌≡◌, ℕ, List, map, None}
-use Rattle.sled_pages.specs.Order.{Key}
-use Rattle.sled_pages.specs.Store.{Store, now, IsRoots}
-use Rattle.sled_pages.specs.State.{State}
+use Rattle.sled_nodes.specs.Order.{Key}
+use Rattle.sled_store.specs.Store.{Store, now, IsRoots}
+use Rattle.sled_store.specs.State.{State}
 use Rattle.tree_laws.specs.Contents.{trees_of}
 use Rattle.sled.specs.Opens.{with_tree, numbered, GrowsByTree, CanBeOpened, IsOnePage}
 

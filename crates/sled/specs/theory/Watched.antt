@@ -1,8 +1,8 @@
 -- One step of a call in flight, over the pages and the queues of subscribers.
 use Rattle.std.specs.Prelude.{◌≡◌, ◌⊎◌, ℕ, Bool, true, false, Option, Some, None}
-use Rattle.sled_pages.specs.Store.{Store}
-use Rattle.sled_pages.specs.declared.error.Error.TheVariants.{FullQueue}
-use Rattle.sled_pages.specs.declared.page.View.{View}
+use Rattle.sled_store.specs.Store.{Store}
+use Rattle.sled_nodes.specs.declared.error.Error.TheVariants.{FullQueue}
+use Rattle.sled_store.specs.declared.page.View.{View}
 use Rattle.sled_model.specs.Maps.{Merge}
 use Rattle.sled_model.specs.Answer.{event_of, key_of}
 use Rattle.sled_model.specs.declared.event.Event.{Event}

@@ -1,6 +1,6 @@
 -- Of Serve, for proofs. The program as a whole.
 use Rattle.std.specs.Prelude.{◌≡◌, ℕ, ◌+◌, Bool, true, false, List, [], ◌∷◌, IsSome, Option, Some, None, IfSome}
-use Rattle.sled_pages.specs.Store.{Store}
+use Rattle.sled_store.specs.Store.{Store}
 use Rattle.sled_model.specs.Maps.{Merge}
 use Rattle.sled_lines.specs.Command.{command_of}
 use Rattle.sled_lines.specs.Print.{Prints}

@@ -1,6 +1,6 @@
 -- Of Session, for proofs. A session: what a command does to its machine, and what is printed.
 use Rattle.std.specs.Prelude.{◌≡◌, ℕ, List, ◌++◌}
-use Rattle.sled_pages.specs.Store.{Store}
+use Rattle.sled_store.specs.Store.{Store}
 use Rattle.sled_model.specs.Maps.{Merge}
 use Rattle.sled_model.specs.declared.outcome.Outcome.{Outcome}
 use Rattle.sled_lines.specs.Print.{outcome_line}

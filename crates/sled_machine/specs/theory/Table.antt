@@ -1,7 +1,7 @@
 -- Of Table, for proofs. Cells, each with a number, and with an item or empty.
 use Rattle.std.specs.Prelude.{◌≡◌, ℕ, ◌⊎◌, Bool, List, Option, Some, None, is_some, slice_get, slice_set}
 use Rattle.std.specs.List.{filter}
-use Rattle.sled_pages.specs.Update.{put_at}
+use Rattle.sled_store.specs.Update.{put_at}
 use Rattle.sled_machine.specs.Slots.{kept_at}
 use Rattle.sled_machine.specs.Table.{kept, IsTable}
 

@@ -2,11 +2,11 @@
 use Rattle.std.specs.Prelude.{◌≡◌, ℕ, ◌<◌, ◌≤◌, ◌^◌, true, nat_le, length, List, Option, None, option_map}
 use Rattle.std.specs.Ordering.{nat_cmp}
 use Rattle.std.specs.BTreeMap.{BTreeMap, get}
-use Rattle.sled_pages.specs.declared.node.Node.{Node}
+use Rattle.sled_nodes.specs.declared.node.Node.{Node}
 use Rattle.sled_pages.specs.declared.memory.slots.Slot.{Slot}
 use Rattle.sled_pages.specs.Joined.{joined}
 use Rattle.sled_pages.specs.Table.{slot_given}
-use Rattle.sled_pages.specs.Image.{node_in, all_numbers}
+use Rattle.sled_nodes.specs.Image.{node_in, all_numbers}
 
 -- the map has the pages, at versions below the next one, and no number of the image is above the last one
 pub record Holds (image : List (ℕ × Node)) (foreign : BTreeMap ℕ (Option Slot)) (least last next : ℕ) : Type 0 where

@@ -2,7 +2,7 @@
 use Rattle.std.specs.Prelude.{refl}
 use mathlib.Core.List.{reverse}
 use Rattle.sled_pages.specs.declared.memory.MemPages.{MemPages}
-use Rattle.sled_pages.specs.Store.{AreGiven}
+use Rattle.sled_store.specs.Store.{AreGiven}
 use Rattle.sled_pages.specs.Memory.{table_of, store_of}
 use Rattle.sled_pages.specs.theory.Replay.{page_placed, placed_given, version_below, place_fits}
 

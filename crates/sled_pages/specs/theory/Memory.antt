@@ -1,7 +1,7 @@
 -- Of Memory, for proofs. What a store in memory means.
 use Rattle.std.specs.Prelude.{◌≡◌, ℕ, ◌+◌, ◌^◌, ◌<◌, vec_len, vec_capacity, Option, Some}
 use Rattle.sled_pages.specs.declared.memory.MemPages.{MemPages}
-use Rattle.sled_pages.specs.Store.{Store, version_now}
+use Rattle.sled_store.specs.Store.{Store, version_now}
 
 -- there is room for one action more
 pub record HasRoom (m : MemPages) : Type 0 where

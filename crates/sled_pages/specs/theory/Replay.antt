@@ -9,19 +9,19 @@ use Rattle.std.specs.Ordering.{nat_cmp}
 use Rattle.std.specs.BTreeMap.{BTreeMap, get}
 use Rattle.std.specs.Str.{bytes_eq}
 use lib.Dec.{eqb}
-use Rattle.sled_pages.specs.Order.{Key}
-use Rattle.sled_pages.specs.Update.{put_at, put_name}
-use Rattle.sled_pages.specs.declared.page.Page.{Page}
+use Rattle.sled_nodes.specs.Order.{Key}
+use Rattle.sled_store.specs.Update.{put_at, put_name}
+use Rattle.sled_store.specs.declared.page.Page.{Page}
 use Rattle.sled_pages.specs.declared.memory.slots.Slot.{Slot}
 use Rattle.sled_pages.specs.declared.memory.undo.Undo.{Undo}
 use Rattle.sled_pages.specs.declared.memory.undo.Undo.TheVariants.{UndoSlot, UndoLink, UndoRoot, UndoGroup}
-use Rattle.sled_pages.specs.State.{GroupBegins, GroupEnds, after, after_all}
+use Rattle.sled_store.specs.State.{GroupBegins, GroupEnds, after, after_all}
 use Rattle.sled_pages.specs.Joined.{joined}
 use Rattle.sled_pages.specs.Slots.{slot_in, place_in, given_in}
 use Rattle.sled_pages.specs.theory.Known.{IsKnown}
 use Rattle.sled_pages.specs.Table.{Table, page_of, pages_of, state_of, undone, undoes, base_of, recent_of, slot_given}
 use Rattle.sled_pages.specs.Returning.{slot_back}
-use Rattle.sled_pages.specs.theory.Facts.{after_last, same_name}
+use Rattle.sled_store.specs.theory.Facts.{after_last, same_name}
 
 -- a value put over, and then the old one put back
 back_page : (pid : ℕ) (slot : Option Slot) (slots : ℕ → Option Slot) → put_at (pages_of (put_at slots pid slot)) pid (pages_of slots pid) ≡ pages_of slots

@@ -1,18 +1,12 @@
--- Of Returning, for proofs. How the change of a link is taken back.
-use Rattle.std.specs.Prelude.{◌≡◌, ◌<◌, ℕ, Bool, List, length, filter, Option, Some, None}
-use Rattle.std.specs.List.{remove}
-use Rattle.sled_pages.specs.Node.{after_link}
-use Rattle.sled_pages.specs.Update.{put_at}
-use Rattle.sled_pages.specs.declared.node.Node.{Node}
-use Rattle.sled_pages.specs.declared.link.Link.{Link}
-use Rattle.sled_pages.specs.declared.change.Back.{Back}
+-- Of Returning, for proofs. The slot of a page that a link changes.
+use Rattle.std.specs.Prelude.{◌≡◌, ℕ, Option, Some}
+use Rattle.sled_nodes.specs.Node.{after_link}
+use Rattle.sled_store.specs.Update.{put_at}
+use Rattle.sled_nodes.specs.declared.node.Node.{Node}
+use Rattle.sled_nodes.specs.declared.link.Link.{Link}
+use Rattle.sled_nodes.specs.declared.change.Back.{Back}
 use Rattle.sled_pages.specs.declared.memory.slots.Slot.{Slot}
-use Rattle.sled_pages.specs.Returning.{put_back}
-
--- What passes not stands nowhere, or at this place alone
-abbrev pub IsOut : {X : Type 0} → (X → Bool) → List X → Option ℕ → Type 0
-IsOut keeps xs None = filter keeps xs ≡ xs
-IsOut keeps xs (Some i) = (i < length xs) × (filter keeps xs ≡ remove xs i)
+use Rattle.sled_nodes.specs.Returning.{put_back}
 
 -- the node of a slot changed by a link, and how that is taken back
 pub record Relinked (link : Link) (pid version : ℕ) (old new : ℕ → Option Slot) (before : ℕ) (back : Back) : Type 0 where

@@ -1,10 +1,10 @@
 -- Of Table, for proofs. A store in memory as slots by number, and what its log of undone work says: the state before it, and the actions in it.
 use Rattle.std.specs.Prelude.{◌≡◌, ℕ, ◌<◌, ◌≤◌, true, false, Bool, List, length, take, Option}
 use mathlib.Core.List.{reverse}
-use Rattle.sled_pages.specs.Order.{Key}
+use Rattle.sled_nodes.specs.Order.{Key}
 use Rattle.sled_pages.specs.declared.memory.slots.Slot.{Slot}
 use Rattle.sled_pages.specs.declared.memory.undo.Undo.{Undo}
-use Rattle.sled_pages.specs.State.{State, after_all}
+use Rattle.sled_store.specs.State.{State, after_all}
 use Rattle.sled_pages.specs.Table.{Table, state_of, base_of, recent_of}
 
 abbrev pub table : (ℕ → Option Slot) → (Key → Option ℕ) → Bool → Table

@@ -1,24 +1,23 @@
 //! Actions taken back, the last of them first.
 ghost use Rattle.std.specs.Prelude.{◌≡◌, ℕ, nat_le, [], true, IfOk, IfErr, OnOk, OnErr};
 ghost use Rattle.std.specs.FinMap.{is_sorted};
-ghost use Rattle.sled_pages.specs.declared.error.Error.TheVariants.{NoMemory};
-ghost use Rattle.sled_pages.specs.Order.{Key, key_cmp};
-ghost use Rattle.sled_pages.specs.Update.{put_name};
+ghost use Rattle.sled_nodes.specs.declared.error.Error.TheVariants.{NoMemory};
+ghost use Rattle.sled_nodes.specs.Order.{Key, key_cmp};
+ghost use Rattle.sled_store.specs.Update.{put_name};
 ghost use Rattle.sled_pages.specs.Slots.{slots_of, places_of, given_of};
-ghost use Rattle.sled_pages.specs.Table.{roots_of, undone, has_place, slot_given, undo_given, IsKept, AreBelow};
+ghost use Rattle.sled_store.specs.Roots.{roots_of};
+ghost use Rattle.sled_pages.specs.Table.{undone, has_place, slot_given, undo_given, IsKept, AreBelow};
 ghost use Rattle.sled_pages.specs.theory.Table.{TakenBack, table};
-ghost use Rattle.sled_pages.specs.Image.{root_in};
+ghost use Rattle.sled_nodes.specs.Image.{root_in};
 ghost use Rattle.std.specs.List.{list_all};
 
 use super::slots::Slots;
 use super::undo::Undo;
-use crate::error::Result;
-use crate::pairs::{put_pair, remove_key};
-use crate::{IVec, Pid};
+use sled_nodes::{IVec, Pid, Result, put_pair, remove_key};
 use std::alloc::Global;
 
 // Makes another the root of a name, or takes the name out.
-#[tactic(auto, unfolding(crate::specs::Order::key_cmp))]
+#[tactic(auto, unfolding(sled_nodes::specs::Order::key_cmp))]
 pub fn set_root(roots: &mut Vec<(IVec, Pid)>, name: IVec, root: Option<Pid>) -> Result<()>
     ensures ok { OnOk result (roots_of roots.new.items ≡ put_name (roots_of roots.old.items) name root) }
     ensures err { OnErr result (roots.new.items ≡ roots.old.items) }

@@ -2,15 +2,13 @@
 ghost use Rattle.std.specs.Prelude.{◌≡◌, ◌+◌, ◌^◌, ◌<◌, Some, None, true, false, IfOk, IfErr, OnOk, IsTrue, ◌↔◌, length, OnErr, is_some};
 ghost use Rattle.std.specs.Option.{option_copied};
 ghost use Rattle.std.specs.Vec.{vec_len, vec_capacity};
-ghost use Rattle.sled_pages.specs.declared.error.Error.TheVariants.{NoMemory};
-ghost use Rattle.sled_pages.specs.Update.{put_at};
+ghost use Rattle.sled_nodes.specs.declared.error.Error.TheVariants.{NoMemory};
+ghost use Rattle.sled_store.specs.Update.{put_at};
 ghost use Rattle.sled_pages.specs.theory.Known.{IsKnown};
 ghost use Rattle.sled_pages.specs.Returning.{slot_back};
 ghost use Rattle.sled_pages.specs.theory.Returning.{Relinked};
 
-use crate::change::Back;
-use crate::error::{Error, Result};
-use crate::{Link, Node, Pid, Shared, Version};
+use sled_nodes::{Back, Error, Link, Node, Pid, Result, Shared, Version};
 use std::alloc::Global;
 use std::collections::BTreeMap;
 

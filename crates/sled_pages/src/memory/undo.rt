@@ -1,7 +1,6 @@
 //! How an action is taken back.
 use super::slots::Slot;
-use crate::change::Back;
-use crate::{IVec, Pid, Version};
+use sled_nodes::{Back, IVec, Pid, Version};
 
 /// What stood there before an action.
 #[derive(Drop)]

@@ -1,7 +1,7 @@
 -- Of Lists, for proofs. The subscribers of each tree, in lists, and what becomes of the queues of a list.
 use Rattle.std.specs.Prelude.{ℕ, ◌-◌, nat_eq, nat_le, ◌&&◌, not, Bool, false, List, [], ◌∷◌, ◌++◌, take, length, Option, Some, None, option_map, if◌then◌else◌}
 use Rattle.std.specs.List.{starts_with, filter}
-use Rattle.sled_pages.specs.Order.{Key}
+use Rattle.sled_nodes.specs.Order.{Key}
 use Rattle.sled_model.specs.Event.{key_of_event}
 use Rattle.sled_model.specs.Refusal.{queue_limit}
 use Rattle.sled_model.specs.declared.event.Event.{Event}

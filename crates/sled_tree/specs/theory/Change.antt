@@ -1,10 +1,10 @@
 -- Of Change, for proofs. The change that a call makes of its leaf.
 use Rattle.std.specs.Prelude.{◌≡◌, Option, Some, None}
-use Rattle.sled_pages.specs.Order.{Key}
-use Rattle.sled_pages.specs.declared.link.Link.{Link}
-use Rattle.sled_pages.specs.declared.link.Link.TheVariants as link
-use Rattle.sled_pages.specs.declared.node.Data.{Data}
-use Rattle.sled_pages.specs.declared.node.Data.TheVariants.{Leaf, Index}
+use Rattle.sled_nodes.specs.Order.{Key}
+use Rattle.sled_nodes.specs.declared.link.Link.{Link}
+use Rattle.sled_nodes.specs.declared.link.Link.TheVariants as link
+use Rattle.sled_nodes.specs.declared.node.Data.{Data}
+use Rattle.sled_nodes.specs.declared.node.Data.TheVariants.{Leaf, Index}
 use Rattle.sled_model.specs.declared.call.Call.{Call}
 use Rattle.sled_model.specs.declared.decision.Decision.{Decision}
 use Rattle.sled_model.specs.declared.decision.Effect.TheVariants as effect

@@ -1,9 +1,9 @@
 -- Steps of a call in flight at pages where nothing is to be repaired.
 use Rattle.std.specs.Prelude.{◌≡◌, ℕ, ◌≤◌, ◌<◌, false, Option, Some, None, Result, Ok, Err}
-use Rattle.sled_pages.specs.Node.{count}
-use Rattle.sled_pages.specs.Store.{Store, now}
-use Rattle.sled_pages.specs.declared.error.Error.{Error}
-use Rattle.sled_pages.specs.declared.page.View.{View}
+use Rattle.sled_nodes.specs.Node.{count}
+use Rattle.sled_store.specs.Store.{Store, now}
+use Rattle.sled_nodes.specs.declared.error.Error.{Error}
+use Rattle.sled_store.specs.declared.page.View.{View}
 use Rattle.sled_tree.specs.theory.Change.{IsLeaf}
 use Rattle.sled_tree.specs.Course.{Course}
 use Rattle.sled_tree.specs.Follows.{Follows, FollowsOn, follows_read}

@@ -1,7 +1,7 @@
 -- A call that is to link its change, in two halves: the change is prepared, and then it is linked.
 use Rattle.std.specs.Prelude.{◌≡◌, ◌+◌, Option, Some}
-use Rattle.sled_pages.specs.Store.{Store, now}
-use Rattle.sled_pages.specs.declared.page.View.{View}
+use Rattle.sled_store.specs.Store.{Store, now}
+use Rattle.sled_store.specs.declared.page.View.{View}
 use Rattle.sled_model.specs.Maps.{Merge as Operator}
 use Rattle.tree_laws.specs.declared.flight.Stage.{Stage}
 use Rattle.tree_laws.specs.declared.flight.Stage.TheVariants as stage

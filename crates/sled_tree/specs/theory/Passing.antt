@@ -1,7 +1,7 @@
 -- Of Passing, for proofs. Calls in flight on clean paths: where no other call is in the way, a call goes on by a page a step.
 use Rattle.std.specs.Prelude.{ℕ, List}
-use Rattle.sled_pages.specs.State.{State, nodes_of}
-use Rattle.sled_pages.specs.declared.page.View.{View}
+use Rattle.sled_store.specs.State.{State, nodes_of}
+use Rattle.sled_store.specs.declared.page.View.{View}
 use Rattle.sled_tree.specs.Course.{Course}
 use Rattle.sled_tree.specs.declared.flight.Next.{Next}
 use Rattle.sled_tree.specs.declared.flight.Next.TheVariants.{Go, Decided, Refused}

@@ -1,9 +1,9 @@
 -- Of StageAction, for proofs. What one page action of a call in flight does.
 use Rattle.std.specs.Prelude.{◌≡◌, ◌≢◌, ℕ, ◌+◌, ◌⊎◌, Bool, false, List, [], Option, Some, None}
-use Rattle.sled_pages.specs.Store.{Store, now}
-use Rattle.sled_pages.specs.declared.page.View.{View}
-use Rattle.sled_pages.specs.declared.error.Error.{Error}
-use Rattle.sled_pages.specs.declared.error.Error.TheVariants.{Io, NoMemory}
+use Rattle.sled_store.specs.Store.{Store, now}
+use Rattle.sled_store.specs.declared.page.View.{View}
+use Rattle.sled_nodes.specs.declared.error.Error.{Error}
+use Rattle.sled_nodes.specs.declared.error.Error.TheVariants.{Io, NoMemory}
 use Rattle.sled_model.specs.Maps.{Merge as Operator}
 use Rattle.sled_model.specs.Answer.{answer_of}
 use Rattle.sled_model.specs.declared.reply.Reply.{Reply}

@@ -1,8 +1,8 @@
 -- Of Action, for proofs. What page actions make of a page.
 use Rattle.std.specs.Prelude.{◌≡◌, ℕ, Some}
-use Rattle.sled_pages.specs.State.{Nodes}
-use Rattle.sled_pages.specs.Update.{put_at}
-use Rattle.sled_pages.specs.declared.node.Node.{Node}
+use Rattle.sled_store.specs.State.{Nodes}
+use Rattle.sled_store.specs.Update.{put_at}
+use Rattle.sled_nodes.specs.declared.node.Node.{Node}
 use Rattle.tree_laws.specs.Forest.{IsNodeAt}
 use Rattle.tree_laws.specs.Action.{AreHalvesOf}
 

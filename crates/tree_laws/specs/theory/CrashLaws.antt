@@ -1,7 +1,7 @@
 -- The laws of what a crash may leave, as types.
 use Rattle.std.specs.Prelude.{◌≡◌, ℕ, nat_eq, true, false, List, [], ◌∷◌, ◌++◌, if◌then◌else◌}
-use Rattle.sled_pages.specs.State.{Action}
-use Rattle.sled_pages.specs.Store.{Store, now}
+use Rattle.sled_store.specs.State.{Action}
+use Rattle.sled_store.specs.Store.{Store, now}
 use Rattle.tree_laws.specs.Contents.{trees_of}
 use Rattle.tree_laws.specs.Crashes.{IsValid, IsCrashConsistent, Trees, StutterEquivalent, AddsCrashStates, Flushes}
 use Rattle.tree_laws.specs.theory.Crashes.{AddsAction}

@@ -1,13 +1,13 @@
 -- Laws that ask for less than those of the actions do, and are false: each is refused by a state that it would lead to.
 use Rattle.std.specs.Prelude.{◌≡◌, ◌≢◌, ℕ, ◌≤◌, false, List, [], ◌∷◌, Option, Some, None}
 use Rattle.std.specs.FinMap.Entries.{put}
-use Rattle.sled_pages.specs.Order.{Key, key_cmp}
-use Rattle.sled_pages.specs.In.{In}
-use Rattle.sled_pages.specs.Node.{count, Covers, after_link}
-use Rattle.sled_pages.specs.State.{Nodes}
-use Rattle.sled_pages.specs.declared.node.Node.{Node}
-use Rattle.sled_pages.specs.declared.link.Link.TheVariants.{Set}
-use Rattle.sled_pages.specs.declared.page.Page.{Page}
+use Rattle.sled_nodes.specs.Order.{Key, key_cmp}
+use Rattle.sled_store.specs.In.{In}
+use Rattle.sled_nodes.specs.Node.{count, Covers, after_link}
+use Rattle.sled_store.specs.State.{Nodes}
+use Rattle.sled_nodes.specs.declared.node.Node.{Node}
+use Rattle.sled_nodes.specs.declared.link.Link.TheVariants.{Set}
+use Rattle.sled_store.specs.declared.page.Page.{Page}
 use Rattle.tree_laws.specs.Forest.{Tree, Forest, Place, place, WellFormed}
 use Rattle.tree_laws.specs.Action.{IsSplit}
 use Rattle.tree_laws.specs.theory.Action.{put_node, IsReceived}

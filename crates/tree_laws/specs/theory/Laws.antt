@@ -4,22 +4,22 @@ use Rattle.std.specs.FinMap.Entries.{put, find, is_sorted}
 use Rattle.std.specs.List.{AllByRecursion}
 use Rattle.std.specs.declared.ops.Bound.{Bound}
 use Rattle.std.specs.declared.ops.Bound.TheVariants.{Included}
-use Rattle.sled_pages.specs.Order.{Key, key_cmp, Below, UpTo}
-use Rattle.sled_pages.specs.In.{In}
-use Rattle.sled_pages.specs.Update.{put_at, put_name}
-use Rattle.sled_pages.specs.Node.{pairs, count, Covers, without, after_link, value_at}
-use Rattle.sled_pages.specs.State.{State, Nodes, nodes_of, PageBecomes, RootBecomes, after}
-use Rattle.sled_pages.specs.declared.node.Node.{Node}
-use Rattle.sled_pages.specs.declared.node.Data.{Data}
-use Rattle.sled_pages.specs.declared.node.Data.TheVariants.{Leaf, Index}
-use Rattle.sled_pages.specs.declared.link.Link.TheVariants.{Set, Del}
-use Rattle.sled_pages.specs.declared.page.Page.{Page}
+use Rattle.sled_nodes.specs.Order.{Key, key_cmp, Below, UpTo}
+use Rattle.sled_store.specs.In.{In}
+use Rattle.sled_store.specs.Update.{put_at, put_name}
+use Rattle.sled_nodes.specs.Node.{pairs, count, Covers, without, after_link, value_at}
+use Rattle.sled_store.specs.State.{State, Nodes, nodes_of, PageBecomes, RootBecomes, after}
+use Rattle.sled_nodes.specs.declared.node.Node.{Node}
+use Rattle.sled_nodes.specs.declared.node.Data.{Data}
+use Rattle.sled_nodes.specs.declared.node.Data.TheVariants.{Leaf, Index}
+use Rattle.sled_nodes.specs.declared.link.Link.TheVariants.{Set, Del}
+use Rattle.sled_store.specs.declared.page.Page.{Page}
 use Rattle.tree_laws.specs.Forest.{Tree, Forest, Place, place, head, WellFormed, IsSized, contents}
 use Rattle.tree_laws.specs.Contents.{trees_of}
 use Rattle.tree_laws.specs.Paths.{tree_pages, pages_below, IsClean}
 use Rattle.tree_laws.specs.theory.Drops.{IsLeft}
 use Rattle.tree_laws.specs.theory.Action.{put_node}
-use Rattle.sled_pages.specs.declared.page.View.{View}
+use Rattle.sled_store.specs.declared.page.View.{View}
 use Rattle.tree_laws.specs.Snapshot.{Snapshot, HasForest, nodes_at, IsOrphan, IsReadAs, StoodInChain, IsActing}
 use Rattle.tree_laws.specs.theory.Snapshot.{KeepsNodes, Guarantee, GrowsByReceiving}
 

@@ -1,13 +1,13 @@
 -- The laws of the actions of splits and merges, as types.
 use Rattle.std.specs.Prelude.{◌≡◌, ◌≢◌, ◌⊎◌, ℕ, suc, ◌≤◌, true, false, List, [], ◌∷◌, length, Option, Some, None}
 use Rattle.std.specs.FinMap.Entries.{put}
-use Rattle.sled_pages.specs.Order.{Key, key_cmp, Below, UpTo}
-use Rattle.sled_pages.specs.In.{In}
-use Rattle.sled_pages.specs.Node.{pointers, count, Covers, after_link}
-use Rattle.sled_pages.specs.State.{Nodes}
-use Rattle.sled_pages.specs.declared.node.Node.{Node}
-use Rattle.sled_pages.specs.declared.node.Data.TheVariants.{Index}
-use Rattle.sled_pages.specs.declared.link.Link.TheVariants.{ParentMergeIntention, ParentMergeConfirm, ChildMergeCap}
+use Rattle.sled_nodes.specs.Order.{Key, key_cmp, Below, UpTo}
+use Rattle.sled_store.specs.In.{In}
+use Rattle.sled_nodes.specs.Node.{pointers, count, Covers, after_link}
+use Rattle.sled_store.specs.State.{Nodes}
+use Rattle.sled_nodes.specs.declared.node.Node.{Node}
+use Rattle.sled_nodes.specs.declared.node.Data.TheVariants.{Index}
+use Rattle.sled_nodes.specs.declared.link.Link.TheVariants.{ParentMergeIntention, ParentMergeConfirm, ChildMergeCap}
 use Rattle.tree_laws.specs.Forest.{Tree, Forest, Place, place, WellFormed, IsSized, contents, later}
 use Rattle.tree_laws.specs.Action.{IsSplit}
 use Rattle.tree_laws.specs.theory.Action.{put_node, IsReceived}

@@ -1,13 +1,13 @@
 -- The laws of reading walks and of clean paths, as types.
 use Rattle.std.specs.Prelude.{◌≡◌, ◌≢◌, ℕ, suc, ◌<◌, ◌≤◌, Bool, false, List, [], ◌∷◌, Option, Some}
 use Rattle.std.specs.declared.ops.Bound.{Bound}
-use Rattle.sled_pages.specs.Order.{Key}
-use Rattle.sled_pages.specs.In.{In}
-use Rattle.sled_pages.specs.Among.{IsPointer}
-use Rattle.sled_pages.specs.Node.{pointers}
-use Rattle.sled_pages.specs.State.{Nodes}
-use Rattle.sled_pages.specs.declared.node.Node.{Node}
-use Rattle.sled_pages.specs.declared.node.Data.TheVariants.{Leaf, Index}
+use Rattle.sled_nodes.specs.Order.{Key}
+use Rattle.sled_store.specs.In.{In}
+use Rattle.sled_nodes.specs.Among.{IsPointer}
+use Rattle.sled_nodes.specs.Node.{pointers}
+use Rattle.sled_store.specs.State.{Nodes}
+use Rattle.sled_nodes.specs.declared.node.Node.{Node}
+use Rattle.sled_nodes.specs.declared.node.Data.TheVariants.{Leaf, Index}
 use Rattle.tree_laws.specs.Forest.{Tree, Forest, Place, place, WellFormed, later}
 use Rattle.tree_laws.specs.Paths.{NeedsNoRepair, CleanFrom, pages_below, IsAhead}
 

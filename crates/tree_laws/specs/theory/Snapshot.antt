@@ -1,10 +1,10 @@
 -- Of Snapshot, for proofs. The store at one moment, what every action of a call keeps for the others, and what a call in flight knows.
 use Rattle.std.specs.Prelude.{◌≡◌, ◌≢◌, ℕ, suc, ◌≤◌, ◌⊎◌, true, false, List, ◌++◌, Option, Some, None}
-use Rattle.sled_pages.specs.In.{In}
-use Rattle.sled_pages.specs.Node.{count}
-use Rattle.sled_pages.specs.State.{Nodes}
-use Rattle.sled_pages.specs.declared.node.Node.{Node}
-use Rattle.sled_pages.specs.declared.page.Page.{Page}
+use Rattle.sled_store.specs.In.{In}
+use Rattle.sled_nodes.specs.Node.{count}
+use Rattle.sled_store.specs.State.{Nodes}
+use Rattle.sled_nodes.specs.declared.node.Node.{Node}
+use Rattle.sled_store.specs.declared.page.Page.{Page}
 use Rattle.tree_laws.specs.Forest.{Tree, Forest, Place, place, IsSized}
 use Rattle.tree_laws.specs.Snapshot.{Snapshot, nodes_at, HasForest, IsOrphan, IsInChain}
 

@@ -1,22 +1,22 @@
 -- The laws of the stages of a call in flight, as types.
 use Rattle.std.specs.Prelude.{◌≡◌, ◌≢◌, ◌⊎◌, ℕ, suc, ◌<◌, ◌≤◌, ◌^◌, Bool, true, false, List, [], ◌∷◌, Option, Some, None}
 use Rattle.std.specs.FinMap.Entries.{find}
-use Rattle.sled_pages.specs.Order.{Key, key_cmp, Below, UpTo}
-use Rattle.sled_pages.specs.In.{In}
-use Rattle.sled_pages.specs.Node.{pointers, count, Covers, after_link, value_at}
-use Rattle.sled_pages.specs.Posting.{with_pointer}
-use Rattle.sled_pages.specs.Halves.{left_half, right_half, after_receiving}
-use Rattle.sled_pages.specs.Among.{IsBefore, is_up_to}
+use Rattle.sled_nodes.specs.Order.{Key, key_cmp, Below, UpTo}
+use Rattle.sled_store.specs.In.{In}
+use Rattle.sled_nodes.specs.Node.{pointers, count, Covers, after_link, value_at}
+use Rattle.sled_nodes.specs.Posting.{with_pointer}
+use Rattle.sled_nodes.specs.Halves.{left_half, right_half, after_receiving}
+use Rattle.sled_nodes.specs.Among.{IsBefore, is_up_to}
 use Rattle.std.specs.List.{list_any}
 use Rattle.std.specs.declared.ops.Bound.{Bound}
-use Rattle.sled_pages.specs.State.{Nodes}
-use Rattle.sled_pages.specs.declared.node.Node.{Node}
-use Rattle.sled_pages.specs.declared.node.Data.TheVariants.{Leaf, Index}
-use Rattle.sled_pages.specs.declared.link.Link.TheVariants.{ParentMergeIntention, ParentMergeConfirm, ChildMergeCap}
+use Rattle.sled_store.specs.State.{Nodes}
+use Rattle.sled_nodes.specs.declared.node.Node.{Node}
+use Rattle.sled_nodes.specs.declared.node.Data.TheVariants.{Leaf, Index}
+use Rattle.sled_nodes.specs.declared.link.Link.TheVariants.{ParentMergeIntention, ParentMergeConfirm, ChildMergeCap}
 use Rattle.tree_laws.specs.Forest.{Tree, Forest, Place, place, IsNodeAt, WellFormed, contents, later}
 use Rattle.tree_laws.specs.Action.{IsSplit}
 use Rattle.tree_laws.specs.theory.Action.{IsReceived}
-use Rattle.sled_pages.specs.declared.page.View.{View}
+use Rattle.sled_store.specs.declared.page.View.{View}
 use Rattle.tree_laws.specs.Snapshot.{Snapshot, HasForest, nodes_at, StoodInChain, IsOpen, HasRoomForOne, LiesUnder, IsActing}
 use Rattle.tree_laws.specs.theory.Snapshot.{Guarantee, GrowsByReceiving, KeepsForest}
 use Rattle.tree_laws.specs.theory.Laws.{IsNodeNow, after_replacement, after_allocation, after_free, after_hoist}

@@ -1,8 +1,8 @@
 -- Of Stages, for proofs. What a call in flight knows of the store, by its stage.
 use Rattle.std.specs.Prelude.{◌≡◌, ℕ, Some}
 use Rattle.std.specs.declared.ops.Bound.{Bound}
-use Rattle.sled_pages.specs.Order.{Key}
-use Rattle.sled_pages.specs.declared.page.View.{View}
+use Rattle.sled_nodes.specs.Order.{Key}
+use Rattle.sled_store.specs.declared.page.View.{View}
 use Rattle.tree_laws.specs.Forest.{Tree, Forest, place}
 use Rattle.tree_laws.specs.Snapshot.{Snapshot, StoodInChain}
 use Rattle.tree_laws.specs.declared.flight.Reached.{Reached}

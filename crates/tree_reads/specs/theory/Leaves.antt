@@ -1,10 +1,10 @@
 -- Of Leaves, for proofs. Searches along the leaves of a tree, and the leaves at which they stand.
 use Rattle.std.specs.Prelude.{◌≡◌, ℕ, ◌+◌, ◌≤◌, true, false, List, [], ◌∷◌, ◌++◌, length, flat_map, Some}
 use Rattle.std.specs.declared.ops.Bound.{Bound}
-use Rattle.sled_pages.specs.Order.{Key, Below}
-use Rattle.sled_pages.specs.Among.{is_up_to, is_from}
-use Rattle.sled_pages.specs.State.{State, nodes_of}
-use Rattle.sled_pages.specs.declared.page.View.{View}
+use Rattle.sled_nodes.specs.Order.{Key, Below}
+use Rattle.sled_nodes.specs.Among.{is_up_to, is_from}
+use Rattle.sled_store.specs.State.{State, nodes_of}
+use Rattle.sled_store.specs.declared.page.View.{View}
 use Rattle.tree_laws.specs.Forest.{Tree, Forest, place, WellFormed, node_pairs}
 use Rattle.tree_laws.specs.Paths.{tree_pages}
 use Rattle.tree_reads.specs.Leaves.{IsRead}

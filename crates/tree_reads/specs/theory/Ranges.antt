@@ -1,8 +1,8 @@
 -- Of Ranges, for proofs. The pairs of a tree within two bounds.
 use Rattle.std.specs.Prelude.{◌≡◌, ◌+◌, List, [], ◌∷◌, ◌++◌, Option, Some, None, Ok, Err, Result}
 use Rattle.std.specs.declared.ops.Bound.{Bound}
-use Rattle.sled_pages.specs.Order.{Key}
-use Rattle.sled_pages.specs.declared.error.Error.{Error}
+use Rattle.sled_nodes.specs.Order.{Key}
+use Rattle.sled_nodes.specs.declared.error.Error.{Error}
 use Rattle.tree_reads.specs.Ranges.{pairs_within}
 
 -- what is shown of the pair, if one is given

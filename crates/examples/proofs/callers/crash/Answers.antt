@@ -1,5 +1,5 @@
 use Rattle.std.proofs.Common.{subst, IfOk}
-use Rattle.sled_pages.specs.Crash.{Crashes}
+use Rattle.sled_store.specs.Crash.{Crashes}
 use Rattle.sled_pages.specs.Memory.{store_of}
 use Rattle.examples.proofs.callers.crash.Goals as goal
 

@@ -1,6 +1,6 @@
 use Rattle.std.proofs.Common.{sym, ap, subst}
 use Rattle.sled_pages.specs.Memory.{store_of}
-use Rattle.sled_pages.specs.Store.{Store, now}
+use Rattle.sled_store.specs.Store.{Store, now}
 use Rattle.sled_pages.specs.declared.memory.MemPages.{MemPages}
 use Rattle.sled_model.specs.State.{default_name}
 use Rattle.tree_laws.specs.Contents.{trees_of}

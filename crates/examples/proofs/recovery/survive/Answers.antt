@@ -1,5 +1,5 @@
 use Rattle.std.proofs.Common.{◌∙◌, ap}
-use Rattle.sled_pages.specs.theory.Facts.{may_leave_crashed}
+use Rattle.sled_store.specs.theory.Facts.{may_leave_crashed}
 use Rattle.sled_pages.specs.declared.memory.MemPages.{MemPages}
 use Rattle.sled.specs.Values.{DbValue}
 use Rattle.examples.proofs.Surviving.{survives}

@@ -1,6 +1,6 @@
 use Rattle.std.proofs.Common.{rules}
 use Rattle.std.proofs.lemmas.Fn.{filter_same}
-use Rattle.sled_pages.specs.Order.{key_cmp}
+use Rattle.sled_nodes.specs.Order.{key_cmp}
 use Rattle.sled.proofs.drop.take_name.Goals as goal
 
 pub returns : goal.returns

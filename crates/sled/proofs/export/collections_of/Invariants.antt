@@ -1,5 +1,5 @@
 use Rattle.std.proofs.Common.{◌≡◌, map, take}
-use Rattle.sled_pages.specs.Store.{now}
+use Rattle.sled_store.specs.Store.{now}
 use Rattle.tree_laws.specs.Contents.{trees_of}
 use Rattle.sled.specs.Export.{collections}
 use Rattle.sled.proofs.export.collections_of.Given as goal

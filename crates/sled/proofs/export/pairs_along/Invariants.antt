@@ -1,5 +1,5 @@
-use Rattle.sled_pages.specs.State.{nodes_of}
-use Rattle.sled_pages.specs.Store.{now}
+use Rattle.sled_store.specs.State.{nodes_of}
+use Rattle.sled_store.specs.Store.{now}
 use Rattle.sled.proofs.Walks.{IsAlong}
 use Rattle.sled.proofs.export.pairs_along.Given as goal
 

@@ -1,5 +1,5 @@
 use Rattle.std.proofs.Common.{sym, ◌∙◌, ap, is_some}
-use Rattle.sled_pages.specs.Store.{now}
+use Rattle.sled_store.specs.Store.{now}
 use Rattle.sled.proofs.Opening.{has_present, all_made, all_unmade, root_none}
 use Rattle.sled.proofs.open.create_tree.Goals as goal
 

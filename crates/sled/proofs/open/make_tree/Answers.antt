@@ -1,6 +1,6 @@
 use Rattle.std.proofs.Common.{refl, sym, subst, inl}
-use Rattle.sled_pages.specs.Store.{Allocates, IsRefused}
-use Rattle.sled_pages.specs.declared.node.Node.{Node}
+use Rattle.sled_store.specs.Store.{Allocates, IsRefused}
+use Rattle.sled_nodes.specs.declared.node.Node.{Node}
 use Rattle.sled.proofs.Opening.{no_other, swapped, unrooted}
 use Rattle.sled.proofs.open.make_tree.Goals as goal
 

@@ -1,6 +1,6 @@
 use Rattle.std.proofs.Common.{sym}
-use Rattle.sled_pages.specs.Order.{key_cmp}
-use Rattle.sled_pages.proofs.Rising.{hit_found, gap_found}
+use Rattle.sled_nodes.specs.Order.{key_cmp}
+use Rattle.sled_nodes.proofs.Rising.{hit_found, gap_found}
 use Rattle.sled.proofs.tree_list.number_of.Goals as goal
 
 pub returns-in-Ok : goal.returns-in-Ok

@@ -2,8 +2,8 @@ use Rattle.std.proofs.Common.{rules, of_calls}
 use Rattle.std.proofs.lemmas.Fn.{always_returns_same}
 use Rattle.std.specs.Cmp.Lexicographic.{slice_cmp, nat_list_cmp_total}
 use Rattle.std.specs.Ordering.{nat_cmp}
-use Rattle.sled_pages.specs.Order.{key_cmp}
-use Rattle.sled_pages.proofs.Rising.{searched}
+use Rattle.sled_nodes.specs.Order.{key_cmp}
+use Rattle.sled_nodes.proofs.Rising.{searched}
 use Rattle.sled.proofs.tree_list.place_of.Goals as goal
 
 pub returns-clause-ok : goal.returns-clause-ok

@@ -1,5 +1,5 @@
 use Rattle.std.proofs.Common.{◌≡◌, Bool, false, [], Some, IfSome}
-use Rattle.sled_pages.specs.Store.{now}
+use Rattle.sled_store.specs.Store.{now}
 use Rattle.sled_pages.specs.Memory.{store_of, empty_store}
 use Rattle.tree_laws.specs.Crashes.{IsValid}
 use Rattle.sled_lines.specs.Serve.{bad_left}

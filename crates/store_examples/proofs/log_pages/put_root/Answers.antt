@@ -3,7 +3,7 @@ use Rattle.std.proofs.lemmas.Fn.{always_returns_same}
 use Rattle.std.specs.Cmp.Lexicographic.{slice_cmp}
 use Rattle.std.specs.List.{insert}
 use Rattle.std.specs.Ordering.{nat_cmp}
-use Rattle.sled_pages.specs.Order.{key_cmp}
+use Rattle.sled_nodes.specs.Order.{key_cmp}
 use Rattle.store_examples.proofs.Logging.{root_at, root_before}
 use Rattle.store_examples.proofs.log_pages.put_root.Goals as goal
 

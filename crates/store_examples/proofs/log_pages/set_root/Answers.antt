@@ -2,8 +2,8 @@ use Rattle.std.proofs.Common.{not, ap, ◌∙◌}
 use Rattle.std.proofs.lemmas.Result.{on_ok_weaker}
 use Rattle.std.specs.Ordering.{nat_cmp, eq_by_cmp}
 use Rattle.std.specs.Cmp.Lexicographic.{slice_cmp}
-use Rattle.sled_pages.specs.Table.{roots_of}
-use Rattle.sled_pages.proofs.Roots.{root_put, root_out, out_ascends}
+use Rattle.sled_store.specs.Roots.{roots_of}
+use Rattle.sled_store.proofs.Roots.{root_put, root_out, out_ascends}
 use Rattle.store_examples.proofs.Logging.{put_ascends}
 use Rattle.store_examples.proofs.log_pages.set_root.Goals as goal
 

@@ -1,4 +1,4 @@
-use Rattle.sled_pages.specs.Node.{after_link}
+use Rattle.sled_nodes.specs.Node.{after_link}
 use Rattle.store_examples.proofs.Runs.{links_told}
 use Rattle.store_examples.proofs.store.two_links.Goals as goal
 

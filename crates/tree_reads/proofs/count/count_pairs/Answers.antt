@@ -1,5 +1,5 @@
 use Rattle.std.proofs.Common.{◌+◌, refl, sym, ◌∙◌, subst}
-use Rattle.sled_pages.specs.Store.{now}
+use Rattle.sled_store.specs.Store.{now}
 use Rattle.tree_reads.specs.theory.Leaves.{Counts}
 use Rattle.tree_reads.proofs.Seeking.{empty_least}
 use Rattle.tree_reads.proofs.Counting.{count_first, count_ends, count_more, count_gone}

@@ -1,4 +1,4 @@
-use Rattle.sled_pages.specs.Store.{now}
+use Rattle.sled_store.specs.Store.{now}
 use Rattle.tree_reads.specs.theory.Leaves.{Counts}
 use Rattle.tree_reads.proofs.count.count_pairs.Given as goal
 

@@ -1,6 +1,6 @@
 use Rattle.std.proofs.Common.{◌+◌, refl, sym, ◌∙◌, subst}
-use Rattle.sled_pages.specs.Among.{bound_of}
-use Rattle.sled_pages.specs.Store.{now}
+use Rattle.sled_nodes.specs.Among.{bound_of}
+use Rattle.sled_store.specs.Store.{now}
 use Rattle.tree_reads.specs.Leaves.{Seeks}
 use Rattle.tree_reads.proofs.Seeking.{found_here, ends_here, goes_on, gone_here}
 use Rattle.tree_reads.proofs.nearest.first_along.Goals as goal

@@ -1,5 +1,5 @@
-use Rattle.sled_pages.specs.Among.{bound_of}
-use Rattle.sled_pages.specs.Store.{now}
+use Rattle.sled_nodes.specs.Among.{bound_of}
+use Rattle.sled_store.specs.Store.{now}
 use Rattle.tree_reads.specs.Leaves.{Seeks}
 use Rattle.tree_reads.proofs.nearest.first_along.Given as goal
 

@@ -1,6 +1,6 @@
 use Rattle.std.proofs.Common.{sym, subst, arith}
-use Rattle.sled_pages.specs.Among.{bound_of}
-use Rattle.sled_pages.specs.Store.{now}
+use Rattle.sled_nodes.specs.Among.{bound_of}
+use Rattle.sled_store.specs.Store.{now}
 use Rattle.tree_reads.specs.Leaves.{SeeksBack}
 use Rattle.tree_reads.proofs.Backing.{found_back, ends_back, goes_back, above_empty, one_walk}
 use Rattle.tree_reads.proofs.nearest.last_along.Goals as goal

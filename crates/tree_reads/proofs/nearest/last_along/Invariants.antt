@@ -1,6 +1,6 @@
 use Rattle.std.proofs.Common.{◌≤◌}
-use Rattle.sled_pages.specs.Among.{bound_of}
-use Rattle.sled_pages.specs.Store.{now}
+use Rattle.sled_nodes.specs.Among.{bound_of}
+use Rattle.sled_store.specs.Store.{now}
 use Rattle.tree_reads.specs.Leaves.{SeeksBack}
 use Rattle.tree_reads.proofs.nearest.last_along.Given as goal
 

@@ -1,6 +1,6 @@
 use Rattle.std.proofs.Common.{sym, subst, []}
 use Rattle.std.specs.declared.ops.Bound.TheVariants.{Included}
-use Rattle.sled_pages.specs.Among.{bound_of}
+use Rattle.sled_nodes.specs.Among.{bound_of}
 use Rattle.tree_reads.specs.theory.Leaves.{StartsAt}
 use Rattle.tree_reads.proofs.Seeking.{starts_included, starts_excluded, starts_unbounded}
 use Rattle.tree_reads.proofs.nearest.start_of.Goals as goal

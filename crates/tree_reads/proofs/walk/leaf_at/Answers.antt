@@ -1,5 +1,5 @@
 use Rattle.std.proofs.Common.{sym, refl, ◌∙◌, subst, Some, None}
-use Rattle.sled_pages.specs.Among.{bound_of}
+use Rattle.sled_nodes.specs.Among.{bound_of}
 use Rattle.tree_reads.specs.theory.Walk.{Turns}
 use Rattle.tree_reads.proofs.Walking.{walk_first, walk_more, walk_ends, walk_lost}
 use Rattle.tree_reads.proofs.walk.leaf_at.Goals as goal

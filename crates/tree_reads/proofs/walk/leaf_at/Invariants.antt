@@ -1,5 +1,5 @@
-use Rattle.sled_pages.specs.Among.{bound_of}
-use Rattle.sled_pages.specs.Store.{now}
+use Rattle.sled_nodes.specs.Among.{bound_of}
+use Rattle.sled_store.specs.Store.{now}
 use Rattle.tree_reads.proofs.Walking.{Walks}
 use Rattle.tree_reads.proofs.walk.leaf_at.Given as goal
 

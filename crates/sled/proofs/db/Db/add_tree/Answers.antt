@@ -1,6 +1,6 @@
 use Rattle.std.proofs.Common.{rules, ◌≡◌, ◌+◌, refl, ap, ◌∙◌}
 use Rattle.std.specs.FinMap.Entries.{put}
-use Rattle.sled_pages.specs.Order.{key_cmp}
+use Rattle.sled_nodes.specs.Order.{key_cmp}
 use Rattle.sled.proofs.Planting.{opens_used_up, opens_short, short_as, stopped_as, stopped_db_as, new_as, new_db_as}
 use Rattle.sled.proofs.db.Db.add_tree.Goals as goal
 

@@ -1,5 +1,5 @@
 use Rattle.std.proofs.Common.{rules, ◌≡◌, true, false, refl}
-use Rattle.sled_pages.specs.Store.{now}
+use Rattle.sled_store.specs.Store.{now}
 use Rattle.sled_model.specs.Collections.{contents_of, are_trees}
 use Rattle.sled.proofs.Importing.{import_closed, import_unknown, imported_first, imported_more, imported_stopped, import_stopped, contents_left}
 use Rattle.sled.proofs.db.Db.import.Goals as goal

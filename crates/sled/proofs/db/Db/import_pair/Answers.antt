@@ -1,6 +1,6 @@
 use Rattle.std.proofs.Common.{◌≡◌, is_some, refl, subst}
 use Rattle.std.specs.FinMap.Entries.{find}
-use Rattle.sled_pages.specs.Order.{key_cmp}
+use Rattle.sled_nodes.specs.Order.{key_cmp}
 use Rattle.sled.specs.Reads.{ReadsMap, GivesUpGet}
 use Rattle.sled.proofs.Importing.{put_present, put_unread, put_done, put_now, put_not, decided_of, refused_of}
 use Rattle.sled.proofs.db.Db.import_pair.Goals as goal

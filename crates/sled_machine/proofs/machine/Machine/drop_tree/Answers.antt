@@ -1,5 +1,5 @@
 use Rattle.std.proofs.Common.{refl, subst}
-use Rattle.sled_pages.specs.Order.{Key}
+use Rattle.sled_nodes.specs.Order.{Key}
 use Rattle.sled_model.specs.declared.call.Whole.TheVariants.{DropTree}
 use Rattle.sled.specs.Drops.{DropsTree, RefusesDrop}
 use Rattle.sled.proofs.Removing.{drop_decided, drop_refused}

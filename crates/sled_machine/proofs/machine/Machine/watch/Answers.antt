@@ -1,5 +1,5 @@
 use Rattle.std.proofs.Common.{subst}
-use Rattle.sled_pages.specs.Order.{Key}
+use Rattle.sled_nodes.specs.Order.{Key}
 use Rattle.sled_model.specs.declared.call.Whole.TheVariants.{Watch}
 use Rattle.sled.specs.Watch.{WatchesDb, RefusesWatch}
 use Rattle.sled.proofs.Subscribing.{watch_decided, watch_refused}

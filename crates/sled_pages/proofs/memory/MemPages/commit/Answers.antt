@@ -1,5 +1,5 @@
 use Rattle.sled_pages.specs.Slots.{slots_of, places_of, given_of}
-use Rattle.sled_pages.specs.Table.{roots_of}
+use Rattle.sled_store.specs.Roots.{roots_of}
 use Rattle.sled_pages.proofs.Kept.{page_commits, page_keeps, page_below}
 use Rattle.sled_pages.proofs.memory.MemPages.commit.Goals as goal
 

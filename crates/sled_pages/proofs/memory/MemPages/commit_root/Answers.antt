@@ -1,6 +1,6 @@
 use Rattle.std.proofs.Common.{refl, sym, ◌∙◌}
 use Rattle.sled_pages.specs.Slots.{slots_of, places_of, given_of}
-use Rattle.sled_pages.specs.Table.{roots_of}
+use Rattle.sled_store.specs.Roots.{roots_of}
 use Rattle.sled_pages.proofs.Kept.{root_commits, root_keeps, roots_here, log_below}
 use Rattle.sled_pages.proofs.memory.MemPages.commit_root.Goals as goal
 

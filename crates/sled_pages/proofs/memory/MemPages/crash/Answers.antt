@@ -1,6 +1,6 @@
 use Rattle.sled_pages.specs.Slots.{given_of}
 use Rattle.sled_pages.specs.Memory.{table_of}
-use Rattle.sled_pages.specs.theory.Facts.{may_leave_crashed}
+use Rattle.sled_store.specs.theory.Facts.{may_leave_crashed}
 use Rattle.sled_pages.proofs.Kept.{flush_keeps}
 use Rattle.sled_pages.proofs.Back.{crashes}
 use Rattle.std.proofs.Common.{refl}

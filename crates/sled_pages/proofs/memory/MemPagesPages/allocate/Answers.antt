@@ -1,7 +1,7 @@
 use Rattle.std.proofs.Common.{Some, true, ap, sym, ◌∙◌}
-use Rattle.sled_pages.specs.Update.{put_at}
+use Rattle.sled_store.specs.Update.{put_at}
 use Rattle.sled_pages.specs.Slots.{slots_of, places_of, given_of}
-use Rattle.sled_pages.specs.Table.{roots_of}
+use Rattle.sled_store.specs.Roots.{roots_of}
 use Rattle.sled_pages.proofs.Kept.{allocates, allocate_keeps, allocate_below, placed_here, given_here, not_placed}
 use Rattle.sled_pages.proofs.memory.MemPagesPages.allocate.Goals as goal
 

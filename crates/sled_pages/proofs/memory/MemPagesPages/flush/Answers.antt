@@ -1,6 +1,6 @@
 use Rattle.std.proofs.Common.{◌≡◌, length, rules, ap, sym, ◌∙◌}
 use Rattle.sled_pages.specs.Slots.{places_of, given_of}
-use Rattle.sled_pages.specs.Store.{Store, after_flush, now}
+use Rattle.sled_store.specs.Store.{Store, after_flush, now}
 use Rattle.sled_pages.specs.Memory.{table_of}
 use Rattle.sled_pages.proofs.Kept.{flushes, flush_keeps, group_here}
 use Rattle.sled_pages.proofs.Back.{length_recent_log}

@@ -1,6 +1,6 @@
 use Rattle.std.proofs.Common.{refl}
 use Rattle.sled_pages.specs.Slots.{slots_of, places_of, given_of}
-use Rattle.sled_pages.specs.Table.{roots_of}
+use Rattle.sled_store.specs.Roots.{roots_of}
 use Rattle.sled_pages.proofs.Linked.{links, link_keeps, link_below}
 use Rattle.sled_pages.proofs.memory.MemPagesPages.link.Goals as goal
 

@@ -2,7 +2,7 @@ use Rattle.std.proofs.Common.{ap, sym, ◌∙◌}
 use Rattle.std.specs.FinMap.{find}
 use Rattle.std.specs.Cmp.Lexicographic.{slice_cmp}
 use Rattle.std.specs.Ordering.{nat_cmp}
-use Rattle.sled_pages.specs.Order.{key_cmp}
+use Rattle.sled_nodes.specs.Order.{key_cmp}
 use Rattle.sled_pages.proofs.Kept.{roots_here}
 use Rattle.sled_pages.proofs.memory.MemPagesPages.root.Goals as goal
 

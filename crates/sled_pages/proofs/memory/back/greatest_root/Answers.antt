@@ -1,5 +1,5 @@
 use Rattle.std.proofs.Common.{◌≤◌, ◌<◌, length, get_or, rules, arith}
-use Rattle.sled_pages.proofs.Laying.{le_more}
+use Rattle.sled_nodes.proofs.All.{le_more}
 use Rattle.sled_pages.proofs.memory.back.greatest_root.Goals as goal
 
 pub loop-root-preserved : goal.loop-root-preserved

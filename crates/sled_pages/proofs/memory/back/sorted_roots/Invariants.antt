@@ -1,8 +1,8 @@
 use Rattle.std.proofs.Common.{◌≡◌, true}
 use Rattle.std.specs.FinMap.{is_sorted}
-use Rattle.sled_pages.specs.Order.{Key, key_cmp}
-use Rattle.sled_pages.specs.Table.{roots_of}
-use Rattle.sled_pages.specs.Image.{root_in}
+use Rattle.sled_nodes.specs.Order.{Key, key_cmp}
+use Rattle.sled_store.specs.Roots.{roots_of}
+use Rattle.sled_nodes.specs.Image.{root_in}
 use Rattle.sled_pages.proofs.memory.back.sorted_roots.Given as goal
 
 abbrev pub invariant-loop-name : goal.invariant-loop-name

@@ -1,6 +1,6 @@
 use Rattle.std.proofs.Common.{refl, ap, ◌∙◌, ◌≡◌, ◌++◌, ◌∷◌, [], ◌⊎◌, ◌<◌, inl, inr, true, length, option_to_list, rules}
 use Rattle.sled_pages.specs.Table.{undo_given}
-use Rattle.sled_pages.proofs.Kept.{all_front}
+use Rattle.sled_nodes.proofs.All.{all_front}
 use Rattle.sled_pages.proofs.Back.{back_none, back_one, kept_back, place_of_last}
 use Rattle.sled_pages.proofs.memory.back.take_all_back.Goals as goal
 use Rattle.sled_pages.proofs.memory.back.take_all_back.Goals.{then-len-keep, else-len-keep+then-in_group}

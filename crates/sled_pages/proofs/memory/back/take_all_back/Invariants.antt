@@ -1,8 +1,9 @@
 use Rattle.std.proofs.Common.{◌≡◌, ℕ, true, vec_len}
 use Rattle.std.specs.FinMap.{is_sorted}
-use Rattle.sled_pages.specs.Order.{key_cmp}
+use Rattle.sled_nodes.specs.Order.{key_cmp}
 use Rattle.sled_pages.specs.Slots.{slots_of, places_of, given_of}
-use Rattle.sled_pages.specs.Table.{roots_of, IsKept, AreBelow}
+use Rattle.sled_store.specs.Roots.{roots_of}
+use Rattle.sled_pages.specs.Table.{IsKept, AreBelow}
 use Rattle.sled_pages.specs.theory.Table.{table, TakesBack}
 use Rattle.sled_pages.proofs.memory.back.take_all_back.Given as goal
 

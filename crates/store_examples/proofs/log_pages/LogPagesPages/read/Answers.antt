@@ -1,6 +1,6 @@
 use Rattle.std.proofs.Common.{Some, None, ap, sym, ◌∙◌}
 use Rattle.std.specs.Option.{option_copied}
-use Rattle.sled_pages.specs.Store.{view_of}
+use Rattle.sled_store.specs.Store.{view_of}
 use Rattle.store_examples.proofs.Logging.{page_here}
 use Rattle.store_examples.proofs.log_pages.LogPagesPages.read.Goals as goal
 

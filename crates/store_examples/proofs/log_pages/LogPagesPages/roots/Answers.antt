@@ -1,5 +1,5 @@
 use Rattle.std.proofs.Common.{refl}
-use Rattle.sled_pages.specs.Table.{roots_of}
+use Rattle.sled_store.specs.Roots.{roots_of}
 use Rattle.store_examples.proofs.Logging.{root_listed, root_kept, all_listed}
 use Rattle.store_examples.proofs.log_pages.LogPagesPages.roots.Goals as goal
 use Rattle.store_examples.proofs.log_pages.LogPagesPages.roots.Goals.{in-RootBecame+in_ok-set_root, in_default}

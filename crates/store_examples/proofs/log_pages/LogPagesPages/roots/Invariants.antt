@@ -1,7 +1,7 @@
 use Rattle.std.proofs.Common.{◌≡◌, true, take}
 use Rattle.std.specs.FinMap.Entries.{is_sorted}
-use Rattle.sled_pages.specs.Order.{Key, key_cmp}
-use Rattle.sled_pages.specs.Table.{roots_of}
+use Rattle.sled_nodes.specs.Order.{Key, key_cmp}
+use Rattle.sled_store.specs.Roots.{roots_of}
 use Rattle.store_examples.specs.Log.{state_after}
 use Rattle.store_examples.proofs.log_pages.LogPagesPages.roots.Given as goal
 

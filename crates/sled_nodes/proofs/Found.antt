@@ -1,0 +1,160 @@
+-- The first and the last that pass, as a walk from the front finds them.
+use Rattle.std.proofs.Common.{◌≡◌, ℕ, zero, suc, ◌+◌, ◌-◌, ◌<◌, Bool, true, false, ◌||◌, nat_eq, List, [], ◌∷◌, ◌++◌, length, take, drop, get_or, Option, Some, None, refl, sym, ap, subst, ◌∙◌, arith, append_assoc, length-append, add-one, drop-cons, MatchOption}
+use mathlib.Core.Bool.{true≢false}
+use Rattle.std.proofs.lemmas.Bool.{eqb-true}
+use Rattle.std.proofs.Math.ListN.{get_or-append}
+use Rattle.std.specs.declared.ops.Bound.{Bound}
+use Rattle.std.specs.List.{list_any}
+use Rattle.std.proofs.lemmas.List.{length-take-le}
+use Rattle.std.proofs.lemmas.List.Folds.{list_any-append}
+use Rattle.std.proofs.Math.Seq.{take-suc, take-length, get_or-append_seam}
+use Rattle.std.proofs.lemmas.List.{take-append-drop}
+use Rattle.sled_nodes.specs.Order.{Key}
+use Rattle.sled_nodes.specs.Among.{is_up_to, IsPointer, IsBefore}
+use Rattle.sled_nodes.specs.theory.Places.{IsFirstAt, IsLastAt}
+
+neither : (a b : Bool) → a ≡ false → b ≡ false → (a || b) ≡ false
+neither a b e f = rw (e, f) refl
+
+left_none : (a b : Bool) → (a || b) ≡ false → a ≡ false
+left_none true b e = cc
+left_none false b e = refl
+
+right_none : (a b : Bool) → (a || b) ≡ false → b ≡ false
+right_none true b e = cc
+right_none false b e = e
+
+module _ {X : Type 0} (p : X → Bool) where
+  -- none so far, and not the next one
+  pub none_more : (xs : List X) (i : ℕ) (d : X) → i < length xs → list_any p (take i xs) ≡ false → p (get_or xs i d) ≡ false → list_any p (take (i + 1) xs) ≡ false
+  none_more xs i d h e f = rw add-one (ap (list_any p) (take-suc xs i d h) ∙ (list_any-append p (take i xs) (get_or xs i d ∷ []) ∙ neither _ _ e (neither _ _ f refl)))
+
+  pub none_all : (xs : List X) → list_any p (take (length xs) xs) ≡ false → list_any p xs ≡ false
+  none_all xs e = ap (list_any p) (sym (take-length xs)) ∙ e
+
+  -- the first
+  pub first_found : (xs : List X) (i : ℕ) (d : X) → i < length xs → list_any p (take i xs) ≡ false → p (get_or xs i d) ≡ true → IsFirstAt p xs i
+  first_found xs i d h e f = record {
+    x = get_or xs i d;
+    first = record {
+      before = take i xs;
+      after = drop (suc i) xs;
+      is = sym (take-append-drop i xs) ∙ ap (λ r. take i xs ++ r) (drop-cons xs i d h);
+      passed = f;
+      none = e;
+    };
+    place = length-take-le i xs (omega arith);
+  }
+
+  -- the last so far
+  pub last_here : (xs : List X) (i : ℕ) (d : X) → i < length xs → p (get_or xs i d) ≡ true → IsLastAt p (take (i + 1) xs) i
+  last_here xs i d h f = rw add-one (record {
+    x = get_or xs i d;
+    last = record { before = take i xs; after = []; is = take-suc xs i d h; passed = f; none = refl };
+    place = length-take-le i xs (omega arith);
+  })
+
+  pub last_stays : (xs : List X) (i j : ℕ) (d : X) → i < length xs → p (get_or xs i d) ≡ false → IsLastAt p (take i xs) j → IsLastAt p (take (i + 1) xs) j
+  last_stays xs i j d h f l = rw add-one (record {
+    x = l.x;
+    last = record {
+      before = l.last.before;
+      after = l.last.after ++ get_or xs i d ∷ [];
+      is = take-suc xs i d h ∙ (ap (λ r. r ++ get_or xs i d ∷ []) l.last.is ∙ append_assoc l.last.before (l.x ∷ l.last.after) (get_or xs i d ∷ []));
+      passed = l.last.passed;
+      none = list_any-append p l.last.after (get_or xs i d ∷ []) ∙ neither _ _ l.last.none (neither _ _ f refl);
+    };
+    place = l.place;
+  })
+
+  pub last_all : (xs : List X) (j : ℕ) → IsLastAt p (take (length xs) xs) j → IsLastAt p xs j
+  last_all xs j l = subst (λ (ys : List X). IsLastAt p ys j) (take-length xs) l
+
+  -- what stands at the place
+  pub last_in : (xs : List X) (i : ℕ) → IsLastAt p xs i → i < length xs
+  last_in xs i l = let e : length xs ≡ length l.last.before + length (l.x ∷ l.last.after) = ap length l.last.is ∙ length-append l.last.before (l.x ∷ l.last.after) in let k = l.place in omega arith
+
+  pub first_in : (xs : List X) (i : ℕ) → IsFirstAt p xs i → i < length xs
+  first_in xs i l = let e : length xs ≡ length l.first.before + length (l.x ∷ l.first.after) = ap length l.first.is ∙ length-append l.first.before (l.x ∷ l.first.after) in let k = l.place in omega arith
+
+  pub last_is : (xs : List X) (i : ℕ) (d : X) (l : IsLastAt p xs i) → get_or xs i d ≡ l.x
+  last_is xs i d l = ap (λ ys. get_or ys i d) l.last.is ∙ (ap (λ n. get_or (l.last.before ++ l.x ∷ l.last.after) n d) (sym l.place) ∙ get_or-append_seam l.last.before l.x l.last.after d)
+
+  pub first_is : (xs : List X) (i : ℕ) (d : X) (l : IsFirstAt p xs i) → get_or xs i d ≡ l.x
+  first_is xs i d l = ap (λ ys. get_or ys i d) l.first.is ∙ (ap (λ n. get_or (l.first.before ++ l.x ∷ l.first.after) n d) (sym l.place) ∙ get_or-append_seam l.first.before l.x l.first.after d)
+
+  -- what the walk has found so far
+  abbrev pub Walked : List X → Option ℕ → Type 0
+  Walked xs found = MatchOption found (list_any p xs ≡ false) (IsLastAt p xs)
+
+  pub walked_here : (xs : List X) (i : ℕ) (d : X) (new : Option ℕ) → i < length xs → new ≡ Some i → p (get_or xs i d) ≡ true → Walked (take (i + 1) xs) new
+  walked_here xs i d new h e f = rw e (last_here xs i d h f)
+
+  pub walked_on : (xs : List X) (i : ℕ) (d : X) (found new : Option ℕ) → i < length xs → new ≡ found → p (get_or xs i d) ≡ false → Walked (take i xs) found → Walked (take (i + 1) xs) new
+  walked_on xs i d None new h e f w = rw e (none_more xs i d h w f)
+  walked_on xs i d (Some j) new h e f w = rw e (last_stays xs i j d h f w)
+
+  pub walked_all : (xs : List X) (i : ℕ) (found : Option ℕ) → i ≡ length xs → Walked (take i xs) found → Walked xs found
+  walked_all xs i None e w = none_all xs (ap (λ n. list_any p (take n xs)) (sym e) ∙ w)
+  walked_all xs i (Some j) e w = last_all xs j (subst (λ (n : ℕ). IsLastAt p (take n xs) j) e w)
+
+-- the pointer that was found
+pub pointer_is : (bound : Bound Key) (es all slice : List (Key × ℕ)) (i : ℕ) (e : Key × ℕ) → slice ≡ all → all ≡ es → e ≡ get_or all i e → IsLastAt (λ x. is_up_to bound x.0) slice i → IsPointer bound es e.1 (nat_eq i 0)
+pointer_is bound es all slice i e s a g l =
+    let x : get_or slice i e ≡ l.x = last_is (λ x. is_up_to bound x.0) slice i e l in
+    let same : l.x ≡ e = sym x ∙ (ap (λ ys. get_or ys i e) s ∙ sym g) in
+    subst (λ (c : Key × ℕ). IsPointer bound es c.1 (nat_eq i 0)) same (record {
+      key = l.x.0;
+      last = record { before = l.last.before; after = l.last.after; is = sym a ∙ (sym s ∙ l.last.is); passed = l.last.passed; none = l.last.none };
+      is_first = ap (λ n. nat_eq n 0) (sym l.place);
+    })
+
+-- the one before it
+last_of : (xs : List (Key × ℕ)) (j : ℕ) (d : Key × ℕ) → length xs ≡ suc j → xs ≡ take j xs ++ get_or xs j d ∷ []
+last_of xs j d e = sym (take-length xs) ∙ (ap (λ n. take n xs) e ∙ take-suc xs j d (omega arith))
+
+before_at : (c : ℕ) (es slice : List (Key × ℕ)) (i j : ℕ) (e : Key × ℕ) → slice ≡ es → i ≡ suc j → e ≡ get_or es j e → IsFirstAt (λ x. nat_eq x.1 c) slice i → IsBefore c es e.1
+before_at c es slice i j e s k g l =
+    let xs : List (Key × ℕ) = l.first.before in
+    let n : length xs ≡ suc j = l.place ∙ k in
+    let all : es ≡ xs ++ l.x ∷ l.first.after = sym s ∙ l.first.is in
+    let b : get_or xs j e ≡ e = sym (ap (λ ys. get_or ys j e) all ∙ get_or-append xs (l.x ∷ l.first.after) e j (omega arith)) ∙ sym g in
+    let split : xs ≡ take j xs ++ e ∷ [] = last_of xs j e n ∙ ap (λ y. take j xs ++ y ∷ []) b in
+    record {
+      front = take j xs;
+      low = e.0;
+      key = l.x.0;
+      after = l.first.after;
+      is = all ∙ (ap (λ ys. ys ++ l.x ∷ l.first.after) split ∙ ap (λ p. (take j xs ++ e ∷ []) ++ (l.x.0, p) ∷ l.first.after) (eqb-true l.x.1 c l.first.passed));
+      none = ap (list_any (λ x. nat_eq x.1 c)) (sym split) ∙ l.first.none;
+    }
+
+pub before_is : (c : ℕ) (es all slice : List (Key × ℕ)) (i : ℕ) (e : Key × ℕ) → slice ≡ all → all ≡ es → (i ≡ 0 → ⊥) → e ≡ get_or all (i - 1) e → IsFirstAt (λ x. nat_eq x.1 c) slice i → IsBefore c es e.1
+before_is c es all slice zero e s a k g l = absurd (k refl)
+before_is c es all slice (suc j) e s a k g l =
+    let m : suc j - 1 ≡ j = omega arith in
+    before_at c es slice (suc j) j e (s ∙ a) refl (g ∙ (ap (λ n. get_or all n e) m ∙ ap (λ ys. get_or ys j e) a)) l
+
+-- none stands before the first
+head_or : Key × ℕ → List (Key × ℕ) → Key × ℕ
+head_or d [] = d
+head_or d (x ∷ xs) = x
+
+same_head : (x y : Key × ℕ) (xs ys : List (Key × ℕ)) → x ∷ xs ≡ y ∷ ys → x ≡ y
+unfolding head_or
+same_head x y xs ys e = ap (head_or x) e
+
+no_before : (c b : ℕ) (x : Key × ℕ) (es before after front rest : List (Key × ℕ)) (low : Key) → before ≡ [] → es ≡ before ++ x ∷ after → es ≡ (front ++ (low, b) ∷ []) ++ rest → nat_eq x.1 c ≡ true → list_any (λ e. nat_eq e.1 c) (front ++ (low, b) ∷ []) ≡ false → ⊥
+no_before c b x es before after [] rest low n is is' p none =
+    let h : x ≡ (low, b) = same_head x (low, b) after rest (sym (is ∙ ap (λ ys. ys ++ x ∷ after) n) ∙ is') in
+    true≢false (sym p ∙ (ap (λ (y : Key × ℕ). nat_eq y.1 c) h ∙ left_none (nat_eq b c) false none))
+no_before c b x es before after (f ∷ front) rest low n is is' p none =
+    let h : x ≡ f = same_head x f after ((front ++ (low, b) ∷ []) ++ rest) (sym (is ∙ ap (λ ys. ys ++ x ∷ after) n) ∙ is') in
+    true≢false (sym p ∙ (ap (λ (y : Key × ℕ). nat_eq y.1 c) h ∙ left_none (nat_eq f.1 c) (list_any (λ e. nat_eq e.1 c) (front ++ (low, b) ∷ [])) none))
+
+nothing : (xs : List (Key × ℕ)) → length xs ≡ 0 → xs ≡ []
+nothing [] e = refl
+nothing (x ∷ xs) e = absurd (omega (arith, e))
+
+pub none_before : (c : ℕ) (es all slice : List (Key × ℕ)) (i : ℕ) → slice ≡ all → all ≡ es → i ≡ 0 → IsFirstAt (λ x. nat_eq x.1 c) slice i → (b : ℕ) → IsBefore c es b → ⊥
+none_before c es all slice i s a k l b h = no_before c b l.x es l.first.before l.first.after h.front ((h.key, c) ∷ h.after) h.low (nothing l.first.before (l.place ∙ k)) (sym a ∙ (sym s ∙ l.first.is)) h.is l.first.passed h.none

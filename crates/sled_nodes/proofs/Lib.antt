@@ -1,0 +1,5 @@
+pub mod Put
+pub mod Returned
+pub mod Found
+pub mod Rising
+pub mod All

@@ -1,0 +1,9 @@
+use Rattle.std.proofs.Common.{◌≡◌, ◌≤◌, nat_le, true, take}
+use Rattle.std.specs.List.{list_all}
+use Rattle.sled_nodes.proofs.node.Index.greatest.Given as goal
+
+abbrev pub invariant-loop-pointer : goal.invariant-loop-pointer
+invariant-loop-pointer l = record {
+  least : l.least ≤ l.greatest;
+  all : list_all (λ e. nat_le e.1 l.greatest) (take l.pointer-index l.pointer-items) ≡ true;
+}

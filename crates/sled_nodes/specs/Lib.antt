@@ -1,0 +1,9 @@
+pub mod Order
+pub mod Bytes
+pub mod Node
+pub mod Returning
+pub mod Halves
+pub mod Posting
+pub mod Among
+pub mod Image
+pub mod theory

@@ -1,0 +1,87 @@
+//! Entries within a bound, in lists that are gone through from the front: those of a foreign node may be out of order. Lists
+//! that ascend are searched by halves.
+ghost use Rattle.std.specs.Prelude.{◌≡◌, ◌<◌, false, nat_eq, not, length, MatchOption, IfSome};
+ghost use Rattle.std.specs.List.{list_any};
+ghost use Rattle.sled_nodes.specs.Among.{bound_of, is_up_to as within_upper, is_from as within_lower};
+ghost use Rattle.sled_nodes.specs.theory.Places.{IsFirstAt, IsLastAt};
+ghost use Rattle.sled_nodes.specs.theory.Returning.{IsOut};
+
+use crate::{IVec, Pid};
+use std::ops::Bound;
+
+// Whether a key is within an upper bound.
+#[tactic(auto, unfolding(crate::specs::Order::key_cmp))]
+pub fn is_up_to(key: &IVec, bound: Bound<&[u8]>) -> bool
+    ensures { result ≡ within_upper (bound_of bound.entry) key.now }
+{
+    match bound {
+        Bound::Included(end) => key.as_ref().cmp(end).is_le(),
+        Bound::Excluded(end) => key.as_ref().cmp(end).is_lt(),
+        Bound::Unbounded => true,
+    }
+}
+
+// Whether a key is within a lower bound.
+#[tactic(auto, unfolding(crate::specs::Order::key_cmp))]
+pub fn is_from(key: &IVec, bound: Bound<&[u8]>) -> bool
+    ensures { result ≡ within_lower (bound_of bound.entry) key.now }
+{
+    match bound {
+        Bound::Included(start) => key.as_ref().cmp(start).is_ge(),
+        Bound::Excluded(start) => key.as_ref().cmp(start).is_gt(),
+        Bound::Unbounded => true,
+    }
+}
+
+// The place of the last pair whose key is within an upper bound.
+pub fn last_place<V>(pairs: &[(IVec, V)], bound: Bound<&[u8]>) -> Option<usize>
+    ensures { MatchOption result (list_any (λ e. within_upper (bound_of bound.entry) e.0) pairs.now ≡ false) (IsLastAt (λ e. within_upper (bound_of bound.entry) e.0) pairs.now) }
+{
+    let mut found = None;
+    for i in 0..pairs.len() {
+        if is_up_to(&pairs[i].0, bound) {
+            found = Some(i);
+        }
+    }
+    found
+}
+
+// The place of the first pair whose key is within a lower bound.
+pub fn first_place<V>(pairs: &[(IVec, V)], bound: Bound<&[u8]>) -> Option<usize>
+    ensures { MatchOption result (list_any (λ e. within_lower (bound_of bound.entry) e.0) pairs.now ≡ false) (IsFirstAt (λ e. within_lower (bound_of bound.entry) e.0) pairs.now) }
+{
+    for i in 0..pairs.len() {
+        if is_from(&pairs[i].0, bound) {
+            return Some(i);
+        }
+    }
+    None
+}
+
+// The place of the one pointer to a page, `Some(None)` where there is none, and `None` where there are more.
+pub fn pointer_alone(pointers: &[(IVec, Pid)], to: Pid) -> Option<Option<usize>>
+    ensures { IfSome result (IsOut (λ e. not (nat_eq e.1 to)) pointers.now) }
+{
+    let mut found: Option<usize> = None;
+    for i in 0..pointers.len() {
+        if pointers[i].1 == to {
+            if found.is_some() {
+                return None;
+            }
+            found = Some(i);
+        }
+    }
+    Some(found)
+}
+
+// The place of the first pointer to a page.
+pub fn place_of(pointers: &[(IVec, Pid)], to: Pid) -> Option<usize>
+    ensures { MatchOption result (list_any (λ e. nat_eq e.1 to) pointers.now ≡ false) (IsFirstAt (λ e. nat_eq e.1 to) pointers.now) }
+{
+    for i in 0..pointers.len() {
+        if pointers[i].1 == to {
+            return Some(i);
+        }
+    }
+    None
+}

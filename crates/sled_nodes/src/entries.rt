@@ -1,0 +1,176 @@
+//! The entries of a node. Those of a foreign node may be out of order; all others are searched by halves.
+ghost use Rattle.std.specs.Prelude.{◌≡◌, ◌<◌, true, false, not, nat_eq, length, IfOk, IfErr, OnOk, OnErr, IfSome, MatchOption};
+ghost use Rattle.sled_nodes.specs.declared.error.Error.TheVariants.{NoMemory};
+ghost use Rattle.std.specs.FinMap.Entries.{put, find, where_key};
+ghost use Rattle.std.specs.Option.{option_copied};
+ghost use Rattle.std.specs.List.{list_any, remove};
+ghost use Rattle.std.specs.Cmp.Lexicographic.{slice_cmp};
+ghost use Rattle.std.specs.Ordering.{nat_cmp, eq_by_cmp};
+ghost use Rattle.sled_nodes.specs.Among.{bound_of, is_up_to as within_upper, is_from as within_lower};
+ghost use Rattle.sled_nodes.specs.Node.{unpointed};
+ghost use Rattle.sled_nodes.specs.theory.Places.{IsFirstAt, IsLastAt};
+ghost use Rattle.sled_nodes.specs.Returning.{restored, put_in};
+ghost use Rattle.sled_nodes.specs.theory.Returning.{IsOut};
+
+use crate::error::Result;
+use crate::{IVec, Pid, among, ascending, pairs};
+use std::marker::Model;
+use std::ops::Bound;
+
+/// Pairs of a key and something else. Contracts see them as the list.
+#[derive(Drop)]
+pub struct Entries<V> {
+    list: Vec<(IVec, V)>,
+    // Where this is set the keys ascend. Where it is not they may yet.
+    ascends: bool,
+}
+
+impl<V> Model for Entries<V> {
+    ghost use Rattle.std.specs.Prelude.{◌≡◌, true, List, ℕ};
+    ghost use Rattle.std.specs.Cmp.Lexicographic.{slice_cmp};
+    ghost use Rattle.std.specs.Ordering.{nat_cmp};
+    ghost use Rattle.std.specs.FinMap.{is_sorted};
+
+    ghost Value = { List (List ℕ × V) };
+
+    ghost view = { λ a. a.list.items };
+
+    ghost invariant = { λ a. a.ascends ≡ true → is_sorted (slice_cmp nat_cmp) a.list.items ≡ true };
+}
+
+impl<V> Entries<V> {
+    /// The entries of a list.
+    pub fn new(list: Vec<(IVec, V)>) -> Entries<V>
+        ensures { result ≡ list.items }
+    {
+        let ascends = ascending::ascends(list.as_slice());
+        Entries { list, ascends }
+    }
+
+    /// The same entries, from a copy of their list.
+    pub fn copied(&self, list: Vec<(IVec, V)>) -> Entries<V>
+        requires { list.items ≡ self.now }
+        ensures { result ≡ self.now }
+    {
+        Entries {
+            list,
+            ascends: self.ascends,
+        }
+    }
+
+    /// The list.
+    pub fn as_slice(&self) -> &[(IVec, V)]
+        ensures { result.now ≡ self.now }
+    {
+        self.list.as_slice()
+    }
+
+    /// How many there are.
+    pub fn len(&self) -> usize
+        ensures { result ≡ length self.now }
+    {
+        self.list.len()
+    }
+
+    /// What stands at a key.
+    pub fn get(&self, key: &[u8]) -> Option<&V>
+        ensures { option_copied result ≡ find (slice_cmp nat_cmp) key.now self.now }
+    {
+        pairs::value_at(self.list.as_slice(), key, self.ascends)
+    }
+
+    /// The place of a key that stands once, `Some(None)` where it stands nowhere, and `None` where it stands more than once.
+    pub fn place_alone(&self, key: &IVec) -> Option<Option<usize>>
+        ensures { IfSome result (IsOut (λ e. not (eq_by_cmp (slice_cmp nat_cmp) key.now e.0)) self.now) }
+    {
+        pairs::place_alone(self.list.as_slice(), key, self.ascends)
+    }
+
+    /// The place of the last entry whose key is within an upper bound.
+    pub fn last_place(&self, bound: Bound<&[u8]>) -> Option<usize>
+        ensures { MatchOption result (list_any (λ e. within_upper (bound_of bound.entry) e.0) self.now ≡ false) (IsLastAt (λ e. within_upper (bound_of bound.entry) e.0) self.now) }
+    {
+        if self.ascends {
+            ascending::last_place(self.list.as_slice(), bound)
+        } else {
+            among::last_place(self.list.as_slice(), bound)
+        }
+    }
+
+    /// The place of the first entry whose key is within a lower bound.
+    pub fn first_place(&self, bound: Bound<&[u8]>) -> Option<usize>
+        ensures { MatchOption result (list_any (λ e. within_lower (bound_of bound.entry) e.0) self.now ≡ false) (IsFirstAt (λ e. within_lower (bound_of bound.entry) e.0) self.now) }
+    {
+        if self.ascends {
+            ascending::first_place(self.list.as_slice(), bound)
+        } else {
+            among::first_place(self.list.as_slice(), bound)
+        }
+    }
+}
+
+impl<V: Drop> Entries<V> {
+    /// Puts an entry in its place. Refused with `NoMemory` alone, and then unchanged.
+    pub fn put(&mut self, key: IVec, value: V) -> Result<()>
+        ensures ok { OnOk result (self.new ≡ put (slice_cmp nat_cmp) key value self.old) }
+        ensures err { OnErr result (self.new ≡ self.old) }
+        ensures cause { IfErr result (λ e. e ≡ NoMemory) }
+    {
+        pairs::put_pair(&mut self.list, key, value, self.ascends)
+    }
+
+    /// The same, and says where, and what stood there.
+    pub fn swap_in(&mut self, key: IVec, value: V) -> Result<(usize, Option<V>)>
+        ensures ok { OnOk result (self.new ≡ put (slice_cmp nat_cmp) key value self.old) }
+        ensures back { IfOk result (λ b. restored b.0 b.1 self.new ≡ self.old) }
+        ensures err { OnErr result (self.new ≡ self.old) }
+        ensures cause { IfErr result (λ e. e ≡ NoMemory) }
+    {
+        pairs::swap_in(&mut self.list, key, value, self.ascends)
+    }
+
+    /// Takes the entry at a place out.
+    pub fn remove(&mut self, i: usize) -> (IVec, V)
+        requires { i < length self.old }
+        ensures is { self.new ≡ remove self.old i }
+        ensures back { put_in i result self.new ≡ self.old }
+    {
+        self.list.remove(i)
+    }
+
+    /// Takes the entries of a key out.
+    pub fn remove_key(&mut self, key: &IVec)
+        ensures { self.new ≡ where_key (slice_cmp nat_cmp) (λ x. not (eq_by_cmp (slice_cmp nat_cmp) key.now x)) self.old }
+    {
+        pairs::remove_key(&mut self.list, key);
+    }
+
+    /// Puts the old value back at a place, or takes what was put there out.
+    pub fn restore(&mut self, i: usize, old: Option<V>)
+        ensures { self.new ≡ restored i old self.old }
+    {
+        pairs::restore(&mut self.list, i, old);
+        self.ascends = ascending::ascends(self.list.as_slice());
+    }
+
+    /// Puts an entry in at a place. Refused with `NoMemory` alone, and then unchanged.
+    pub fn put_in(&mut self, i: usize, key: IVec, value: V) -> Result<()>
+        ensures ok { OnOk result (self.new ≡ put_in i (key, value) self.old) }
+        ensures err { OnErr result (self.new ≡ self.old) }
+        ensures cause { IfErr result (λ e. e ≡ NoMemory) }
+    {
+        pairs::put_in(&mut self.list, i, key, value)?;
+        self.ascends = ascending::ascends(self.list.as_slice());
+        Ok(())
+    }
+}
+
+impl Entries<Pid> {
+    /// Takes the pointers to a page out.
+    pub fn take_pointers(&mut self, to: Pid)
+        ensures { self.new ≡ unpointed to self.old }
+    {
+        pairs::take_pointers(&mut self.list, to);
+        self.ascends = ascending::ascends(self.list.as_slice());
+    }
+}

@@ -1,0 +1,175 @@
+//! Byte strings: keys, values and names. Contracts see one as the list of its bytes.
+ghost use Rattle.std.specs.Prelude.{◌≡◌, length, refl, Some, IfOk, IfErr};
+ghost use Rattle.std.specs.Cmp.Lexicographic.{slice_cmp, nat_list_cmp_total, nat_list_eq_equiv, texts_ties, texts_po};
+ghost use Rattle.std.specs.Cmp;
+ghost use Rattle.std.specs.Ordering.{nat_cmp};
+ghost use Rattle.std.specs.Hash as fed;
+ghost use Rattle.std.specs.Cmp.Rules.{hashing};
+ghost use Rattle.std.specs.Str.{bytes_eq};
+ghost use Rattle.std.proofs.Common.{rules};
+ghost use Rattle.sled_nodes.specs.declared.error.Error.TheVariants.{NoMemory};
+
+use crate::error::Result;
+use std::alloc::Global;
+use std::cmp::Ordering;
+use std::hash::{Hash, Hasher};
+use std::marker::Model;
+use std::sync::Arc;
+
+// As many bytes lie in place.
+const SHORT: usize = 22;
+
+// As many bytes lie in one block with their count of owners.
+const MIDDLE: usize = 56;
+
+// Short strings lie in place, and clones of a longer one share it.
+#[derive(Debug, Drop)]
+enum Bytes {
+    Short(u8, [u8; 22]),
+    Middle(u8, Arc<[u8; 56]>),
+    Long(Arc<Vec<u8>>),
+}
+
+/// A byte string that is never changed. A clone copies at most 22 bytes.
+#[derive(Debug, Drop)]
+pub struct IVec {
+    bytes: Bytes,
+}
+
+impl Model for IVec {
+    ghost use Rattle.std.specs.Prelude.{List, ℕ};
+
+    ghost Value = { List ℕ };
+
+    ghost use Rattle.sled_nodes.specs.Bytes.{bytes_of, IsShort};
+
+    ghost view = { λ a. bytes_of a.bytes };
+
+    ghost invariant = { λ a. IsShort a.bytes };
+}
+
+impl IVec {
+    /// A copy of the bytes. Refused with `NoMemory` alone.
+    ///
+    /// ```
+    /// let key = IVec::from_slice(alloc, b"ulm")?;
+    /// ```
+    pub fn from_slice(alloc: Global, bytes: &[u8]) -> Result<IVec>
+        ensures ok { IfOk result (λ made. made ≡ bytes.now) }
+        ensures err { IfErr result (λ e. e ≡ NoMemory) }
+    {
+        if bytes.len() <= SHORT {
+            let mut short = [0; 22];
+            short[..bytes.len()].copy_from_slice(bytes);
+            return Ok(IVec {
+                bytes: Bytes::Short(bytes.len() as u8, short),
+            });
+        }
+        if bytes.len() <= MIDDLE {
+            let mut middle = [0; 56];
+            middle[..bytes.len()].copy_from_slice(bytes);
+            return Ok(IVec {
+                bytes: Bytes::Middle(bytes.len() as u8, Arc::new(alloc, middle)?),
+            });
+        }
+        Ok(IVec {
+            bytes: Bytes::Long(Arc::new(alloc, Vec::from_slice(alloc, bytes)?)?),
+        })
+    }
+
+    /// The bytes.
+    ///
+    /// ```
+    /// let is_ulm = key.as_ref() == b"ulm".as_slice();
+    /// ```
+    pub fn as_ref(&self) -> &[u8]
+        ensures { result.now ≡ self.now }
+    {
+        match &self.bytes {
+            Bytes::Short(len, bytes) => &bytes[..*len as usize],
+            Bytes::Middle(len, bytes) => &bytes[..*len as usize],
+            Bytes::Long(bytes) => bytes.as_slice(),
+        }
+    }
+
+    /// How many bytes there are.
+    ///
+    /// ```
+    /// let length = key.len(); // Of `ulm` it is 3.
+    /// ```
+    pub fn len(&self) -> usize
+        ensures { result ≡ length self.now }
+    {
+        self.as_ref().len()
+    }
+
+    /// The same byte string. Refused with `NoMemory` alone.
+    ///
+    /// ```
+    /// let same = key.clone()?; // Of a long one the bytes are shared.
+    /// ```
+    pub fn clone(&self) -> Result<IVec>
+        ensures ok { IfOk result (λ copy. copy ≡ self.now) }
+        ensures err { IfErr result (λ e. e ≡ NoMemory) }
+    {
+        match &self.bytes {
+            Bytes::Short(len, bytes) => Ok(IVec {
+                bytes: Bytes::Short(*len, *bytes),
+            }),
+            Bytes::Middle(len, bytes) => Ok(IVec {
+                bytes: Bytes::Middle(*len, Arc::try_clone(bytes)?),
+            }),
+            Bytes::Long(bytes) => Ok(IVec {
+                bytes: Bytes::Long(Arc::try_clone(bytes)?),
+            }),
+        }
+    }
+}
+
+impl PartialEq for IVec {
+    ghost eq = { bytes_eq };
+
+    ghost laws = { Cmp.partial_equiv_from_equiv nat_list_eq_equiv };
+
+    fn eq(&self, other: &Self) -> bool {
+        self.as_ref() == other.as_ref()
+    }
+}
+
+impl Eq for IVec {
+    ghost laws = { nat_list_eq_equiv };
+}
+
+impl PartialOrd for IVec {
+    ghost partial_cmp = { λ a b. Some (slice_cmp nat_cmp a b) };
+
+    ghost laws = { texts_po };
+
+    fn partial_cmp(&self, other: &Self) -> Option<Ordering> {
+        Some(self.cmp(other))
+    }
+}
+
+impl Ord for IVec {
+    ghost cmp = { slice_cmp nat_cmp };
+
+    ghost total = { nat_list_cmp_total };
+
+    ghost matches_partial_cmp = { λ _ _. refl };
+
+    ghost matches_eq = { texts_ties };
+
+    fn cmp(&self, other: &Self) -> Ordering {
+        self.as_ref().cmp(other.as_ref())
+    }
+}
+
+impl Hash for IVec {
+    ghost hash_input = { λ a. fed.slice fed.u8 a };
+
+    ghost respects_eq = { Prim.search (hashing, rules) };
+
+    fn hash<H: Hasher>(&self, state: &mut H) {
+        self.as_ref().hash(state);
+    }
+}

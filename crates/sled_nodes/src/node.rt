@@ -1,0 +1,1051 @@
+//! One page of a tree: a leaf of pairs or an index of pointers.
+ghost use Rattle.std.specs.Prelude.{◌≡◌, nat_le, true, ◌<◌, ◌≤◌, ◌++◌, ◌↔◌, IsTrue, false, None, if◌then◌else◌, is_none, length, IfOk, IfErr, OnOk, OnErr, MatchOption};
+ghost use Rattle.sled_nodes.specs.declared.error.Error.TheVariants.{NoMemory};
+ghost use Rattle.std.specs.FinMap.Entries.{put, find};
+ghost use Rattle.std.specs.Option.{option_copied};
+ghost use Rattle.sled_nodes.specs.Order.{key_cmp};
+ghost use Rattle.sled_nodes.specs.Node.{after_link, count, pairs, pointers, value_at as value_in, without, unpointed};
+ghost use Rattle.sled_nodes.specs.Halves.{first_half, second_half, first_half_of, second_half_of, first_key, first_key_of, left_half, right_half, appended, after_receiving};
+ghost use Rattle.sled_nodes.specs.Among.{bound_of, IsSuccessor, IsPredecessor, IsPointerFor, IsPointerBefore};
+ghost use Rattle.std.specs.List.{list_all};
+ghost use Rattle.sled_nodes.specs.Image.{all_of, all_named};
+ghost use Rattle.sled_nodes.specs.Returning.{restored, put_back, put_part, put_in};
+ghost use Rattle.sled_nodes.specs.declared.link.Link.TheVariants.{Set, Del, ParentMergeConfirm};
+ghost use Rattle.sled_nodes.specs.Posting.{IsOpen, IsIndex, Posts};
+
+use crate::among::{place_of, pointer_alone};
+use crate::change::{Back, Part};
+use crate::entries::Entries;
+use crate::error::Result;
+use crate::pairs::clone_pair;
+use crate::{IVec, Link, Pid, Shared};
+use std::alloc::Global;
+use std::marker::Model;
+use std::ops::Bound;
+
+// A node of more entries is split, and one of as few or fewer is merged.
+const MOST: usize = 16;
+
+const FEW: usize = 3;
+
+/// A leaf's pairs of a key and a value. Contracts see it as the list of them.
+#[derive(Drop)]
+pub struct Leaf {
+    pairs: Entries<IVec>,
+}
+
+impl Model for Leaf {
+    ghost use Rattle.std.specs.Prelude.{List, ℕ};
+
+    ghost Value = { List (List ℕ × List ℕ) };
+
+    ghost view = { λ a. a.pairs };
+}
+
+/// An index's pairs of a key and a page number. Contracts see it as the list of them.
+#[derive(Drop)]
+pub struct Index {
+    pointers: Entries<Pid>,
+}
+
+impl Model for Index {
+    ghost use Rattle.std.specs.Prelude.{List, ℕ};
+
+    ghost Value = { List (List ℕ × ℕ) };
+
+    ghost view = { λ a. a.pointers };
+}
+
+/// What a node holds.
+#[derive(Drop)]
+pub enum Data {
+    /// Pairs of a key and a value.
+    Leaf(Leaf),
+    /// Pointers to pages of the level below, each under the least key that its page covers.
+    Index(Index),
+}
+
+/// One page of a tree. It covers the keys from `lo` on that are below `hi`; an empty `hi` is no upper bound.
+#[derive(Drop)]
+pub struct Node {
+    /// The least key that the page covers.
+    pub lo: IVec,
+    /// The first key that the page does not cover, or empty.
+    pub hi: IVec,
+    /// The page that goes on where this one ends.
+    pub next: Option<Pid>,
+    /// Whether the page is merging into the one before it.
+    pub merging: bool,
+    /// The child that is to merge into the one before it.
+    pub merging_child: Option<Pid>,
+    /// The entries.
+    pub content: Data,
+}
+
+fn copy_pairs(alloc: Global, pairs: &[(IVec, IVec)]) -> Result<Vec<(IVec, IVec)>>
+    ensures ok { IfOk result (λ copy. copy.items ≡ pairs.now) }
+    ensures err { IfErr result (λ e. e ≡ NoMemory) }
+{
+    let mut copy = Vec::with_capacity(alloc, pairs.len())?;
+    for pair in pairs {
+        copy.push(clone_pair(&pair.0, &pair.1)?)?;
+    }
+    Ok(copy)
+}
+
+fn add_pairs(pairs: &mut Vec<(IVec, IVec)>, more: &[(IVec, IVec)]) -> Result<()>
+    ensures ok { OnOk result (pairs.new.items ≡ pairs.old.items ++ more.now) }
+    ensures err { IfErr result (λ e. e ≡ NoMemory) }
+{
+    for pair in more {
+        pairs.push(clone_pair(&pair.0, &pair.1)?)?;
+    }
+    Ok(())
+}
+
+fn add_pointers(pointers: &mut Vec<(IVec, Pid)>, more: &[(IVec, Pid)]) -> Result<()>
+    ensures ok { OnOk result (pointers.new.items ≡ pointers.old.items ++ more.now) }
+    ensures err { IfErr result (λ e. e ≡ NoMemory) }
+{
+    for pointer in more {
+        let key = pointer.0.clone()?;
+        pointers.push((key, pointer.1))?;
+    }
+    Ok(())
+}
+
+// The greater one of a number and a page number, if there is one.
+fn greater_of(least: u64, pid: Option<Pid>) -> u64
+    ensures least { least ≤ result }
+    ensures all { all_of (λ p. nat_le p result) pid ≡ true }
+{
+    match pid {
+        Some(pid) => pid.0.max(least),
+        None => least,
+    }
+}
+
+fn key_of_first<V>(alloc: Global, pairs: &[(IVec, V)]) -> Result<IVec>
+    ensures ok { IfOk result (λ key. key ≡ first_key pairs.now) }
+    ensures err { IfErr result (λ e. e ≡ NoMemory) }
+{
+    match pairs.first() {
+        Some(pair) => pair.0.clone(),
+        None => IVec::from_slice(alloc, &[]),
+    }
+}
+
+/// A copy of a list of keys, each with a page number. Refused with `NoMemory` alone.
+pub fn copy_pointers(alloc: Global, pointers: &[(IVec, Pid)]) -> Result<Vec<(IVec, Pid)>>
+    ensures ok { IfOk result (λ copy. copy.items ≡ pointers.now) }
+    ensures err { IfErr result (λ e. e ≡ NoMemory) }
+{
+    let mut copy = Vec::with_capacity(alloc, pointers.len())?;
+    for pointer in pointers {
+        let key = pointer.0.clone()?;
+        copy.push((key, pointer.1))?;
+    }
+    Ok(copy)
+}
+
+impl Leaf {
+    /// A leaf of these pairs, as they are given. Refused with `NoMemory` alone.
+    ///
+    /// ```
+    /// let leaf = Leaf::from_pairs(alloc, pairs.as_slice())?; // Pairs that ascend by key.
+    /// ```
+    pub fn from_pairs(alloc: Global, pairs: &[(IVec, IVec)]) -> Result<Leaf>
+        ensures ok { IfOk result (λ leaf. leaf ≡ pairs.now) }
+        ensures err { IfErr result (λ e. e ≡ NoMemory) }
+    {
+        Ok(Leaf {
+            pairs: Entries::new(copy_pairs(alloc, pairs)?),
+        })
+    }
+
+    /// The pairs. Refused with `NoMemory` alone.
+    ///
+    /// ```
+    /// let pairs = leaf.pairs(alloc)?;
+    /// let first = pairs.first(); // The pair with the least key, where the keys ascend.
+    /// ```
+    pub fn pairs(&self, alloc: Global) -> Result<Vec<(IVec, IVec)>>
+        ensures ok { IfOk result (λ list. list.items ≡ self.now) }
+        ensures err { IfErr result (λ e. e ≡ NoMemory) }
+    {
+        copy_pairs(alloc, self.pairs.as_slice())
+    }
+
+    /// How many pairs there are.
+    ///
+    /// ```
+    /// let count = leaf.len();
+    /// ```
+    pub fn len(&self) -> usize
+        ensures { result ≡ length self.now }
+    {
+        self.pairs.len()
+    }
+
+    /// The same value. Refused with `NoMemory` alone.
+    ///
+    /// ```
+    /// let copy = leaf.clone(alloc)?;
+    /// ```
+    pub fn clone(&self, alloc: Global) -> Result<Leaf>
+        ensures ok { IfOk result (λ copy. copy ≡ self.now) }
+        ensures err { IfErr result (λ e. e ≡ NoMemory) }
+    {
+        let list = copy_pairs(alloc, self.pairs.as_slice())?;
+        Ok(Leaf {
+            pairs: self.pairs.copied(list),
+        })
+    }
+
+    // The two halves, the first of them rounded down.
+    fn halves(&self, alloc: Global) -> Result<(Leaf, Leaf)>
+        ensures ok { IfOk result (λ halves. (halves.0 ≡ first_half self.now) × (halves.1 ≡ second_half self.now)) }
+        ensures err { IfErr result (λ e. e ≡ NoMemory) }
+    {
+        let middle = self.pairs.len() / 2;
+        let left = copy_pairs(alloc, &self.pairs.as_slice()[..middle])?;
+        let right = copy_pairs(alloc, &self.pairs.as_slice()[middle..])?;
+        Ok((
+            Leaf {
+                pairs: Entries::new(left),
+            },
+            Leaf {
+                pairs: Entries::new(right),
+            },
+        ))
+    }
+
+    // These pairs and then those of another leaf.
+    fn followed_by(&self, alloc: Global, other: &Leaf) -> Result<Leaf>
+        ensures ok { IfOk result (λ both. both ≡ self.now ++ other.now) }
+        ensures err { IfErr result (λ e. e ≡ NoMemory) }
+    {
+        let count = self.len().saturating_add(other.len());
+        let mut list = Vec::with_capacity(alloc, count)?;
+        add_pairs(&mut list, self.pairs.as_slice())?;
+        add_pairs(&mut list, other.pairs.as_slice())?;
+        Ok(Leaf {
+            pairs: Entries::new(list),
+        })
+    }
+
+    // The key of the first pair, or the empty one.
+    fn first_key(&self, alloc: Global) -> Result<IVec>
+        ensures ok { IfOk result (λ key. key ≡ first_key self.now) }
+        ensures err { IfErr result (λ e. e ≡ NoMemory) }
+    {
+        key_of_first(alloc, self.pairs.as_slice())
+    }
+
+    // The first pair within a lower bound.
+    fn first_from(&self, bound: Bound<&[u8]>) -> Result<Option<(IVec, IVec)>>
+        ensures ok { IfOk result (IsSuccessor (bound_of bound.entry) self.now) }
+        ensures err { IfErr result (λ e. e ≡ NoMemory) }
+    {
+        match self.pairs.first_place(bound) {
+            Some(i) => {
+                let pair = &self.pairs.as_slice()[i];
+                Ok(Some(clone_pair(&pair.0, &pair.1)?))
+            },
+            None => Ok(None),
+        }
+    }
+
+    // The last pair within an upper bound.
+    fn last_up_to(&self, bound: Bound<&[u8]>) -> Result<Option<(IVec, IVec)>>
+        ensures ok { IfOk result (IsPredecessor (bound_of bound.entry) self.now) }
+        ensures err { IfErr result (λ e. e ≡ NoMemory) }
+    {
+        match self.pairs.last_place(bound) {
+            Some(i) => {
+                let pair = &self.pairs.as_slice()[i];
+                Ok(Some(clone_pair(&pair.0, &pair.1)?))
+            },
+            None => Ok(None),
+        }
+    }
+
+    #[tactic(auto, unfolding(crate::specs::Order::key_cmp))]
+    fn get(&self, key: &[u8]) -> Option<&IVec>
+        ensures { option_copied result ≡ find key_cmp key.now self.now }
+    {
+        self.pairs.get(key)
+    }
+
+    #[tactic(auto, unfolding(crate::specs::Order::key_cmp))]
+    fn set(&mut self, key: IVec, value: IVec) -> Result<()>
+        ensures ok { OnOk result (self.new ≡ put key_cmp key value self.old) }
+        ensures err { OnErr result (self.new ≡ self.old) }
+        ensures cause { IfErr result (λ e. e ≡ NoMemory) }
+    {
+        self.pairs.put(key, value)
+    }
+
+    #[tactic(auto, unfolding(crate::specs::Order::key_cmp))]
+    fn swap_in(&mut self, key: IVec, value: IVec) -> Result<(usize, Option<IVec>)>
+        ensures ok { OnOk result (self.new ≡ put key_cmp key value self.old) }
+        ensures back { IfOk result (λ b. restored b.0 b.1 self.new ≡ self.old) }
+        ensures err { OnErr result (self.new ≡ self.old) }
+        ensures cause { IfErr result (λ e. e ≡ NoMemory) }
+    {
+        self.pairs.swap_in(key, value)
+    }
+
+    // The pair of a key out of the list, with its place: `Some(None)` where there is none, and `None`, with no change, where the
+    // key stands more than once.
+    #[tactic(auto, unfolding(crate::specs::Order::key_cmp))]
+    fn swap_out(&mut self, key: &IVec) -> Option<Option<(usize, IVec, IVec)>>
+        ensures { MatchOption result (self.new ≡ self.old) (λ o. (self.new ≡ without key.now self.old) × MatchOption o (self.new ≡ self.old) (λ e. put_in e.0 (e.1, e.2) self.new ≡ self.old)) }
+    {
+        match self.pairs.place_alone(key) {
+            None => None,
+            Some(None) => Some(None),
+            Some(Some(i)) => {
+                let (name, value) = self.pairs.remove(i);
+                Some(Some((i, name, value)))
+            }
+        }
+    }
+
+    fn put_in(&mut self, i: usize, key: IVec, value: IVec) -> Result<()>
+        ensures ok { OnOk result (self.new ≡ put_in i (key, value) self.old) }
+        ensures err { OnErr result (self.new ≡ self.old) }
+        ensures cause { IfErr result (λ e. e ≡ NoMemory) }
+    {
+        self.pairs.put_in(i, key, value)
+    }
+
+    fn restore(&mut self, i: usize, old: Option<IVec>)
+        ensures { self.new ≡ restored i old self.old }
+    {
+        self.pairs.restore(i, old);
+    }
+
+    #[tactic(auto, unfolding(crate::specs::Order::key_cmp))]
+    fn del(&mut self, key: &IVec)
+        ensures { self.new ≡ without key.now self.old }
+    {
+        self.pairs.remove_key(key);
+    }
+}
+
+impl Index {
+    /// An index of these pointers, as they are given. Refused with `NoMemory` alone.
+    ///
+    /// ```
+    /// let index = Index::from_pairs(alloc, pointers.as_slice())?; // Each page under the least key that it covers.
+    /// ```
+    pub fn from_pairs(alloc: Global, pointers: &[(IVec, Pid)]) -> Result<Index>
+        ensures ok { IfOk result (λ index. index ≡ pointers.now) }
+        ensures err { IfErr result (λ e. e ≡ NoMemory) }
+    {
+        Ok(Index {
+            pointers: Entries::new(copy_pointers(alloc, pointers)?),
+        })
+    }
+
+    /// The pointers. Refused with `NoMemory` alone.
+    ///
+    /// ```
+    /// let pointers = index.pairs(alloc)?;
+    /// let first = pointers.first(); // The leftmost page of the level below, where the keys ascend.
+    /// ```
+    pub fn pairs(&self, alloc: Global) -> Result<Vec<(IVec, Pid)>>
+        ensures ok { IfOk result (λ list. list.items ≡ self.now) }
+        ensures err { IfErr result (λ e. e ≡ NoMemory) }
+    {
+        copy_pointers(alloc, self.pointers.as_slice())
+    }
+
+    /// How many pointers there are.
+    ///
+    /// ```
+    /// let count = index.len();
+    /// ```
+    pub fn len(&self) -> usize
+        ensures { result ≡ length self.now }
+    {
+        self.pointers.len()
+    }
+
+    /// The same value. Refused with `NoMemory` alone.
+    ///
+    /// ```
+    /// let copy = index.clone(alloc)?;
+    /// ```
+    pub fn clone(&self, alloc: Global) -> Result<Index>
+        ensures ok { IfOk result (λ copy. copy ≡ self.now) }
+        ensures err { IfErr result (λ e. e ≡ NoMemory) }
+    {
+        let list = copy_pointers(alloc, self.pointers.as_slice())?;
+        Ok(Index {
+            pointers: self.pointers.copied(list),
+        })
+    }
+
+    // The two halves, the first of them rounded down.
+    fn halves(&self, alloc: Global) -> Result<(Index, Index)>
+        ensures ok { IfOk result (λ halves. (halves.0 ≡ first_half self.now) × (halves.1 ≡ second_half self.now)) }
+        ensures err { IfErr result (λ e. e ≡ NoMemory) }
+    {
+        let middle = self.pointers.len() / 2;
+        let left = copy_pointers(alloc, &self.pointers.as_slice()[..middle])?;
+        let right = copy_pointers(alloc, &self.pointers.as_slice()[middle..])?;
+        Ok((
+            Index {
+                pointers: Entries::new(left),
+            },
+            Index {
+                pointers: Entries::new(right),
+            },
+        ))
+    }
+
+    // These pointers and then those of another index.
+    fn followed_by(&self, alloc: Global, other: &Index) -> Result<Index>
+        ensures ok { IfOk result (λ both. both ≡ self.now ++ other.now) }
+        ensures err { IfErr result (λ e. e ≡ NoMemory) }
+    {
+        let count = self.len().saturating_add(other.len());
+        let mut list = Vec::with_capacity(alloc, count)?;
+        add_pointers(&mut list, self.pointers.as_slice())?;
+        add_pointers(&mut list, other.pointers.as_slice())?;
+        Ok(Index {
+            pointers: Entries::new(list),
+        })
+    }
+
+    // The key of the first pointer, or the empty one.
+    fn first_key(&self, alloc: Global) -> Result<IVec>
+        ensures ok { IfOk result (λ key. key ≡ first_key self.now) }
+        ensures err { IfErr result (λ e. e ≡ NoMemory) }
+    {
+        key_of_first(alloc, self.pointers.as_slice())
+    }
+
+    // Puts a pointer in its place where the key has none.
+    #[tactic(auto, unfolding(crate::specs::Order::key_cmp))]
+    fn post(&mut self, at: IVec, pid: Pid) -> Result<bool>
+        ensures ok { IfOk result (λ posted. posted ≡ is_none (find key_cmp at self.old)) }
+        ensures is { IfOk result (λ posted. self.new ≡ (if posted then put key_cmp at pid self.old else self.old)) }
+        ensures err { OnErr result (self.new ≡ self.old) }
+        ensures cause { IfErr result (λ e. e ≡ NoMemory) }
+    {
+        if self.pointers.get(at.as_ref()).is_some() {
+            return Ok(false);
+        }
+        self.pointers.put(at, pid)?;
+        Ok(true)
+    }
+
+    // The last pointer within an upper bound, and whether it is the first of all.
+    fn last_up_to(&self, bound: Bound<&[u8]>) -> Option<(Pid, bool)>
+        ensures { IsPointerFor (bound_of bound.entry) self.now result }
+    {
+        match self.pointers.last_place(bound) {
+            Some(i) => Some((self.pointers.as_slice()[i].1, i == 0)),
+            None => None,
+        }
+    }
+
+    // The greatest of this number and the page numbers of the pointers.
+    fn greatest(&self, least: u64) -> u64
+        ensures least { least ≤ result }
+        ensures all { list_all (λ e. nat_le e.1 result) self.now ≡ true }
+    {
+        let mut greatest = least;
+        for pointer in self.pointers.as_slice() {
+            greatest = pointer.1.0.max(greatest);
+        }
+        greatest
+    }
+
+    // The pointer before the one to a page.
+    fn before(&self, to: Pid) -> Option<Pid>
+        ensures { IsPointerBefore to self.now result }
+    {
+        match place_of(self.pointers.as_slice(), to) {
+            Some(0) => None,
+            Some(i) => Some(self.pointers.as_slice()[i - 1].1),
+            None => None,
+        }
+    }
+
+    // The one pointer to a page out of the list, with its place: `Some(None)` where there is none, and `None`, with no change,
+    // where there are more.
+    fn swap_out(&mut self, to: Pid) -> Option<Option<(usize, IVec, Pid)>>
+        ensures { MatchOption result (self.new ≡ self.old) (λ o. (self.new ≡ unpointed to self.old) × MatchOption o (self.new ≡ self.old) (λ e. put_in e.0 (e.1, e.2) self.new ≡ self.old)) }
+    {
+        match pointer_alone(self.pointers.as_slice(), to) {
+            None => None,
+            Some(None) => Some(None),
+            Some(Some(i)) => {
+                let (key, pid) = self.pointers.remove(i);
+                Some(Some((i, key, pid)))
+            }
+        }
+    }
+
+    fn put_in(&mut self, i: usize, key: IVec, pid: Pid) -> Result<()>
+        ensures ok { OnOk result (self.new ≡ put_in i (key, pid) self.old) }
+        ensures err { OnErr result (self.new ≡ self.old) }
+        ensures cause { IfErr result (λ e. e ≡ NoMemory) }
+    {
+        self.pointers.put_in(i, key, pid)
+    }
+
+    fn del_to(&mut self, to: Pid)
+        ensures { self.new ≡ unpointed to self.old }
+    {
+        self.pointers.take_pointers(to);
+    }
+}
+
+impl Data {
+    /// The same value. Refused with `NoMemory` alone.
+    ///
+    /// ```
+    /// let copy = node.content.clone(alloc)?;
+    /// ```
+    pub fn clone(&self, alloc: Global) -> Result<Data>
+        ensures ok { IfOk result (λ copy. copy ≡ self.now) }
+        ensures err { IfErr result (λ e. e ≡ NoMemory) }
+    {
+        match self {
+            Data::Leaf(leaf) => Ok(Data::Leaf(leaf.clone(alloc)?)),
+            Data::Index(index) => Ok(Data::Index(index.clone(alloc)?)),
+        }
+    }
+}
+
+impl Data {
+    // How many entries there are.
+    fn len(&self) -> usize
+        ensures { result ≡ count self.now }
+    {
+        match self {
+            Data::Leaf(leaf) => leaf.len(),
+            Data::Index(index) => index.len(),
+        }
+    }
+
+    // The two halves, the first of them rounded down.
+    fn halves(&self, alloc: Global) -> Result<(Data, Data)>
+        ensures ok { IfOk result (λ halves. (halves.0 ≡ first_half_of self.now) × (halves.1 ≡ second_half_of self.now)) }
+        ensures err { IfErr result (λ e. e ≡ NoMemory) }
+    {
+        match self {
+            Data::Leaf(leaf) => {
+                let (left, right) = leaf.halves(alloc)?;
+                Ok((Data::Leaf(left), Data::Leaf(right)))
+            }
+            Data::Index(index) => {
+                let (left, right) = index.halves(alloc)?;
+                Ok((Data::Index(left), Data::Index(right)))
+            }
+        }
+    }
+
+    // These entries and then those of another of the kind.
+    fn followed_by(&self, alloc: Global, other: &Data) -> Result<Data>
+        ensures ok { IfOk result (λ both. both ≡ appended self.now other.now) }
+        ensures err { IfErr result (λ e. e ≡ NoMemory) }
+    {
+        match self {
+            Data::Leaf(leaf) => match other {
+                Data::Leaf(more) => Ok(Data::Leaf(leaf.followed_by(alloc, more)?)),
+                Data::Index(_) => Ok(Data::Leaf(leaf.clone(alloc)?)),
+            },
+            Data::Index(index) => match other {
+                Data::Index(more) => Ok(Data::Index(index.followed_by(alloc, more)?)),
+                Data::Leaf(_) => Ok(Data::Index(index.clone(alloc)?)),
+            },
+        }
+    }
+
+    // The key of the first entry, or the empty one.
+    fn first_key(&self, alloc: Global) -> Result<IVec>
+        ensures ok { IfOk result (λ key. key ≡ first_key_of self.now) }
+        ensures err { IfErr result (λ e. e ≡ NoMemory) }
+    {
+        match self {
+            Data::Leaf(leaf) => leaf.first_key(alloc),
+            Data::Index(index) => index.first_key(alloc),
+        }
+    }
+
+    // An open node of these entries.
+    fn between(self, bounds: (IVec, IVec), next: Option<Pid>) -> Node
+        ensures { result ≡ record { lo = bounds.0; hi = bounds.1; next = next; merging = false; merging_child = None; content = self } }
+    {
+        let (lo, hi) = bounds;
+        Node {
+            lo,
+            hi,
+            next,
+            merging: false,
+            merging_child: None,
+            content: self,
+        }
+    }
+}
+
+impl Node {
+    /// The same value. Refused with `NoMemory` alone.
+    ///
+    /// ```
+    /// let copy = node.clone(alloc)?;
+    /// ```
+    pub fn clone(&self, alloc: Global) -> Result<Node>
+        ensures ok { IfOk result (λ copy. copy ≡ self.now) }
+        ensures err { IfErr result (λ e. e ≡ NoMemory) }
+    {
+        Ok(Node {
+            lo: self.lo.clone()?,
+            hi: self.hi.clone()?,
+            next: self.next,
+            merging: self.merging,
+            merging_child: self.merging_child,
+            content: self.content.clone(alloc)?,
+        })
+    }
+
+    /// A leaf's value at the key; `None` where there is none. Refused with `NoMemory` alone.
+    ///
+    /// ```
+    /// match node.get(b"ulm")? {
+    ///     Some(value) => (), // The value at the key.
+    ///     None => (), // There is none in this leaf, or the node is an index.
+    /// }
+    /// ```
+    pub fn get(&self, key: &[u8]) -> Result<Option<IVec>>
+        ensures ok { IfOk result (λ value. value ≡ value_in self.now.content key.now) }
+        ensures err { IfErr result (λ e. e ≡ NoMemory) }
+    {
+        match &self.content {
+            Data::Leaf(leaf) => match leaf.get(key) {
+                Some(value) => Ok(Some(value.clone()?)),
+                None => Ok(None),
+            },
+            Data::Index(_) => Ok(None),
+        }
+    }
+
+    /// Makes the change of a link. One that does not fit the kind of node leaves it as it is.
+    /// Refused with `NoMemory` alone, and then unchanged.
+    ///
+    /// ```
+    /// node.apply(Link::Set(key, value))?; // A leaf has the value at the key now, and an index is as it was.
+    /// node.apply(Link::ChildMergeCap)?; // The page is merging now.
+    /// ```
+    pub fn apply(&mut self, link: Link) -> Result<()>
+        ensures ok { OnOk result (self.new ≡ after_link link self.old) }
+        ensures err { OnErr result (self.new ≡ self.old) }
+        ensures cause { IfErr result (λ e. e ≡ NoMemory) }
+    {
+        match link {
+            Link::Set(key, value) => match &mut self.content {
+                Data::Leaf(leaf) => leaf.set(key, value)?,
+                Data::Index(_) => {
+                    drop(key);
+                    drop(value);
+                }
+            },
+            Link::Del(key) => {
+                if let Data::Leaf(leaf) = &mut self.content {
+                    leaf.del(&key);
+                }
+                drop(key);
+            }
+            Link::ParentMergeIntention(child) => {
+                if let Data::Index(_) = &self.content {
+                    self.merging_child = Some(child);
+                }
+            }
+            Link::ParentMergeConfirm => {
+                if let Some(child) = self.merging_child {
+                    if let Data::Index(index) = &mut self.content {
+                        index.del_to(child);
+                        self.merging_child = None;
+                    }
+                }
+            }
+            Link::ChildMergeCap => self.merging = true,
+        }
+        Ok(())
+    }
+
+    // The same, and the node before it.
+    fn apply_whole(&mut self, alloc: Global, link: Link) -> Result<Back>
+        ensures ok { OnOk result (self.new ≡ after_link link self.old) }
+        ensures back { IfOk result (λ back. put_back back self.new ≡ self.old) }
+        ensures err { OnErr result (self.new ≡ self.old) }
+        ensures cause { IfErr result (λ e. e ≡ NoMemory) }
+    {
+        let old = match self.shared(alloc) {
+            Ok(old) => old,
+            Err(e) => {
+                drop(link);
+                return Err(e);
+            }
+        };
+        match self.apply(link) {
+            Ok(()) => Ok(Back::Whole(old)),
+            Err(e) => {
+                drop(old);
+                Err(e)
+            }
+        }
+    }
+
+    // The same node, to be held by several.
+    fn shared(&self, alloc: Global) -> Result<Shared>
+        ensures ok { IfOk result (λ copy. copy ≡ self.now) }
+        ensures err { IfErr result (λ e. e ≡ NoMemory) }
+    {
+        let copy = self.clone(alloc)?;
+        Shared::new(alloc, copy)
+    }
+
+    // Makes a leaf's pair of a key, and says how that is taken back.
+    fn set_back(&mut self, key: IVec, value: IVec) -> Result<Back>
+        ensures ok { OnOk result (self.new ≡ after_link (Set key value) self.old) }
+        ensures back { IfOk result (λ back. put_back back self.new ≡ self.old) }
+        ensures err { OnErr result (self.new ≡ self.old) }
+        ensures cause { IfErr result (λ e. e ≡ NoMemory) }
+    {
+        match &mut self.content {
+            Data::Leaf(leaf) => {
+                let (i, old) = leaf.swap_in(key, value)?;
+                Ok(Back::Part(Part::Pair(i, old)))
+            }
+            Data::Index(_) => {
+                drop(key);
+                drop(value);
+                Ok(Back::Part(Part::Nothing))
+            }
+        }
+    }
+
+    // Takes a leaf's pair out, and says how that is taken back.
+    fn del_back(&mut self, alloc: Global, key: IVec) -> Result<Back>
+        ensures ok { OnOk result (self.new ≡ after_link (Del key) self.old) }
+        ensures back { IfOk result (λ back. put_back back self.new ≡ self.old) }
+        ensures err { OnErr result (self.new ≡ self.old) }
+        ensures cause { IfErr result (λ e. e ≡ NoMemory) }
+    {
+        let gone = match &mut self.content {
+            Data::Leaf(leaf) => leaf.swap_out(&key),
+            Data::Index(_) => Some(None),
+        };
+        match gone {
+            None => self.apply_whole(alloc, Link::Del(key)),
+            Some(None) => {
+                drop(key);
+                Ok(Back::Part(Part::Nothing))
+            }
+            Some(Some((i, name, value))) => {
+                drop(key);
+                Ok(Back::Part(Part::In(i, name, value)))
+            }
+        }
+    }
+
+    // Takes an index's pointer to its merging child out, and says how that is taken back.
+    fn confirm_back(&mut self, alloc: Global) -> Result<Back>
+        ensures ok { OnOk result (self.new ≡ after_link ParentMergeConfirm self.old) }
+        ensures back { IfOk result (λ back. put_back back self.new ≡ self.old) }
+        ensures err { OnErr result (self.new ≡ self.old) }
+        ensures cause { IfErr result (λ e. e ≡ NoMemory) }
+    {
+        let Some(child) = self.merging_child else {
+            return Ok(Back::Part(Part::Nothing));
+        };
+        let gone = match &mut self.content {
+            Data::Leaf(_) => return Ok(Back::Part(Part::Nothing)),
+            Data::Index(index) => index.swap_out(child),
+        };
+        match gone {
+            None => self.apply_whole(alloc, Link::ParentMergeConfirm),
+            Some(None) => {
+                self.merging_child = None;
+                Ok(Back::Part(Part::Child(Some(child))))
+            }
+            Some(Some((i, key, to))) => {
+                self.merging_child = None;
+                Ok(Back::Part(Part::Pointer(i, key, to, child)))
+            }
+        }
+    }
+
+    // The same, and how it is taken back.
+    pub(crate) fn apply_back(&mut self, alloc: Global, link: Link) -> Result<Back>
+        ensures ok { OnOk result (self.new ≡ after_link link self.old) }
+        ensures back { IfOk result (λ back. put_back back self.new ≡ self.old) }
+        ensures err { OnErr result (self.new ≡ self.old) }
+        ensures cause { IfErr result (λ e. e ≡ NoMemory) }
+    {
+        match link {
+            Link::Set(key, value) => self.set_back(key, value),
+            Link::Del(key) => self.del_back(alloc, key),
+            Link::ParentMergeIntention(child) => {
+                let back = Back::Part(Part::Child(self.merging_child));
+                if let Data::Index(_) = &self.content {
+                    self.merging_child = Some(child);
+                }
+                Ok(back)
+            }
+            Link::ParentMergeConfirm => self.confirm_back(alloc),
+            Link::ChildMergeCap => {
+                let back = Back::Part(Part::Merging(self.merging));
+                self.merging = true;
+                Ok(back)
+            }
+        }
+    }
+
+    // Takes the change of a part back.
+    pub(crate) fn put_back(&mut self, part: Part) -> Result<()>
+        ensures ok { OnOk result (self.new ≡ put_part part self.old) }
+        ensures err { OnErr result (self.new ≡ self.old) }
+        ensures cause { IfErr result (λ e. e ≡ NoMemory) }
+    {
+        match part {
+            Part::Nothing => {}
+            Part::Pair(i, old) => match &mut self.content {
+                Data::Leaf(leaf) => leaf.restore(i, old),
+                Data::Index(_) => drop(old),
+            },
+            Part::In(i, key, value) => match &mut self.content {
+                Data::Leaf(leaf) => leaf.put_in(i, key, value)?,
+                Data::Index(_) => {
+                    drop(key);
+                    drop(value);
+                }
+            },
+            Part::Pointer(i, key, to, child) => {
+                match &mut self.content {
+                    Data::Leaf(_) => drop(key),
+                    Data::Index(index) => index.put_in(i, key, to)?,
+                }
+                self.merging_child = Some(child);
+            }
+            Part::Child(child) => self.merging_child = child,
+            Part::Merging(merging) => self.merging = merging,
+        }
+        Ok(())
+    }
+
+    /// The left and the right half of a node of two entries or more. The first half of the entries, rounded down, stays left.
+    /// The right half begins at its first key and has the old `next`; the left half has none yet. Both are open.
+    /// Refused with `NoMemory` alone.
+    ///
+    /// ```
+    /// if node.should_split() {
+    ///     let (left, right) = node.split(alloc)?; // Of 17 entries 8 and 9.
+    /// }
+    /// ```
+    pub fn split(&self, alloc: Global) -> Result<(Node, Node)>
+        requires { 2 ≤ count self.now.content }
+        ensures ok { IfOk result (λ halves. (halves.0 ≡ left_half self.now) × (halves.1 ≡ right_half self.now)) }
+        ensures err { IfErr result (λ e. e ≡ NoMemory) }
+    {
+        let (left, right) = self.content.halves(alloc)?;
+        match self.bounds_of_halves(alloc, &right) {
+            Ok((lower, upper)) => Ok((left.between(lower, None), right.between(upper, self.next))),
+            Err(e) => {
+                drop(left);
+                drop(right);
+                Err(e)
+            }
+        }
+    }
+
+    // The bounds of the left half and of the right one, which has these entries.
+    fn bounds_of_halves(&self, alloc: Global, right: &Data) -> Result<((IVec, IVec), (IVec, IVec))>
+        ensures left { IfOk result (λ bounds. bounds.0 ≡ (self.now.lo, first_key_of right.now)) }
+        ensures right { IfOk result (λ bounds. bounds.1 ≡ (first_key_of right.now, self.now.hi)) }
+        ensures err { IfErr result (λ e. e ≡ NoMemory) }
+    {
+        let middle = right.first_key(alloc)?;
+        let lower = match clone_pair(&self.lo, &middle) {
+            Ok(bounds) => bounds,
+            Err(e) => {
+                drop(middle);
+                return Err(e);
+            }
+        };
+        match self.hi.clone() {
+            Ok(hi) => Ok((lower, (middle, hi))),
+            Err(e) => {
+                drop(lower);
+                drop(middle);
+                Err(e)
+            }
+        }
+    }
+
+    /// The node with the entries, the `hi` and the `next` of the node behind it, which is of the same kind and begins where
+    /// this one ends. Of another kind the entries stay. Refused with `NoMemory` alone.
+    ///
+    /// ```
+    /// let both = left.receive_merge(alloc, &right)?; // The entries of both, up to where `right` ended.
+    /// ```
+    pub fn receive_merge(&self, alloc: Global, child: &Node) -> Result<Node>
+        ensures ok { IfOk result (λ both. both ≡ after_receiving self.now child.now) }
+        ensures err { IfErr result (λ e. e ≡ NoMemory) }
+    {
+        Ok(Node {
+            lo: self.lo.clone()?,
+            hi: child.hi.clone()?,
+            next: child.next,
+            merging: self.merging,
+            merging_child: self.merging_child,
+            content: self.content.followed_by(alloc, &child.content)?,
+        })
+    }
+
+    /// Puts a pointer into an index where the key has none, and says whether it did. Else, and in a leaf, nothing changes.
+    /// Refused with `NoMemory` alone, and then unchanged.
+    ///
+    /// ```
+    /// let is_new = node.parent_split(at, pid)?; // `false` where the key had a pointer, and of a leaf.
+    /// ```
+    pub fn parent_split(&mut self, at: IVec, pid: Pid) -> Result<bool>
+        ensures ok { IfOk result (Posts at pid self.old self.new) }
+        ensures err { OnErr result (self.new ≡ self.old) }
+        ensures cause { IfErr result (λ e. e ≡ NoMemory) }
+    {
+        match &mut self.content {
+            Data::Leaf(_) => Ok(false),
+            Data::Index(index) => index.post(at, pid),
+        }
+    }
+
+    // Whether it is neither merging nor has a merging child.
+    fn is_open(&self) -> bool
+        ensures { IsTrue result ↔ IsOpen self.now }
+    {
+        !self.merging && self.merging_child.is_none()
+    }
+
+    /// Whether it is open and has more than 16 entries.
+    ///
+    /// ```
+    /// if node.should_split() {
+    ///     let (left, right) = node.split(alloc)?;
+    /// }
+    /// ```
+    pub fn should_split(&self) -> bool
+        ensures { IsTrue result ↔ (16 < count self.now.content × IsOpen self.now) }
+    {
+        self.content.len() > MOST && self.is_open()
+    }
+
+    /// Whether it is open and has 3 entries or fewer.
+    ///
+    /// ```
+    /// let is_small = node.should_merge(); // Of a leaf of 3 pairs `true`, while it is open.
+    /// ```
+    pub fn should_merge(&self) -> bool
+        ensures { IsTrue result ↔ (count self.now.content ≤ 3 × IsOpen self.now) }
+    {
+        self.content.len() <= FEW && self.is_open()
+    }
+
+    /// Whether it is an open index.
+    ///
+    /// ```
+    /// if node.can_merge_child() {
+    ///     node.apply(Link::ParentMergeIntention(child))?;
+    /// }
+    /// ```
+    pub fn can_merge_child(&self) -> bool
+        ensures { IsTrue result ↔ (IsIndex self.now.content × IsOpen self.now) }
+    {
+        match &self.content {
+            Data::Leaf(_) => false,
+            Data::Index(_) => self.is_open(),
+        }
+    }
+
+    /// An index's last pointer whose key is within an upper bound, and whether it is the first of all pointers.
+    /// `None` where no key is within the bound. It takes no memory.
+    ///
+    /// ```
+    /// match node.pointer(Bound::Included(b"ulm")) {
+    ///     Some((pid, is_first)) => (), // The way to `ulm` goes on at this page.
+    ///     None => (), // The index begins above `ulm`, or the node is a leaf.
+    /// }
+    /// ```
+    pub fn pointer(&self, bound: Bound<&[u8]>) -> Option<(Pid, bool)>
+        ensures { IsPointerFor (bound_of bound.entry) (pointers self.now.content) result }
+    {
+        match &self.content {
+            Data::Leaf(_) => None,
+            Data::Index(index) => index.last_up_to(bound),
+        }
+    }
+
+    /// The pointer before an index's first one to this page. `None` where there is no such pointer. It takes no memory.
+    ///
+    /// ```
+    /// let left = node.pointer_before(child); // From this page on, the one that `child` merges into is looked for.
+    /// ```
+    pub fn pointer_before(&self, pid: Pid) -> Option<Pid>
+        ensures { IsPointerBefore pid (pointers self.now.content) result }
+    {
+        match &self.content {
+            Data::Leaf(_) => None,
+            Data::Index(index) => index.before(pid),
+        }
+    }
+
+    /// A leaf's first pair whose key is within a lower bound. Refused with `NoMemory` alone.
+    ///
+    /// ```
+    /// let next = node.successor(Bound::Excluded(b"ulm"))?; // The first pair above `ulm`, within this leaf.
+    /// ```
+    pub fn successor(&self, bound: Bound<&[u8]>) -> Result<Option<(IVec, IVec)>>
+        ensures ok { IfOk result (IsSuccessor (bound_of bound.entry) (pairs self.now.content)) }
+        ensures err { IfErr result (λ e. e ≡ NoMemory) }
+    {
+        match &self.content {
+            Data::Leaf(leaf) => leaf.first_from(bound),
+            Data::Index(_) => Ok(None),
+        }
+    }
+
+    /// A leaf's last pair whose key is within an upper bound. Refused with `NoMemory` alone.
+    ///
+    /// ```
+    /// let last = node.predecessor(Bound::Unbounded)?; // The last pair of the leaf.
+    /// ```
+    pub fn predecessor(&self, bound: Bound<&[u8]>) -> Result<Option<(IVec, IVec)>>
+        ensures ok { IfOk result (IsPredecessor (bound_of bound.entry) (pairs self.now.content)) }
+        ensures err { IfErr result (λ e. e ≡ NoMemory) }
+    {
+        match &self.content {
+            Data::Leaf(leaf) => leaf.last_up_to(bound),
+            Data::Index(_) => Ok(None),
+        }
+    }
+
+    /// The greatest of this number and the page numbers that the node names.
+    pub fn greatest(&self, least: u64) -> u64
+        ensures least { least ≤ result }
+        ensures all { all_named (λ p. nat_le p result) self.now ≡ true }
+    {
+        let next = greater_of(least, self.next);
+        let child = greater_of(next, self.merging_child);
+        match &self.content {
+            Data::Leaf(_) => child,
+            Data::Index(index) => index.greatest(child),
+        }
+    }
+}

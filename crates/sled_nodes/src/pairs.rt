@@ -1,0 +1,199 @@
+//! Lists of pairs of a key and something else. One that ascends by key is searched by halves, any other from the front, and what
+//! is said holds of both.
+ghost use Rattle.std.specs.Prelude.{◌≡◌, ◌≤◌, true, length, IfOk, IfErr, OnOk, OnErr, IfSome};
+ghost use Rattle.sled_nodes.specs.declared.error.Error.TheVariants.{NoMemory};
+ghost use Rattle.std.specs.FinMap.Entries.{put, find};
+ghost use Rattle.std.specs.Option.{option_copied};
+ghost use Rattle.sled_nodes.specs.theory.Pairs.{Stands, Goes};
+ghost use Rattle.sled_nodes.specs.Returning.{restored, put_in};
+ghost use Rattle.sled_nodes.specs.theory.Returning.{IsOut};
+ghost use Rattle.sled_nodes.specs.Node.{unpointed};
+ghost use Rattle.std.specs.FinMap.{is_sorted};
+ghost use Rattle.std.specs.List.{insert as insert_at};
+ghost use Rattle.std.specs.FinMap.Entries.{where_key};
+ghost use Rattle.std.specs.Prelude.{not};
+ghost use Rattle.std.specs.Cmp.Lexicographic.{slice_cmp};
+ghost use Rattle.std.specs.Ordering.{nat_cmp, eq_by_cmp};
+
+use crate::ascending::search;
+use crate::error::Result;
+use crate::{IVec, Pid};
+use std::cmp::Ordering;
+
+// A node of so many entries is split.
+const FULL: usize = 17;
+
+// The place of a key: where it stands, or where it would go, before the first greater one.
+fn place<V>(pairs: &[(IVec, V)], key: &IVec, ascends: bool) -> std::result::Result<usize, usize>
+    requires { ascends ≡ true → is_sorted (slice_cmp nat_cmp) pairs.now ≡ true }
+    ensures stands { IfOk result (λ i. Stands (slice_cmp nat_cmp) key.now pairs.now i) }
+    ensures goes { IfErr result (λ i. Goes (slice_cmp nat_cmp) key.now pairs.now i) }
+{
+    if ascends {
+        return search(pairs, key.as_ref());
+    }
+    for i in 0..pairs.len() {
+        match key.cmp(&pairs[i].0) {
+            Ordering::Less => return Err(i),
+            Ordering::Equal => return Ok(i),
+            Ordering::Greater => {}
+        }
+    }
+    Err(pairs.len())
+}
+
+// The same key and value.
+pub fn clone_pair(key: &IVec, value: &IVec) -> Result<(IVec, IVec)>
+    ensures ok { IfOk result (λ copy. copy ≡ (key.now, value.now)) }
+    ensures err { IfErr result (λ e. e ≡ NoMemory) }
+{
+    let key = key.clone()?;
+    match value.clone() {
+        Ok(value) => Ok((key, value)),
+        Err(e) => {
+            drop(key);
+            Err(e)
+        }
+    }
+}
+
+// Puts a pair in at a place. A list that is full grows by four pairs, and to 17 at most: a node of so many is split.
+fn insert<V: Drop>(pairs: &mut Vec<(IVec, V)>, i: usize, key: IVec, value: V) -> Result<()>
+    requires { i ≤ length pairs.old.items }
+    ensures ok { OnOk result (pairs.new.items ≡ insert_at pairs.old.items i (key, value)) }
+    ensures err { OnErr result (pairs.new.items ≡ pairs.old.items) }
+    ensures cause { IfErr result (λ e. e ≡ NoMemory) }
+{
+    let len = pairs.len();
+    if len == pairs.capacity() && len < FULL {
+        pairs.reserve_exact((FULL - len).min(4))?;
+    }
+    pairs.insert(i, (key, value))?;
+    Ok(())
+}
+
+// Puts a pair in its place, and says where, and what value stood there.
+pub fn swap_in<V: Drop>(
+    pairs: &mut Vec<(IVec, V)>,
+    key: IVec,
+    value: V,
+    ascends: bool,
+) -> Result<(usize, Option<V>)>
+    requires { ascends ≡ true → is_sorted (slice_cmp nat_cmp) pairs.old.items ≡ true }
+    ensures ok { OnOk result (pairs.new.items ≡ put (slice_cmp nat_cmp) key value pairs.old.items) }
+    ensures back { IfOk result (λ b. restored b.0 b.1 pairs.new.items ≡ pairs.old.items) }
+    ensures err { OnErr result (pairs.new.items ≡ pairs.old.items) }
+    ensures cause { IfErr result (λ e. e ≡ NoMemory) }
+{
+    match place(pairs.as_slice(), &key, ascends) {
+        Ok(i) => {
+            let old = std::mem::replace(&mut pairs[i].1, value);
+            Ok((i, Some(old)))
+        }
+        Err(i) => {
+            insert(pairs, i, key, value)?;
+            Ok((i, None))
+        }
+    }
+}
+
+// Takes that back.
+pub fn restore<V: Drop>(pairs: &mut Vec<(IVec, V)>, i: usize, old: Option<V>)
+    ensures { pairs.new.items ≡ restored i old pairs.old.items }
+{
+    if i < pairs.len() {
+        match old {
+            Some(value) => pairs[i].1 = value,
+            None => {
+                let (key, value) = pairs.remove(i);
+                drop(key);
+                drop(value);
+            }
+        }
+    }
+}
+
+// Puts a pair in at a place, where the list reaches so far.
+pub fn put_in<V: Drop>(pairs: &mut Vec<(IVec, V)>, i: usize, key: IVec, value: V) -> Result<()>
+    ensures ok { OnOk result (pairs.new.items ≡ put_in i (key, value) pairs.old.items) }
+    ensures err { OnErr result (pairs.new.items ≡ pairs.old.items) }
+    ensures cause { IfErr result (λ e. e ≡ NoMemory) }
+{
+    if i <= pairs.len() {
+        insert(pairs, i, key, value)?;
+    }
+    Ok(())
+}
+
+/// Puts a pair in its place, where `ascends` only if the keys ascend. Refused with `NoMemory` alone, and then unchanged.
+pub fn put_pair<V: Drop>(
+    pairs: &mut Vec<(IVec, V)>,
+    key: IVec,
+    value: V,
+    ascends: bool,
+) -> Result<()>
+    requires { ascends ≡ true → is_sorted (slice_cmp nat_cmp) pairs.old.items ≡ true }
+    ensures ok { OnOk result (pairs.new.items ≡ put (slice_cmp nat_cmp) key value pairs.old.items) }
+    ensures err { OnErr result (pairs.new.items ≡ pairs.old.items) }
+    ensures cause { IfErr result (λ e. e ≡ NoMemory) }
+{
+    let (_, old) = swap_in(pairs, key, value, ascends)?;
+    drop(old);
+    Ok(())
+}
+
+// The place of a key that stands once, `Some(None)` where it stands nowhere, and `None` where it stands more than once.
+pub fn place_alone<V>(pairs: &[(IVec, V)], key: &IVec, ascends: bool) -> Option<Option<usize>>
+    requires { ascends ≡ true → is_sorted (slice_cmp nat_cmp) pairs.now ≡ true }
+    ensures { IfSome result (IsOut (λ e. not (eq_by_cmp (slice_cmp nat_cmp) key.now e.0)) pairs.now) }
+{
+    if ascends {
+        return match search(pairs, key.as_ref()) {
+            Ok(i) => Some(Some(i)),
+            Err(_) => Some(None),
+        };
+    }
+    let mut found: Option<usize> = None;
+    for i in 0..pairs.len() {
+        if key.cmp(&pairs[i].0).is_eq() {
+            if found.is_some() {
+                return None;
+            }
+            found = Some(i);
+        }
+    }
+    Some(found)
+}
+
+// Takes the pointers to a page out.
+pub fn take_pointers(pointers: &mut Vec<(IVec, Pid)>, to: Pid)
+    ensures { pointers.new.items ≡ unpointed to pointers.old.items }
+{
+    pointers.retain(|pointer| pointer.1 != to);
+}
+
+/// Takes the pairs of a key out.
+pub fn remove_key<V: Drop>(pairs: &mut Vec<(IVec, V)>, key: &IVec)
+    ensures { pairs.new.items ≡ where_key (slice_cmp nat_cmp) (λ x. not (eq_by_cmp (slice_cmp nat_cmp) key.now x)) pairs.old.items }
+{
+    pairs.retain(|pair| !key.cmp(&pair.0).is_eq());
+}
+
+/// The value of a key. A list that ascends by key, as `ascends` says, is searched by halves.
+pub fn value_at<'a, V>(pairs: &'a [(IVec, V)], key: &[u8], ascends: bool) -> Option<&'a V>
+    requires { ascends ≡ true → is_sorted (slice_cmp nat_cmp) pairs.now ≡ true }
+    ensures { option_copied result ≡ find (slice_cmp nat_cmp) key.now pairs.now }
+{
+    if ascends {
+        return match search(pairs, key) {
+            Ok(i) => Some(&pairs[i].1),
+            Err(_) => None,
+        };
+    }
+    for pair in pairs {
+        if key.cmp(pair.0.as_ref()).is_eq() {
+            return Some(&pair.1);
+        }
+    }
+    None
+}

@@ -1,8 +1,0 @@
-use Rattle.std.proofs.Common.{◌≡◌, false, take, MatchOption}
-use Rattle.std.specs.List.{list_any}
-use Rattle.sled_pages.specs.Among.{bound_of, is_up_to}
-use Rattle.sled_pages.specs.theory.Places.{IsLastAt}
-use Rattle.sled_pages.proofs.among.last_place.Given as goal
-
-abbrev pub invariant-loop-i : goal.invariant-loop-i
-invariant-loop-i g l = MatchOption l.found (list_any (λ e. is_up_to (bound_of l.bound) e.0) (take l.i l.pairs) ≡ false) (IsLastAt (λ e. is_up_to (bound_of l.bound) e.0) (take l.i l.pairs))
