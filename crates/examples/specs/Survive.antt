@@ -22,13 +22,12 @@ machine_over d = record { db = d; flights = []; slots_given = 0 }
 -- A merge operator is seen here by what it means.
 -- A database was opened, the steps were run on a machine over it, its store crashed and kept so many of the last actions, and what was
 -- left of it was opened again. The run keeps a list of maps: at first that of the opening, then the one at the last flush, and the one
--- after each call that was decided since. What is found is one of the list. Of each step all holds that is said of one step
+-- after each call that was decided since. What is found is one of the list
 pub record Survives (before : Store) (name : Key) (steps : List Step) (outcomes : List Outcome) (keep : ℕ) (found : Store) : Type 0 where
   pub first : DbValue MemPages Merge
   pub opens : Opens store_of before name first
   pub last : MachineValue MemPages Merge
   pub runs : KeepsCrashMaps store_of flush_number_of (λ m. m) (machine_over first) steps outcomes last (trees_of (now (store_of first.pages)) ∷ [])
-  pub each : MachineSteps store_of flush_number_of (λ m. m) (machine_over first) steps outcomes last
   pub left : Store
   pub crashes : Crashes keep (store_of last.db.pages) left
   pub one : In (trees_of (now left)) runs.last
@@ -36,3 +35,8 @@ pub record Survives (before : Store) (name : Key) (steps : List Step) (outcomes 
   pub reopens : Opens store_of left name again
   pub is : found ≡ store_of again.pages
   pub maps : trees_of (now found) ≡ with_default (trees_of (now left))
+
+-- .. and of each step all holds that is said of one step
+pub record SurvivesEach (before : Store) (name : Key) (steps : List Step) (outcomes : List Outcome) (keep : ℕ) (found : Store) : Type 0 where
+  pub survives : Survives before name steps outcomes keep found
+  pub each : MachineSteps store_of flush_number_of (λ m. m) (machine_over survives.first) steps outcomes survives.last

@@ -3,7 +3,7 @@ ghost use Rattle.std.specs.Prelude.{◌≡◌, false, IfOk};
 ghost use Rattle.sled_store.specs.Store.{now};
 ghost use Rattle.sled_pages.specs.Memory.{store_of};
 ghost use Rattle.tree_laws.specs.Crashes.{IsValid};
-ghost use Rattle.examples.specs.Survive.{Survives};
+ghost use Rattle.examples.specs.Survive.{Survives, SurvivesEach};
 
 use sled::{Db, crash_pages};
 use sled_machine::Machine;
@@ -24,6 +24,7 @@ pub fn survive(
     requires well { IsValid (now (store_of pages)) }
     requires no_group { (now (store_of pages)).in_group ≡ false }
     ensures ok { IfOk result (λ r. Survives (store_of pages) name.now steps.now r.0.items keep (store_of r.1)) }
+    ensures each { IfOk result (λ r. SurvivesEach (store_of pages) name.now steps.now r.0.items keep (store_of r.1)) }
     ensures well { IfOk result (λ r. IsValid (now (store_of r.1))) }
     ensures no_group { IfOk result (λ r. (now (store_of r.1)).in_group ≡ false) }
 {

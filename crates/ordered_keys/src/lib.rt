@@ -14,9 +14,7 @@
 //! push_text(&mut city, b"Ulm")?;
 //!
 //! // What was spelled is read again.
-//! let Some(parts) = parts_of(alloc, &[Kind::Text, Kind::Number], key.as_slice())? else {
-//!     return Ok(None);
-//! };
+//! let parts = parts_of(alloc, &[Kind::Text, Kind::Number], key.as_slice())?;
 //! ```
 //!
 //! A number is eight bytes, the highest first. A text is its bytes, each 0 as 0, 255, and then 0, 0: so the end of a text

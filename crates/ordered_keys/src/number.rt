@@ -8,6 +8,7 @@ use sled_nodes::Result;
 /// Adds a number at the end: eight bytes, the highest first. Refused with `NoMemory` alone, and nothing is added then.
 ///
 /// ```
+/// let mut prefix = Vec::new(alloc);
 /// push_number(&mut prefix, 7)?; // All keys whose first part is 7 begin so.
 /// ```
 #[tactic(auto, unfolding(crate::specs::Keys::spelled_number))]

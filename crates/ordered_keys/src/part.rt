@@ -31,6 +31,7 @@ pub enum Part {
 /// Adds a part at the end. Refused with `NoMemory` alone, and nothing is added then.
 ///
 /// ```
+/// let mut key = Vec::new(alloc);
 /// push_part(&mut key, &Part::Number(7))?;
 /// ```
 pub fn push_part(out: &mut Vec<u8>, part: &Part) -> Result<()>
@@ -46,6 +47,7 @@ pub fn push_part(out: &mut Vec<u8>, part: &Part) -> Result<()>
 /// The key of these parts. Refused with `NoMemory` alone.
 ///
 /// ```
+/// let name = IVec::from_slice(alloc, b"ulm")?;
 /// let key = key_of(alloc, &[Part::Number(7), Part::Text(name)])?;
 /// ```
 pub fn key_of(alloc: Global, parts: &[Part]) -> Result<IVec>

@@ -36,6 +36,7 @@ fn push_pieces(out: &mut Vec<u8>, text: &[u8]) -> Result<()>
 /// then.
 ///
 /// ```
+/// let mut prefix = Vec::new(alloc);
 /// push_text(&mut prefix, b"ulm")?; // All keys whose first part is `ulm`, and not those of `ulmer`.
 /// ```
 pub fn push_text(out: &mut Vec<u8>, text: &[u8]) -> Result<()>

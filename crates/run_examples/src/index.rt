@@ -13,14 +13,7 @@ fn insertion(alloc: Global, number: u64, text: &[u8]) -> Result<Call> {
     let mut key = Vec::new(alloc);
     push_number(&mut key, number)?;
     push_text(&mut key, text)?;
-    let value = IVec::from_slice(alloc, text)?;
-    match IVec::from_slice(alloc, key.as_slice()) {
-        Ok(key) => Ok(Call::Insert(key, value)),
-        Err(e) => {
-            drop(value);
-            Err(e)
-        }
-    }
+    Call::insert(alloc, key.as_slice(), text)
 }
 
 fn is(value: &IVec, bytes: &[u8]) -> bool {

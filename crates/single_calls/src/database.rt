@@ -1,8 +1,6 @@
 //! Calls of a database.
 ghost use Rattle.std.specs.Prelude.{◌≡◌, ◌≢◌, IfOk, IfErr, OnOk, None, [], ◌∷◌, map, false, true};
-ghost use Rattle.std.specs.Option.{option_map};
 ghost use Rattle.sled_store.specs.Store.{now};
-ghost use Rattle.sled_model.specs.Answer.{ReadDecides, decision_of};
 ghost use Rattle.sled.specs.Operators.{OperatorSet};
 ghost use Rattle.sled_model.specs.Refusal.{must_refuse_of};
 ghost use Rattle.sled_model.specs.State.{default_name};
@@ -19,8 +17,8 @@ ghost use Rattle.sled.specs.Values.{db_state, snapshot_of_db};
 
 use sled::{Collection, Db, empty_pages};
 use sled_machine::Machine;
-use sled_model::{Call, Decision, MergeOperator, Reply, Tree};
-use sled_nodes::{IVec, Result};
+use sled_model::{MergeOperator, Tree};
+use sled_nodes::Result;
 use sled_store::Pages;
 use sled_tree::{InFlight, Went};
 use std::alloc::Global;
@@ -113,25 +111,6 @@ pub fn advance_to_end<P: Pages, M: MergeOperator>(db: &mut Db<P, M>, flight: &mu
     ensures { DbRunsToEnd P.store M.meant db.old flight.old result db.new flight.new }
 {
     db.advance_to_end(flight)
-}
-
-/// What a call replies by the read of its value, where it changes nothing.
-pub fn at_read(call: &Call, value: Option<IVec>) -> Result<Option<Reply>>
-    ensures { IfOk result (ReadDecides call.now value) }
-{
-    call.at_read(value)
-}
-
-/// What a call comes to where this value stands at its key, by the operator of its tree.
-pub fn at_link<M: MergeOperator>(
-    alloc: Global,
-    call: &Call,
-    value: Option<IVec>,
-    operator: Option<&M>,
-) -> Result<Decision>
-    ensures { IfOk result (λ decision. decision ≡ decision_of (option_map (λ o. M.meant o.now) operator.entry) call.now value) }
-{
-    call.at_link(alloc, value, operator)
 }
 
 /// Gives a tree a merge operator.

@@ -12,8 +12,8 @@ mod reads;
 mod watch;
 
 pub use database::{
-    advance, advance_to_end, at_link, at_read, check, close, default_tree, drop_tree, export,
-    flush, new_tree, set_merge_operator,
+    advance, advance_to_end, check, close, default_tree, drop_tree, export, flush, new_tree,
+    set_merge_operator,
 };
 pub use direct::{compare_and_swap, insert, merge, remove};
 pub use fetch::update_and_fetch;

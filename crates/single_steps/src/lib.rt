@@ -1,6 +1,9 @@
-//! One step of a call in flight under the contract that it has. The edits in `must-fail` show what that contract rules out: each
-//! does something to the store or the call before the step, or in its place.
+//! One step of a call in flight, and what a call comes to at its key, each under the contract that it has. The edits in `must-fail`
+//! show what these contracts rule out: each does something to the store or the call before the step, or in its place, or gives
+//! another answer in some case.
 #![tactic(auto)]
+
+mod decision;
 
 ghost use Rattle.std.specs.Prelude.{◌<◌};
 ghost use Rattle.std.specs.Option.{option_map};
@@ -9,6 +12,7 @@ ghost use Rattle.sled_tree.specs.theory.StageAction.{FlightStepBy, Only};
 ghost use Rattle.sled_tree.specs.Passing.{StepsOnPath};
 ghost use Rattle.sled_tree.specs.Follows.{FollowsOn};
 
+pub use decision::{at_link, at_read};
 use sled_model::{MAX_LOOPS, MergeOperator};
 use sled_store::Pages;
 use sled_tree::{InFlight, Went, advance};

@@ -3,7 +3,7 @@ use Rattle.std.proofs.Common.{◌≡◌, ℕ, ◌+◌, ◌<◌, ◌≤◌, true,
 use Rattle.std.specs.FinMap.Entries.{find}
 use Rattle.std.specs.Ordering.{nat_cmp}
 use Rattle.sled_store.specs.In.{In}
-use Rattle.sled_store.specs.Store.{Store, now, after_flush, IsRefused, is_refused_as}
+use Rattle.sled_store.specs.Store.{Store, now, after_flush, IsRefused, is_refused_as, only_faults}
 use Rattle.sled_nodes.specs.declared.error.Error.{Error}
 use Rattle.sled_nodes.specs.declared.error.Error.TheVariants as error
 use Rattle.sled_model.specs.Maps.{Merge}
@@ -19,7 +19,7 @@ use Rattle.sled_queues.specs.Values.{queue_at}
 use Rattle.sled_queues.specs.Queues.{queues_of}
 use Rattle.sled.specs.Values.{DbValue, named, numbers_of, given_to, state_of, snapshot_of_db}
 use Rattle.sled.specs.Sound.{IsDb}
-use Rattle.sled.specs.Flush.{FlushesDb, only_faults, RefusesFlush}
+use Rattle.sled.specs.Flush.{FlushesDb, RefusesFlush}
 use Rattle.sled.proofs.Trees.{maps_are}
 use Rattle.sled.proofs.Testing.{open_now, closed_now}
 use Rattle.sled.proofs.Resting.{SameNow, flushed_now, rests_only_faults, rests_now, rests_left}

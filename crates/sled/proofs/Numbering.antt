@@ -35,11 +35,11 @@ rests_raised : (e : Error) (a b : Store) → refuses_to_raise_as a e b → Rests
 rests_raised error.NoMemory a b t = rests_same t.1
 rests_raised (error.Io fault) a b t = rests_faulted (a.faults + 1) t.1
 rests_raised (error.Unsupported text) a b t = rests_same t.2
-rests_raised (error.CollectionNotFound name) a b t = absurd t
-rests_raised (error.ReportableBug text) a b t = absurd t
-rests_raised (error.Corruption fault) a b t = absurd t
-rests_raised error.FullQueue a b t = absurd t
-rests_raised error.Closed a b t = absurd t
+rests_raised (error.CollectionNotFound name) a b t = absurd t.1
+rests_raised (error.ReportableBug text) a b t = absurd t.1
+rests_raised (error.Corruption fault) a b t = absurd t.1
+rests_raised error.FullQueue a b t = absurd t.1
+rests_raised error.Closed a b t = absurd t.1
 
 module _ {P M : Type 0} (store : P → Store) (meant : M → Merge) (old : DbValue P M) where
   -- over pages that differ in the mark alone
@@ -139,11 +139,11 @@ module _ {P M : Type 0} (store : P → Store) (meant : M → Merge) (old : DbVal
       go error.NoMemory r = (no_group, r)
       go (error.Io fault) r = (no_group, r)
       go (error.Unsupported text) r = (no_group, r)
-      go (error.CollectionNotFound name) r = absurd r.is
-      go (error.ReportableBug text) r = absurd r.is
-      go (error.Corruption fault) r = absurd r.is
-      go error.FullQueue r = absurd r.is
-      go error.Closed r = absurd r.is
+      go (error.CollectionNotFound name) r = absurd r.is.1
+      go (error.ReportableBug text) r = absurd r.is.1
+      go (error.Corruption fault) r = absurd r.is.1
+      go error.FullQueue r = absurd r.is.1
+      go error.Closed r = absurd r.is.1
 
   pub closed : (now (store old.pages)).in_group ≡ true → RefusesId store meant old error.Closed old
   closed e = record {
@@ -208,10 +208,10 @@ module _ {P M : Type 0} (store : P → Store) (meant : M → Merge) (old new : D
       more : (store new.pages).faults ≡ (store old.pages).faults + 1 → (store old.pages).faults < (store new.pages).faults
       more e = omega arith
   id_refused (error.Unsupported text) r = let k = r.is in unraised (error.Unsupported text) r k.0 (λ slots given. (k.1.is.0, k.1.none, k.1.is.1)) k.1.is.2
-  id_refused (error.CollectionNotFound name) r = absurd r.is.1.is
-  id_refused (error.ReportableBug text) r = absurd r.is.1.is
-  id_refused (error.Corruption fault) r = absurd r.is.1.is
-  id_refused error.FullQueue r = absurd r.is.1.is
+  id_refused (error.CollectionNotFound name) r = absurd r.is.1.is.1
+  id_refused (error.ReportableBug text) r = absurd r.is.1.is.1
+  id_refused (error.Corruption fault) r = absurd r.is.1.is.1
+  id_refused error.FullQueue r = absurd r.is.1.is.1
   id_refused error.Closed r = record {
     maps = [];
     refuses = λ slots given. (record { is = subst (λ o. may_refuse_as o (state_of store meant old slots given) (store old.pages) (store new.pages) (ToCall GenerateId) error.Closed) (sym (ap (λ b. first_of (first_of (cond (not b) None (Some IsClosed)) None) None) r.is.0)) refl }, r.state slots given, refl);

@@ -12,11 +12,10 @@ use Rattle.sled_store.specs.theory.Facts.{put_name_here}
 use Rattle.sled_store.specs.Store.{Store, now}
 use Rattle.sled_nodes.specs.declared.error.Error.{Error}
 use Rattle.sled_nodes.specs.declared.error.Error.TheVariants as error
-use Rattle.sled_nodes.specs.declared.texts.TheConstants.{WALK_PASSED_TURNS}
 use Rattle.sled_model.specs.Maps.{Map, Maps, Merge, IsLeast, IsGreatest}
 use Rattle.sled_model.specs.Answer.{answer_of, map_after}
 use Rattle.sled_model.specs.State.{State, NamedTree, CallInFlight, maps_of, after_decision_on}
-use Rattle.sled_model.specs.Refusal.{MustRefuse, IsClosed, IsForeign, IsDropped, HasNoOperator, first_of, must_refuse, must_refuse_of, MayRefuse, EndMeetsFullQueue, TellsTurns, ToPoint, ToCall, cause_of, may_refuse_as}
+use Rattle.sled_model.specs.Refusal.{MustRefuse, IsClosed, IsForeign, IsDropped, HasNoOperator, first_of, must_refuse, must_refuse_of, MayRefuse, TellsTurns, ToPoint, ToCall, cause_of, cause_at_end, may_refuse_as}
 use Rattle.sled_model.specs.Transition.{Configuration, WholeDecides, WholeRefuses, kind_of}
 use Rattle.sled_model.specs.Whole.{Pops, RemovesLeast, RemovesNone, RemovesOne}
 use Rattle.sled_model.specs.declared.outcome.Outcome.TheVariants as outcome
@@ -109,17 +108,6 @@ size_of (Some t) = length t.map
 
 -- ---- refusals
 
--- the causes for which a call that takes out the pair at an end is refused, where none of the tests fails
-abbrev pub cause_at_end : (Map → Option (Key × Key) → Type 0) → State → Store → Store → Tree → Error → Type 0
-cause_at_end is_end s a b tree error.NoMemory = Unit {0}
-cause_at_end is_end s a b tree (error.Io fault) = (a.faults < b.faults) ⊎ ((pid : ℕ) × (a.is_readable pid ≡ false))
-cause_at_end is_end s a b tree (error.ReportableBug text) = text.now ≡ WALK_PASSED_TURNS.now
-cause_at_end is_end s a b tree error.FullQueue = EndMeetsFullQueue is_end s tree
-cause_at_end is_end s a b tree (error.CollectionNotFound name) = ⊥
-cause_at_end is_end s a b tree (error.Unsupported text) = ⊥
-cause_at_end is_end s a b tree (error.Corruption fault) = ⊥
-cause_at_end is_end s a b tree error.Closed = ⊥
-
 first_alone : (a : Option MustRefuse) → first_of a None ≡ a
 first_alone None = refl
 first_alone (Some m) = refl
@@ -136,39 +124,19 @@ min_is : (tree : Tree) → IsPop IsLeast tree (PopMin tree)
 min_is tree = record {
   which = inl refl;
   must = λ s. first_alone (must_refuse_of s (tree ∷ []));
-  cause = go;
+  cause = λ s a b e k. k;
   decides = λ old reply new maps k. k;
   refuses = λ s a b e new may is. (may, is, refl);
 }
-  where
-    go : (s : State) (a b : Store) (e : Error) → cause_at_end IsLeast s a b tree e → cause_of s a b (ToCall (PopMin tree)) e
-    go s a b error.NoMemory k = tt
-    go s a b (error.Io fault) k = k
-    go s a b (error.ReportableBug text) k = k
-    go s a b error.FullQueue k = k
-    go s a b (error.CollectionNotFound name) k = k
-    go s a b (error.Unsupported text) k = k
-    go s a b (error.Corruption fault) k = k
-    go s a b error.Closed k = k
 
 max_is : (tree : Tree) → IsPop IsGreatest tree (PopMax tree)
 max_is tree = record {
   which = inr refl;
   must = λ s. first_alone (must_refuse_of s (tree ∷ []));
-  cause = go;
+  cause = λ s a b e k. k;
   decides = λ old reply new maps k. k;
   refuses = λ s a b e new may is. (may, is, refl);
 }
-  where
-    go : (s : State) (a b : Store) (e : Error) → cause_at_end IsGreatest s a b tree e → cause_of s a b (ToCall (PopMax tree)) e
-    go s a b error.NoMemory k = tt
-    go s a b (error.Io fault) k = k
-    go s a b (error.ReportableBug text) k = k
-    go s a b error.FullQueue k = k
-    go s a b (error.CollectionNotFound name) k = k
-    go s a b (error.Unsupported text) k = k
-    go s a b (error.Corruption fault) k = k
-    go s a b error.Closed k = k
 
 -- what a pop does and leaves is what the removal does and leaves
 module _ (tree : Tree) (whole : Whole) (which : (whole ≡ PopMin tree) ⊎ (whole ≡ PopMax tree)) where

@@ -1,14 +1,13 @@
 -- Stores that differ in the count of faults alone, or show the same now.
 use Rattle.std.proofs.Common.{◌≡◌, ℕ, ◌+◌, [], ap, inl, inr}
 use Rattle.sled_store.specs.State.{after_all}
-use Rattle.sled_store.specs.Store.{Store, now, after_flush}
+use Rattle.sled_store.specs.Store.{Store, now, after_flush, only_faults}
 use Rattle.sled_store.specs.Crash.{crash_states}
 use Rattle.sled_nodes.specs.declared.error.Error.{Error}
 use Rattle.sled_nodes.specs.declared.error.Error.TheVariants as error
 use Rattle.tree_laws.specs.Crashes.{AddsCrashStates}
 use Rattle.tree_laws.proofs.Crashing.{extends_nothing, same_left}
 use Rattle.sled_tree.specs.theory.StageAction.{is_action_refused_as}
-use Rattle.sled.specs.Flush.{only_faults}
 
 -- two stores that show the same now
 pub record SameNow (a b : Store) : Type 0 where

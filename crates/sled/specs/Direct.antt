@@ -3,19 +3,19 @@ use Rattle.std.specs.Prelude.{◌≡◌, ◌≢◌, ℕ, ◌≤◌, ◌⊎◌, t
 use Rattle.sled_store.specs.In.{In}
 use Rattle.std.specs.declared.ops.Bound.TheVariants.{Included}
 use Rattle.sled_nodes.specs.Order.{Key}
-use Rattle.sled_store.specs.Store.{Store, now, after_flush}
+use Rattle.sled_store.specs.Store.{Store, now, after_flush, only_faults}
 use Rattle.sled_nodes.specs.declared.node.Node.{Node}
 use Rattle.sled_nodes.specs.declared.error.Error.{Error}
 use Rattle.sled_nodes.specs.declared.error.Error.TheVariants.{NoMemory}
 use Rattle.sled_model.specs.Maps.{Maps, Merge}
 use Rattle.sled_model.specs.Answer.{key_of}
 use Rattle.sled_model.specs.State.{CallInFlight, maps_of}
-use Rattle.sled_model.specs.Transition.{WholeDecides, WholeRefuses, Kind, Flushing, Telling, Dropping, Listening, kind_of}
+use Rattle.sled_model.specs.Transition.{WholeDecides, WholeRefuses, Kind, Flushing, Telling, Changing, InParts, Dropping, Listening, kind_of}
 use Rattle.sled_model.specs.Whole.{DecidesPoint, RefusesPoint}
 use Rattle.sled_model.specs.Refusal.{ToPoint, ToCall, must_refuse, TellsTurns, turns_limit}
 use Rattle.sled_model.specs.declared.call.Call.{Call}
 use Rattle.sled_model.specs.declared.call.Whole.{Whole}
-use Rattle.sled_model.specs.declared.call.Whole.TheVariants.{OpenTree, DropTree, GenerateId, Import, PopMin, PopMax, Clear, Watch, Next, Unsubscribe}
+use Rattle.sled_model.specs.declared.call.Whole.TheVariants.{Flush, PopMin, PopMax, Clear, OpenTree, DropTree, GenerateId, Import, Watch, Next, Unsubscribe}
 use Rattle.sled_model.specs.declared.outcome.Outcome.{Outcome}
 use Rattle.sled_model.specs.declared.outcome.Outcome.TheVariants as outcome
 use Rattle.sled_model.specs.declared.tree.Tree.{Tree}
@@ -34,7 +34,6 @@ use Rattle.sled_tree.specs.declared.flight.Went.TheVariants.{Decided, Refused}
 use Rattle.sled.specs.Values.{DbValue, db_state, state_of, configuration_of, snapshot_of_db}
 use Rattle.sled.specs.Sound.{IsDb}
 use Rattle.sled.specs.Flights.{PagesLast, IsStepRefused, DbRunsToEnd}
-use Rattle.sled.specs.Flush.{only_faults}
 
 -- any number of changing actions, one after the other
 pub data ActsOften : Store → Store → Type 0 where
@@ -89,14 +88,17 @@ effect_of_whole Telling (outcome.Refused e) old new = only_faults e old new
 effect_of_whole Dropping (outcome.Decided reply) old new = ActsAndCounts old new
 effect_of_whole Dropping (outcome.Refused e) old new = IsStepRefused e old new
 effect_of_whole Listening o old new = new ≡ old
-effect_of_whole kind (outcome.Decided reply) old new = effects_until None old new
-effect_of_whole kind (outcome.Refused e) old new = effects_until (Some e) old new
+effect_of_whole Changing (outcome.Decided reply) old new = effects_until None old new
+effect_of_whole Changing (outcome.Refused e) old new = effects_until (Some e) old new
+effect_of_whole InParts (outcome.Decided reply) old new = effects_until None old new
+effect_of_whole InParts (outcome.Refused e) old new = effects_until (Some e) old new
 effect_of_whole kind o old new = ⊥
 
 -- what a decided whole call may change of the database: its pages; and one that removes or imports keys the queues, one that opens a
 -- tree the list of trees, one that drops a tree that list and the operators, one that takes an id the greatest that was given. One that
 -- learns of changes touches the queues alone
 abbrev pub changes_only : {P M : Type 0} → Whole → DbValue P M → DbValue P M → Type 0
+changes_only Flush old new = new ≡ record old { pages = new.pages }
 changes_only (OpenTree name) old new = new ≡ record old { pages = new.pages; trees = new.trees; trees_given = new.trees_given }
 changes_only (DropTree name) old new = new ≡ record old { pages = new.pages; trees = new.trees; operators = new.operators }
 changes_only GenerateId old new = new ≡ record old { pages = new.pages; greatest_id = new.greatest_id }
@@ -107,20 +109,35 @@ changes_only (Import collections) old new = new ≡ record old { pages = new.pag
 changes_only (Watch tree prefix) old new = new ≡ record old { queues = new.queues }
 changes_only (Next subscriber) old new = new ≡ record old { queues = new.queues }
 changes_only (Unsubscribe subscriber) old new = new ≡ record old { queues = new.queues }
-changes_only whole old new = new ≡ record old { pages = new.pages }
 
 -- .. and one that is refused. A clear may have removed some keys, and an import keeps the parts that it did
 abbrev pub changes_refused : {P M : Type 0} → Whole → DbValue P M → DbValue P M → Type 0
+changes_refused Flush old new = new ≡ record old { pages = new.pages }
 changes_refused (PopMin tree) old new = new ≡ record old { pages = new.pages; queues = new.queues }
 changes_refused (PopMax tree) old new = new ≡ record old { pages = new.pages; queues = new.queues }
 changes_refused (Clear tree) old new = new ≡ record old { pages = new.pages; queues = new.queues }
+changes_refused (OpenTree name) old new = new ≡ record old { pages = new.pages }
+changes_refused (DropTree name) old new = new ≡ record old { pages = new.pages }
+changes_refused GenerateId old new = new ≡ record old { pages = new.pages }
 changes_refused (Import collections) old new = new ≡ record old { pages = new.pages; queues = new.queues; trees = new.trees; trees_given = new.trees_given }
-changes_refused whole old new = new ≡ record old { pages = new.pages }
+changes_refused (Watch tree prefix) old new = new ≡ record old { pages = new.pages }
+changes_refused (Next subscriber) old new = new ≡ record old { pages = new.pages }
+changes_refused (Unsubscribe subscriber) old new = new ≡ record old { pages = new.pages }
 
 -- the tree that a decided whole call drops, if it drops one
 abbrev pub lost_of : Whole → Reply → Option Key
+lost_of Flush reply = None
+lost_of (PopMin tree) reply = None
+lost_of (PopMax tree) reply = None
+lost_of (Clear tree) reply = None
+lost_of (OpenTree name) reply = None
 lost_of (DropTree name) (Flag true) = Some name
-lost_of whole reply = None
+lost_of (DropTree name) reply = None
+lost_of GenerateId reply = None
+lost_of (Import collections) reply = None
+lost_of (Watch tree prefix) reply = None
+lost_of (Next subscriber) reply = None
+lost_of (Unsubscribe subscriber) reply = None
 
 -- a call as it begins
 abbrev pub begun_flight : Tree → Call → InFlight

@@ -1,15 +1,10 @@
 -- What an export gives.
 use Rattle.std.specs.Prelude.{◌≡◌, ℕ, true, false, List, map, unwrap_or, [], codes}
 use Rattle.sled_nodes.specs.Order.{Key}
-use Rattle.sled_store.specs.Store.{Store, now}
+use Rattle.sled_store.specs.Store.{Store, now, refuses_read_as}
 use Rattle.sled_nodes.specs.declared.error.Error.{Error}
-use Rattle.sled_nodes.specs.declared.error.Error.TheVariants.{Io, NoMemory, Closed}
+use Rattle.sled_nodes.specs.declared.error.Error.TheVariants.{Closed}
 use Rattle.sled_model.specs.Maps.{Map, Maps}
-
-abbrev pub refuses_read_as : Store → Error → Type 0
-refuses_read_as s NoMemory = Unit {0}
-refuses_read_as s (Io fault) = (pid : ℕ) × (s.is_readable pid ≡ false)
-refuses_read_as s e = ⊥
 
 -- a tree's collection: its type, its name, and its pairs
 abbrev pub collection : Maps → Key → Key × Key × Map

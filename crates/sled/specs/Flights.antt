@@ -1,11 +1,11 @@
 -- One step of a call in flight on a database.
-use Rattle.std.specs.Prelude.{◌≡◌, ◌≢◌, ℕ, zero, suc, ◌+◌, ◌<◌, ◌≤◌, ◌⊎◌, true, false, List, [], ◌∷◌, length, Option, Some, None}
+use Rattle.std.specs.Prelude.{◌≡◌, ◌≢◌, ℕ, zero, suc, ◌+◌, ◌<◌, ◌≤◌, ◌⊎◌, true, List, [], ◌∷◌, length, Option, Some, None}
 use Rattle.sled_store.specs.In.{In}
 use Rattle.sled_nodes.specs.declared.error.Error.{Error}
 use Rattle.sled_nodes.specs.declared.error.Error.TheVariants.{Io, NoMemory, FullQueue}
 use Rattle.sled_nodes.specs.declared.node.Node.{Node}
 use Rattle.sled_store.specs.declared.page.View.{View}
-use Rattle.sled_store.specs.Store.{Store, now}
+use Rattle.sled_store.specs.Store.{Store, now, HasUnreadable, only_faults}
 use Rattle.sled_store.specs.Update.{put_at}
 use Rattle.sled_model.specs.Maps.{Maps, Merge}
 use Rattle.sled_model.specs.Answer.{answer_of}
@@ -89,8 +89,8 @@ KeepsTreePages lost old new = (w v : Forest) → HasForest old w → HasForest n
 
 -- a refusal changes nothing; but `Io` counts a fault, or tells that some page is not readable
 abbrev pub IsStepRefused : Error → Store → Store → Type 0
-IsStepRefused (Io fault) old new = (new ≡ record old { faults = old.faults + 1 }) ⊎ ((new ≡ old) × ((pid : ℕ) × (old.is_readable pid ≡ false)))
-IsStepRefused e old new = new ≡ old
+IsStepRefused (Io fault) old new = only_faults (Io fault) old new ⊎ ((new ≡ old) × HasUnreadable old)
+IsStepRefused e old new = only_faults e old new
 
 -- what a step does to the store: at most one changing action, and none where the call is refused
 abbrev pub effect_of_step : Went → Store → Store → Type 0

@@ -1,9 +1,8 @@
 -- A flush of a database.
-use Rattle.std.specs.Prelude.{◌≡◌, ℕ, ◌+◌, [], ◌∷◌, Option, None}
-use Rattle.sled_store.specs.Store.{Store, now, after_flush}
+use Rattle.std.specs.Prelude.{◌≡◌, ℕ, [], ◌∷◌, Option, None}
+use Rattle.sled_store.specs.Store.{Store, now, after_flush, only_faults}
 use Rattle.sled_store.specs.Crash.{crash_states}
 use Rattle.sled_nodes.specs.declared.error.Error.{Error}
-use Rattle.sled_nodes.specs.declared.error.Error.TheVariants.{Io}
 use Rattle.sled_model.specs.Maps.{Merge}
 use Rattle.sled_model.specs.State.{CallInFlight, maps_of}
 use Rattle.sled_model.specs.Refusal.{MayRefuse, must_refuse, ToCall}
@@ -22,11 +21,6 @@ pub record FlushesDb {P M : Type 0} (store : P → Store) (flush_number : P → 
   -- a crash can leave the state now alone, whose contents are the maps
   pub left : crash_states (store new.pages) ≡ now (store new.pages) ∷ []
   pub maps : trees_of (now (store new.pages)) ≡ maps_of (db_state store meant new)
-
--- nothing changes, but that a fault is counted
-abbrev pub only_faults : Error → Store → Store → Type 0
-only_faults (Io fault) old new = new ≡ record old { faults = old.faults + 1 }
-only_faults e old new = new ≡ old
 
 -- refused for a cause, and nothing is flushed
 pub record RefusesFlush {P M : Type 0} (store : P → Store) (meant : M → Merge) (old new : DbValue P M) (e : Error) : Type 0 where

@@ -1,9 +1,9 @@
 -- Ids.
 use Rattle.std.specs.Prelude.{◌≡◌, ℕ, ◌+◌, ◌<◌, ◌≤◌, true, false, [], Option, None}
 use Rattle.sled_store.specs.Crash.{crash_states}
-use Rattle.sled_store.specs.Store.{Store, now}
+use Rattle.sled_store.specs.Store.{Store, now, is_refused_as}
 use Rattle.sled_nodes.specs.declared.error.Error.{Error}
-use Rattle.sled_nodes.specs.declared.error.Error.TheVariants.{Unsupported, Io, NoMemory, Closed}
+use Rattle.sled_nodes.specs.declared.error.Error.TheVariants.{Unsupported, Closed}
 use Rattle.sled_nodes.specs.declared.texts.TheConstants.{IDS_USED_UP}
 use Rattle.sled_model.specs.Maps.{Merge}
 use Rattle.sled_model.specs.State.{CallInFlight}
@@ -14,9 +14,7 @@ use Rattle.sled.specs.Direct.{LeavesAll}
 
 abbrev pub refuses_to_raise_as : Store → Error → Store → Type 0
 refuses_to_raise_as old (Unsupported text) new = (text.now ≡ IDS_USED_UP.now) × (old.mark ≡ greatest_of_all) × (new ≡ old)
-refuses_to_raise_as old NoMemory new = (old.mark < greatest_of_all) × (new ≡ old)
-refuses_to_raise_as old (Io fault) new = (old.mark < greatest_of_all) × (new ≡ record old { faults = old.faults + 1 })
-refuses_to_raise_as old e new = ⊥
+refuses_to_raise_as old e new = (old.mark < greatest_of_all) × is_refused_as e old new
 
 -- no id is set aside, and all were given, or the store refuses to set more aside
 pub record RefusesToRaise (greatest : ℕ) (old : Store) (e : Error) (new : Store) : Type 0 where

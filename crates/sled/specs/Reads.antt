@@ -4,9 +4,9 @@ use Rattle.std.specs.List.{AllByRecursion}
 use Rattle.std.specs.declared.ops.Bound.{Bound}
 use Rattle.std.specs.declared.ops.Bound.TheVariants.{Included}
 use Rattle.sled_nodes.specs.Order.{Key}
-use Rattle.sled_store.specs.Store.{Store, now}
+use Rattle.sled_store.specs.Store.{Store, now, refuses_read_as}
 use Rattle.sled_nodes.specs.declared.error.Error.{Error}
-use Rattle.sled_nodes.specs.declared.error.Error.TheVariants.{NoMemory, Io, ReportableBug}
+use Rattle.sled_nodes.specs.declared.error.Error.TheVariants.{NoMemory, ReportableBug}
 use Rattle.sled_nodes.specs.declared.texts.TheConstants.{WALK_PASSED_TURNS}
 use Rattle.sled_model.specs.Maps.{Map, Merge}
 use Rattle.sled_model.specs.State.{NamedTree}
@@ -45,10 +45,8 @@ module _ {P M : Type 0} (store : P → Store) (meant : M → Merge) (d : DbValue
   -- want of memory, a page that is not readable, or as many pages looked at as may be: the tree has so many that this function of
   -- their number comes to the limit
   abbrev pub stops_reading : (ℕ → ℕ) → Error → Type 0
-  stops_reading of NoMemory = Unit {0}
-  stops_reading of (Io fault) = (pid : ℕ) × ((store d.pages).is_readable pid ≡ false)
   stops_reading of (ReportableBug text) = (text.now ≡ WALK_PASSED_TURNS.now) × (MOST_PAGES ≤ of (tree_pages (now (store d.pages)) tree.name))
-  stops_reading of e = ⊥
+  stops_reading of e = refuses_read_as (store d.pages) e
 
   abbrev pub refuses_reading_as : (ℕ → ℕ) → Option MustRefuse → Error → Type 0
   refuses_reading_as of (Some must) e = tells must e

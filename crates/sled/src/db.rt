@@ -81,6 +81,17 @@ impl<P: Pages, M: MergeOperator> Db<P, M> {
         self.alloc
     }
 
+    /// The pages as they are, to be looked at. Nothing changes: calls in flight and subscribers go on, and nothing is flushed.
+    ///
+    /// ```
+    /// let root = db.pages().root(b"weather"); // The page at which the tree of this name begins, if there is one.
+    /// ```
+    pub fn pages(&self) -> &P
+        ensures { result.now ≡ self.now.pages }
+    {
+        &self.pages
+    }
+
     /// The pages, as they are. They can be opened again where no group is open.
     ///
     /// ```
@@ -189,7 +200,7 @@ impl<P: Pages, M: MergeOperator> Db<P, M> {
     /// with `FullQueue` where the call comes to its link while 1024 events wait for a subscriber that would get one more.
     ///
     /// ```
-    /// let mut flight = InFlight::new(tree, Call::Get(key));
+    /// let mut flight = InFlight::new(tree, Call::get(alloc, b"ulm")?);
     /// let went = db.advance(&mut flight); // One page action at most.
     /// ```
     pub fn advance(&mut self, flight: &mut InFlight) -> Went
@@ -232,7 +243,7 @@ impl<P: Pages, M: MergeOperator> Db<P, M> {
     /// Steps of a call in flight until it ends. The tests are made once, since no step of a call changes what they look at.
     ///
     /// ```
-    /// let mut flight = InFlight::new(tree, Call::Get(key));
+    /// let mut flight = InFlight::new(tree, Call::get(alloc, b"ulm")?);
     /// let went = db.advance_to_end(&mut flight); // Decided or refused, never `Moved`.
     /// ```
     pub fn advance_to_end(&mut self, flight: &mut InFlight) -> Went
@@ -248,7 +259,9 @@ impl<P: Pages, M: MergeOperator> Db<P, M> {
     /// The same of a call that passed the tests.
     ///
     /// ```
-    /// let went = db.advance_on(&mut flight); // After `db.check_call(&tree, &call)?`, which it does not repeat.
+    /// db.check_call(&tree, &call)?; // The tests, which `advance_on` does not repeat.
+    /// let mut flight = InFlight::new(tree, call);
+    /// let went = db.advance_on(&mut flight);
     /// ```
     pub fn advance_on(&mut self, flight: &mut InFlight) -> Went
         requires known { IsKnown (snapshot_of_db P.store self.old) flight.old }

@@ -3,7 +3,6 @@
 //! They make the same steps as a call in flight, one after the other, repairs included.
 ghost use Rattle.std.specs.Prelude.{◌≡◌, IfOk, IfErr, None};
 ghost use Rattle.std.specs.Option.{option_copied};
-ghost use Rattle.sled_nodes.specs.declared.error.Error.TheVariants.{NoMemory};
 ghost use Rattle.sled_model.specs.Refusal.{must_refuse, ToPoint};
 ghost use Rattle.sled_model.specs.declared.call.Call.TheVariants as call;
 ghost use Rattle.sled_model.specs.declared.reply.Reply.TheVariants as told;
@@ -14,89 +13,10 @@ use sled_model::{Call, CompareAndSwapError, MergeOperator, Reply, Tree};
 use sled_nodes::{IVec, Result};
 use sled_store::Pages;
 use sled_tree::{InFlight, Went};
-use std::alloc::Global;
 
 /// What a swap answers: that the value was swapped, which value stood there in place of the one that was asked for, or why
 /// the call was refused.
 pub type CompareAndSwapResult = Result<std::result::Result<(), CompareAndSwapError>>;
-
-// A value of one's own, if there is one. Refused with `NoMemory` alone.
-fn own_value(alloc: Global, value: Option<&[u8]>) -> Result<Option<IVec>>
-    ensures ok { IfOk result (λ own. own ≡ option_copied value.entry) }
-    ensures err { IfErr result (λ e. e ≡ NoMemory) }
-{
-    match value {
-        Some(value) => Ok(Some(IVec::from_slice(alloc, value)?)),
-        None => Ok(None),
-    }
-}
-
-// A key and a value of one's own. Refused with `NoMemory` alone.
-fn own_pair(alloc: Global, key: &[u8], value: &[u8]) -> Result<(IVec, IVec)>
-    ensures ok { IfOk result (λ own. own ≡ (key.now, value.now)) }
-    ensures err { IfErr result (λ e. e ≡ NoMemory) }
-{
-    let key = IVec::from_slice(alloc, key)?;
-    match IVec::from_slice(alloc, value) {
-        Ok(value) => Ok((key, value)),
-        Err(e) => {
-            drop(key);
-            Err(e)
-        }
-    }
-}
-
-// The call that sets a value at a key.
-fn insert_of(alloc: Global, key: &[u8], value: &[u8]) -> Result<Call>
-    ensures ok { IfOk result (λ made. made ≡ call.Insert key.now value.now) }
-    ensures err { IfErr result (λ e. e ≡ NoMemory) }
-{
-    let (key, value) = own_pair(alloc, key, value)?;
-    Ok(Call::Insert(key, value))
-}
-
-// The call that merges bytes at a key.
-fn merge_of(alloc: Global, key: &[u8], bytes: &[u8]) -> Result<Call>
-    ensures ok { IfOk result (λ made. made ≡ call.Merge key.now bytes.now) }
-    ensures err { IfErr result (λ e. e ≡ NoMemory) }
-{
-    let (key, bytes) = own_pair(alloc, key, bytes)?;
-    Ok(Call::Merge(key, bytes))
-}
-
-// The call that takes a key out.
-fn remove_of(alloc: Global, key: &[u8]) -> Result<Call>
-    ensures ok { IfOk result (λ made. made ≡ call.Remove key.now) }
-    ensures err { IfErr result (λ e. e ≡ NoMemory) }
-{
-    match IVec::from_slice(alloc, key) {
-        Ok(key) => Ok(Call::Remove(key)),
-        Err(e) => Err(e),
-    }
-}
-
-// The call that swaps one value for another at a key.
-fn swap_of(alloc: Global, key: &[u8], old: Option<&[u8]>, new: Option<&[u8]>) -> Result<Call>
-    ensures ok { IfOk result (λ made. made ≡ call.CompareAndSwap key.now (option_copied old.entry) (option_copied new.entry)) }
-    ensures err { IfErr result (λ e. e ≡ NoMemory) }
-{
-    let key = IVec::from_slice(alloc, key)?;
-    let old = match own_value(alloc, old) {
-        Ok(old) => old,
-        Err(e) => {
-            drop(key);
-            return Err(e);
-        }
-    };
-    match own_value(alloc, new) {
-        Ok(new) => Ok(Call::CompareAndSwap(key, old, new)),
-        Err(e) => {
-            drop(key);
-            drop(old);
-            Err(e)
-        }
-    }
-}
 
 // The value that a call replied with, if there is one.
 fn value_of(reply: Reply) -> Option<IVec>
@@ -177,7 +97,7 @@ impl<P: Pages, M: MergeOperator> Db<P, M> {
         if let Err(e) = self.check(tree) {
             return Err(e);
         }
-        let call = match insert_of(self.allocator(), key, value) {
+        let call = match Call::insert(self.allocator(), key, value) {
             Ok(call) => call,
             Err(e) => return Err(e),
         };
@@ -213,7 +133,7 @@ impl<P: Pages, M: MergeOperator> Db<P, M> {
         if let Err(e) = self.check(tree) {
             return Err(e);
         }
-        let call = match remove_of(self.allocator(), key) {
+        let call = match Call::remove(self.allocator(), key) {
             Ok(call) => call,
             Err(e) => return Err(e),
         };
@@ -249,7 +169,7 @@ impl<P: Pages, M: MergeOperator> Db<P, M> {
         if let Err(e) = self.check_operator(tree) {
             return Err(e);
         }
-        let call = match merge_of(self.allocator(), key, bytes) {
+        let call = match Call::merge(self.allocator(), key, bytes) {
             Ok(call) => call,
             Err(e) => return Err(e),
         };
@@ -281,7 +201,7 @@ impl<P: Pages, M: MergeOperator> Db<P, M> {
         if let Err(e) = self.check(tree) {
             return Err(e);
         }
-        let call = match swap_of(self.allocator(), key, old, new) {
+        let call = match Call::compare_and_swap(self.allocator(), key, old, new) {
             Ok(call) => call,
             Err(e) => return Err(e),
         };

@@ -81,8 +81,8 @@ impl<P: Pages, M: MergeOperator> Db<P, M> {
     /// that is present, whose pair stays as it is; and as `open_tree`, `contains_key` and `insert` are.
     ///
     /// ```
-    /// let collections = first.export()?;
-    /// second.import(collections.as_slice())?; // Both have the same trees and pairs, where `second` had no pair.
+    /// let collections = db.export()?;
+    /// other.import(collections.as_slice())?; // Both have the same trees and pairs, where `other` had no pair.
     /// ```
     pub fn import(&mut self, collections: &[Collection]) -> Result<()>
         ensures ok { OnOk result (ImportDecided P.store M.meant self.old (contents_of collections.now) self.new) }

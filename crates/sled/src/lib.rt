@@ -33,12 +33,12 @@ pub use sled_model::{
     Outcome, QUEUE_LIMIT, Reply, Slot, Step, Subscriber, Tree, Whole,
 };
 pub use sled_nodes::{
-    Data, Error, Fault, IVec, Index, Leaf, Link, Node, Pid, Result, Shared, Version,
+    Data, Error, Fault, IVec, Index, Leaf, Link, Node, Pid, Result, Shared, Version, texts,
 };
 pub use sled_pages::MemPages;
-pub use sled_store::{Page, Pages, View};
+pub use sled_store::{Page, Pages, View, law_given, law_sealed};
 pub use sled_tree::{InFlight, Job, Stage, Went};
-pub use tree_reads::{Iter, Keys, Values, law_bytes, law_prefix};
+pub use tree_reads::{Iter, Keys, Reads, Values, law_bytes, law_prefix};
 
 /// The name of the default tree, which every database has.
 pub const DEFAULT_TREE: &str = "__sled__default";

@@ -214,8 +214,7 @@ impl<P: Pages, M: MergeOperator> Db<P, M> {
     /// All pairs, from both ends. It reads no page; the iterator does.
     ///
     /// ```
-    /// let mut pairs = db.iter(&tree)?;
-    /// while let Some(pair) = pairs.next() {
+    /// for pair in db.iter(&tree)? {
     ///     let (key, value) = pair?;
     /// }
     /// ```

@@ -40,8 +40,12 @@ impl<P: Pages, M: MergeOperator> Db<P, M> {
     /// was dropped can still be taken.
     ///
     /// ```
-    /// while let Some(event) = db.next(&subscriber) {
-    ///     show(event.key()); // In the order in which the changes were decided.
+    /// // All that wait, in the order in which the changes were decided. No more than `QUEUE_LIMIT` can wait.
+    /// for _ in 0..QUEUE_LIMIT {
+    ///     let Some(event) = db.next(&subscriber) else {
+    ///         break;
+    ///     };
+    ///     let changed = event.key().as_ref();
     /// }
     /// ```
     pub fn next(&mut self, subscriber: &Subscriber) -> Option<Event>

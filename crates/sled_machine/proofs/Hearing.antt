@@ -21,10 +21,11 @@ use Rattle.sled_queues.proofs.Hearing.{hears_law, stays_there}
 use Rattle.sled_queues.proofs.Copied.{follows_law}
 use Rattle.sled_queues.proofs.Turning.{after_both_turns, stays_both, taken_both, turns_law, heard_law}
 use Rattle.sled_queues.proofs.Numbering.{tree_after_both, trees_law}
+use Rattle.sled_queues.proofs.Closing.{opens_none}
 use Rattle.sled.specs.Sound.{IsDb}
 use Rattle.sled.specs.Values.{named, numbers_of, given_to}
 use Rattle.sled_machine.specs.Hears.{queues_at, turns_of_step, turns_of_run, told_to, IsKept, KeepsTree, IsCopyOfTree, Hears}
-use Rattle.sled_machine.specs.Run.{MachineSteps, NoCalls, OneCall}
+use Rattle.sled_machine.specs.Run.{MakesSteps, NoStep, OneStep}
 use Rattle.sled_machine.specs.Step.{MachineStep}
 use Rattle.sled_machine.specs.Values.{MachineValue, configuration_of}
 
@@ -68,29 +69,29 @@ module _ {P M : Type 0} (store : P → Store) (number : P → ℕ) (meant : M �
       subscriber_is : {k l : ℕ} → Subscriber k ≡ Subscriber l → k ≡ l
       subscriber_is e = cc
 
-  run_queues : {a b : MachineValue P M} {ss : List Step} {os : List Outcome} (run : MachineSteps store number meant a ss os b)
+  run_queues : {a b : MachineValue P M} {ss : List Step} {os : List Outcome} (run : MakesSteps store number meant a ss os b)
       → queues_at b ≡ after_turns (turns_of_run store number meant run) (queues_at a)
-  run_queues NoCalls = refl
-  run_queues (OneCall {a = a} {m = m} {step = s} {outcome = o} one rest) =
+  run_queues NoStep = refl
+  run_queues (OneStep {a = a} {m = m} {step = s} {outcome = o} one rest) =
       run_queues rest
-      ∙ ap (after_turns (turns_of_run store number meant rest)) (turns_law (configuration_of store number meant a) s o (configuration_of store number meant m) one.step.maps one.step.step.is)
-      ∙ sym (after_both_turns (turns_of_step store number meant a s o m one.step) (turns_of_run store number meant rest) (queues_at a))
+      ∙ ap (after_turns (turns_of_run store number meant rest)) (turns_law (configuration_of store number meant a) s o (configuration_of store number meant m) one.maps one.step.is)
+      ∙ sym (after_both_turns (turns_of_step store number meant a s o m one) (turns_of_run store number meant rest) (queues_at a))
 
-  run_heard : {a b : MachineValue P M} {ss : List Step} {os : List Outcome} (run : MachineSteps store number meant a ss os b) (n : ℕ) (q : Queue) → queues_at a n ≡ Some q → IsKept n ss
+  run_heard : {a b : MachineValue P M} {ss : List Step} {os : List Outcome} (run : MakesSteps store number meant a ss os b) (n : ℕ) (q : Queue) → queues_at a n ≡ Some q → IsKept n ss
       → Stays n (turns_of_run store number meant run) × (told_to n ss os ≡ taken_by n (turns_of_run store number meant run) (queues_at a))
-  run_heard NoCalls n q here kept = (tt, refl)
-  run_heard (OneCall {a = a} {m = m} {step = s} {steps = ss} {outcome = o} {outcomes = os} one rest) n q here kept =
-      let ts = turns_of_step store number meant a s o m one.step in
+  run_heard NoStep n q here kept = (tt, refl)
+  run_heard (OneStep {a = a} {m = m} {step = s} {steps = ss} {outcome = o} {outcomes = os} one rest) n q here kept =
+      let ts = turns_of_step store number meant a s o m one in
       let us = turns_of_run store number meant rest in
-      let h = heard_law n q (configuration_of store number meant a) s o (configuration_of store number meant m) one.step.maps one.step.step.is here kept.0 in
-      let e : queues_at m ≡ after_turns ts (queues_at a) = turns_law (configuration_of store number meant a) s o (configuration_of store number meant m) one.step.maps one.step.step.is in
+      let h = heard_law n q (configuration_of store number meant a) s o (configuration_of store number meant m) one.maps one.step.is here kept.0 in
+      let e : queues_at m ≡ after_turns ts (queues_at a) = turns_law (configuration_of store number meant a) s o (configuration_of store number meant m) one.maps one.step.is in
       let r = stays_there ts n (queues_at a) q here h.stays in
       let more = run_heard rest n r.0 (ap (λ (f : ℕ → Option Queue). f n) e ∙ r.1) kept.1 in (
         stays_both n ts us h.stays more.0,
         ap (λ l. l ++ told_to n ss os) h.told ∙ ap (λ l. taken_by n ts (queues_at a) ++ l) (more.1 ∙ ap (taken_by n us) e) ∙ sym (taken_both n ts us (queues_at a)),
       )
 
-  hears : {a b : MachineValue P M} {ss : List Step} {os : List Outcome} (run : MachineSteps store number meant a ss os b) (n : ℕ) (q : Queue) → queues_at a n ≡ Some q → IsKept n ss
+  hears : {a b : MachineValue P M} {ss : List Step} {os : List Outcome} (run : MakesSteps store number meant a ss os b) (n : ℕ) (q : Queue) → queues_at a n ≡ Some q → IsKept n ss
       → told_to n ss os ++ waiting_in (queues_at b n) ≡ q.events ++ brought q (turns_of_run store number meant run)
   hears {a = a} {b = b} run n q here kept =
       let h = run_heard run n q here kept in
@@ -98,23 +99,28 @@ module _ {P M : Type 0} (store : P → Store) (number : P → ℕ) (meant : M �
       ∙ ap (λ (f : ℕ → Option Queue). taken_by n (turns_of_run store number meant run) (queues_at a) ++ waiting_in (f n)) (run_queues run)
       ∙ hears_law (turns_of_run store number meant run) n (queues_at a) q here h.0
 
-  run_trees : {a b : MachineValue P M} {ss : List Step} {os : List Outcome} (run : MachineSteps store number meant a ss os b) → AreNumbered (state_at a)
-      → (name : Key) (t : NamedTree) → (state_at a).trees name ≡ Some t → KeepsTree name ss os → IsTreeAfter name t (turns_of_run store number meant run) (state_at b)
-  run_trees NoCalls numbers name t there kept = record { tree = t; there = there; number = refl; map = refl }
-  run_trees {b = b} (OneCall {a = a} {m = m} {step = s} {outcome = o} one rest) numbers name t there kept =
-      let one_told = trees_law (configuration_of store number meant a) s o (configuration_of store number meant m) one.step.maps one.step.step.is numbers in
-      let x = one_told.maps name t there kept.0 in
-      tree_after_both name t (turns_of_step store number meant a s o m one.step) (turns_of_run store number meant rest) (state_at m) (state_at b) x
-      (run_trees rest one_told.numbered name x.tree x.there kept.1)
+  -- no step opens a closed database
+  run_open : {a b : MachineValue P M} {ss : List Step} {os : List Outcome} → MakesSteps store number meant a ss os b → (state_at b).is_open ≡ true → (state_at a).is_open ≡ true
+  run_open NoStep is_open = is_open
+  run_open (OneStep {a = a} {m = m} {step = s} {outcome = o} one rest) is_open = opens_none (configuration_of store number meant a) s o (configuration_of store number meant m) one.maps one.step.is (run_open rest is_open)
 
-  follows : {a b : MachineValue P M} {ss : List Step} {os : List Outcome} (run : MachineSteps store number meant a ss os b) → IsDb store a.db
+  run_trees : {a b : MachineValue P M} {ss : List Step} {os : List Outcome} (run : MakesSteps store number meant a ss os b) → AreNumbered (state_at a) → (state_at b).is_open ≡ true
+      → (name : Key) (t : NamedTree) → (state_at a).trees name ≡ Some t → KeepsTree name ss os → IsTreeAfter name t (turns_of_run store number meant run) (state_at b)
+  run_trees NoStep numbers is_open name t there kept = record { tree = t; there = there; number = refl; map = refl }
+  run_trees {b = b} (OneStep {a = a} {m = m} {step = s} {outcome = o} one rest) numbers is_open name t there kept =
+      let one_told = trees_law (configuration_of store number meant a) s o (configuration_of store number meant m) one.maps one.step.is numbers in
+      let x = one_told.maps (run_open rest is_open) name t there kept.0 in
+      tree_after_both name t (turns_of_step store number meant a s o m one) (turns_of_run store number meant rest) (state_at m) (state_at b) x
+      (run_trees rest one_told.numbered is_open name x.tree x.there kept.1)
+
+  follows : {a b : MachineValue P M} {ss : List Step} {os : List Outcome} (run : MakesSteps store number meant a ss os b) → IsDb store a.db → (state_at b).is_open ≡ true
       → (n : ℕ) (q : Queue) → queues_at a n ≡ Some q → IsKept n ss → (name : Key) → KeepsTree name ss os
       → (copy : Map) → IsCopyOfTree store meant a name q.tree q.prefix (after_events q.events copy)
       → IsCopyOfTree store meant b name q.tree q.prefix (after_events (waiting_in (queues_at b n)) (after_events (told_to n ss os) copy))
-  follows {a = a} {b = b} {ss = ss} {os = os} run db n q here kept name keeps copy c =
+  follows {a = a} {b = b} {ss = ss} {os = os} run db is_open n q here kept name keeps copy c =
       let ts = turns_of_run store number meant run in
       let h = run_heard run n q here kept in
-      let x = run_trees run (numbered a db) name c.tree c.there keeps in
+      let x = run_trees run (numbered a db) is_open name c.tree c.there keeps in
       let e : x.tree.map ≡ after_events (came_to q.tree ts) c.tree.map = x.map ∙ ap (λ k. after_events (came_to k ts) c.tree.map) c.same in
       let f : after_events (waiting_in (queues_at b n)) (after_events (told_to n ss os) copy) ≡ after_events (waiting_in (after_turns ts (queues_at a) n)) (after_events (taken_by n ts (queues_at a)) copy)
       = ap (λ (g : ℕ → Option Queue). after_events (waiting_in (g n)) (after_events (told_to n ss os) copy)) (run_queues run)

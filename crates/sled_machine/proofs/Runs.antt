@@ -1,22 +1,27 @@
 -- Steps one after the other.
-use Rattle.std.proofs.Common.{◌≡◌, ℕ, List, [], ◌∷◌, ◌++◌, sym, subst, append-nil}
-use Rattle.sled_store.specs.Store.{Store}
+use Rattle.std.proofs.Common.{◌≡◌, ℕ, false, List, [], ◌∷◌, ◌++◌, map, sym, subst, append-nil}
+use Rattle.sled_store.specs.Store.{Store, now}
 use Rattle.sled_model.specs.Maps.{Maps, Merge}
 use Rattle.sled_model.specs.State.{maps_of}
 use Rattle.sled_model.specs.Transition.{Transition}
 use Rattle.sled_model.specs.theory.Runs.{RunsBy, NoSteps, OneMore}
 use Rattle.sled_model.specs.declared.outcome.Outcome.{Outcome}
 use Rattle.sled_model.specs.declared.outcome.Step.{Step}
-use Rattle.tree_laws.specs.Crashes.{AddsCrashStates}
-use Rattle.tree_laws.proofs.Crashing.{matches_same, matches_append, matches_then}
+use Rattle.tree_laws.specs.Contents.{trees_of}
+use Rattle.tree_laws.specs.Crashes.{StutterEquivalent, AddsCrashStates, Flushes}
+use Rattle.tree_laws.proofs.Crashing.{matches_same, matches_append, matches_then, flushes_left}
 use Rattle.sled_machine.specs.CrashMaps.{AreCrashMaps, crash_maps_after}
 use Rattle.sled_machine.specs.Step.{MachineStep, MachineStepContract}
-use Rattle.sled_machine.specs.Run.{RunsWithCrashMaps, KeepsAll, KeepsMore, MachineRun, MachineSteps, NoCalls, OneCall}
+use Rattle.sled_machine.specs.Run.{RunsWithCrashMaps, KeepsAll, KeepsMore, MachineRun, MakesSteps, NoStep, OneStep, MachineSteps, NoCalls, OneCall}
 use Rattle.sled_machine.specs.Values.{MachineValue, configuration_of}
 
 -- what a crash may leave goes on by the maps that were added
 pub extended : (added : List Maps) (a b : Store) → AddsCrashStates added a b → (kept : List Maps) → AreCrashMaps a kept → AreCrashMaps b (kept ++ added)
 extended added a b e kept l = record { is = matches_then e.grew (matches_append l.is (matches_same added)) }
+
+-- .. and a flush leaves the maps now alone
+pub flushed : (a b : Store) → Flushes a b → (now a).in_group ≡ false → AreCrashMaps b (trees_of (now a) ∷ [])
+flushed a b f no_group = record { is = subst (λ l. StutterEquivalent (map trees_of l) (trees_of (now a) ∷ [])) (sym (flushes_left f no_group)) (matches_same (trees_of (now a) ∷ [])) }
 
 -- .. and by none where the store is the same
 pub leaves_same : (a : Store) (kept : List Maps) → AreCrashMaps a kept → AreCrashMaps a (kept ++ [])
@@ -36,6 +41,13 @@ module _ {P M : Type 0} (store : P → Store) (number : P → ℕ) (meant : M �
   reaches_more a m b (t ∷ ss) (p ∷ os) s o (OneCall {m = c} q run) r = OneCall q (reaches_more c m b ss os s o run r)
   reaches_more a m b [] (p ∷ os) s o run r = elim run [ ]
   reaches_more a m b (t ∷ ss) [] s o run r = elim run [ ]
+
+  -- steps of which all holds are steps
+  pub steps_made : (a b : MachineValue P M) (ss : List Step) (os : List Outcome) → MachineSteps store number meant a ss os b → MakesSteps store number meant a ss os b
+  steps_made a b [] [] NoCalls = NoStep
+  steps_made a b (s ∷ ss) (o ∷ os) (OneCall {m = m} one rest) = OneStep one.step (steps_made m b ss os rest)
+  steps_made a b [] (o ∷ os) run = elim run [ ]
+  steps_made a b (s ∷ ss) [] run = elim run [ ]
 
   pub performs_none : (a : MachineValue P M) → MachineRun store number meant a [] [] a
   performs_none a = record { keeps = λ kept l. record { last = kept; run = KeepsAll; leaves = l } }

@@ -1,5 +1,5 @@
 -- What a subscriber hears over a list of steps.
-use Rattle.std.specs.Prelude.{◌≡◌, ℕ, false, List, [], ◌∷◌, ◌++◌, Option, Some}
+use Rattle.std.specs.Prelude.{◌≡◌, ℕ, true, false, List, [], ◌∷◌, ◌++◌, Option, Some}
 use Rattle.sled_nodes.specs.Order.{Key}
 use Rattle.sled_store.specs.Store.{Store}
 use Rattle.sled_model.specs.Maps.{Map, Merge}
@@ -21,7 +21,7 @@ use Rattle.sled_queues.specs.Turns.{turns_of, told_at, gives_up}
 use Rattle.sled_queues.specs.Trees.{drops}
 use Rattle.sled.specs.Sound.{IsDb}
 use Rattle.sled.specs.Values.{db_state}
-use Rattle.sled_machine.specs.Run.{MachineSteps, NoCalls, OneCall}
+use Rattle.sled_machine.specs.Run.{MakesSteps, NoStep, OneStep}
 use Rattle.sled_machine.specs.Step.{MachineStep}
 use Rattle.sled_machine.specs.Values.{MachineValue, configuration_of}
 
@@ -35,9 +35,9 @@ turns_of_step store flush_number meant old s o new one = turns_of (configuration
 
 -- .. and what a list of steps does, in order
 abbrev pub turns_of_run : {P M : Type 0} (store : P → Store) (flush_number : P → ℕ) (meant : M → Merge) {old new : MachineValue P M} {steps : List Step} {outcomes : List Outcome}
-    → MachineSteps store flush_number meant old steps outcomes new → List Turn
-turns_of_run store flush_number meant NoCalls = []
-turns_of_run store flush_number meant (OneCall {a = a} {m = m} {step = s} {outcome = o} one rest) = turns_of_step store flush_number meant a s o m one.step ++ turns_of_run store flush_number meant rest
+    → MakesSteps store flush_number meant old steps outcomes new → List Turn
+turns_of_run store flush_number meant NoStep = []
+turns_of_run store flush_number meant (OneStep {a = a} {m = m} {step = s} {outcome = o} one rest) = turns_of_step store flush_number meant a s o m one ++ turns_of_run store flush_number meant rest
 
 -- the events that a subscriber is told by these steps, in order
 abbrev pub told_to : ℕ → List Step → List Outcome → List Event
@@ -67,15 +67,16 @@ pub record Hears {P M : Type 0} (store : P → Store) (flush_number : P → ℕ)
   pub begins : (a b : MachineValue P M) (tree : Tree) (prefix : Key) (n : ℕ) → MachineStep store flush_number meant a (step.Whole (Watch tree prefix)) (Decided (Subscriber n)) b
       → queues_at b n ≡ Some (record { tree = tree.number; prefix = prefix; events = [] })
   -- the queues after the steps are those that their turns make of them
-  pub queues : (a b : MachineValue P M) (steps : List Step) (outcomes : List Outcome) (run : MachineSteps store flush_number meant a steps outcomes b)
+  pub queues : (a b : MachineValue P M) (steps : List Step) (outcomes : List Outcome) (run : MakesSteps store flush_number meant a steps outcomes b)
       → queues_at b ≡ after_turns (turns_of_run store flush_number meant run) (queues_at a)
   -- what its calls told it, and then what waits for it, are what waited at first and then the events under its prefix of its tree that
   -- the decided calls brought, each once and in the order of their decisions
-  pub hears : (a b : MachineValue P M) (steps : List Step) (outcomes : List Outcome) (run : MachineSteps store flush_number meant a steps outcomes b)
+  pub hears : (a b : MachineValue P M) (steps : List Step) (outcomes : List Outcome) (run : MakesSteps store flush_number meant a steps outcomes b)
       → (n : ℕ) (q : Queue) → queues_at a n ≡ Some q → IsKept n steps
       → told_to n steps outcomes ++ waiting_in (queues_at b n) ≡ q.events ++ brought q (turns_of_run store flush_number meant run)
-  -- a copy that it changes by each event that it is told is, once it is changed by those that wait too, a copy of its tree's map
-  pub follows : (a b : MachineValue P M) (steps : List Step) (outcomes : List Outcome) → MachineSteps store flush_number meant a steps outcomes b → IsDb store a.db
+  -- while the database is open, a copy that it changes by each event that it is told is, once it is changed by those that wait too, a copy
+  -- of its tree's map
+  pub follows : (a b : MachineValue P M) (steps : List Step) (outcomes : List Outcome) → MakesSteps store flush_number meant a steps outcomes b → IsDb store a.db → (db_state store meant b.db).is_open ≡ true
       → (n : ℕ) (q : Queue) → queues_at a n ≡ Some q → IsKept n steps → (name : Key) → KeepsTree name steps outcomes
       → (copy : Map) → IsCopyOfTree store meant a name q.tree q.prefix (after_events q.events copy)
       → IsCopyOfTree store meant b name q.tree q.prefix (after_events (waiting_in (queues_at b n)) (after_events (told_to n steps outcomes) copy))

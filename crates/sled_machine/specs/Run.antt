@@ -28,8 +28,18 @@ pub record KeepsCrashMaps {P M : Type 0} (store : P → Store) (flush_number : P
 pub record MachineRun {P M : Type 0} (store : P → Store) (flush_number : P → ℕ) (meant : M → Merge) (old : MachineValue P M) (steps : List Step) (outcomes : List Outcome) (new : MachineValue P M) : Type 0 where
   pub keeps : (kept : List Maps) → AreCrashMaps (store old.db.pages) kept → KeepsCrashMaps store flush_number meant old steps outcomes new kept
 
--- the steps were made in order, and of each all holds that is said of one step
+-- the steps were made in order
+pub data MakesSteps {P M : Type 0} (store : P → Store) (flush_number : P → ℕ) (meant : M → Merge) : MachineValue P M → List Step → List Outcome → MachineValue P M → Type 0 where
+  NoStep : {m : MachineValue P M} → MakesSteps store flush_number meant m [] [] m
+  OneStep : {a m b : MachineValue P M} {step : Step} {steps : List Step} {outcome : Outcome} {outcomes : List Outcome}
+      → MachineStep store flush_number meant a step outcome m → MakesSteps store flush_number meant m steps outcomes b → MakesSteps store flush_number meant a (step ∷ steps) (outcome ∷ outcomes) b
+
+-- .. and of each all holds that is said of one step
 pub data MachineSteps {P M : Type 0} (store : P → Store) (flush_number : P → ℕ) (meant : M → Merge) : MachineValue P M → List Step → List Outcome → MachineValue P M → Type 0 where
   NoCalls : {m : MachineValue P M} → MachineSteps store flush_number meant m [] [] m
   OneCall : {a m b : MachineValue P M} {step : Step} {steps : List Step} {outcome : Outcome} {outcomes : List Outcome}
       → MachineStepContract store flush_number meant a step outcome m → MachineSteps store flush_number meant m steps outcomes b → MachineSteps store flush_number meant a (step ∷ steps) (outcome ∷ outcomes) b
+
+-- Steps of which all holds are steps
+abbrev pub StepsLaw : {P M : Type 0} → (P → Store) → (P → ℕ) → (M → Merge) → Type 0
+StepsLaw {P = P} {M = M} store flush_number meant = (a b : MachineValue P M) (steps : List Step) (outcomes : List Outcome) → MachineSteps store flush_number meant a steps outcomes b → MakesSteps store flush_number meant a steps outcomes b

@@ -1,11 +1,28 @@
-//! The law of subscribers of a machine.
+//! The laws of a machine: of lists of steps, of the maps that a crash may leave, and of subscribers.
+ghost use Rattle.sled_machine.specs.CrashMaps.{ExtendedLaw, FlushedLaw};
 ghost use Rattle.sled_machine.specs.Hears.{Hears};
+ghost use Rattle.sled_machine.specs.Run.{StepsLaw};
 
 use sled_model::MergeOperator;
 use sled_store::Pages;
 
+/// Steps of which all holds that is said of one step are steps, as `law_hears` asks for them.
+pub fn law_steps<P: Pages, M: MergeOperator>()
+    ensures { StepsLaw P.store P.flush_number M.meant }
+{}
+
+/// What adds maps to those that a crash may leave, as each call of a database does but a flush, makes their list go on by these.
+pub fn law_extended()
+    ensures { ExtendedLaw }
+{}
+
+/// After a flush a crash leaves the maps as they are.
+pub fn law_flushed()
+    ensures { FlushedLaw }
+{}
+
 /// Over every list of steps a subscriber is told each event under its prefix of its tree once, in the order of the decisions, and
-/// a copy that it changes by them follows the map of its tree.
+/// while the database is open a copy that it changes by them follows the map of its tree.
 pub fn law_hears<P: Pages, M: MergeOperator>()
     ensures { Hears P.store P.flush_number M.meant }
 {}

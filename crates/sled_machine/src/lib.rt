@@ -11,7 +11,7 @@ mod machine;
 mod place;
 mod table;
 
-pub use laws::law_hears;
+pub use laws::{law_extended, law_flushed, law_hears, law_steps};
 pub use machine::Machine;
 pub use sled_model::{
     Call, Collection, CompareAndSwapError, Event, MergeOperator, Outcome, Reply, Slot, Step,

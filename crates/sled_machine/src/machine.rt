@@ -179,7 +179,7 @@ impl<P: Pages, M: MergeOperator> Machine<P, M> {
     /// Begins a call on a tree. It does no page action.
     ///
     /// ```
-    /// let slot = machine.begin(&tree, Call::Get(key))?;
+    /// let slot = machine.begin(&tree, Call::get(alloc, b"ulm")?)?;
     /// let outcome = machine.step(slot);
     /// ```
     pub fn begin(&mut self, tree: &Tree, call: Call) -> Result<Slot>
@@ -204,10 +204,10 @@ impl<P: Pages, M: MergeOperator> Machine<P, M> {
     /// Does the next page action of the call in the slot, if there is one.
     ///
     /// ```
-    /// let slot = machine.begin(&tree, Call::Remove(key))?;
+    /// let slot = machine.begin(&tree, Call::remove(alloc, b"ulm")?)?;
     /// match machine.step(slot) {
     ///     Outcome::Moved => (), // There is more to do.
-    ///     outcome => return Ok(outcome),
+    ///     outcome => drop(outcome), // How the call came out; its slot is gone.
     /// }
     /// ```
     pub fn step(&mut self, slot: Slot) -> Outcome
@@ -393,7 +393,7 @@ impl<P: Pages, M: MergeOperator> Machine<P, M> {
     /// anything to repair on the way to its key, a call that begins goes on at most once for each level of its tree.
     ///
     /// ```
-    /// let slot = machine.begin(&tree, Call::Insert(key, value))?;
+    /// let slot = machine.begin(&tree, Call::insert(alloc, b"ulm", b"21")?)?;
     /// let outcome = machine.finish(slot); // Decided or refused, never `Moved`.
     /// ```
     pub fn finish(&mut self, slot: Slot) -> Outcome
@@ -409,7 +409,7 @@ impl<P: Pages, M: MergeOperator> Machine<P, M> {
     /// is kept in it, and the tests are made once.
     ///
     /// ```
-    /// let outcome = machine.complete(&tree, Call::Insert(key, value));
+    /// let outcome = machine.complete(&tree, Call::insert(alloc, b"ulm", b"21")?);
     /// ```
     pub fn complete(&mut self, tree: &Tree, call: Call) -> Outcome
         ensures { Completes P.store P.flush_number M.meant self.old tree.now call result self.new }

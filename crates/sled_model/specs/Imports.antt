@@ -1,10 +1,10 @@
 -- What an import makes of the state.
-use Rattle.std.specs.Prelude.{◌≡◌, ◌⊎◌, ℕ, true, false, List, [], ◌∷◌, ◌++◌, Option, Some, None}
+use Rattle.std.specs.Prelude.{◌≡◌, ◌⊎◌, true, List, [], ◌∷◌, ◌++◌, Option, Some, None}
 use Rattle.std.specs.FinMap.Entries.{find}
 use Rattle.sled_nodes.specs.Order.{Key, key_cmp}
-use Rattle.sled_store.specs.Store.{Store}
+use Rattle.sled_store.specs.Store.{Store, refuses_read_as}
 use Rattle.sled_nodes.specs.declared.error.Error.{Error}
-use Rattle.sled_nodes.specs.declared.error.Error.TheVariants.{NoMemory, Io, Unsupported, ReportableBug}
+use Rattle.sled_nodes.specs.declared.error.Error.TheVariants.{Unsupported, ReportableBug}
 use Rattle.sled_nodes.specs.declared.texts.TheConstants.{OVERWRITES_DATA, WALK_PASSED_TURNS}
 use Rattle.sled_model.specs.Maps.{Maps}
 use Rattle.sled_model.specs.Answer.{answer_of}
@@ -83,10 +83,8 @@ pub record IsAbsent (s : State) (name key : Key) : Type 0 where
 -- why a key is not looked for to the end: by a test of the tree, or for want of memory, a page that is not readable, or turns used up
 abbrev pub unread_as : Option MustRefuse → Store → Error → Type 0
 unread_as (Some must) a e = tells must e
-unread_as None a NoMemory = Unit {0}
-unread_as None a (Io fault) = (pid : ℕ) × (a.is_readable pid ≡ false)
 unread_as None a (ReportableBug text) = text.now ≡ WALK_PASSED_TURNS.now
-unread_as None a e = ⊥
+unread_as None a e = refuses_read_as a e
 
 -- why a part is refused: as an opening is; and a pair, since its key is present, or could not be looked for, or is absent and the
 -- insert is refused

@@ -2,7 +2,7 @@
 use Rattle.std.specs.Prelude.{◌≡◌, ◌≢◌, ℕ, ◌<◌, ◌≤◌, ◌⊎◌, true, false, Bool, not, ◌&&◌, nat_eq, length, List, [], ◌∷◌, Option, Some, None, is_some, if◌then◌else◌}
 use Rattle.std.specs.Str.{bytes_eq}
 use Rattle.sled_nodes.specs.Order.{Key}
-use Rattle.sled_store.specs.Store.{Store}
+use Rattle.sled_store.specs.Store.{Store, HasUnreadable}
 use Rattle.sled_nodes.specs.declared.error.Error.{Error}
 use Rattle.sled_nodes.specs.declared.error.Error.TheVariants.{CollectionNotFound, Unsupported, ReportableBug, Io, NoMemory, FullQueue, Closed}
 use Rattle.sled_nodes.specs.declared.texts.TheConstants.{HANDLE_OF_ANOTHER_DATABASE, NO_MERGE_OPERATOR, NUMBERS_USED_UP, IDS_USED_UP, CORE_STRUCTURES, WALK_PASSED_TURNS, UNKNOWN_COLLECTION_TYPE}
@@ -141,6 +141,10 @@ pub record EndMeetsFullQueue (is_end : Map → Option (Key × Key) → Type 0) (
   pub ends : is_end named.map (Some pair)
   pub meets : MeetsFullQueue s t (Remove pair.0)
 
+-- the store counted a fault, or some page is not readable. a is the store before, b the store after
+abbrev pub HasFault : Store → Store → Type 0
+HasFault a b = (a.faults < b.faults) ⊎ HasUnreadable a
+
 -- why no id is given: none is set aside, and the greatest that there can be was given, or the store sets no more aside
 abbrev pub cause_of_id : State → Store → Store → Error → Type 0
 cause_of_id s a b (Unsupported text) = (text.now ≡ IDS_USED_UP.now) × (s.mark ≤ s.greatest_id) × (s.mark ≡ greatest_of_all)
@@ -153,7 +157,7 @@ cause_of_id s a b e = ⊥
 abbrev pub cause_of_drop : State → Store → Store → Key → Error → Type 0
 cause_of_drop s a b name (Unsupported text) = (text.now ≡ CORE_STRUCTURES.now) × (name ≡ default_name)
 cause_of_drop s a b name NoMemory = (name ≢ default_name) × (s.trees name ≢ None)
-cause_of_drop s a b name (Io fault) = (name ≢ default_name) × (s.trees name ≢ None) × ((a.faults < b.faults) ⊎ ((pid : ℕ) × (a.is_readable pid ≡ false)))
+cause_of_drop s a b name (Io fault) = (name ≢ default_name) × (s.trees name ≢ None) × HasFault a b
 cause_of_drop s a b name e = ⊥
 
 -- why an import is refused before its first part: some collection is of another type than `tree`
@@ -167,32 +171,76 @@ cause_of_watch s NoMemory = Unit {0}
 cause_of_watch s (Unsupported text) = (text.now ≡ NUMBERS_USED_UP.now) × (s.subscribers_given ≡ 18446744073709551615)
 cause_of_watch s e = ⊥
 
+-- why a call does not begin: there is no memory, or all numbers of slots were given
+abbrev pub cause_of_begin : State → Error → Type 0
+cause_of_begin s NoMemory = Unit {0}
+cause_of_begin s (Unsupported text) = (text.now ≡ NUMBERS_USED_UP.now) × (s.slots_given ≡ 18446744073709551615)
+cause_of_begin s e = ⊥
+
+-- why a step of a call in flight is refused
+abbrev pub cause_of_step : State → Store → Store → CallInFlight → Error → Type 0
+cause_of_step s a b f NoMemory = Unit {0}
+cause_of_step s a b f (Io fault) = HasFault a b
+cause_of_step s a b f (ReportableBug text) = (text.now ≡ WALK_PASSED_TURNS.now) × (f.turns ≡ turns_limit)
+cause_of_step s a b f FullQueue = MeetsFullQueue s f.tree f.call
+cause_of_step s a b f e = ⊥
+
+-- why a call that is made at once is refused
+abbrev pub cause_of_point : State → Store → Store → Tree → Call → Error → Type 0
+cause_of_point s a b tree call NoMemory = Unit {0}
+cause_of_point s a b tree call (Io fault) = HasFault a b
+cause_of_point s a b tree call (ReportableBug text) = text.now ≡ WALK_PASSED_TURNS.now
+cause_of_point s a b tree call FullQueue = MeetsFullQueue s tree call
+cause_of_point s a b tree call e = ⊥
+
+-- why a flush is refused
+abbrev pub cause_of_flush : Store → Store → Error → Type 0
+cause_of_flush a b NoMemory = Unit {0}
+cause_of_flush a b (Io fault) = a.faults < b.faults
+cause_of_flush a b e = ⊥
+
+-- why the pair at one end of a tree is not taken out, by a pop or a part of a clear
+abbrev pub cause_at_end : (Map → Option (Key × Key) → Type 0) → State → Store → Store → Tree → Error → Type 0
+cause_at_end is_end s a b tree NoMemory = Unit {0}
+cause_at_end is_end s a b tree (Io fault) = HasFault a b
+cause_at_end is_end s a b tree (ReportableBug text) = text.now ≡ WALK_PASSED_TURNS.now
+cause_at_end is_end s a b tree FullQueue = EndMeetsFullQueue is_end s tree
+cause_at_end is_end s a b tree e = ⊥
+
+-- why a name is not opened: there is no memory; or it is new, and a fault was counted or all numbers of trees were given
+abbrev pub cause_of_opening : State → Store → Store → Key → Error → Type 0
+cause_of_opening s a b name NoMemory = Unit {0}
+cause_of_opening s a b name (Io fault) = (s.trees name ≡ None) × (a.faults < b.faults)
+cause_of_opening s a b name (Unsupported text) = (text.now ≡ NUMBERS_USED_UP.now) × (s.trees name ≡ None) × (s.trees_given ≡ 18446744073709551615)
+cause_of_opening s a b name e = ⊥
+
+-- why a whole call is refused. To take an event and to give up a queue is never refused
+abbrev pub cause_of_whole : State → Store → Store → Whole → Error → Type 0
+cause_of_whole s a b Flush e = cause_of_flush a b e
+cause_of_whole s a b (PopMin tree) e = cause_at_end IsLeast s a b tree e
+cause_of_whole s a b (PopMax tree) e = cause_at_end IsGreatest s a b tree e
+cause_of_whole s a b (Clear tree) e = cause_at_end IsLeast s a b tree e
+cause_of_whole s a b (OpenTree name) e = cause_of_opening s a b name e
+cause_of_whole s a b (DropTree name) e = cause_of_drop s a b name e
+cause_of_whole s a b GenerateId e = cause_of_id s a b e
+cause_of_whole s a b (Import collections) e = cause_of_import (contents_of collections.items) e
+cause_of_whole s a b (Watch tree prefix) e = cause_of_watch s e
+cause_of_whole s a b (Next subscriber) e = ⊥
+cause_of_whole s a b (Unsubscribe subscriber) e = ⊥
+
+-- why a merge operator is not set
+abbrev pub cause_of_setting : Error → Type 0
+cause_of_setting NoMemory = Unit {0}
+cause_of_setting e = ⊥
+
 -- The causes of a refusal that is none of those tests: slots, trees and subscribers are numbered up to the greatest u64; the call has
 -- no turns left; the store counted a fault, or some page is not readable; a queue is full. a is the store before, b the store after
 abbrev pub cause_of : State → Store → Store → Asked → Error → Type 0
-cause_of s a b (ToCall GenerateId) e = cause_of_id s a b e
-cause_of s a b (ToCall (DropTree name)) e = cause_of_drop s a b name e
-cause_of s a b (ToCall (Import collections)) e = cause_of_import (contents_of collections.items) e
-cause_of s a b (ToCall (Watch tree prefix)) e = cause_of_watch s e
-cause_of s a b asked NoMemory = Unit {0}
-cause_of s a b (ToBegin tree call) (Unsupported text) = (text.now ≡ NUMBERS_USED_UP.now) × (s.slots_given ≡ 18446744073709551615)
-cause_of s a b (ToStep f) (Io fault) = (a.faults < b.faults) ⊎ ((pid : ℕ) × (a.is_readable pid ≡ false))
-cause_of s a b (ToStep f) (ReportableBug text) = (text.now ≡ WALK_PASSED_TURNS.now) × (f.turns ≡ turns_limit)
-cause_of s a b (ToStep f) FullQueue = MeetsFullQueue s f.tree f.call
-cause_of s a b (ToPoint tree call) (Io fault) = (a.faults < b.faults) ⊎ ((pid : ℕ) × (a.is_readable pid ≡ false))
-cause_of s a b (ToPoint tree call) (ReportableBug text) = text.now ≡ WALK_PASSED_TURNS.now
-cause_of s a b (ToPoint tree call) FullQueue = MeetsFullQueue s tree call
-cause_of s a b (ToCall Flush) (Io fault) = a.faults < b.faults
-cause_of s a b (ToCall Flush) e = ⊥
-cause_of s a b (ToCall (OpenTree name)) (Io fault) = (s.trees name ≡ None) × (a.faults < b.faults)
-cause_of s a b (ToCall (OpenTree name)) (Unsupported text) = (text.now ≡ NUMBERS_USED_UP.now) × (s.trees name ≡ None) × (s.trees_given ≡ 18446744073709551615)
-cause_of s a b (ToCall (OpenTree name)) e = ⊥
-cause_of s a b (ToCall whole) (Io fault) = (a.faults < b.faults) ⊎ ((pid : ℕ) × (a.is_readable pid ≡ false))
-cause_of s a b (ToCall whole) (ReportableBug text) = text.now ≡ WALK_PASSED_TURNS.now
-cause_of s a b (ToCall (PopMin tree)) FullQueue = EndMeetsFullQueue IsLeast s tree
-cause_of s a b (ToCall (PopMax tree)) FullQueue = EndMeetsFullQueue IsGreatest s tree
-cause_of s a b (ToCall (Clear tree)) FullQueue = EndMeetsFullQueue IsLeast s tree
-cause_of s a b asked e = ⊥
+cause_of s a b (ToBegin tree call) e = cause_of_begin s e
+cause_of s a b (ToStep f) e = cause_of_step s a b f e
+cause_of s a b (ToPoint tree call) e = cause_of_point s a b tree call e
+cause_of s a b (ToCall whole) e = cause_of_whole s a b whole e
+cause_of s a b (ToSetOperator tree) e = cause_of_setting e
 
 -- the call may be refused so: by the first of the tests that fails, or where none fails for one of the causes
 abbrev pub may_refuse_as : Option MustRefuse → State → Store → Store → Asked → Error → Type 0

@@ -111,14 +111,24 @@ WholeDecides old (Watch tree prefix) reply new maps = (number : ℕ) × (reply �
 WholeDecides old (Next subscriber) reply new maps = (event : Option Event) × (reply ≡ told.Event event) × TakesEvent old.state subscriber event new × (maps ≡ [])
 WholeDecides old (Unsubscribe subscriber) reply new maps = (reply ≡ Done) × GivesUpQueue old.state subscriber new × (maps ≡ [])
 
+-- a whole call is refused for a cause, and nothing changes
+abbrev pub RefusesAtOnce : State → Store → Store → Whole → Error → State → List Maps → Type 0
+RefusesAtOnce old a b whole e new maps = MayRefuse old a b (ToCall whole) e × (new ≡ old) × (maps ≡ [])
+
 -- A whole call is refused, and nothing changes, but for the parts that a call in parts has done. To take an event and to give up a
 -- queue is never refused
 abbrev pub WholeRefuses : State → Store → Store → Whole → Error → State → List Maps → Type 0
+WholeRefuses old a b Flush e new maps = RefusesAtOnce old a b Flush e new maps
+WholeRefuses old a b (PopMin tree) e new maps = RefusesAtOnce old a b (PopMin tree) e new maps
+WholeRefuses old a b (PopMax tree) e new maps = RefusesAtOnce old a b (PopMax tree) e new maps
 WholeRefuses old a b (Clear tree) e new maps = StopsClearing old a b tree e new maps
+WholeRefuses old a b (OpenTree name) e new maps = RefusesAtOnce old a b (OpenTree name) e new maps
+WholeRefuses old a b (DropTree name) e new maps = RefusesAtOnce old a b (DropTree name) e new maps
+WholeRefuses old a b GenerateId e new maps = RefusesAtOnce old a b GenerateId e new maps
 WholeRefuses old a b (Import collections) e new maps = StopsImporting old a b (contents_of collections.items) e new maps
+WholeRefuses old a b (Watch tree prefix) e new maps = RefusesAtOnce old a b (Watch tree prefix) e new maps
 WholeRefuses old a b (Next subscriber) e new maps = ⊥
 WholeRefuses old a b (Unsubscribe subscriber) e new maps = ⊥
-WholeRefuses old a b whole e new maps = MayRefuse old a b (ToCall whole) e × (new ≡ old) × (maps ≡ [])
 
 -- One step: what was done, how it came out, the state after it, and the maps that it added: those after each call that
 -- it decided, in order. What no case names stays as it was, and no other case exists

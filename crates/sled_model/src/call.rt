@@ -1,10 +1,11 @@
 //! The calls on a database.
 ghost use Rattle.std.specs.Prelude.{◌≡◌, IfOk, IfErr};
+ghost use Rattle.std.specs.Option.{option_copied};
 ghost use Rattle.sled_nodes.specs.declared.error.Error.TheVariants.{NoMemory};
 ghost use Rattle.sled_model.specs.Answer.{key_of};
 ghost use Rattle.sled_model.specs.Refusal.{needs_operator};
 ghost use Rattle.sled_model.specs.Whole.{IsSameWhole};
-ghost use Rattle.sled_model.specs.declared.call.Call.TheVariants.{Insert, CompareAndSwap, Merge};
+ghost use Rattle.sled_model.specs.declared.call.Call.TheVariants.{Get, Insert, Remove, CompareAndSwap, Merge};
 ghost use Rattle.sled_model.specs.declared.call.Whole.TheVariants.{Watch};
 
 use crate::collection::{Collection, copied_collections};
@@ -12,6 +13,7 @@ use crate::reply::clone_value;
 use crate::subscriber::Subscriber;
 use crate::tree::Tree;
 use sled_nodes::{IVec, Result};
+use std::alloc::Global;
 
 /// A call on one key of a tree. It takes effect at one step, its deciding step.
 #[derive(Drop, PartialEq, Eq)]
@@ -57,6 +59,88 @@ pub enum Whole {
 }
 
 impl Call {
+    /// The call that asks for the value at a key. Refused with `NoMemory` alone, as the others are.
+    ///
+    /// ```
+    /// let call = Call::get(alloc, b"ulm")?;
+    /// ```
+    pub fn get(alloc: Global, key: &[u8]) -> Result<Call>
+        ensures ok { IfOk result (λ call. call ≡ Get key.now) }
+        ensures err { IfErr result (λ e. e ≡ NoMemory) }
+    {
+        Ok(Call::Get(IVec::from_slice(alloc, key)?))
+    }
+
+    /// The call that sets the value at a key.
+    ///
+    /// ```
+    /// let call = Call::insert(alloc, b"ulm", b"21")?;
+    /// ```
+    pub fn insert(alloc: Global, key: &[u8], value: &[u8]) -> Result<Call>
+        ensures ok { IfOk result (λ call. call ≡ Insert key.now value.now) }
+        ensures err { IfErr result (λ e. e ≡ NoMemory) }
+    {
+        let (key, value) = own_pair(alloc, key, value)?;
+        Ok(Call::Insert(key, value))
+    }
+
+    /// The call that takes a key out.
+    ///
+    /// ```
+    /// let call = Call::remove(alloc, b"ulm")?;
+    /// ```
+    pub fn remove(alloc: Global, key: &[u8]) -> Result<Call>
+        ensures ok { IfOk result (λ call. call ≡ Remove key.now) }
+        ensures err { IfErr result (λ e. e ≡ NoMemory) }
+    {
+        Ok(Call::Remove(IVec::from_slice(alloc, key)?))
+    }
+
+    /// The call that swaps one value at a key for another; `None` is no value.
+    ///
+    /// ```
+    /// let call = Call::compare_and_swap(alloc, b"ulm", Some(b"21"), None)?; // Takes the key out where `21` stands.
+    /// ```
+    pub fn compare_and_swap(
+        alloc: Global,
+        key: &[u8],
+        old: Option<&[u8]>,
+        new: Option<&[u8]>,
+    ) -> Result<Call>
+        ensures ok { IfOk result (λ call. call ≡ CompareAndSwap key.now (option_copied old.entry) (option_copied new.entry)) }
+        ensures err { IfErr result (λ e. e ≡ NoMemory) }
+    {
+        let key = IVec::from_slice(alloc, key)?;
+        let old = match own_value(alloc, old) {
+            Ok(old) => old,
+            Err(e) => {
+                drop(key);
+                return Err(e);
+            }
+        };
+        match own_value(alloc, new) {
+            Ok(new) => Ok(Call::CompareAndSwap(key, old, new)),
+            Err(e) => {
+                drop(key);
+                drop(old);
+                Err(e)
+            }
+        }
+    }
+
+    /// The call that joins bytes to the value at a key, by the merge operator of the tree.
+    ///
+    /// ```
+    /// let call = Call::merge(alloc, b"ulm", &1u64.to_be_bytes())?;
+    /// ```
+    pub fn merge(alloc: Global, key: &[u8], bytes: &[u8]) -> Result<Call>
+        ensures ok { IfOk result (λ call. call ≡ Merge key.now bytes.now) }
+        ensures err { IfErr result (λ e. e ≡ NoMemory) }
+    {
+        let (key, bytes) = own_pair(alloc, key, bytes)?;
+        Ok(Call::Merge(key, bytes))
+    }
+
     /// The key that the call is about.
     ///
     /// ```
@@ -100,6 +184,32 @@ impl Call {
             Call::Remove(key) => Ok(Call::Remove(key.clone()?)),
             Call::CompareAndSwap(key, old, new) => copied_swap(key, old, new),
             Call::Merge(key, bytes) => copied_merge(key, bytes),
+        }
+    }
+}
+
+// A value of one's own, if there is one.
+fn own_value(alloc: Global, value: Option<&[u8]>) -> Result<Option<IVec>>
+    ensures ok { IfOk result (λ own. own ≡ option_copied value.entry) }
+    ensures err { IfErr result (λ e. e ≡ NoMemory) }
+{
+    match value {
+        Some(value) => Ok(Some(IVec::from_slice(alloc, value)?)),
+        None => Ok(None),
+    }
+}
+
+// A key and a value of one's own.
+fn own_pair(alloc: Global, key: &[u8], value: &[u8]) -> Result<(IVec, IVec)>
+    ensures ok { IfOk result (λ own. own ≡ (key.now, value.now)) }
+    ensures err { IfErr result (λ e. e ≡ NoMemory) }
+{
+    let key = IVec::from_slice(alloc, key)?;
+    match IVec::from_slice(alloc, value) {
+        Ok(value) => Ok((key, value)),
+        Err(e) => {
+            drop(key);
+            Err(e)
         }
     }
 }

@@ -33,7 +33,7 @@ impl Call {
     ///
     /// ```
     /// // A get replies with the value; an insert of another one has to link it.
-    /// let reply = call.at_read(value)?;
+    /// let reply = call.at_read(Some(value))?;
     /// ```
     pub fn at_read(&self, value: Option<IVec>) -> Result<Option<Reply>>
         ensures ok { IfOk result (ReadDecides self.now value) }
@@ -60,7 +60,7 @@ impl Call {
     /// a merge alone. Refused with `NoMemory` alone.
     ///
     /// ```
-    /// let decision = call.at_link(alloc, value, operator)?; // Its effect on the key, and its reply.
+    /// let decision = call.at_link(alloc, Some(value), Some(&Adds))?; // Its effect on the key, and its reply.
     /// ```
     pub fn at_link<M: MergeOperator>(
         &self,

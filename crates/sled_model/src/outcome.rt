@@ -4,7 +4,7 @@ use sled_nodes::Error;
 use std::marker::Model;
 
 /// Names a call in flight. Slots are numbered from 1, in order of the begins that succeeded.
-#[derive(Clone, Copy, PartialEq, Eq)]
+#[derive(Clone, Copy, Debug, PartialEq, Eq)]
 pub struct Slot(pub u64);
 
 impl Model for Slot {
@@ -31,7 +31,7 @@ pub enum Step {
 }
 
 /// How a step came out. `Decided`, `Refused` and `Abandoned` end the slot.
-#[derive(Drop)]
+#[derive(Debug, Drop)]
 pub enum Outcome {
     /// The call took this slot.
     Begun(Slot),
@@ -39,7 +39,7 @@ pub enum Outcome {
     Moved,
     /// The call took effect at this step.
     Decided(Reply),
-    /// The call was refused, and changed no map.
+    /// The call was refused, and changed no map, but for the parts that a clear or an import did.
     Refused(Error),
     /// The call was given up, and changed no map.
     Abandoned,

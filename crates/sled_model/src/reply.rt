@@ -40,8 +40,10 @@ impl Display for CompareAndSwapError {
     }
 }
 
+impl std::error::Error for CompareAndSwapError {}
+
 /// What a decided call answers.
-#[derive(Drop, PartialEq, Eq)]
+#[derive(Debug, Drop, PartialEq, Eq)]
 pub enum Reply {
     /// The value that stands or stood at the key, if any.
     Value(Option<IVec>),

@@ -6,7 +6,7 @@ use sled_nodes::{IVec, Result};
 
 /// Names a tree of a database: by the database's name, the tree's name, and the number that the tree was given when it
 /// was made. Once the tree is dropped the value is refused with `CollectionNotFound`, also after the name is opened anew.
-#[derive(Drop, PartialEq, Eq)]
+#[derive(Debug, Drop, PartialEq, Eq)]
 pub struct Tree {
     /// The name that the database was opened under.
     pub database: IVec,

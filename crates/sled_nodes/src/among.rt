@@ -9,26 +9,34 @@ ghost use Rattle.sled_nodes.specs.theory.Returning.{IsOut};
 use crate::{IVec, Pid};
 use std::ops::Bound;
 
-// Whether a key is within an upper bound.
+/// Whether a key is within an upper bound.
+///
+/// ```
+/// let is_before = is_up_to(b"ulm", Bound::Excluded(b"weil")); // `true`.
+/// ```
 #[tactic(auto, unfolding(crate::specs::Order::key_cmp))]
-pub fn is_up_to(key: &IVec, bound: Bound<&[u8]>) -> bool
+pub fn is_up_to(key: &[u8], bound: Bound<&[u8]>) -> bool
     ensures { result ≡ within_upper (bound_of bound.entry) key.now }
 {
     match bound {
-        Bound::Included(end) => key.as_ref().cmp(end).is_le(),
-        Bound::Excluded(end) => key.as_ref().cmp(end).is_lt(),
+        Bound::Included(end) => key.cmp(end).is_le(),
+        Bound::Excluded(end) => key.cmp(end).is_lt(),
         Bound::Unbounded => true,
     }
 }
 
-// Whether a key is within a lower bound.
+/// Whether a key is within a lower bound.
+///
+/// ```
+/// let is_behind = is_from(b"ulm", Bound::Excluded(b"weil")); // `false`.
+/// ```
 #[tactic(auto, unfolding(crate::specs::Order::key_cmp))]
-pub fn is_from(key: &IVec, bound: Bound<&[u8]>) -> bool
+pub fn is_from(key: &[u8], bound: Bound<&[u8]>) -> bool
     ensures { result ≡ within_lower (bound_of bound.entry) key.now }
 {
     match bound {
-        Bound::Included(start) => key.as_ref().cmp(start).is_ge(),
-        Bound::Excluded(start) => key.as_ref().cmp(start).is_gt(),
+        Bound::Included(start) => key.cmp(start).is_ge(),
+        Bound::Excluded(start) => key.cmp(start).is_gt(),
         Bound::Unbounded => true,
     }
 }
@@ -39,7 +47,7 @@ pub fn last_place<V>(pairs: &[(IVec, V)], bound: Bound<&[u8]>) -> Option<usize>
 {
     let mut found = None;
     for i in 0..pairs.len() {
-        if is_up_to(&pairs[i].0, bound) {
+        if is_up_to(pairs[i].0.as_ref(), bound) {
             found = Some(i);
         }
     }
@@ -51,7 +59,7 @@ pub fn first_place<V>(pairs: &[(IVec, V)], bound: Bound<&[u8]>) -> Option<usize>
     ensures { MatchOption result (list_any (λ e. within_lower (bound_of bound.entry) e.0) pairs.now ≡ false) (IsFirstAt (λ e. within_lower (bound_of bound.entry) e.0) pairs.now) }
 {
     for i in 0..pairs.len() {
-        if is_from(&pairs[i].0, bound) {
+        if is_from(pairs[i].0.as_ref(), bound) {
             return Some(i);
         }
     }

@@ -38,7 +38,7 @@ pub fn last_place<V>(pairs: &[(IVec, V)], bound: Bound<&[u8]>) -> Option<usize>
     requires { is_sorted (slice_cmp nat_cmp) pairs.now ≡ true }
     ensures { MatchOption result (list_any (λ e. within_upper (bound_of bound.entry) e.0) pairs.now ≡ false) (IsLastAt (λ e. within_upper (bound_of bound.entry) e.0) pairs.now) }
 {
-    let count = pairs.partition_point(|pair| is_up_to(&pair.0, bound));
+    let count = pairs.partition_point(|pair| is_up_to(pair.0.as_ref(), bound));
     if count > 0 { Some(count - 1) } else { None }
 }
 
@@ -47,7 +47,7 @@ pub fn first_place<V>(pairs: &[(IVec, V)], bound: Bound<&[u8]>) -> Option<usize>
     requires { is_sorted (slice_cmp nat_cmp) pairs.now ≡ true }
     ensures { MatchOption result (list_any (λ e. within_lower (bound_of bound.entry) e.0) pairs.now ≡ false) (IsFirstAt (λ e. within_lower (bound_of bound.entry) e.0) pairs.now) }
 {
-    let count = pairs.partition_point(|pair| !is_from(&pair.0, bound));
+    let count = pairs.partition_point(|pair| !is_from(pair.0.as_ref(), bound));
     if count < pairs.len() {
         Some(count)
     } else {

@@ -72,6 +72,8 @@ impl Display for Error {
     }
 }
 
+impl std::error::Error for Error {}
+
 impl From<AllocError> for Error {
     ghost from_gives = { λ _ e. e ≡ NoMemory };
 

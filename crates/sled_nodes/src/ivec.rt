@@ -12,6 +12,7 @@ ghost use Rattle.sled_nodes.specs.declared.error.Error.TheVariants.{NoMemory};
 use crate::error::Result;
 use std::alloc::Global;
 use std::cmp::Ordering;
+use std::fmt::{self, Debug, Formatter, Write};
 use std::hash::{Hash, Hasher};
 use std::marker::Model;
 use std::sync::Arc;
@@ -23,7 +24,7 @@ const SHORT: usize = 22;
 const MIDDLE: usize = 56;
 
 // Short strings lie in place, and clones of a longer one share it.
-#[derive(Debug, Drop)]
+#[derive(Drop)]
 enum Bytes {
     Short(u8, [u8; 22]),
     Middle(u8, Arc<[u8; 56]>),
@@ -31,7 +32,7 @@ enum Bytes {
 }
 
 /// A byte string that is never changed. A clone copies at most 22 bytes.
-#[derive(Debug, Drop)]
+#[derive(Drop)]
 pub struct IVec {
     bytes: Bytes,
 }
@@ -123,6 +124,13 @@ impl IVec {
                 bytes: Bytes::Long(Arc::try_clone(bytes)?),
             }),
         }
+    }
+}
+
+// Prints the list of the bytes.
+impl Debug for IVec {
+    fn fmt<W: Write>(&self, f: &mut Formatter<W>) -> fmt::Result {
+        self.as_ref().fmt(f)
     }
 }
 

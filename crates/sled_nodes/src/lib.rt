@@ -19,6 +19,7 @@ mod pid;
 mod shared;
 pub mod texts;
 
+pub use among::{is_from, is_up_to};
 pub use change::{Back, Part};
 pub use error::{Error, Fault, Result};
 pub use ivec::IVec;

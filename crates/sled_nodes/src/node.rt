@@ -152,7 +152,7 @@ impl Leaf {
     /// A leaf of these pairs, as they are given. Refused with `NoMemory` alone.
     ///
     /// ```
-    /// let leaf = Leaf::from_pairs(alloc, pairs.as_slice())?; // Pairs that ascend by key.
+    /// let leaf = Leaf::from_pairs(alloc, &[(key, value)])?; // Pairs that ascend by key.
     /// ```
     pub fn from_pairs(alloc: Global, pairs: &[(IVec, IVec)]) -> Result<Leaf>
         ensures ok { IfOk result (λ leaf. leaf ≡ pairs.now) }
@@ -338,7 +338,7 @@ impl Index {
     /// An index of these pointers, as they are given. Refused with `NoMemory` alone.
     ///
     /// ```
-    /// let index = Index::from_pairs(alloc, pointers.as_slice())?; // Each page under the least key that it covers.
+    /// let index = Index::from_pairs(alloc, &[(key, pid)])?; // Each page under the least key that it covers.
     /// ```
     pub fn from_pairs(alloc: Global, pointers: &[(IVec, Pid)]) -> Result<Index>
         ensures ok { IfOk result (λ index. index ≡ pointers.now) }
@@ -914,7 +914,7 @@ impl Node {
     /// Refused with `NoMemory` alone, and then unchanged.
     ///
     /// ```
-    /// let is_new = node.parent_split(at, pid)?; // `false` where the key had a pointer, and of a leaf.
+    /// let is_new = node.parent_split(key, pid)?; // `false` where the key had a pointer, and of a leaf.
     /// ```
     pub fn parent_split(&mut self, at: IVec, pid: Pid) -> Result<bool>
         ensures ok { IfOk result (Posts at pid self.old self.new) }

@@ -46,6 +46,7 @@ impl Shared {
     /// The same node, for one holder more. Refused with `NoMemory` alone.
     ///
     /// ```
+    /// let node = Shared::new(alloc, node)?;
     /// let same = node.share()?; // Both read one node, which is let go with the last of them.
     /// ```
     pub fn share(&self) -> Result<Shared>

@@ -9,6 +9,7 @@ mod memory;
 
 pub use memory::MemPages;
 pub use sled_nodes::{
-    Data, Error, Fault, IVec, Index, Leaf, Link, Node, Pid, Result, Shared, Version, texts,
+    Data, Error, Fault, IVec, Index, Leaf, Link, Node, Pid, Result, Shared, Version, is_from,
+    is_up_to, texts,
 };
 pub use sled_store::{Page, Pages, View, law_given, law_sealed};

@@ -120,6 +120,8 @@ impl MemPages {
     ///
     /// ```
     /// // One leaf, the root of a tree.
+    /// let pages = vec![in alloc; (Pid(1), node)]?;
+    /// let roots = vec![in alloc; (key, Pid(1))]?;
     /// let store = MemPages::from_image(alloc, pages, roots, 0)?;
     /// ```
     pub fn from_image(

@@ -7,3 +7,4 @@ pub mod Hearing
 pub mod Copied
 pub mod Turning
 pub mod Numbering
+pub mod Closing

@@ -304,4 +304,4 @@ step_told a (step.Abandon slot) (outcome.Decided reply) b maps t n = absurd t
 step_told a (step.Abandon slot) (outcome.Refused e) b maps t n = absurd t
 
 pub trees_law : TreesLaw
-trees_law a s o b maps t n = let h = step_told a s o b maps t n in record { numbered = h.numbered; maps = h.maps }
+trees_law a s o b maps t n = let h = step_told a s o b maps t n in record { numbered = h.numbered; maps = λ is_open. h.maps }

@@ -76,9 +76,17 @@ turns_of_stop (inr s) = turns_of_parts s.1.does
 
 -- a whole call that is refused: of a clear and an import, the parts that were done
 abbrev pub turns_of_refusal : (old : State) (a b : Store) (whole : Whole) (e : Error) (new : State) (maps : List Maps) → WholeRefuses old a b whole e new maps → List Turn
+turns_of_refusal old a b Flush e new maps d = []
+turns_of_refusal old a b (PopMin tree) e new maps d = []
+turns_of_refusal old a b (PopMax tree) e new maps d = []
 turns_of_refusal old a b (Clear tree) e new maps d = turns_of_removals d.removes
+turns_of_refusal old a b (OpenTree name) e new maps d = []
+turns_of_refusal old a b (DropTree name) e new maps d = []
+turns_of_refusal old a b GenerateId e new maps d = []
 turns_of_refusal old a b (Import collections) e new maps d = turns_of_stop d.is
-turns_of_refusal old a b whole e new maps d = []
+turns_of_refusal old a b (Watch tree prefix) e new maps d = []
+turns_of_refusal old a b (Next subscriber) e new maps d = []
+turns_of_refusal old a b (Unsubscribe subscriber) e new maps d = []
 
 -- A step of a slot brings what its call does when it is decided, and a whole call what its cases say. All other steps do nothing to queues
 abbrev pub turns_of : (old : Configuration) (s : Step) (o : Outcome) (new : Configuration) (maps : List Maps) → transition_as old s o new maps → List Turn

@@ -63,6 +63,7 @@ impl Queues {
     /// the greatest number of 64 bits; then nothing changes.
     ///
     /// ```
+    /// let prefix = IVec::from_slice(alloc, b"ul")?;
     /// let subscriber = queues.watch(alloc, tree.number, prefix)?;
     /// ```
     pub fn watch(&mut self, alloc: Global, tree: u64, prefix: IVec) -> Result<Subscriber>
@@ -107,7 +108,7 @@ impl Queues {
     /// together. Then `prepare` has no room for an event of that key.
     ///
     /// ```
-    /// let is_full = queues.is_full(tree.number, key);
+    /// let is_full = queues.is_full(tree.number, b"ulm");
     /// ```
     pub fn is_full(&self, tree: u64, key: &[u8]) -> bool
         ensures { is_full_as tree key.now (queue_at self.now) result }

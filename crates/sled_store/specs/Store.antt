@@ -51,9 +51,14 @@ pub record Allocates (node : Node) (pid version : ℕ) (old new : Store) : Type 
   pub fresh : old.versions version ≡ false
   pub is : new ≡ record (after_action (PageBecomes pid (Some (record { version = version; node = node }))) old) { pids = put_at old.pids pid true; versions = put_at old.versions version true }
 
+-- nothing changes, but that a fault is counted
+abbrev pub only_faults : Error → Store → Store → Type 0
+only_faults (Io fault) old new = new ≡ record old { faults = old.faults + 1 }
+only_faults e old new = new ≡ old
+
 abbrev pub is_refused_as : Error → Store → Store → Type 0
-is_refused_as NoMemory old new = new ≡ old
-is_refused_as (Io fault) old new = new ≡ record old { faults = old.faults + 1 }
+is_refused_as NoMemory old new = only_faults NoMemory old new
+is_refused_as (Io fault) old new = only_faults (Io fault) old new
 is_refused_as _ old new = ⊥
 
 -- a refused call changes nothing, but that a fault is counted
@@ -68,6 +73,16 @@ is_read_refused_as pid s _ = ⊥
 -- a read is refused for want of memory, or for a fault where the page is not readable
 pub record IsReadRefused (pid : ℕ) (s : Store) (e : Error) : Type 0 where
   pub is : is_read_refused_as pid s e
+
+-- some page is not readable
+abbrev pub HasUnreadable : Store → Type 0
+HasUnreadable s = (pid : ℕ) × (s.is_readable pid ≡ false)
+
+-- a read of some page is refused: for want of memory, or for a fault where some page is not readable
+abbrev pub refuses_read_as : Store → Error → Type 0
+refuses_read_as s NoMemory = Unit {0}
+refuses_read_as s (Io fault) = HasUnreadable s
+refuses_read_as s e = ⊥
 
 -- a page as it is read
 abbrev pub view_of : ℕ → Option Page → Option View

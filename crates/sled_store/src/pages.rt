@@ -166,8 +166,9 @@ pub trait Pages: Send + Drop {
     /// Raises the mark, which is durable at once.
     ///
     /// ```
-    /// let upto = pages.mark() + 4096;
-    /// pages.set_aside(upto)?;
+    /// if let Some(upto) = pages.mark().checked_add(4096) {
+    ///     pages.set_aside(upto)?;
+    /// }
     /// ```
     fn set_aside(&mut self, upto: u64) -> Result<()>
         requires { (store self.old).mark ≤ upto }

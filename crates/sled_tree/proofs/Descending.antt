@@ -1,8 +1,8 @@
--- Steps at pages where nothing is to be repaired.
+-- The steps of a walk.
 use native.Mathlib.Omega.{arith}
 use Rattle.std.proofs.Common.{◌≡◌, ◌↔◌, IsTrue, ℕ, ◌+◌, ◌<◌, ◌≤◌, true, false, Bool, Option, Some, None, Result, Ok, Err, IfOk, IfErr, OnOk, MatchOption, refl, sym, ap, ◌∙◌, subst, inl, inr}
 use Rattle.sled_nodes.specs.Order.{Key}
-use Rattle.sled_nodes.specs.Among.{IsPointer}
+use Rattle.sled_nodes.specs.Among.{IsPointer, IsPointerFor}
 use Rattle.sled_nodes.specs.Node.{count, pointers}
 use Rattle.sled_store.specs.Store.{Store, now, view_of, IsReadRefused}
 use Rattle.sled_nodes.specs.declared.error.Error.{Error}
@@ -13,11 +13,11 @@ use Rattle.sled_store.specs.declared.page.View.{View}
 use Rattle.sled_model.specs.declared.reply.Reply.{Reply}
 use Rattle.sled_tree.specs.Change.{reply_at}
 use Rattle.sled_tree.specs.theory.Change.{IsLeaf, IsIndex}
-use Rattle.sled_tree.specs.theory.Descent.{way_of, met_as, IsPlain, IsClean, Meets, Leads, Descends, Settles}
+use Rattle.sled_tree.specs.theory.Descent.{way_of, met_as, RepairsParent, IsClean, Meets, Leads, Descends, Settles}
 use Rattle.sled_tree.specs.Follows.{follows_here, Follows, FollowsPage, done_at, follows_read, follows_root, follows_leaf, follows_content}
 use Rattle.sled_tree.specs.theory.StageAction.{AfterPage}
 use Rattle.sled_tree.specs.theory.Passing.{AdvancesFromPage}
-use Rattle.sled_tree.specs.declared.descent.Descent.TheVariants as descent
+use Rattle.sled_tree.specs.declared.walk.Descent.TheVariants as descent
 use Rattle.sled_tree.specs.declared.flight.InFlight.{InFlight}
 use Rattle.sled_tree.specs.Course.{Course, course_of}
 use Rattle.sled_tree.specs.declared.flight.Next.{Next}
@@ -29,11 +29,10 @@ use Rattle.sled_tree.specs.declared.flight.Went.TheVariants as went
 use Rattle.tree_laws.specs.Stages.{by_pointer}
 use Rattle.tree_laws.specs.declared.flight.Reached.{Reached}
 use Rattle.tree_laws.specs.declared.flight.Reached.TheVariants as reached
-use Rattle.sled_tree.proofs.Facts.{unable, unread, restarts, untrue}
-use Rattle.std.proofs.lemmas.Bool.Decides.{leb_tells}
-use Rattle.sled_tree.proofs.Arriving.{root_read, cursor_read, descends, acts, answers}
+use Rattle.sled_tree.proofs.Facts.{unable, unread, restarts}
+use Rattle.sled_tree.proofs.Arriving.{goes, root_read, cursor_read, descends, acts, answers}
 use Rattle.sled_tree.proofs.Following.{opened}
-use Rattle.sled_tree.proofs.Passing.{not_behind, root_gone, cursor_gone, root_passes, cursor_passes, down_passes, leaf_passes}
+use Rattle.sled_tree.proofs.Passing.{not_behind, no_root, shut_pointless, root_gone, cursor_gone, root_passes, cursor_passes, down_passes, leaf_passes}
 
 -- a page that was read says what comes
 page_follows : (s : Store) (pid : ℕ) (found : View → Next → Type 0) (view : View) (next : Next) → s.is_readable pid ≡ true → Some view ≡ view_of pid ((now s).pages pid) → found view next → FollowsPage s pid found next
@@ -44,19 +43,16 @@ gone_follows : (s : Store) (pid : ℕ) (found : View → Next → Type 0) → s.
 gone_follows s pid found readable read = record { is = inl (readable, subst (λ o. MatchOption o (Go stage.Root ≡ Go stage.Root) (λ v. found v (Go stage.Root))) read refl) }
 
 -- what comes of a page where nothing is to be repaired is what comes of its content
-plain_follows : (j : Course) (view : View) (by : Reached) (next : Next) → IsPlain by (count view.node.content) → follows_content view.node.content j view next → follows_here j view by next
-plain_follows j view reached.Root next plain f = f
-plain_follows j view (reached.FirstPointer parent) next plain f = f
-plain_follows j view (reached.LaterPointer parent) next plain f = inr ((λ merges. not_few plain merges.1), f)
-  where
-    not_few : 3 < count view.node.content → count view.node.content ≤ 3 → ⊥
-    not_few many fits = omega (arith, many, fits)
-plain_follows j view (reached.Next parent) next plain f = absurd plain
+settled_follows : (j : Course) (view : View) (by : Reached) (next : Next) → (RepairsParent by (count view.node.content) → ⊥) → follows_content view.node.content j view next → follows_here j view by next
+settled_follows j view reached.Root next settled f = f
+settled_follows j view (reached.FirstPointer parent) next settled f = f
+settled_follows j view (reached.LaterPointer parent) next settled f = inr (settled, f)
+settled_follows j view (reached.Next parent) next settled f = absurd (settled tt)
 
 clean_follows : (j : Course) (view : View) (by : Reached) (next : Next) → IsClean j by view → follows_content view.node.content j view next → follows_read j view by next
 clean_follows j view by next clean f = opened j view by next clean.not_merging clean.free (inr (
   (λ long. absurd (not_long clean.fits long)),
-  inr (not_behind view.node j.aim clean.under, inl (clean.under, plain_follows j view by next clean.plain f)),
+  inr (not_behind view.node j.aim clean.under, inl (clean.under, settled_follows j view by next clean.settled f)),
 ))
   where
     not_long : count view.node.content ≤ 16 → 16 < count view.node.content → ⊥
@@ -71,21 +67,9 @@ index_follows : (j : Course) (view : View) (c : ℕ) (first : Bool) (d : Data) �
 index_follows j view c first (Leaf es) is k = absurd is
 index_follows j view c first (Index es) is k = record { found = Some (c, first); is_last = k; is = refl }
 
--- a stage that is no walk comes to its page as one that begins
-pub other_way : (a : Stage) → ((w : Walk) → a ≡ stage.Walk w → ⊥) → way_of a ≡ reached.Root
-other_way (stage.Walk w) walk = absurd (walk w refl)
-other_way other walk = refl
-
--- an open page has its pointer there
-pub other_plain : (a : Stage) → ((w : Walk) → a ≡ stage.Walk w → ⊥) → (n : ℕ) → IsPlain (way_of a) n
-other_plain a walk n = subst (λ by. IsPlain by n) (sym (other_way a walk)) tt
-
--- an open page has more than 3 entries where it should not merge
-pub plain_by : (a : Stage) (w : Walk) (by : Reached) (n : ℕ) → a ≡ stage.Walk w → w.reached ≡ by → IsPlain by n → IsPlain (way_of a) n
-plain_by a w by n e r k = subst (λ z. IsPlain (way_of z) n) (sym e) (subst (λ z. IsPlain z n) (sym r) k)
-
-pub not_small : {P : Type 0} (b : Bool) (n : ℕ) → IsTrue b ↔ ((n ≤ 3) × P) → b ≡ false → P → 3 < n
-not_small b n told off p = elim (leb_tells n 3) [ inl a ↦ absurd (untrue b told off (a.1, p)) | inr a ↦ a.1 ]
+pointless_follows : (j : Course) (view : View) (d : Data) → IsIndex d → IsPointerFor j.aim (pointers view.node.content) None → follows_content d j view (Go stage.Root)
+pointless_follows j view (Leaf es) is k = absurd is
+pointless_follows j view (Index es) is k = record { found = None; is_last = k; is = refl }
 
 -- what a store answers to a read
 record IsAnswer (s : Store) (pid : ℕ) (found : Result (Option View) Error) : Type 0 where
@@ -94,7 +78,15 @@ record IsAnswer (s : Store) (pid : ℕ) (found : Result (Option View) Error) : T
   err : IfErr found (λ e. IsReadRefused pid s e)
 
 module _ (j : Course) (s : Store) where
-  -- the root of a tree,
+  -- the tree has no root,
+  pub rootless : (name : Key) (root : Option ℕ) → name ≡ j.tree.name → root ≡ (now s).roots name → root ≡ None → met_as s j stage.Root (Ok None)
+  rootless name root called is_root none = record {
+    moves = restarts j s stage.Root (λ q i. i);
+    passes = no_root j (now s) name root (Go stage.Root) called is_root none;
+    follows = record { is = (refl, subst (λ o. follows_root j s o (Go stage.Root)) (sym none ∙ (is_root ∙ ap (now s).roots called)) refl) };
+  }
+
+  -- the root of a tree is read,
   module _ (name : Key) (root : Option ℕ) (pid : ℕ) (called : name ≡ j.tree.name) (is_root : root ≡ (now s).roots name) (is_some : root ≡ Some pid) where
     at_root : (next : Next) → FollowsPage s pid (λ v. follows_read j v reached.Root) next → Follows j s stage.Root next s
     at_root next f = record { is = (refl, subst (λ o. follows_root j s o next) (sym is_some ∙ (is_root ∙ ap (now s).roots called)) f) }
@@ -153,9 +145,15 @@ module _ (j : Course) (s : Store) where
       };
     }
 
-    -- and where something is to be repaired the walk comes to that
-    pub repairs : (b : Stage) (next : Next) → AfterPage j view (way_of a) next → AdvancesFromPage j view (way_of a) next → follows_read j view (way_of a) next → Descends s j a (descent.Next next) b
-    repairs b next arrives passes follows = record { is = record { moves = m.moves next arrives; passes = m.passes next passes; follows = m.follows next follows } }
+    -- and one without a pointer sends the call back to the root
+    pub leads_back : (b : Stage) → IsClean j (way_of a) view → IsIndex view.node.content → IsPointerFor j.aim (pointers view.node.content) None → Descends s j a (descent.Next (Go stage.Root)) b
+    leads_back b clean index k = record {
+      is = record {
+        moves = m.moves _ (goes j view (way_of a) stage.Root refl tt (λ w v is named r. tt));
+        passes = m.passes _ (shut_pointless j view (way_of a) j.aim refl index k _);
+        follows = m.follows _ (clean_follows j view (way_of a) _ clean (pointless_follows j view _ index k));
+      };
+    }
 
 -- a step that was made is one of the call
 module _ (s : Store) (f : InFlight) where

@@ -12,23 +12,22 @@ use Rattle.tree_laws.specs.declared.flight.Receive.{Receive}
 use Rattle.tree_laws.specs.declared.flight.Seek.{Seek}
 use Rattle.tree_laws.specs.declared.flight.InstallLeft.{InstallLeft}
 use Rattle.tree_laws.specs.declared.flight.Split.{Split}
-use Rattle.tree_laws.specs.declared.flight.Walk.{Walk}
 use Rattle.tree_laws.specs.declared.flight.Stage.{Stage}
 use Rattle.tree_laws.specs.declared.flight.Stage.TheVariants as stage
-use Rattle.sled_tree.specs.theory.Stages.{IsOfMerge, IsElsewhere}
+use Rattle.sled_tree.specs.theory.Stages.{IsOffWalk, IsOfMerge, IsElsewhere}
 
 -- a stage that is none of these is of a merge
-pub of_merge : (s : Stage) → (s ≡ stage.Root → ⊥) → ((a : Walk) → s ≡ stage.Walk a → ⊥) → IsElsewhere s → ((a : Split) → s ≡ stage.Split a → ⊥) → ((a : InstallLeft) → s ≡ stage.InstallLeft a → ⊥) → ((a : Post) → s ≡ stage.Post a → ⊥) → ((a : Hoist) → s ≡ stage.Hoist a → ⊥) → ((a : SwapRoot) → s ≡ stage.SwapRoot a → ⊥) → ((a : Orphan) → s ≡ stage.Free a → ⊥) → IsOfMerge s
-of_merge stage.Root root walk elsewhere split install_left post hoist swap_root free = absurd (root refl)
-of_merge (stage.Walk a) root walk elsewhere split install_left post hoist swap_root free = absurd (walk a refl)
-of_merge (stage.Act a) root walk elsewhere split install_left post hoist swap_root free = absurd elsewhere
-of_merge (stage.Split a) root walk elsewhere split install_left post hoist swap_root free = absurd (split a refl)
-of_merge (stage.InstallLeft a) root walk elsewhere split install_left post hoist swap_root free = absurd (install_left a refl)
-of_merge (stage.Post a) root walk elsewhere split install_left post hoist swap_root free = absurd (post a refl)
-of_merge (stage.Hoist a) root walk elsewhere split install_left post hoist swap_root free = absurd (hoist a refl)
-of_merge (stage.SwapRoot a) root walk elsewhere split install_left post hoist swap_root free = absurd (swap_root a refl)
-of_merge (stage.Free a) root walk elsewhere split install_left post hoist swap_root free = absurd (free a refl)
-of_merge other root walk elsewhere split install_left post hoist swap_root free = tt
+pub of_merge : (s : Stage) → IsElsewhere s → ((a : Split) → s ≡ stage.Split a → ⊥) → ((a : InstallLeft) → s ≡ stage.InstallLeft a → ⊥) → ((a : Post) → s ≡ stage.Post a → ⊥) → ((a : Hoist) → s ≡ stage.Hoist a → ⊥) → ((a : SwapRoot) → s ≡ stage.SwapRoot a → ⊥) → ((a : Orphan) → s ≡ stage.Free a → ⊥) → IsOfMerge s
+of_merge stage.Root elsewhere split install_left post hoist swap_root free = absurd elsewhere
+of_merge (stage.Walk a) elsewhere split install_left post hoist swap_root free = absurd elsewhere
+of_merge (stage.Act a) elsewhere split install_left post hoist swap_root free = absurd elsewhere
+of_merge (stage.Split a) elsewhere split install_left post hoist swap_root free = absurd (split a refl)
+of_merge (stage.InstallLeft a) elsewhere split install_left post hoist swap_root free = absurd (install_left a refl)
+of_merge (stage.Post a) elsewhere split install_left post hoist swap_root free = absurd (post a refl)
+of_merge (stage.Hoist a) elsewhere split install_left post hoist swap_root free = absurd (hoist a refl)
+of_merge (stage.SwapRoot a) elsewhere split install_left post hoist swap_root free = absurd (swap_root a refl)
+of_merge (stage.Free a) elsewhere split install_left post hoist swap_root free = absurd (free a refl)
+of_merge other elsewhere split install_left post hoist swap_root free = tt
 
 -- and one of a merge is one of these
 pub no_other : (s : Stage) → IsOfMerge s → ((a : Merge) → s ≡ stage.Intend a → ⊥) → ((a : Merge) → s ≡ stage.Child a → ⊥) → ((a : Cap) → s ≡ stage.Cap a → ⊥) → ((a : Seek) → s ≡ stage.Seek a → ⊥) → ((a : Receive) → s ≡ stage.Receive a → ⊥) → ((a : Confirm) → s ≡ stage.Confirm a → ⊥) → ⊥
@@ -40,7 +39,9 @@ no_other (stage.Receive a) of intend child cap seek receive confirm = receive a 
 no_other (stage.Confirm a) of intend child cap seek receive confirm = confirm a refl
 no_other other of intend child cap seek receive confirm = of
 
--- a stage that is not to link the call's change is elsewhere
-pub elsewhere : (s : Stage) → ((a : View) → s ≡ stage.Act a → ⊥) → IsElsewhere s
-elsewhere (stage.Act a) act = act a refl
-elsewhere other act = tt
+-- a stage off the walk that is not to link the call's change is elsewhere
+pub elsewhere : (s : Stage) → IsOffWalk s → ((a : View) → s ≡ stage.Act a → ⊥) → IsElsewhere s
+elsewhere stage.Root off act = off
+elsewhere (stage.Walk a) off act = off
+elsewhere (stage.Act a) off act = act a refl
+elsewhere other off act = tt

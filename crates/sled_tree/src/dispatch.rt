@@ -7,21 +7,21 @@ ghost use Rattle.sled_tree.specs.theory.StageAction.{StageAction, StageActionBy,
 ghost use Rattle.sled_tree.specs.Follows.{Follows, FollowsOn};
 ghost use Rattle.sled_tree.specs.Passing.{StepsOnPath};
 ghost use Rattle.sled_tree.specs.theory.Passing.{AdvancesOnPath};
-ghost use Rattle.sled_tree.specs.theory.Stages.{IsOfMerge, IsElsewhere};
+ghost use Rattle.sled_tree.specs.theory.Stages.{IsOffWalk, IsElsewhere, IsOfMerge};
 
 use crate::act::act;
-use crate::descent::{Descent, at_leaf, descend, settle};
 use crate::flight::{Aim, InFlight, Job, Next, Went};
 use crate::hoist::{hoist, swap_root};
 use crate::merge::{cap, confirm, intend, read_child, receive, seek};
 use crate::split::{free, halve, install_left, post};
-use crate::walk::{read_cursor, read_root};
+use crate::walk::{Descent, at_leaf, descend, settle};
 use sled_model::{MAX_LOOPS, MergeOperator};
 use sled_store::Pages;
 use std::alloc::Global;
 use tree_laws::flight::Stage;
 
-// Does the action of a stage: at most one page action. The operator is asked for at the link of the call's change alone.
+// Does the action of a stage that is none of a walk: at most one page action. The operator is asked for at the link of the call's
+// change alone.
 fn step<P: Pages, M: MergeOperator>(
     pages: &mut P,
     alloc: Global,
@@ -30,6 +30,7 @@ fn step<P: Pages, M: MergeOperator>(
     aim: &Aim,
     stage: Stage,
 ) -> Next
+    requires { IsOffWalk stage }
     ensures moves { StageActionBy (Only (option_map (λ o. M.meant o.now) operator.entry)) (course job.now aim.now) (P.store pages.old) stage result (P.store pages.new) }
     ensures passes { AdvancesOnPath (course job.now aim.now) (now (P.store pages.old)) stage result (now (P.store pages.new)) }
     ensures follows { Follows (course job.now aim.now) (P.store pages.old) stage result (P.store pages.new) }
@@ -54,8 +55,6 @@ fn step_elsewhere<P: Pages>(
     ensures follows { Follows (course job.now aim.now) (P.store pages.old) stage result (P.store pages.new) }
 {
     match stage {
-        Stage::Root => read_root(pages, alloc, job, aim),
-        Stage::Walk(walk) => read_cursor(pages, alloc, job, aim, walk),
         Stage::Split(split) => halve(pages, alloc, job, aim, split),
         Stage::InstallLeft(split) => install_left(pages, job, aim, split),
         Stage::Post(pointer) => post(pages, alloc, job, aim, pointer),
@@ -84,14 +83,15 @@ fn step_of_merge<P: Pages>(pages: &mut P, alloc: Global, job: &Job, aim: &Aim, s
     }
 }
 
-// Does one step of a call in flight that has turns left, whatever its stage is: the stage is moved out, and the next one in.
+// Does one step of a call in flight that is on no walk and has turns left: the stage is moved out, and the next one in.
 fn advance_stage<P: Pages, M: MergeOperator>(
     pages: &mut P,
     alloc: Global,
     operator: Option<&M>,
     flight: &mut InFlight,
 ) -> Went
-    requires { flight.old.turns < MAX_LOOPS }
+    requires room { flight.old.turns < MAX_LOOPS }
+    requires off { IsOffWalk flight.old.stage }
     ensures advances { FlightStepBy (Only (option_map (λ o. M.meant o.now) operator.entry)) (P.store pages.old) flight.old result (P.store pages.new) flight.new }
     ensures passes { StepsOnPath (now (P.store pages.old)) flight.old result (now (P.store pages.new)) flight.new }
     ensures follows { FollowsOn (P.store pages.old) flight.old result (P.store pages.new) flight.new }

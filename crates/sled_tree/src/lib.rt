@@ -7,19 +7,21 @@
 #![tactic(auto)]
 
 mod act;
-mod descent;
 mod dispatch;
 mod flight;
 mod hoist;
 mod merge;
+mod repair;
 mod split;
 mod walk;
 
 pub use act::{Change, begin_again, event_of, link_change, prepare_change};
 pub use dispatch::advance;
 pub use flight::{Aim, InFlight, Job, Next, Went};
+pub use sled_model::{Event, Subscriber};
 pub use tree_laws::flight::{
     Cap, Confirm, Hoist, InstallLeft, Merge, Orphan, Post, Posting, Reached, Receive, Seek, Split,
     Stage, SwapRoot, Walk,
 };
 pub use tree_laws::half::Half;
+pub use tree_reads::{Iter, Keys, Values};

@@ -1,52 +1,54 @@
-//! From the root to the call's leaf.
+//! The walk of a call from the root to its leaf.
 //!
-//! Each step reads one page. What it finds there decides what comes next: the walk goes down or on to the right, it repairs a
-//! split or a merge that was left half done, or the call acts at its leaf.
-ghost use Rattle.std.specs.Prelude.{◌≡◌, ◌≢◌, ◌≤◌, ◌↔◌, IsTrue};
-ghost use Rattle.std.specs.Prelude.{None, true, false, []};
-ghost use Rattle.sled_nodes.specs.Among.{bound_of, is_up_to};
-ghost use Rattle.sled_store.specs.Store.{now};
-ghost use Rattle.sled_nodes.specs.Node.{count};
+//! Each step of it reads one page. At most pages nothing is to be repaired: there the walk goes on in place, so that a stage is neither
+//! moved nor made anew.
+ghost use Rattle.std.specs.Prelude.{◌≡◌, ◌<◌, ◌↔◌, false, MatchOption, IsTrue, IfOk, IfErr};
+ghost use Rattle.std.specs.declared.ops.Bound.TheVariants.{Included};
+ghost use Rattle.sled_nodes.specs.Among.{IsPointerFor, bound_of};
+ghost use Rattle.sled_nodes.specs.Node.{count, pointers};
+ghost use Rattle.sled_nodes.specs.Posting.{IsOpen};
+ghost use Rattle.sled_store.specs.Store.{Store};
 ghost use Rattle.tree_laws.specs.Snapshot.{LiesUnder};
-ghost use Rattle.tree_laws.specs.Stages.{parent_of, by_pointer as reached_by};
-ghost use Rattle.tree_laws.specs.declared.flight.Reached.{Reached};
-ghost use Rattle.tree_laws.specs.declared.flight.Reached.TheVariants as way;
-ghost use Rattle.tree_laws.specs.declared.flight.Stage.TheVariants as stage;
+ghost use Rattle.tree_laws.specs.Stages.{by_pointer as reached_by};
+ghost use Rattle.sled_nodes.specs.declared.error.Error.TheVariants.{NoMemory};
 ghost use Rattle.sled_tree.specs.theory.Change.{IsLeaf, IsIndex};
-ghost use Rattle.sled_tree.specs.Course.{aim_of, course};
-ghost use Rattle.sled_tree.specs.theory.StageAction.{StageAction, AfterPage};
-ghost use Rattle.sled_tree.specs.Follows.{follows_root, follows_walk, follows_read, follows_here, follows_content, follows_leaf, posting_of, onward, pointed, OrNoMemory, BeginsMerge, GoesDown, EndsWithin};
-ghost use Rattle.sled_tree.specs.theory.Passing.{AdvancesOnPath, AdvancesFromPage};
-ghost use Rattle.sled_tree.specs.declared.flight.Next.TheVariants.{Go};
+ghost use Rattle.sled_tree.specs.Change.{reply_at};
+ghost use Rattle.sled_tree.specs.Course.{aim_of, course, course_of};
+ghost use Rattle.sled_tree.specs.theory.Descent.{way_of, RepairsParent, IsClean, NeedsRepair, Meets, Leads, met_as, Descends, Settles};
+ghost use Rattle.sled_tree.specs.theory.Stages.{IsOffWalk};
+ghost use Rattle.tree_laws.specs.declared.flight.Stage.{Stage};
+ghost use Rattle.tree_laws.specs.declared.flight.Stage.TheVariants as variant;
 
-use crate::flight::{Aim, Job, Next};
-use crate::merge::{begin, help};
-use sled_nodes::{Data, Node};
+use crate::flight::{Aim, InFlight, Job, Next, Went};
+use crate::repair::repair;
+use sled_model::{MAX_LOOPS, Reply};
+use sled_nodes::{Data, Node, Pid, Result, is_up_to};
 use sled_store::{Pages, View};
 use std::alloc::Global;
 use std::ops::Bound;
-use tree_laws::flight::{Hoist, Post, Posting, Reached, Split, Stage, Walk};
+use tree_laws::flight::{Reached, Stage, Walk};
+
+// How far a step down came.
+#[derive(Drop)]
+pub(crate) enum Descent {
+    // The stage is none of a walk. Nothing was done.
+    None,
+    // It passed an index.
+    Further,
+    // It read the leaf of the call's key, where nothing is to be repaired. Nothing else was done so far.
+    Leaf(View),
+    // It read a page that it does not pass, or none, and this comes next.
+    Next(Next),
+}
 
 // How a walk comes to where a pointer of an index leads, the first or a later one.
-pub(crate) fn by_pointer(parent: View, first: bool) -> Reached
+fn by_pointer(parent: View, first: bool) -> Reached
     ensures { result ≡ reached_by parent first }
 {
     if first {
         Reached::FirstPointer(parent)
     } else {
         Reached::LaterPointer(parent)
-    }
-}
-
-// The index that a page was reached through, if it is not the root.
-fn into_parent(reached: Reached) -> Option<View>
-    ensures { result ≡ parent_of reached }
-{
-    match reached {
-        Reached::Root => None,
-        Reached::FirstPointer(parent) => Some(parent),
-        Reached::LaterPointer(parent) => Some(parent),
-        Reached::Next(parent) => Some(parent),
     }
 }
 
@@ -62,297 +64,217 @@ pub(crate) fn target<'a>(job: &'a Job, aim: &'a Aim) -> Bound<&'a [u8]>
     }
 }
 
-// Whether a key is within a target.
-#[tactic(auto, unfolding(sled_nodes::specs::Order::key_cmp))]
-fn is_within(key: &[u8], target: Bound<&[u8]>) -> bool
-    ensures { result ≡ is_up_to (bound_of target.entry) key.now }
-{
-    match target {
-        Bound::Included(end) => key.cmp(end).is_le(),
-        Bound::Excluded(end) => key.cmp(end).is_lt(),
-        Bound::Unbounded => true,
-    }
-}
-
 // Whether a node begins within a target and does not end within it.
 pub(crate) fn lies_under(node: &Node, target: Bound<&[u8]>) -> bool
     ensures { IsTrue result ↔ LiesUnder (bound_of target.entry) node.now }
 {
-    is_within(node.lo.as_ref(), target)
-        && (node.hi.len() == 0 || !is_within(node.hi.as_ref(), target))
+    is_up_to(node.lo.as_ref(), target)
+        && (node.hi.len() == 0 || !is_up_to(node.hi.as_ref(), target))
 }
 
-// Whether a node ends within a target.
-fn ends_within(node: &Node, target: Bound<&[u8]>) -> bool
-    ensures { IsTrue result ↔ EndsWithin node.now (bound_of target.entry) }
-{
-    node.hi.len() != 0 && is_within(node.hi.as_ref(), target)
-}
-
-// Reads the root of the call's tree.
-pub(crate) fn read_root<P: Pages>(pages: &P, alloc: Global, job: &Job, aim: &Aim) -> Next
-    ensures moves { StageAction (course job.now aim.now) (P.store pages.now) Stage.Root result (P.store pages.now) }
-    ensures passes { AdvancesOnPath (course job.now aim.now) (now (P.store pages.now)) Stage.Root result (now (P.store pages.now)) }
-    ensures follows { follows_root (course job.now aim.now) (P.store pages.now) ((now (P.store pages.now)).roots job.now.tree.name) result }
-{
-    let Some(root) = pages.root(job.tree.name.as_ref()) else {
-        return Next::Go(Stage::Root);
-    };
-    match pages.read(alloc, root) {
-        Err(e) => Next::Refused(e),
-        Ok(None) => Next::Go(Stage::Root),
-        Ok(Some(view)) => arrive(job, aim, view, Reached::Root),
-    }
-}
-
-// Reads the cursor of a walk.
-pub(crate) fn read_cursor<P: Pages>(
+// Reads the page of a stage of a walk. There is none where the tree has no root.
+fn meet<P: Pages>(
     pages: &P,
     alloc: Global,
     job: &Job,
     aim: &Aim,
-    walk: Walk,
-) -> Next
-    ensures moves { StageAction (course job.now aim.now) (P.store pages.now) (Stage.Walk walk) result (P.store pages.now) }
-    ensures passes { AdvancesOnPath (course job.now aim.now) (now (P.store pages.now)) (Stage.Walk walk) result (now (P.store pages.now)) }
-    ensures follows { follows_walk (course job.now aim.now) (P.store pages.now) walk result }
+    stage: &Stage,
+) -> Option<Result<Option<View>>>
+    ensures { MatchOption result (IsOffWalk stage.now) (met_as (P.store pages.now) (course job.now aim.now) stage.now) }
 {
-    match pages.read(alloc, walk.cursor) {
-        Err(e) => {
-            drop(walk);
-            Next::Refused(e)
-        }
-        Ok(None) => {
-            drop(walk);
-            Next::Go(Stage::Root)
-        }
-        Ok(Some(view)) => arrive(job, aim, view, walk.reached),
+    match stage {
+        Stage::Root => match pages.root(job.tree.name.as_ref()) {
+            Some(root) => Some(pages.read(alloc, root)),
+            None => Some(Ok(None)),
+        },
+        Stage::Walk(walk) => Some(pages.read(alloc, walk.cursor)),
+        _ => None,
     }
 }
 
-// What comes after a page was read.
-pub(crate) fn arrive(job: &Job, aim: &Aim, view: View, reached: Reached) -> Next
-    ensures arrives { AfterPage (course job.now aim.now) view reached result }
-    ensures passes { AdvancesFromPage (course job.now aim.now) view reached result }
-    ensures follows { follows_read (course job.now aim.now) view reached result }
+// How a stage comes to its page. The stage is taken.
+fn take_way(stage: &mut Stage) -> Reached
+    ensures { result ≡ way_of stage.old }
+{
+    match std::mem::replace(stage, Stage::Root) {
+        Stage::Walk(walk) => walk.reached,
+        other => {
+            drop(other);
+            Reached::Root
+        }
+    }
+}
+
+// Whether the parent of an open page is to change for it: the page has no pointer there, or it merges.
+fn repairs_parent(stage: &Stage, node: &Node) -> bool
+    ensures { IsOpen node.now → (IsTrue result ↔ RepairsParent (way_of stage.now) (count node.now.content)) }
+{
+    let Stage::Walk(walk) = stage else {
+        return false;
+    };
+    match &walk.reached {
+        Reached::Root => false,
+        Reached::FirstPointer(_) => false,
+        Reached::LaterPointer(parent) => node.should_merge() && parent.node.can_merge_child(),
+        Reached::Next(_) => true,
+    }
+}
+
+// Whether a key lies within a node's bounds.
+#[tactic(auto, unfolding(sled_nodes::specs::Order::key_cmp))]
+fn covers(node: &Node, key: &[u8]) -> bool
+    ensures { IsTrue result ↔ LiesUnder (Included key.now) node.now }
+{
+    node.lo.as_ref().cmp(key).is_le() && (node.hi.len() == 0 || !node.hi.as_ref().cmp(key).is_le())
+}
+
+// Whether a node lies under what a walk aims at. A key, as most walks have it, is compared by itself, which is quicker.
+fn is_under(job: &Job, aim: &Aim, node: &Node) -> bool
+    ensures { IsTrue result ↔ LiesUnder (aim_of job.now aim.now) node.now }
+{
+    match aim {
+        Aim::OwnKey => covers(node, job.call.key().as_ref()),
+        Aim::At(_) => lies_under(node, target(job, aim)),
+    }
+}
+
+// The pointer of an index that a walk goes down by, and whether it is the first.
+fn pointer_under(job: &Job, aim: &Aim, node: &Node) -> Option<(Pid, bool)>
+    ensures { IsPointerFor (aim_of job.now aim.now) (pointers node.now.content) result }
+{
+    match aim {
+        Aim::OwnKey => node.pointer(Bound::Included(job.call.key().as_ref())),
+        Aim::At(_) => node.pointer(target(job, aim)),
+    }
+}
+
+// Whether nothing is to be repaired at a page, and it lies under the aim.
+fn is_clean(job: &Job, aim: &Aim, stage: &Stage, view: &View) -> bool
+    ensures clean { IsTrue result → IsClean (course job.now aim.now) (way_of stage.now) view.now }
+    ensures unclean { result ≡ false → NeedsRepair (course job.now aim.now) (way_of stage.now) view.now }
 {
     let node: &Node = &view.node;
-    if node.merging {
-        drop(view);
-        drop(reached);
-        return Next::Go(Stage::Root);
-    }
-    if let Some(child) = node.merging_child {
-        drop(reached);
-        return help(view, child);
-    }
-    if node.should_split() {
-        return split(job, aim, view, reached);
-    }
-    if ends_within(node, target(job, aim)) {
-        return go_on(job, aim, view, reached);
-    }
-    if !lies_under(node, target(job, aim)) {
-        drop(view);
-        drop(reached);
-        return Next::Go(Stage::Root);
-    }
-    at_key(job, aim, view, reached)
+    !node.merging
+        && node.merging_child.is_none()
+        && !node.should_split()
+        && !repairs_parent(stage, node)
+        && is_under(job, aim, node)
 }
 
-// A page that is too long.
-fn split(job: &Job, aim: &Aim, view: View, reached: Reached) -> Next
-    requires not_merging { view.node.merging ≡ false }
-    requires free { view.node.merging_child ≡ None }
-    ensures arrives { AfterPage (course job.now aim.now) view reached result }
-    ensures follows { result ≡ Go (stage.Split (record { page = view; posting = posting_of (parent_of reached) })) }
+// The reply of a call at its leaf that changes nothing there.
+fn reply_at(job: &Job, node: &Node) -> Result<Option<Reply>>
+    ensures ok { IfOk result (λ reply. reply ≡ reply_at job.now.call node.now.content) }
+    ensures err { IfErr result (λ e. e ≡ NoMemory) }
 {
-    match into_parent(reached) {
-        Some(parent) => Next::Go(Stage::Split(Split {
-            page: view,
-            posting: Posting::Parent(parent),
-        })),
-        None => Next::Go(Stage::Split(Split {
-            page: view,
-            posting: Posting::Root,
-        })),
-    }
+    job.call.at_read(node.get(job.call.key().as_ref())?)
 }
 
-// The target lies behind the page: a root is hoisted, and below a parent the walk goes on to the next page.
-fn go_on(job: &Job, aim: &Aim, view: View, reached: Reached) -> Next
-    requires not_merging { view.node.merging ≡ false }
-    requires free { view.node.merging_child ≡ None }
-    requires behind { EndsWithin view.node (aim_of job.now aim.now) }
-    ensures arrives { AfterPage (course job.now aim.now) view reached result }
-    ensures follows { OrNoMemory result (onward view view.node.next (parent_of reached)) }
+// Puts another stage in the place of one.
+fn set(stage: &mut Stage, new: Stage)
+    ensures { stage.new ≡ new }
 {
-    let pid = view.pid;
-    let Some(next) = view.node.next else {
-        drop(view);
-        drop(reached);
-        return Next::Go(Stage::Root);
-    };
-    match into_parent(reached) {
-        None => {
-            let at = view.node.hi.clone();
-            drop(view);
-            match at {
-                Err(e) => Next::Refused(e),
-                Ok(at) => Next::Go(Stage::Hoist(Hoist {
-                    left: pid,
-                    at,
-                    right: next,
-                })),
-            }
+    let old = std::mem::replace(stage, new);
+    drop(old);
+}
+
+// The walk goes on below an index. One that is under way is changed in place.
+fn walk_on(stage: &mut Stage, cursor: Pid, parent: View, first: bool)
+    ensures { stage.new ≡ variant.Walk (record { cursor = cursor; reached = reached_by parent first }) }
+{
+    let reached = by_pointer(parent, first);
+    match stage {
+        Stage::Walk(walk) => {
+            walk.cursor = cursor;
+            let old = std::mem::replace(&mut walk.reached, reached);
+            drop(old);
         }
-        Some(parent) => {
-            drop(view);
-            Next::Go(Stage::Walk(Walk {
-                cursor: next,
-                reached: Reached::Next(parent),
-            }))
-        }
+        _ => set(stage, Stage::Walk(Walk { cursor, reached })),
     }
 }
 
-// A page that lies under the target.
-fn at_key(job: &Job, aim: &Aim, view: View, reached: Reached) -> Next
-    requires not_merging { view.node.merging ≡ false }
-    requires free { view.node.merging_child ≡ None }
-    requires under { LiesUnder (aim_of job.now aim.now) view.node }
-    requires fits { count view.node.content ≤ 16 }
-    ensures arrives { AfterPage (course job.now aim.now) view reached result }
-    ensures passes { AdvancesFromPage (course job.now aim.now) view reached result }
-    ensures follows { follows_here (course job.now aim.now) view reached result }
-{
-    match reached {
-        Reached::Next(parent) => post(job, aim, view, parent),
-        Reached::LaterPointer(parent) => at_later(job, aim, view, parent),
-        Reached::FirstPointer(parent) => {
-            drop(parent);
-            at_content(job, aim, view)
-        }
-        Reached::Root => at_content(job, aim, view),
-    }
-}
-
-// A page that was reached by `next`: its pointer is posted.
-fn post(job: &Job, aim: &Aim, view: View, parent: View) -> Next
-    requires not_merging { view.node.merging ≡ false }
-    requires free { view.node.merging_child ≡ None }
-    ensures arrives { AfterPage (course job.now aim.now) view (way.Next parent) result }
-    ensures follows { OrNoMemory result (pointed view parent) }
-{
-    let pid = view.pid;
-    let at = view.node.lo.clone();
-    drop(view);
-    match at {
-        Ok(at) => Next::Go(Stage::Post(Post { parent, at, pid })),
-        Err(e) => {
-            drop(parent);
-            Next::Refused(e)
-        }
-    }
-}
-
-// A page that was reached by a later pointer. One of few entries merges into the page before it, where the parent can have it
-// for its merging child.
-fn at_later(job: &Job, aim: &Aim, view: View, parent: View) -> Next
-    requires not_merging { view.node.merging ≡ false }
-    requires free { view.node.merging_child ≡ None }
-    requires under { LiesUnder (aim_of job.now aim.now) view.node }
-    requires fits { count view.node.content ≤ 16 }
-    ensures arrives { AfterPage (course job.now aim.now) view (way.LaterPointer parent) result }
-    ensures passes { AdvancesFromPage (course job.now aim.now) view (way.LaterPointer parent) result }
-    ensures follows { follows_here (course job.now aim.now) view (way.LaterPointer parent) result }
-{
-    if parent.node.can_merge_child() && view.node.should_merge() {
-        return merge(job, aim, view, parent);
-    }
-    drop(parent);
-    at_content(job, aim, view)
-}
-
-// A page of few entries merges into the one before it.
-fn merge(job: &Job, aim: &Aim, view: View, parent: View) -> Next
-    requires not_merging { view.node.merging ≡ false }
-    requires free { view.node.merging_child ≡ None }
-    requires fits { count view.node.content ≤ 3 }
-    ensures arrives { AfterPage (course job.now aim.now) view (way.LaterPointer parent) result }
-    ensures follows { BeginsMerge parent view.pid result }
-{
-    let pid = view.pid;
-    drop(view);
-    begin(parent, pid)
-}
-
-// A page where nothing is to be repaired.
-fn at_content(job: &Job, aim: &Aim, view: View) -> Next
-    requires not_merging { view.node.merging ≡ false }
-    requires free { view.node.merging_child ≡ None }
-    requires under { LiesUnder (aim_of job.now aim.now) view.node }
-    requires fits { count view.node.content ≤ 16 }
-    ensures arrives { (by : Reached) → AfterPage (course job.now aim.now) view by result }
-    ensures passes { (by : Reached) → AdvancesFromPage (course job.now aim.now) view by result }
-    ensures follows { follows_content view.node.content (course job.now aim.now) view result }
-{
-    match &view.node.content {
-        Data::Index(_) => go_down(job, aim, view),
-        Data::Leaf(_) => at_leaf(job, aim, view),
-    }
-}
-
-// An index that lies under the target.
-fn go_down(job: &Job, aim: &Aim, view: View) -> Next
-    requires not_merging { view.node.merging ≡ false }
-    requires free { view.node.merging_child ≡ None }
-    requires under { LiesUnder (aim_of job.now aim.now) view.node }
-    requires fits { count view.node.content ≤ 16 }
+// At an index.
+fn at_index(job: &Job, aim: &Aim, view: View, stage: &mut Stage) -> Descent
     requires index { IsIndex view.node.content }
-    ensures arrives { (by : Reached) → AfterPage (course job.now aim.now) view by result }
-    ensures passes { (by : Reached) → AdvancesFromPage (course job.now aim.now) view by result }
-    ensures follows { GoesDown (course job.now aim.now) view result }
+    requires clean { IsClean (course job.now aim.now) (way_of stage.old) view }
+    ensures { (s : Store) → Meets s (course job.now aim.now) stage.old view → Descends s (course job.now aim.now) stage.old result stage.new }
 {
-    match view.node.pointer(target(job, aim)) {
-        None => {
-            drop(view);
-            Next::Go(Stage::Root)
+    match pointer_under(job, aim, &view.node) {
+        None => Descent::Next(Next::Go(Stage::Root)),
+        Some((cursor, first)) => {
+            walk_on(stage, cursor, view, first);
+            Descent::Further
         }
-        Some((cursor, first)) => Next::Go(Stage::Walk(Walk {
-            cursor,
-            reached: by_pointer(view, first),
-        })),
     }
 }
 
-// The leaf under the target. A call that changes nothing is decided.
-fn at_leaf(job: &Job, aim: &Aim, view: View) -> Next
-    requires not_merging { view.node.merging ≡ false }
-    requires free { view.node.merging_child ≡ None }
-    requires under { LiesUnder (aim_of job.now aim.now) view.node }
-    requires fits { count view.node.content ≤ 16 }
-    requires leaf { IsLeaf view.node.content }
-    ensures arrives { (by : Reached) → AfterPage (course job.now aim.now) view by result }
-    ensures passes { (by : Reached) → AdvancesFromPage (course job.now aim.now) view by result }
-    ensures follows { follows_leaf (course job.now aim.now) view result }
+// At the page of a stage of a walk.
+fn arrive(job: &Job, aim: &Aim, view: View, stage: &mut Stage) -> Descent
+    ensures { (s : Store) → Meets s (course job.now aim.now) stage.old view → Descends s (course job.now aim.now) stage.old result stage.new }
 {
-    let value = match view.node.get(job.call.key().as_ref()) {
-        Err(e) => {
-            drop(view);
-            return Next::Refused(e);
+    if !is_clean(job, aim, stage, &view) {
+        let reached = take_way(stage);
+        return Descent::Next(repair(job, aim, view, reached));
+    }
+    match &view.node.content {
+        Data::Leaf(_) => Descent::Leaf(view),
+        Data::Index(_) => at_index(job, aim, view, stage),
+    }
+}
+
+// Does the step of a stage of a walk. It reads one page at most.
+pub(crate) fn descend<P: Pages>(
+    pages: &P,
+    alloc: Global,
+    job: &Job,
+    aim: &Aim,
+    stage: &mut Stage,
+) -> Descent
+    ensures { Descends (P.store pages.now) (course job.now aim.now) stage.old result stage.new }
+{
+    match meet(pages, alloc, job, aim, stage) {
+        None => Descent::None,
+        Some(Ok(Some(view))) => arrive(job, aim, view, stage),
+        Some(Ok(None)) => Descent::Next(Next::Go(Stage::Root)),
+        Some(Err(e)) => Descent::Next(Next::Refused(e)),
+    }
+}
+
+// The call goes on from a stage, or ends.
+pub(crate) fn settle(flight: &mut InFlight, next: Next) -> Went
+    requires { flight.old.turns < MAX_LOOPS }
+    ensures { (s : Store) (a : Stage) → Leads s (course_of flight.old) a next → Settles s (record { job = flight.old.job; aim = flight.old.aim; stage = a; turns = flight.old.turns }) result flight.new }
+{
+    match next {
+        Next::Go(stage) => {
+            set(&mut flight.stage, stage);
+            flight.turns += 1;
+            Went::Moved
         }
-        Ok(value) => value,
-    };
-    match job.call.at_read(value) {
+        Next::Decided(reply) => Went::Decided(reply),
+        Next::Refused(e) => Went::Refused(e),
+    }
+}
+
+// The rest of the step at the leaf. A call that changes nothing is decided.
+pub(crate) fn at_leaf(flight: &mut InFlight, view: View) -> Went
+    requires room { flight.old.turns < MAX_LOOPS }
+    requires leaf { IsLeaf view.node.content }
+    requires clean { IsClean (course_of flight.old) (way_of flight.old.stage) view }
+    ensures { (s : Store) → Meets s (course_of flight.old) flight.old.stage view → Settles s flight.old result flight.new }
+{
+    match reply_at(&flight.job, &view.node) {
         Err(e) => {
             drop(view);
-            Next::Refused(e)
+            Went::Refused(e)
         }
         Ok(Some(reply)) => {
             drop(view);
-            Next::Decided(reply)
+            Went::Decided(reply)
         }
-        Ok(None) => Next::Go(Stage::Act(view)),
+        Ok(None) => {
+            set(&mut flight.stage, Stage::Act(view));
+            flight.turns += 1;
+            Went::Moved
+        }
     }
 }

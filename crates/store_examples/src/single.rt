@@ -5,7 +5,7 @@ ghost use Rattle.sled_store.specs.Crash.{Crashes};
 ghost use Rattle.sled_nodes.specs.Halves.{left_half, right_half, after_receiving};
 ghost use Rattle.sled_pages.specs.Memory.{store_of};
 ghost use Rattle.sled_nodes.specs.Node.{after_link, count, pairs};
-ghost use Rattle.sled_store.specs.Store.{now, after_flush, Allocates, Changes};
+ghost use Rattle.sled_store.specs.Store.{now, after_flush, Allocates, Changes, IsRefused};
 
 use sled_nodes::{IVec, Link, Node, Pid, Result, Version};
 use sled_pages::MemPages;
@@ -27,7 +27,8 @@ pub fn link<P: Pages>(
     version: Version,
     link: Link,
 ) -> Result<std::result::Result<Version, Option<Version>>>
-    ensures { IfOk result (Changes (after_link link) pid version (P.store pages.old) (P.store pages.new)) }
+    ensures ok { IfOk result (Changes (after_link link) pid version (P.store pages.old) (P.store pages.new)) }
+    ensures err { IfErr result (λ e. IsRefused e (P.store pages.old) (P.store pages.new)) }
 {
     pages.link(pid, version, link)
 }

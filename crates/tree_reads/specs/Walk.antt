@@ -5,11 +5,11 @@ use Rattle.std.specs.declared.ops.Bound.TheVariants.{Included}
 use Rattle.sled_nodes.specs.Order.{Key}
 use Rattle.sled_nodes.specs.Among.{is_up_to}
 use Rattle.sled_store.specs.State.{State, nodes_of}
-use Rattle.sled_store.specs.Store.{Store, now}
+use Rattle.sled_store.specs.Store.{Store, now, refuses_read_as}
 use Rattle.sled_nodes.specs.declared.node.Node.{Node}
 use Rattle.sled_store.specs.declared.page.View.{View}
 use Rattle.sled_nodes.specs.declared.error.Error.{Error}
-use Rattle.sled_nodes.specs.declared.error.Error.TheVariants.{NoMemory, Io, ReportableBug}
+use Rattle.sled_nodes.specs.declared.error.Error.TheVariants.{ReportableBug}
 use Rattle.sled_nodes.specs.declared.texts.TheConstants.{WALK_PASSED_TURNS}
 use Rattle.tree_laws.specs.Forest.{Tree, Forest, WellFormed}
 use Rattle.tree_laws.specs.Paths.{CleanFrom, IsAhead, tree_pages}
@@ -34,10 +34,8 @@ abbrev pub HasTooMany : (ℕ → ℕ) → State → ℕ → Type 0
 HasTooMany of s root = (w : Forest) → WellFormed (nodes_of s) s.roots w → (t : Tree) → s.roots t ≡ Some root → MOST_PAGES ≤ of (tree_pages s t)
 
 abbrev pub refuses_walk_as : (ℕ → ℕ) → Store → ℕ → Error → Type 0
-refuses_walk_as of s root NoMemory = Unit {0}
-refuses_walk_as of s root (Io fault) = (pid : ℕ) × (s.is_readable pid ≡ false)
 refuses_walk_as of s root (ReportableBug text) = (text.now ≡ WALK_PASSED_TURNS.now) × HasTooMany of (now s) root
-refuses_walk_as of s root e = ⊥
+refuses_walk_as of s root e = refuses_read_as s e
 
 -- Refused for want of memory, for a fault where some page is not readable, or for too many pages: from left to right no page is
 -- looked at twice

@@ -14,8 +14,7 @@ ghost use Rattle.tree_reads.specs.theory.Ranges.{Advances, Retreats, shown_of};
 
 use crate::nearest::{first_at, last_at};
 use crate::reads::{Reads, law_given};
-use crate::walk::{is_from, is_up_to};
-use sled_nodes::{IVec, Pid, Result};
+use sled_nodes::{IVec, Pid, Result, is_from, is_up_to};
 use sled_store::View;
 use std::alloc::Global;
 use std::iter::{DoubleEndedIterator, Iterator};

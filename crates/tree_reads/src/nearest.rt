@@ -11,9 +11,9 @@ ghost use Rattle.tree_reads.specs.theory.Leaves.{StartsAt};
 
 use crate::MOST_PAGES;
 use crate::reads::{Reads, law_given};
-use crate::walk::{is_up_to, leaf_at};
+use crate::walk::leaf_at;
 use sled_nodes::texts::WALK_PASSED_TURNS;
-use sled_nodes::{Error, IVec, Pid, Result};
+use sled_nodes::{Error, IVec, Pid, Result, is_up_to};
 use sled_store::View;
 use std::alloc::Global;
 use std::mem;

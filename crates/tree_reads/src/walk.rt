@@ -1,6 +1,6 @@
 //! The reading walk.
 ghost use Rattle.std.specs.Prelude.{◌≡◌, ◌≢◌, ◌↔◌, ◌+◌, IsTrue, true, Some, [], IfOk, IfErr};
-ghost use Rattle.sled_nodes.specs.Among.{bound_of, is_up_to as within_upper, is_from as within_lower};
+ghost use Rattle.sled_nodes.specs.Among.{bound_of, is_up_to as within_upper};
 ghost use Rattle.sled_store.specs.Store.{now};
 ghost use Rattle.tree_reads.specs.Walk.{IsLeafFor, RefusesWalk, GivesUp};
 ghost use Rattle.tree_reads.specs.theory.Walk.{IsIndex, LiesBehind, Turns};
@@ -8,34 +8,10 @@ ghost use Rattle.tree_reads.specs.theory.Walk.{IsIndex, LiesBehind, Turns};
 use crate::MOST_PAGES;
 use crate::reads::{Reads, law_given};
 use sled_nodes::texts::WALK_PASSED_TURNS;
-use sled_nodes::{Data, Error, Node, Pid, Result};
+use sled_nodes::{Data, Error, Node, Pid, Result, is_up_to};
 use sled_store::View;
 use std::alloc::Global;
 use std::ops::Bound;
-
-/// Whether a key is within an upper bound.
-#[tactic(auto, unfolding(sled_nodes::specs::Order::key_cmp))]
-pub fn is_up_to(key: &[u8], bound: Bound<&[u8]>) -> bool
-    ensures { result ≡ within_upper (bound_of bound.entry) key.now }
-{
-    match bound {
-        Bound::Included(end) => key.cmp(end).is_le(),
-        Bound::Excluded(end) => key.cmp(end).is_lt(),
-        Bound::Unbounded => true,
-    }
-}
-
-// Whether a key is within a lower bound.
-#[tactic(auto, unfolding(sled_nodes::specs::Order::key_cmp))]
-pub(crate) fn is_from(key: &[u8], bound: Bound<&[u8]>) -> bool
-    ensures { result ≡ within_lower (bound_of bound.entry) key.now }
-{
-    match bound {
-        Bound::Included(start) => key.cmp(start).is_ge(),
-        Bound::Excluded(start) => key.cmp(start).is_gt(),
-        Bound::Unbounded => true,
-    }
-}
 
 // Whether the target lies behind the node.
 fn is_behind(node: &Node, target: Bound<&[u8]>) -> bool

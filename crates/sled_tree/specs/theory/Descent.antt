@@ -1,17 +1,18 @@
--- Steps of a call in flight at pages where nothing is to be repaired.
-use Rattle.std.specs.Prelude.{◌≡◌, ℕ, ◌≤◌, ◌<◌, false, Option, Some, None, Result, Ok, Err}
+-- Steps of the walk of a call in flight.
+use Rattle.std.specs.Prelude.{◌≡◌, ℕ, ◌≤◌, false, Option, Some, None, Result, Ok, Err}
 use Rattle.sled_nodes.specs.Node.{count}
 use Rattle.sled_store.specs.Store.{Store, now}
 use Rattle.sled_nodes.specs.declared.error.Error.{Error}
 use Rattle.sled_store.specs.declared.page.View.{View}
 use Rattle.sled_tree.specs.theory.Change.{IsLeaf}
 use Rattle.sled_tree.specs.Course.{Course}
-use Rattle.sled_tree.specs.Follows.{Follows, FollowsOn, follows_read}
+use Rattle.sled_tree.specs.Follows.{Follows, FollowsOn, MayMerge, follows_read}
 use Rattle.sled_tree.specs.theory.StageAction.{StageAction, AfterPage, FlightStep}
+use Rattle.sled_tree.specs.theory.Stages.{IsOffWalk}
 use Rattle.sled_tree.specs.Passing.{StepsOnPath}
 use Rattle.sled_tree.specs.theory.Passing.{AdvancesOnPath, AdvancesFromPage}
-use Rattle.sled_tree.specs.declared.descent.Descent.{Descent}
-use Rattle.sled_tree.specs.declared.descent.Descent.TheVariants as descent
+use Rattle.sled_tree.specs.declared.walk.Descent.{Descent}
+use Rattle.sled_tree.specs.declared.walk.Descent.TheVariants as descent
 use Rattle.sled_tree.specs.declared.flight.InFlight.{InFlight}
 use Rattle.sled_tree.specs.declared.flight.Next.{Next}
 use Rattle.sled_tree.specs.declared.flight.Next.TheVariants.{Go, Refused}
@@ -27,20 +28,25 @@ abbrev pub way_of : Stage → Reached
 way_of (stage.Walk a) = a.reached
 way_of other = reached.Root
 
--- a page has its pointer where a walk comes to it so, and more than 3 entries where it might merge
-abbrev pub IsPlain : Reached → ℕ → Type 0
-IsPlain reached.Root n = Unit {0}
-IsPlain (reached.FirstPointer parent) n = Unit {0}
-IsPlain (reached.LaterPointer parent) n = 3 < n
-IsPlain (reached.Next parent) n = ⊥
+-- the parent of a page that a walk came to so is to change: the page has no pointer there, or it has few entries and merges
+abbrev pub RepairsParent : Reached → ℕ → Type 0
+RepairsParent reached.Root n = ⊥
+RepairsParent (reached.FirstPointer parent) n = ⊥
+RepairsParent (reached.LaterPointer parent) n = MayMerge parent × (n ≤ 3)
+RepairsParent (reached.Next parent) n = Unit {0}
 
--- The page lies under the aim, and neither a split nor a merge goes on there or is to begin, nor is its pointer to be posted
+-- the page lies under the aim, and nothing is to be repaired there
 pub record IsClean (j : Course) (by : Reached) (view : View) : Type 0 where
   pub not_merging : view.node.merging ≡ false
   pub free : view.node.merging_child ≡ None
   pub fits : count view.node.content ≤ 16
-  pub plain : IsPlain by (count view.node.content)
+  pub settled : RepairsParent by (count view.node.content) → ⊥
   pub under : LiesUnder j.aim view.node
+
+-- something is to be repaired at the page, or it does not lie under the aim: where nothing else is, the parent is to change
+pub record NeedsRepair (j : Course) (by : Reached) (view : View) : Type 0 where
+  pub is : view.node.merging ≡ false → view.node.merging_child ≡ None → count view.node.content ≤ 16 → LiesUnder j.aim view.node
+      → RepairsParent by (count view.node.content)
 
 -- the stage reads this page, and what comes of the page is what comes of the stage
 pub record Meets (s : Store) (j : Course) (a : Stage) (view : View) : Type 0 where
@@ -61,7 +67,7 @@ met_as s j a (Ok (Some view)) = Meets s j a view
 met_as s j a (Err e) = Leads s j a (Refused e)
 
 abbrev pub descends_as : Store → Course → Stage → Descent → Stage → Type 0
-descends_as s j a descent.None b = b ≡ a
+descends_as s j a descent.None b = (b ≡ a) × IsOffWalk a
 descends_as s j a descent.Further b = Leads s j a (Go b)
 descends_as s j a (descent.Leaf view) b = (b ≡ a) × IsLeaf view.node.content × IsClean j (way_of a) view × Meets s j a view
 descends_as s j a (descent.Next next) b = Leads s j a next

@@ -1,9 +1,9 @@
 -- Of StageAction, for proofs. What one page action of a call in flight does.
-use Rattle.std.specs.Prelude.{◌≡◌, ◌≢◌, ℕ, ◌+◌, ◌⊎◌, Bool, false, List, [], Option, Some, None}
-use Rattle.sled_store.specs.Store.{Store, now}
+use Rattle.std.specs.Prelude.{◌≡◌, ◌≢◌, ℕ, ◌+◌, ◌⊎◌, Bool, List, [], Option, Some, None}
+use Rattle.sled_store.specs.Store.{Store, now, HasUnreadable, is_refused_as}
 use Rattle.sled_store.specs.declared.page.View.{View}
 use Rattle.sled_nodes.specs.declared.error.Error.{Error}
-use Rattle.sled_nodes.specs.declared.error.Error.TheVariants.{Io, NoMemory}
+use Rattle.sled_nodes.specs.declared.error.Error.TheVariants.{Io}
 use Rattle.sled_model.specs.Maps.{Merge as Operator}
 use Rattle.sled_model.specs.Answer.{answer_of}
 use Rattle.sled_model.specs.declared.reply.Reply.{Reply}
@@ -27,9 +27,8 @@ use Rattle.sled_tree.specs.Stages.{Knows}
 use Rattle.sled_tree.specs.StageAction.{ActsOnce, ActsAtMostOnce, leaks_no_page_as}
 
 abbrev pub is_action_refused_as : Error → Store → Store → Type 0
-is_action_refused_as NoMemory old new = new ≡ old
-is_action_refused_as (Io fault) old new = (new ≡ record old { faults = old.faults + 1 }) ⊎ ((new ≡ old) × ((pid : ℕ) × (old.is_readable pid ≡ false)))
-is_action_refused_as _ old new = ⊥
+is_action_refused_as (Io fault) old new = is_refused_as (Io fault) old new ⊎ ((new ≡ old) × HasUnreadable old)
+is_action_refused_as e old new = is_refused_as e old new
 
 -- a refusal changes nothing, but that a fault may be counted; without one some page is not readable
 abbrev pub effect_of_action : Next → Store → Store → Type 0

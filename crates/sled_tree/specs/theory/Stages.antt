@@ -12,7 +12,15 @@ IsOfMerge (stage.Receive a) = Unit {0}
 IsOfMerge (stage.Confirm a) = Unit {0}
 IsOfMerge other = ⊥
 
--- the call is not to link its change
+-- the stage is none of a walk
+abbrev pub IsOffWalk : Stage → Type 0
+IsOffWalk stage.Root = ⊥
+IsOffWalk (stage.Walk a) = ⊥
+IsOffWalk other = Unit {0}
+
+-- .. and the call is not to link its change
 abbrev pub IsElsewhere : Stage → Type 0
+IsElsewhere stage.Root = ⊥
+IsElsewhere (stage.Walk a) = ⊥
 IsElsewhere (stage.Act a) = ⊥
 IsElsewhere other = Unit {0}

@@ -21,4 +21,4 @@ pub returns-in-Free-clause-passes : goal.returns-in-Free-clause-passes
 returns-in-Free-clause-passes g c = passes_nowhere _ _ _ _ _ _ c.in-Free.is (λ path k. k)
 
 pub step_of_merge-requires : goal.step_of_merge-requires
-step_of_merge-requires g c = (c.type_bounds.send-P, of_merge _ c.in_default.not-Root c.in_default.not-Walk c.requires c.in_default.not-Split c.in_default.not-InstallLeft c.in_default.not-Post c.in_default.not-Hoist c.in_default.not-SwapRoot c.in_default.not-Free)
+step_of_merge-requires g c = (c.type_bounds.send-P, of_merge _ c.requires c.in_default.not-Split c.in_default.not-InstallLeft c.in_default.not-Post c.in_default.not-Hoist c.in_default.not-SwapRoot c.in_default.not-Free)

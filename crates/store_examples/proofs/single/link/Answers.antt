@@ -1,4 +1,7 @@
 use Rattle.store_examples.proofs.single.link.Goals as goal
 
-pub returns : goal.returns
-returns c = assumption
+pub returns-clause-ok : goal.returns-clause-ok
+returns-clause-ok c = assumption
+
+pub returns-clause-err : goal.returns-clause-err
+returns-clause-err c = assumption

@@ -6,5 +6,5 @@ use Rattle.sled.proofs.db.Db.merge.Goals as goal
 pub returns-in-Err-clause-err : goal.returns-in-Err-clause-err
 returns-in-Err-clause-err g c = point_untested g.P.Pages.store g.M.MergeOperator.meant _ _ _ _ (c.in-Err.ensures.err (Merge c.args.key.now c.args.bytes.now) refl)
 
-pub returns-in-Err-merge_of-clause-err : goal.returns-in-Err-merge_of-clause-err
-returns-in-Err-merge_of-clause-err g c = point_short g.P.Pages.store g.M.MergeOperator.meant _ _ _ _ (c.in_default.ensures.ok (Merge c.args.key.now c.args.bytes.now)) c.in-Err-merge_of.ensures.err
+pub returns-in-Err-merge-clause-err : goal.returns-in-Err-merge-clause-err
+returns-in-Err-merge-clause-err g c = point_short g.P.Pages.store g.M.MergeOperator.meant _ _ _ _ (c.in_default.ensures.ok (Merge c.args.key.now c.args.bytes.now)) c.in-Err-merge.ensures.err

@@ -1,5 +1,0 @@
-use Rattle.sled_tree.proofs.Descending.{leads}
-use Rattle.sled_tree.proofs.descent.at_index.Goals as goal
-
-pub returns-in-Some : goal.returns-in-Some
-returns-in-Some c s m = rw c.walk_on.ensures (leads _ s _ _ m _ _ c.requires.clean c.requires.index (rw c.deref.ensures at c.in-Some.ensures))
