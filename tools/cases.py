@@ -9,6 +9,7 @@ What is printed comes from the oracle; see script.py for what it is compared wit
 does not print what the case spells out.
 """
 import sys
+import cases_draws
 import cases_drops
 import cases_events
 import cases_fetch
@@ -23,6 +24,7 @@ import cases_prefixes
 import cases_rare
 import cases_reads
 import cases_refusals
+import cases_shapes
 import cases_trees
 import cases_values
 import script

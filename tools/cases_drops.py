@@ -4,7 +4,7 @@ from cases_flights import below
 from cases_levels import numbered
 from cases_names import DEFAULT, named, tree
 from oracle import GREATEST, Shell
-from script import case, expect, pair
+from script import case, crowd_case, expect, pair
 
 # Lines that make a call on the current tree, and a direct read of it.
 CALLS = ('insert x 2', 'get x', 'remove x', 'cas x 1 2', 'begin insert x 2', 'begin get x', 'begin remove x', 'begin cas x - 1', 'operator keep',
@@ -135,8 +135,32 @@ def a_call_in_flight_in_a_dropped_tree_is_refused(s):
         if anew:
             s.line('step 6', 'value -')
         s.line('dump', 'end 0')
-    s.note('A list of steps over a drop, and a drop between two calls of other trees.')
+    s.note('A drop between two calls of other trees.')
     s.new()
+    s.rows('''
+        begin insert a 1          slot 1
+        tree t                    tree t
+        begin insert a 2          slot 2
+        tree u                    tree u
+        begin insert a 3          slot 3
+        step 1                    moved
+        step 2                    moved
+        step 3                    moved
+        drop t                    yes
+        step 1                    old -
+        step 2                    refused E1
+        step 3                    old -
+        tree __sled__default      tree __sled__default
+        dump                      pair __sled__default a 1
+                                  pair u a 3
+                                  end 2
+    ''')
+
+
+@crowd_case
+def a_list_of_steps_goes_over_a_drop(s):
+    """A list of steps of calls of three trees, one of which was dropped meanwhile: its step is refused, and those of the others are
+    decided."""
     s.rows('''
         begin insert a 1          slot 1
         tree t                    tree t
@@ -427,7 +451,7 @@ def ids_are_given_beside_calls_in_flight(s):
         id                  number 12289
         pages               level 1 1
                             end 1
-        id                  number 16385
+        id                  number 12290
         new                 opened
         id                  number 1
     ''')
@@ -470,7 +494,7 @@ def names_that_cannot_be_read(s):
     s.begin(1, 'get a')
     for line in ('tree', 'tree ', 'tree -', 'tree a b', 'tree %zz', 'tree %A0', 'Tree t', 'trees', 'old-tree', 'old-tree -', 'old-tree t u', 'old-tree ',
                  'old', 'drop', 'drop ', 'drop -', 'drop t t', 'drop %', 'id 1', 'id ', 'ids', 'names t', 'owned drop', 'owned drop -', 'owned drop t u',
-                 'owned id 1', 'owned tree t', 'owned names', 'owned old-tree t', 'begin tree t', 'begin drop t', 'begin id', 'run tree t', 'run drop t'):
+                 'owned id 1', 'owned tree t', 'owned names', 'owned old-tree t', 'begin tree t', 'begin drop t', 'begin id'):
         s.ask(line)
         expect(line == 'drop %' or s.wanted[-1].startswith('bad line'), line)
         s.line('turns 1', 'number 0')

@@ -1,6 +1,6 @@
 """Calls in flight beside one another, and pages that split and merge step by step."""
 import re
-from script import GREATEST, case, expect, key, pair
+from script import GREATEST, case, crowd_case, expect, key, pair
 
 
 def below(end, first=0):
@@ -32,7 +32,7 @@ STEPS = '''
 '''
 
 
-@case
+@crowd_case
 def a_list_of_steps_comes_out_as_listed_and_survives(s):
     """A list of steps comes out as each of them does; a crash keeps what was flushed, and of the rest as many actions as it is
     told."""
@@ -110,9 +110,9 @@ def slots_are_counted_by_the_lines_that_began_one(s):
         begin get a         slot 2
         pages               level 1 0
                             end 1
-        finish 2            no slot
-        begin get a         slot 1
-        finish 1            value -
+        finish 2            value -
+        begin get a         slot 3
+        finish 3            value -
     ''')
 
 

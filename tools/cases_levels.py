@@ -1,5 +1,5 @@
 """Trees of several levels: they grow by keys in their order, and shrink by removals that are given up, or crash."""
-from script import case, expect, pair, word
+from script import case, crowd_case, expect, pair, word
 
 KEYS = 4096
 
@@ -43,7 +43,7 @@ def keys_in_their_order_make_four_levels(s):
     dumps(s, numbered, 5000)
 
 
-@case
+@crowd_case
 def a_call_reads_few_more_pages_than_there_are_levels(s):
     """A tree of 100,000 random keys has five levels, of which a get reads a page each, and to open reads none. An insert splits
     each level once at most, and after each split it reads its way from the root anew: 5 + 5 + 4 + 3 + 2 + 1. All inserts

@@ -96,7 +96,7 @@ def an_older_tree_is_what_its_name_was_before(s):
         old-tree __sled__default    tree __sled__default
         get a                       value 2
     ''')
-    for line, printed in ('reopen', 'opened'), ('recover', 'opened'), ('crash 99', 'recovered'), ('pages', 'level 1 0'), ('new', 'opened'):
+    for line, printed in ('reopen', 'opened'), ('recover', 'opened'), ('crash 99', 'recovered'), ('new', 'opened'):
         tree(s, 't')
         tree(s, 't')
         expect(s.ask(line)[0] == printed, line)
@@ -230,6 +230,7 @@ def a_dump_goes_over_all_trees(s):
     for name, levels in ('a', 2), ('b', 1), ('c', 1), ('z', 2):
         tree(s, name)
         expect(len(s.ask('pages')) == levels + 1, name)
+    s.ask('flush')
     s.line('owned drop z', 'yes')
     lines = lines[:-100]
     s.line('dump', *lines, f'end {len(lines)}')

@@ -1,6 +1,6 @@
 """Scans of the keys that begin with a prefix, from either end."""
 from cases_reads import at
-from script import case, expect, key, word
+from script import case, crowd_case, expect, key, word
 
 
 def scans(s, prefix, *keys):
@@ -78,19 +78,25 @@ def strings_of_the_greatest_byte(s):
 
 @case
 def prefixes_over_many_pages(s):
-    """Three hundred keys of three digits: those that begin with none, one, two or three digits, and how many pages it reads."""
+    """Three hundred keys of three digits: those that begin with none, one, two or three digits."""
     keys = [f'{n:03}' for n in range(300)]
     s.insert(*keys)
     for prefix in ('%', '0', '1', '29', '15', '150', '1500', '3', '-0'):
         scans(s, prefix, *(k for k in keys if prefix == '%' or k.startswith(prefix)))
-    s.ask('reads')
-    s.ask('prefix 15')
-    expect(int(s.ask('reads')[0].split()[1]) <= 10 // 8 + 2 + len(s.shell.levels()), 'a prefix of ten pairs')
     s.line('remove 150', 'old 150')
     scans(s, '15', *keys[151:160])
     s.line('handle sledsh other 1', 'done')
     s.line('prefix 15', 'refused E1')
     s.line('prefix-back 15', 'refused E1')
+
+
+@crowd_case
+def a_prefix_reads_few_pages(s):
+    """Of three hundred keys of three digits the ten that begin with two digits are read from two leaves and one way down."""
+    s.insert(*(f'{n:03}' for n in range(300)))
+    s.ask('reads')
+    s.line('prefix 15', *at(*(f'15{n}' for n in range(10))))
+    expect(int(s.ask('reads')[0].split()[1]) <= 10 // 8 + 2 + len(s.shell.levels()), 'a prefix of ten pairs')
 
 
 @case
@@ -124,9 +130,9 @@ def a_prefix_of_a_page_that_cannot_be_read(s):
     s.line('reopen unreadable 2', 'opened')
     s.line('prefix a%03', 'at a%03 a%03', 'end 1')
     s.line('prefix-back a%03', 'at a%03 a%03', 'end 1')
-    s.line('prefix b', 'refused E4')
-    s.line('prefix-back b', 'refused E4')
-    s.line('prefix %', *(f'at a{key(n)} a{key(n)}' for n in range(8)), 'refused E4')
+    s.line('prefix b', 'refused E4', 'end 0')
+    s.line('prefix-back b', 'refused E4', 'end 0')
+    s.line('prefix %', *(f'at a{key(n)} a{key(n)}' for n in range(8)), 'refused E4', 'end 8')
     s.ask('new refuse 1')
     s.line('prefix a', 'refused E8')
     s.line('prefix-back %', 'refused E8')

@@ -1,6 +1,6 @@
 """Reads that take no slot: single keys, neighbours, counts, and ranges from both ends."""
 from oracle import some_keys, word
-from script import case, expect, key, pair
+from script import case, crowd_case, expect, key, pair
 
 
 def at(*keys):
@@ -116,7 +116,7 @@ def a_range_over_many_pages_meets_in_the_middle(s):
     s.line('range [200 (100', 'end 0')
 
 
-@case
+@crowd_case
 def reads_count_few_pages(s):
     """A read of a key reads one page of each level. A scan reads each leaf once and one way down; from the back it goes down to
     each leaf. Bounds that give nothing read none."""
@@ -145,7 +145,7 @@ def reads_count_few_pages(s):
     s.line('reads', 'reads 0')
 
 
-@case
+@crowd_case
 def reads_of_a_hundred_thousand_keys(s):
     """In a tree of 100,000 random keys a read of a key reads one page of each of five levels. A count of all pairs reads each leaf
     once and one way down; the pairs of a range read no more than their leaves and one way down."""
@@ -165,7 +165,7 @@ def reads_of_a_hundred_thousand_keys(s):
     expect(int(s.ask('reads')[0].split()[1]) <= 100 // 8 + 2 + levels, 'a range of a hundred pairs')
 
 
-@case
+@crowd_case
 def reads_to_the_left_in_a_tree_of_many_pages(s):
     """A tree of 20,000 random keys has more than a thousand pages. To read the last pair, the pair below a key, or a hundred pairs
     from the end looks at few of them, and is not refused for their number."""
@@ -207,17 +207,18 @@ def reads_beside_an_abandoned_merge(s):
 
 @case
 def a_page_that_cannot_be_read_ends_a_range(s):
-    """Eighteen pairs in two leaves, the second of which cannot be read: pairs of the first come, then the fault, and then nothing."""
+    """Eighteen pairs in two leaves, the second of which cannot be read: pairs of the first come, then the fault, and then nothing. Asked
+    once more, an iterator that was refused has ended."""
     s.insert(*(key(n) for n in range(18)))
     s.line('reopen unreadable 2', 'opened')
     s.line(f'read {key(3)}', f'value {key(3)}')
     s.line(f'read {key(9)}', 'refused E4')
     s.line(f'has {key(9)}', 'refused E4')
-    s.line('range .. ..', *(f'at {key(n)} {key(n)}' for n in range(8)), 'refused E4')
-    s.line('keys .. ..', *(f'at {key(n)}' for n in range(8)), 'refused E4')
-    s.line('range-back .. ..', 'refused E4')
-    s.line('values-back .. ..', 'refused E4')
-    s.line('range-ends .. ..', f'at {key(0)} {key(0)}', 'refused E4')
+    s.line('range .. ..', *(f'at {key(n)} {key(n)}' for n in range(8)), 'refused E4', 'end 8')
+    s.line('keys .. ..', *(f'at {key(n)}' for n in range(8)), 'refused E4', 'end 8')
+    s.line('range-back .. ..', 'refused E4', 'end 0')
+    s.line('values-back .. ..', 'refused E4', 'end 0')
+    s.line('range-ends .. ..', f'at {key(0)} {key(0)}', 'refused E4', 'end 1')
     s.line('len', 'refused E4')
     s.line('first', f'found {key(0)} {key(0)}')
     s.line('last', 'refused E4')

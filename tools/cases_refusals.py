@@ -2,7 +2,7 @@
 from cases_flights import below, both, eight_and_three, seventeen, seventeen_and_three
 from cases_levels import short
 from oracle import Shell
-from script import case, expect, pair
+from script import case, crowd_case, expect, pair
 
 
 @case
@@ -513,7 +513,7 @@ def a_crash_amid_every_stage(s):
         s.holds(*keys(lines + [line]))
 
 
-@case
+@crowd_case
 def crowds(s):
     """Eight calls in flight at random beside a plain program, with crashes: a tree that grows and shrinks."""
     for seed, calls in [(88172645463325252, 12000), (1, 3000), (2, 3000), (18446744073709551615, 1000), (7, 0),
@@ -528,6 +528,20 @@ def crowds(s):
         dump                pair __sled__default a 1
                             end 1
     ''')
+
+
+@crowd_case
+def words_of_many_calls_that_cannot_be_read(s):
+    """A line of the program `crowd` that cannot be read changes nothing, and the next one is read."""
+    s.line('insert a 1', 'old -')
+    s.begin(1, 'get a')
+    for line in ('crowd', 'crowd 1', 'crowd 1 x', 'crowd 1 2 3', 'load', 'load 1 2', 'load 1 2 3 4', 'find 1', 'find 1 -', 'overtake 1', 'overtake 1 2 3',
+                 'reads 1', 'pages 1', 'why 1', 'turns', 'turns 01', 'new refuse 1', 'run', 'run step', 'run step 1,', 'run step 1, tree t', 'run drop t', 'drop',
+                 'drop -', 'len 1', 'read', 'read -', 'read a b', 'range ..', 'range a z', 'range [a (', 'range .. .. ..', 'prefix', 'merge a 1', 'draw', 'quit', 'get', ' get a'):
+        s.line(line, f'bad line {len(s.text) + 1}')
+        s.line('turns 1', 'number 0')
+    s.line('step 1', 'value 1')
+    s.line('dump', pair('a', 1), 'end 1')
 
 
 # Lines that cannot be read.
@@ -545,7 +559,7 @@ UNREADABLE = [
     'turns', 'turns a', 'turns 1 2', 'new 1', 'new refuse', 'new refuse a', 'new refuse 1 -1', 'new refuse 1  2',
     'reopen 1', 'reopen refuse', 'reopen refuse 1 x', 'reopen unreadable', 'reopen unreadable -', 'reopen mark',
     'reopen mark x', 'reopen mark 1 2', 'reopen mark 18446744073709551616', 'recover 1', 'recover refuse',
-    'recover mark 1', 'recovered 1', 'pages 1', 'pages ', 'crowd', 'crowd 1', 'crowd 1 x', 'crowd 1 2 3', 'help me',
+    'recover mark 1', 'recovered 1', 'pages 1', 'pages ', 'crowd 1 2', 'help none', 'help a b c', 'help tests all',
     'quit ', 'quit 1', ' # no comment', ' quit', 'begin turns 1', 'begin new', 'begin crash 1', 'begin dump', 'new ',
 ]
 
@@ -585,6 +599,56 @@ def lines_that_cannot_be_read(s):
 
 
 @case
+def a_refusal_says_why(s):
+    """`why` prints the text of the last refusal: what was asked for that there is not, and which tree, store or memory it was."""
+    s.rows("""
+        why                             why -
+        insert a 1                      old -
+        why                             why -
+        merge a 2                       refused E2
+        why                             why unsupported: must set a merge operator on this Tree before calling merge by calling Tree::set_merge_operator
+        begin merge a 2                 refused E2
+        owned merge a 2                 refused E2
+        import t b 1 b 2                refused E2
+        why                             why unsupported: import is overwriting existing data
+        import-type list t c 3          refused E2
+        why                             why unsupported: unknown collection type
+        drop __sled__default            refused E2
+        why                             why unsupported: cannot remove the core structures
+        owned import t c 3              bad line 15: `import` does not follow `owned`; `help` lists what does
+        why                             why unsupported: cannot remove the core structures
+        handle other __sled__default 1  done
+        get a                           refused E2
+        why                             why unsupported: handle of another database
+        merge a 2                       refused E2
+        why                             why unsupported: handle of another database
+        handle sledsh gone 7            done
+        range .. ..                     refused E1
+        why                             why collection not found
+        len                             refused E1
+        handle other gone 7             done
+        watch a                         refused E2
+        why                             why unsupported: handle of another database
+        reopen                          opened
+        why                             why unsupported: handle of another database
+        operator short                  done
+        merge a 2                       refused E6
+        why                             why no memory
+        update a short                  refused E6
+        reopen mark 18446744073709551615    opened
+        id                              refused E2
+        why                             why unsupported: ids used up
+        owned drop __sled__default      refused E2
+        why                             why unsupported: cannot remove the core structures
+    """)
+    s.ask('new refuse 1')
+    s.line('get a', 'refused E8')
+    s.line('why', 'why closed')
+    s.line('dump', 'refused E8')
+    s.line('why', 'why closed')
+
+
+@case
 def words_without_a_call_yet(s):
     """Words whose calls are not there yet. Whoever brings a call takes its line out of here."""
     s.line('insert a 1', 'old -')
@@ -619,8 +683,7 @@ def what_names_no_tree_is_refused(s):
         handle sledsh __sled__default 2    done
         get a                              refused E1
         begin get a                        refused E1
-        run begin get a, flush             refused E1
-                                           flushed 1
+        flush                              flushed 1
         handle sledsh other 1              done
         insert a 3                         refused E1
         step 1                             moved

@@ -318,11 +318,10 @@ def opening_flushes(s):
         insert d 4          old -
         pages               level 1 4
                             end 1
-        flush               flushed 0
         crash 0             recovered
-        get d               value 4
+        get d               value -
     ''')
-    s.note('A store is new until it was made from what an earlier one left.')
+    s.note('A count of the pages is no opening, and flushes nothing. A store is new until it was made from what an earlier one left.')
     s.new()
     s.rows('''
         recovered           no

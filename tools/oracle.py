@@ -25,7 +25,16 @@ ROOM = 1024
 
 
 class Refused(Exception):
-    """A call that is refused, by its number."""
+    """A call that is refused, by its number, and the text of E2."""
+
+
+ANOTHER = 'handle of another database'
+NO_OPERATOR = 'must set a merge operator on this Tree before calling merge by calling Tree::set_merge_operator'
+DEFAULT_TREE = 'cannot remove the core structures'
+PRESENT = 'import is overwriting existing data'
+UNKNOWN_TYPE = 'unknown collection type'
+IDS = 'ids used up'
+TEXTS = {1: 'collection not found', 2: 'unsupported: ', 6: 'no memory', 7: 'queue full', 8: 'closed'}
 
 
 class BadLine(Exception):
@@ -66,6 +75,13 @@ def bound_of(text):
             return text[0] == '[', value_of(text[1:])
     except BadLine:
         pass
+    else:
+        try:
+            value_of(text)
+        except BadLine:
+            pass
+        else:
+            raise BadLine(f'`{text}` is no bound: write [{text}')
     raise BadLine(f'`{text}` is no bound: [ or ( and a byte string, or ..')
 
 
@@ -596,8 +612,7 @@ class Range:
 
 FORMS = """insert K V; get K; remove K; cas K OLD NEW; merge K V; begin merge K V; operator OPERATOR; begin insert K V; begin get K; begin remove K; begin cas K OLD NEW
 step N; finish N; abandon N; turns N; flush; crash N; dump; new; new refuse N ..; reopen; reopen refuse N ..
-reopen unreadable PID ..; reopen mark N; recover; recover refuse N ..; recovered; pages; crowd SEED CALLS; run STEP, ..
-reads; load N MOST ALL; find N PAGES; overtake N COUNT; handle DATABASE NAME N; help; quit
+reopen unreadable PID ..; reopen mark N; recover; recover refuse N ..; recovered; pages; draw; draw dot; handle DATABASE NAME N; why; help; quit; exit
 has K; read K; lt K; gt K; first; last; len; empty; range LO HI; range-back LO HI; range-ends LO HI; prefix P; prefix-back P
 keys LO HI; keys-back LO HI; values LO HI; values-back LO HI
 pop-min; pop-max; clear
@@ -606,10 +621,22 @@ owned pop-max; owned clear; owned flush; owned id; owned drop NAME
 names; tree NAME; old-tree NAME; drop NAME; id; import NAME K V ..; import-type TYPE NAME K V ..; import-all TYPE NAME K V .. ; ..
 update K HOW; fetch K HOW; owned update K HOW; owned fetch K HOW
 watch P; next N; unwatch N; owned watch P; owned next N; owned unwatch N"""
-FORMS = [form.split(' ') for form in re.split('(?<! ); |\n', FORMS)]
+# What the program `crowd` knows beside the lines of `sledrun` and reads that take no slot: many calls at once.
+CROWD = """crowd SEED CALLS; run STEP, ..; reads; load N MOST ALL; find N PAGES; overtake N COUNT; pages; turns N; new; drop NAME; why
+insert K V; get K; remove K; cas K OLD NEW; begin insert K V; begin get K; begin remove K; begin cas K OLD NEW
+step N; finish N; abandon N; flush; crash N; dump; tree NAME
+has K; read K; lt K; gt K; first; last; len; empty; names; range LO HI; range-back LO HI; range-ends LO HI; prefix P; prefix-back P
+keys LO HI; keys-back LO HI; values LO HI; values-back LO HI"""
+
+
+def forms_of(text):
+    return [form.split(' ') for form in re.split('(?<! ); |\n', text)]
+
+
+FORMS, CROWD = forms_of(FORMS), forms_of(CROWD)
 POINT = ('insert', 'get', 'remove', 'cas', 'merge')
 POPS = ('pop-min', 'pop-max', 'clear')
-ON_TREES = ('begin', 'operator', 'pages', 'watch', 'update', 'fetch')
+ON_TREES = ('begin', 'operator', 'pages', 'draw', 'watch', 'update', 'fetch')
 LOOKS = ('has', 'read', 'lt', 'gt', 'first', 'last', 'len', 'empty', 'range', 'prefix', 'keys', 'values')
 READERS = {'K': value_of, 'V': value_of, 'P': value_of, 'DATABASE': value_of, 'NAME': value_of, 'TYPE': value_of, 'OLD': optional, 'NEW': optional, 'LO': bound_of, 'HI': bound_of, 'OPERATOR': operator_of}
 
@@ -680,13 +707,28 @@ def read_step(text):
     return words
 
 
-def read_line(text):
-    """The words of a line: the shell's own, and what the others stand for."""
+def read_help(words):
+    """The words of a line that asks for help; each command that is asked for has to be there."""
+    if len(words) > 3:
+        raise BadLine(f'`{words[0]}` takes [WORD], two words at the most')
+    wanted = ' '.join(words[1:])
+    owns = [' '.join(part for part in form if part.islower()) for form in FORMS] + ['tests', '?', 'exit']
+    if not any(own.startswith(wanted) for own in owns):
+        raise BadLine(f'`{wanted}` begins no line; `help` lists them')
+    return ['help', wanted]
+
+
+def read_line(text, forms=FORMS):
+    """The words of a line: the program's own, and what the others stand for."""
     words = text.split(' ')
-    if words[0] == 'run' and len(words) > 1:
+    if forms is FORMS and '' in words:
+        raise BadLine('a line begins with a word; one space stands between two')
+    if forms is FORMS and words[0] in ('help', '?'):
+        return read_help(words)
+    if words[0] == 'run' and len(words) > 1 and forms is CROWD:
         return ['run', [read_step(step.removeprefix(' ')) for step in text[4:].split(',')]]
     best, reason = 1, f'`{words[0]}` is no command; `help` lists them'
-    for form in FORMS:
+    for form in forms:
         own, values, why = fit(form, words)
         if values is not None:
             return values
@@ -719,8 +761,8 @@ def collections_of(name, *words):
 class Shell:
     """Runs lines, one after the other, over a store of its own."""
 
-    def __init__(self):
-        self.store, self.line = Store(), 0
+    def __init__(self, forms=FORMS):
+        self.store, self.line, self.forms, self.why = Store(), 0, forms, '-'
         self.open()
 
     def open(self):
@@ -745,7 +787,7 @@ class Shell:
         """The tree that this names."""
         database, name, number = handle
         if database != DATABASE:
-            raise Refused(2)
+            raise Refused(2, ANOTHER)
         if name not in self.trees or self.trees[name].number != number:
             raise Refused(1)
         return self.trees[name]
@@ -756,11 +798,17 @@ class Shell:
         if text == '' or text[0] == '#':
             return []
         try:
-            return self.do(*read_line(text))
+            return self.do(*read_line(text, self.forms))
         except BadLine as why:
-            return [f'bad line {self.line}: {why}']
+            return [f'bad line {self.line}: {why}' if self.forms is FORMS else f'bad line {self.line}']
         except Refused as refusal:
-            return [f'refused E{refusal}']
+            return [self.refused(refusal)]
+
+    def refused(self, refusal):
+        """The line of a refusal, whose text is kept."""
+        number, *text = refusal.args
+        self.why = TEXTS.get(number, '?') + ''.join(text)
+        return f'refused E{number}'
 
     def do(self, name, *words):
         store = self.store
@@ -770,6 +818,8 @@ class Shell:
             store.crash(words[0])
             self.open()
             return ['recovered']
+        if name == 'why':
+            return [f'why {self.why}']
         if name == 'crowd':
             return [f'agreed {words[1]}']
         if name == 'reads':
@@ -828,7 +878,7 @@ class Shell:
             tree.operator = words[0]
             return ['done']
         if 'merge' in (name, words[0] if name == 'begin' else None) and tree.operator is None:
-            raise Refused(2)
+            raise Refused(2, NO_OPERATOR)
         if name == 'watch':
             queue = Queue(words[0])
             tree.queues.append(queue)
@@ -846,11 +896,43 @@ class Shell:
             self.begun += 1
             self.slots[self.begun] = self.flight(tree, *words)
             return [f'slot {self.begun}']
-        try:
-            levels = self.levels(True, tree.name)
-        finally:
-            self.open()
+        if name == 'draw':
+            return self.drawn(tree.name, words == ('dot',))
+        levels = self.levels(True, tree.name)
         return [f'level {len(level)} {max(len(n.entries) for n in level)}' for level in levels] + [f'end {len(levels)}']
+
+    def drawn(self, name, is_dot):
+        """The pages of a tree level by level, each with the index that points to it; as a graph, with arrows in its place. Where one
+        cannot be read the drawing ends."""
+        printed = ['digraph tree {', '  node [shape=box]'] if is_dot else []
+        level, parents = 0, {self.store.roots[name]: ''}
+        try:
+            while parents:
+                pid, below = next(iter(parents)), {}
+                printed += [] if is_dot else [f'level {level}']
+                while pid is not None:
+                    node = self.store.read(pid).node
+                    printed += self.page_drawn(pid, node, parents.get(pid), is_dot)
+                    below.update({p: f' under {pid}' for _, p in node.entries if not node.leaf})
+                    pid = node.next
+                level, parents = level + 1, below
+        except Refused as refusal:
+            return printed + [self.refused(refusal)]
+        return printed + ['}'] * is_dot
+
+    @staticmethod
+    def page_drawn(pid, node, under, is_dot):
+        head = f'{"leaf" if node.leaf else "index"} {pid}{"" if is_dot or under is None else under}'
+        head += f' from {word(node.lo)} to {word(node.hi) if node.hi else ".."}'
+        head += f' next {node.next}' * (node.next is not None) + ' merging' * node.merging
+        head += f' merging-child {node.child}' * (node.child is not None) + ' no-pointer' * (under is None) + ':'
+        head += ''.join(f' {word(k)}={word(v)}' for k, v in node.entries if node.leaf)
+        pointers = [] if node.leaf else [(word(k), p) for k, p in node.entries]
+        if not is_dot:
+            return [head + ''.join(f' {k}->{p}' for k, p in pointers)]
+        quoted = [text.replace('\\', '\\\\').replace('"', '\\"') for text in [head] + [k for k, _ in pointers]]
+        arrows = [f'  {pid} -> {p} [label="{k}"]' for k, (_, p) in zip(quoted[1:], pointers)]
+        return [f'  {pid} [label="{quoted[0]}"]'] + arrows + [f'  {pid} -> {node.next} [style=dashed]'] * (node.next is not None)
 
     def fetched(self, tree, name, key, how):
         """Reads a value, and swaps what is made of it for it. It answers the new value, or the one that was read."""
@@ -904,7 +986,7 @@ class Shell:
     def drop(self, name):
         """Drops the tree of this name: whether there was one."""
         if name == TREE:
-            raise Refused(2)
+            raise Refused(2, DEFAULT_TREE)
         if name not in self.trees:
             return False
         drop_tree(self.store, name)
@@ -915,19 +997,19 @@ class Shell:
         """Opens the tree of each collection in turn, and puts its pairs in one by one. First all types are tested. Where a key is
         present already that is refused, and what was done stays."""
         if any(kind != b'tree' for kind, _, _ in collections):
-            raise Refused(2)
+            raise Refused(2, UNKNOWN_TYPE)
         for _, name, pairs in collections:
             tree = self.open_tree(name)
             for key, value in pairs:
                 if look(self.store, tree, (True, key)).get(key) is not None:
-                    raise Refused(2)
+                    raise Refused(2, PRESENT)
                 self.advance(self.flight(tree, 'insert', key, value), True)
 
     def next_id(self):
         """One above the greatest id that was given. Where none is set aside, 4096 more are, or as many as are left."""
         if self.greatest_id == self.store.mark:
             if self.store.mark == GREATEST:
-                raise Refused(2)
+                raise Refused(2, IDS)
             self.store.set_aside(min(self.store.mark + 4096, GREATEST))
         self.greatest_id += 1
         return self.greatest_id
@@ -972,7 +1054,8 @@ class Shell:
                 shown = {'keys': pair[:1], 'values': pair[1:]}.get(what, pair)
                 printed.append(' '.join(['at'] + [word(part) for part in shown]))
         except Refused as refusal:
-            return printed + [f'refused E{refusal}']
+            # an iterator that was refused ends: asked once more it gives nothing
+            return printed + [self.refused(refusal), f'end {len(printed)}']
         return printed + [f'end {len(printed)}']
 
     def reads(self):
@@ -992,7 +1075,7 @@ class Shell:
         try:
             return [line.replace('old', 'value') for line in self.do(*step)]
         except Refused as refusal:
-            return [f'refused E{refusal}']
+            return [self.refused(refusal)]
 
     def renew(self, name, kind=None, *numbers):
         """Opens other pages, or the same ones anew."""

@@ -7,16 +7,22 @@ answers, what each dump has, and that a crash leaves the pairs of some moment si
 import os
 import re
 import sys
-from oracle import (DATABASE, GREATEST, HOWS, LOOKS, ON_TREES, OPERATORS, POINT, POPS, ROOM, TREE, Shell, Tree, collections_of, in_line, is_from, is_up_to, read_line,
+from oracle import (CROWD, DATABASE, FORMS, GREATEST, HOWS, LOOKS, ON_TREES, OPERATORS, POINT, POPS, ROOM, TREE, Shell, Tree, collections_of, in_line, is_from, is_up_to, read_line,
                     some_keys, word)
 
-DATA = os.path.join(os.path.dirname(os.path.abspath(__file__)), '..', 'crates', 'sledsh', 'data')
+CRATES = os.path.join(os.path.dirname(os.path.abspath(__file__)), '..', 'crates')
 CASES = []
 
 
 def case(function):
-    """A function that writes the file of its name; its first words say what the file shows."""
-    CASES.append(function)
+    """A function that writes the file of its name; its first words say what the file shows. The shell runs it."""
+    CASES.append(('sledsh', function))
+    return function
+
+
+def crowd_case(function):
+    """The same for a file that the program `crowd` runs."""
+    CASES.append(('crowd', function))
     return function
 
 
@@ -199,7 +205,7 @@ class Plain:
 
     def meets(self, words, printed, shell):
         """Compares what a line printed with what it must."""
-        name, last = words[0], printed[-1] if printed else ''
+        name, last = words[0], next((line for line in printed if line.startswith('refused') and words[0] != 'run'), printed[-1] if printed else '')
         if name == 'owned':
             self.calls = {}
             return self.meets(in_line(words[1:]), printed, shell)
@@ -280,7 +286,7 @@ class Plain:
         elif name == 'load':
             for key in some_keys(words[1]):
                 self.answer(('insert', key, key), self.current)
-        elif name in ('reopen', 'pages'):
+        elif name == 'reopen':
             self.changes = []
             self.opened()
 
@@ -288,8 +294,9 @@ class Plain:
 class Script:
     """One file of lines."""
 
-    def __init__(self, name, sentence):
-        self.name, self.shell, self.plain = name, Shell(), Plain()
+    def __init__(self, name, sentence, program='sledsh'):
+        self.name, self.program, self.plain = name, program, Plain()
+        self.shell = Shell(CROWD if program == 'crowd' else FORMS)
         self.text, self.wanted = [], []
         self.reached = dict(self.shell.store.notes)
         self.note(sentence)
@@ -309,7 +316,7 @@ class Script:
         self.text.append(line)
         self.wanted += printed
         if line and line[0] != '#' and not (printed and printed[0].startswith('bad line')):
-            words = read_line(line)
+            words = read_line(line, self.shell.forms)
             if words[0] == 'new':
                 self.plain = Plain()
             self.plain.meets(words, printed, self.shell)
@@ -390,7 +397,8 @@ class Script:
     def news(self):
         return {n: c for n, c in self.store.notes.items() if c > self.reached.get(n, 0)}
 
-    def write(self, folder):
+    def write(self):
+        folder = data_of(self.program)
         with open(os.path.join(folder, self.name + '.lines'), 'wb') as file:
             file.write(('\n'.join(self.text) + self.end).encode('latin-1'))
         with open(os.path.join(folder, self.name + '.expected'), 'wb') as file:
@@ -399,21 +407,33 @@ class Script:
     end = '\n'
 
 
+def data_of(program):
+    """The folder of a program's files of lines."""
+    return os.path.join(CRATES, program, 'data')
+
+
+def write_names(program):
+    """Writes the words and the output of the check of all files of a program."""
+    folder = data_of(program)
+    names = sorted(name[:-6] for name in os.listdir(folder) if name.endswith('.lines'))
+    with open(os.path.join(folder, '..', 'args'), 'w') as file:
+        file.write(''.join(w + '\n' for w in ['check'] + names))
+    with open(os.path.join(folder, '..', 'stdout'), 'w') as file:
+        for name in names:
+            count = open(os.path.join(folder, name + '.expected'), 'rb').read().count(b'\n')
+            file.write(f'{name}: {count} lines as expected\n')
+
+
 def write_all(only=()):
-    """Writes the files of all cases, and the words and the output of the check of all of them."""
-    os.makedirs(DATA, exist_ok=True)
-    for function in CASES:
+    """Writes the files of all cases, and the words and the output of the checks of all of them."""
+    for program, function in CASES:
         if only and function.__name__ not in only:
             continue
-        script = Script(function.__name__, ' '.join(function.__doc__.split()))
+        os.makedirs(data_of(program), exist_ok=True)
+        script = Script(function.__name__, ' '.join(function.__doc__.split()), program)
         function(script)
-        script.write(DATA)
+        script.write()
         seldom = ', '.join(sorted(n for n, c in script.store.notes.items() if c))
         print(f'{script.name}: {len(script.text)} lines; {seldom}', file=sys.stderr)
-    names = sorted(name[:-6] for name in os.listdir(DATA) if name.endswith('.lines'))
-    with open(os.path.join(DATA, '..', 'args'), 'w') as file:
-        file.write(''.join(w + '\n' for w in ['check'] + names))
-    with open(os.path.join(DATA, '..', 'stdout'), 'w') as file:
-        for name in names:
-            count = open(os.path.join(DATA, name + '.expected'), 'rb').read().count(b'\n')
-            file.write(f'{name}: {count} lines as expected\n')
+    for program in 'sledsh', 'crowd':
+        write_names(program)

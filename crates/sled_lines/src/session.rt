@@ -37,11 +37,14 @@ use std::io::Write;
 // So many bytes of lines are gathered before they are written.
 const GATHERED: usize = 4096;
 
-// What is done with a call in flight.
+/// What is done with a call in flight.
 #[derive(Clone, Copy)]
-enum Act {
+pub enum Act {
+    /// One step.
     Step,
+    /// All steps to its end.
     Finish,
+    /// It is given up.
     Abandon,
 }
 
@@ -239,8 +242,8 @@ impl<P: Pages, M: MergeOperator> Session<P, M> {
         self.machine.run(steps)
     }
 
-    // A call from its begin to its end, and what the value in its reply is.
-    fn point(&mut self, call: Call) -> (Shown, Outcome)
+    /// A call from its begin to its end, and what the value in its reply is.
+    pub fn point(&mut self, call: Call) -> (Shown, Outcome)
         ensures shown { result.0 ≡ shown_of call }
         ensures completes { Completes P.store P.flush_number M.meant self.old.machine self.old.tree call result.1 self.new.machine }
         ensures tree { self.new.tree ≡ self.old.tree }
@@ -289,8 +292,8 @@ impl<P: Pages, M: MergeOperator> Session<P, M> {
         Ok(pushed?)
     }
 
-    // A call takes a slot, which is printed by its number among those that lines began.
-    fn begin(&mut self, call: Call) -> Result<(Shown, Outcome), Stopped>
+    /// A call takes a slot, which is printed by its number among those that lines began.
+    pub fn begin(&mut self, call: Call) -> Result<(Shown, Outcome), Stopped>
         ensures begins { IfOk result (λ told. begins_as P.store P.flush_number M.meant self.old.machine self.old.tree call self.old.slots.items told.1 self.new.slots.items self.new.machine) }
         ensures shown { IfOk result (λ told. told.0 ≡ shown_of call) }
         ensures tree { self.new.tree ≡ self.old.tree }
@@ -310,8 +313,8 @@ impl<P: Pages, M: MergeOperator> Session<P, M> {
         Ok((shown, outcome))
     }
 
-    // Does something with the call in the slot of this number.
-    fn act(&mut self, number: u64, act: Act) -> (Shown, Outcome)
+    /// Does something with the call in the slot of this number; and what the value in its reply is.
+    pub fn act(&mut self, number: u64, act: Act) -> (Shown, Outcome)
         ensures acts { acts_at P.store P.flush_number M.meant self.old.machine act (slot_at self.old.slots.items number) result.0 result.1 self.new.machine }
         ensures tree { self.new.tree ≡ self.old.tree }
         ensures slots { self.new.slots ≡ self.old.slots }
@@ -470,8 +473,8 @@ fn count_pairs(trees: &[Collection]) -> u64
     count
 }
 
-// Adds the lines of all pairs, and of how many there are.
-fn write_trees<W: Write>(
+/// Adds the lines of all pairs, and of how many there are; of many lines the first ones are written already.
+pub fn write_trees<W: Write>(
     output: &mut W,
     out: &mut Vec<u8>,
     trees: &[Collection],

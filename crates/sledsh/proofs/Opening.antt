@@ -11,7 +11,7 @@ use Rattle.tree_laws.specs.Contents.{trees_of}
 use Rattle.sled_model.specs.State.{default_name}
 use Rattle.sled.proofs.Opening.{default_is}
 use Rattle.sled.specs.Opens.{planted, GrowsAtMost, RefusesOpen}
-use Rattle.sledsh.specs.Store.{IsKept, HasDefault}
+use Rattle.shell_parts.specs.Store.{IsKept, HasDefault}
 
 nil_of_length : (l : List Action) → length l ≡ 0 → l ≡ []
 nil_of_length [] e = refl

@@ -1,15 +1,15 @@
 //! Calls that read a value and write what is made of it.
 
-use crate::calls::{Result, bytes_of};
-use crate::counting::Counting;
-use crate::look::tell_value;
 use crate::operators::{Operator, bytes_of as bytes_or_none, joined, number_of};
+use shell_parts::look::tell_value;
+use shell_parts::tell::{Result, Told, bytes_of};
 use sled::Db;
 use sled_lines::input::{Stopped, without_end};
 use sled_lines::session::Session;
 use sled_lines::words::first_word;
 use sled_model::Tree;
 use sled_nodes::IVec;
+use sled_pages::MemPages;
 use std::alloc::{AllocError, Global};
 
 /// Which call it is.
@@ -91,11 +91,11 @@ fn words_of(alloc: Global, words: &[u8]) -> Result<(IVec, &[u8], IVec)> {
 // Makes the call on the current tree.
 fn make(
     alloc: Global,
-    session: &mut Session<Counting<'_>, Operator>,
+    session: &mut Session<MemPages, Operator>,
     call: Fetch,
     key: &[u8],
     how: How<'_>,
-    out: &mut Vec<u8>,
+    out: &mut Told,
 ) -> Result<()> {
     let answer = match call {
         Fetch::Update => session.update_and_fetch(key, move |old| made_of(alloc, how, old)),
@@ -107,10 +107,10 @@ fn make(
 /// Makes the call that a line spells on the current tree, and adds what it answers.
 pub fn tell_fetch(
     alloc: Global,
-    session: &mut Session<Counting<'_>, Operator>,
+    session: &mut Session<MemPages, Operator>,
     call: Fetch,
     line: &[u8],
-    out: &mut Vec<u8>,
+    out: &mut Told,
 ) -> Result<()> {
     let words = first_word(without_end(line)).1.unwrap_or(b"");
     let (key, name, bytes) = words_of(alloc, words)?;
@@ -126,12 +126,12 @@ pub fn tell_fetch(
 // Makes the call of a database.
 fn make_owned(
     alloc: Global,
-    db: &mut Db<Counting<'_>, Operator>,
+    db: &mut Db<MemPages, Operator>,
     tree: &Tree,
     call: Fetch,
     key: &[u8],
     how: How<'_>,
-    out: &mut Vec<u8>,
+    out: &mut Told,
 ) -> Result<()> {
     let answer = match call {
         Fetch::Update => db.update_and_fetch(tree, key, move |old| made_of(alloc, how, old)),
@@ -143,11 +143,11 @@ fn make_owned(
 /// Makes the call of a database that the words of a line spell, and adds what it answers.
 pub fn tell_owned_fetch(
     alloc: Global,
-    db: &mut Db<Counting<'_>, Operator>,
+    db: &mut Db<MemPages, Operator>,
     tree: &Tree,
     call: Fetch,
     words: &[u8],
-    out: &mut Vec<u8>,
+    out: &mut Told,
 ) -> Result<()> {
     let (key, name, bytes) = words_of(alloc, words)?;
     let told = match how_of(name, bytes.as_ref()) {

@@ -1,19 +1,19 @@
 //! The commands: what each line asks for, and why a line asks for nothing.
 
-use crate::calls::tell;
-use crate::draw::Drawing;
 use crate::fetch::Fetch;
 use crate::imports::Import;
-use crate::look::{Look, Side};
 use crate::names::Named;
 use crate::owned::Owned;
 use crate::places::compare;
 use crate::pops::Pop;
 use crate::subscribers::Listen;
+use shell_parts::look::{Look, Side};
+use shell_parts::tell::{Told, tell};
+use sled_draw::draw::Drawing;
 use sled_lines::command::{self, parse};
 use sled_lines::input::Stopped;
 use sled_lines::print::Piece::Text;
-use sled_lines::print::push_pieces;
+use sled_lines::print::{push_pieces, push_text};
 use sled_lines::words::{first_word, read_number, read_word};
 use sled_model::Call;
 use sled_nodes::Result;
@@ -41,12 +41,7 @@ pub enum Verb {
     Pages,
     /// A drawing of the tree.
     Draw(Drawing),
-    Crowd,
-    Run,
-    Reads,
-    Load,
-    Find,
-    Overtake,
+    Why,
     Handle,
     /// A read that takes no slot.
     Look(Look),
@@ -71,13 +66,12 @@ pub enum Verb {
 // A command's own words, what it takes, and what it does.
 type Form = (&'static str, &'static str, Verb, &'static str);
 
-// What a command takes has words of its own: K, V, P, OLD, NEW, DATABASE, TYPE and NAME are byte strings, LO and HI bounds, STEP a step
-// of a call in flight, OPERATOR a merge operator, HOW what is made
-// of a value, and the others numbers; `..` stands for more of the word before it, `K V ..` for pairs,
-// and `; ..` for more of all that stands before it.
+// What a command takes has words of its own: K, V, P, OLD, NEW, DATABASE, TYPE and NAME are byte strings, LO and HI bounds, OPERATOR a
+// merge operator, HOW what is made of a value, [WORD] two words at the most, and the others numbers; `..` stands for more of the word
+// before it, `K V ..` for pairs, and `; ..` for more of all that stands before it.
 
-// Calls in slots, and from their begin to their end.
-const CALLS: [Form; 17] = [
+// A key of the current tree.
+const KEYS: [Form; 8] = [
     (
         "insert",
         "K V",
@@ -113,13 +107,23 @@ const CALLS: [Form; 17] = [
         "fetch",
         "K HOW",
         Verb::Fetch(Fetch::Fetch),
-        "the same, but that it prints the value that stood there",
+        "changes it in the same ways, and prints the value that stood there",
     ),
+    (
+        "operator",
+        "OPERATOR",
+        Verb::Operator,
+        "gives the tree a merge operator: concat, add, max, before, keep, gone or short",
+    ),
+];
+
+// Calls in flight, step by step.
+const FLIGHTS: [Form; 9] = [
     (
         "begin insert",
         "K V",
         Verb::Line,
-        "begins the same call in a slot, which is printed",
+        "begins an insert in a slot, which is printed",
     ),
     ("begin get", "K", Verb::Line, "begins a get in a slot"),
     (
@@ -159,141 +163,15 @@ const CALLS: [Form; 17] = [
         Verb::Turns,
         "prints how often the call in a slot went on so far",
     ),
-    (
-        "operator",
-        "OPERATOR",
-        Verb::Operator,
-        "gives the tree a merge operator: concat, add, max, before, keep, gone or short",
-    ),
 ];
 
-// What becomes of the store.
-const STORES: [Form; 12] = [
-    ("flush", "", Verb::Line, "makes all durable"),
-    (
-        "crash",
-        "N",
-        Verb::Crash,
-        "a crash that keeps N actions since the last flush, and an opening",
-    ),
-    ("dump", "", Verb::Line, "prints all pairs"),
-    ("new", "", Verb::New, "an empty store, opened"),
-    (
-        "new refuse",
-        "N ..",
-        Verb::New,
-        "the same, where the store refuses its calls of these numbers",
-    ),
-    ("reopen", "", Verb::Reopen, "opens the store again"),
-    (
-        "reopen refuse",
-        "N ..",
-        Verb::Refuse,
-        "the same, where the store refuses its calls of these numbers",
-    ),
-    (
-        "reopen unreadable",
-        "PID ..",
-        Verb::Unreadable,
-        "the same, where these pages cannot be read",
-    ),
-    (
-        "reopen mark",
-        "N",
-        Verb::Mark,
-        "the same, where ids up to N are set aside",
-    ),
-    (
-        "recover",
-        "",
-        Verb::Recover,
-        "a crash that keeps all actions, and an opening",
-    ),
-    (
-        "recover refuse",
-        "N ..",
-        Verb::Recover,
-        "the same, where the store left refuses its calls of these numbers",
-    ),
-    (
-        "recovered",
-        "",
-        Verb::Recovered,
-        "prints whether the store is what a crash left",
-    ),
-];
-
-// What is told of pages and reads, and many calls at once.
-const COUNTS: [Form; 10] = [
-    (
-        "pages",
-        "",
-        Verb::Pages,
-        "prints how many pages each level of the tree has, and the most entries of one; the store is opened again: slots and subscribers end",
-    ),
-    (
-        "draw",
-        "",
-        Verb::Draw(Drawing::Text),
-        "draws the tree level by level, with what is half done; the store is opened again, as at `pages`",
-    ),
-    (
-        "draw dot",
-        "",
-        Verb::Draw(Drawing::Dot),
-        "the same as a graph for the program dot",
-    ),
-    (
-        "crowd",
-        "SEED CALLS",
-        Verb::Crowd,
-        "runs CALLS calls, eight at once, beside a plain program, and compares",
-    ),
-    (
-        "run",
-        "STEP, ..",
-        Verb::Run,
-        "does these steps by one call; they name slots as a machine does that numbers all calls",
-    ),
-    (
-        "reads",
-        "",
-        Verb::Reads,
-        "prints how many pages were read since this was asked last",
-    ),
-    (
-        "load",
-        "N MOST ALL",
-        Verb::Load,
-        "inserts N keys: whether each read MOST pages and all of them ALL at the most",
-    ),
-    (
-        "find",
-        "N PAGES",
-        Verb::Find,
-        "gets the first N of those keys: whether each get read so many pages",
-    ),
-    (
-        "overtake",
-        "N COUNT",
-        Verb::Overtake,
-        "so often an insert comes between two steps of the call in a slot; prints its turns",
-    ),
-    (
-        "handle",
-        "DATABASE NAME N",
-        Verb::Handle,
-        "makes current what names a tree: a database, the tree's name and its number",
-    ),
-];
-
-// Reads that take no slot.
-const READS: [Form; 9] = [
+// Reads that repair nothing.
+const READS: [Form; 8] = [
     (
         "has",
         "K",
         Verb::Look(Look::Has),
-        "prints whether a key is present, by a call that takes no slot, as all of these do",
+        "prints whether a key is present",
     ),
     (
         "read",
@@ -337,40 +215,10 @@ const READS: [Form; 9] = [
         Verb::Look(Look::Empty),
         "prints whether there is no pair",
     ),
-    (
-        "names",
-        "",
-        Verb::Look(Look::Names),
-        "prints the names of all trees, in order",
-    ),
 ];
 
-// Trees by name, ids, and ranges.
-const TREES: [Form; 13] = [
-    (
-        "tree",
-        "NAME",
-        Verb::Named(Named::Open),
-        "makes the tree of a name current, and makes it where there is none",
-    ),
-    (
-        "old-tree",
-        "NAME",
-        Verb::OldTree,
-        "makes current what the name was before the last line `tree` with it",
-    ),
-    (
-        "drop",
-        "NAME",
-        Verb::Named(Named::Drop),
-        "drops the tree of a name: whether there was one",
-    ),
-    (
-        "id",
-        "",
-        Verb::Named(Named::Id),
-        "prints the next id, which never came before",
-    ),
+// Pairs in order.
+const RANGES: [Form; 9] = [
     (
         "range",
         "LO HI",
@@ -381,13 +229,13 @@ const TREES: [Form; 13] = [
         "range-back",
         "LO HI",
         Verb::Look(Look::Pairs(Side::Back)),
-        "prints them from the back",
+        "prints the pairs within two bounds from the back",
     ),
     (
         "range-ends",
         "LO HI",
         Verb::Look(Look::Pairs(Side::Ends)),
-        "prints them from both ends in turn",
+        "prints the pairs within two bounds from both ends in turn",
     ),
     (
         "prefix",
@@ -399,7 +247,7 @@ const TREES: [Form; 13] = [
         "prefix-back",
         "P",
         Verb::Look(Look::Prefix(Side::Back)),
-        "prints them from the back",
+        "prints the pairs whose keys begin with P from the back",
     ),
     (
         "keys",
@@ -411,7 +259,7 @@ const TREES: [Form; 13] = [
         "keys-back",
         "LO HI",
         Verb::Look(Look::Keys(Side::Back)),
-        "prints them from the back",
+        "prints the keys within two bounds from the back",
     ),
     (
         "values",
@@ -423,12 +271,12 @@ const TREES: [Form; 13] = [
         "values-back",
         "LO HI",
         Verb::Look(Look::Values(Side::Back)),
-        "prints them from the back",
+        "prints the values within two bounds from the back",
     ),
 ];
 
-// Calls that are made in one step.
-const WHOLES: [Form; 9] = [
+// Many pairs by one call.
+const WHOLES: [Form; 6] = [
     (
         "pop-min",
         "",
@@ -457,14 +305,52 @@ const WHOLES: [Form; 9] = [
         "import-type",
         "TYPE NAME K V ..",
         Verb::Import(Import::Typed),
-        "the same with a type, which is to be tree",
+        "imports into the tree of a name, with a type, which is to be tree",
     ),
     (
         "import-all",
         "TYPE NAME K V .. ; ..",
         Verb::Import(Import::All),
-        "the same for all parts, by one call; a ; stands between two of them, and %3b is the string ;",
+        "imports all parts by one call; a ; stands between two of them, and %3b is the string ;",
     ),
+];
+
+// Trees by name, and ids.
+const TREES: [Form; 5] = [
+    (
+        "tree",
+        "NAME",
+        Verb::Named(Named::Open),
+        "makes the tree of a name current, and makes it where there is none",
+    ),
+    (
+        "old-tree",
+        "NAME",
+        Verb::OldTree,
+        "makes current what the name was before the last line `tree` with it",
+    ),
+    (
+        "drop",
+        "NAME",
+        Verb::Named(Named::Drop),
+        "drops the tree of a name: whether there was one",
+    ),
+    (
+        "names",
+        "",
+        Verb::Look(Look::Names),
+        "prints the names of all trees, in order",
+    ),
+    (
+        "id",
+        "",
+        Verb::Named(Named::Id),
+        "prints the next id, which never came before",
+    ),
+];
+
+// Subscribers.
+const SUBSCRIBERS: [Form; 3] = [
     (
         "watch",
         "P",
@@ -483,6 +369,64 @@ const WHOLES: [Form; 9] = [
         Verb::Listen(Listen::Unwatch),
         "gives a subscriber up, with the events that wait for it",
     ),
+];
+
+// The store.
+const STORES: [Form; 7] = [
+    ("flush", "", Verb::Line, "makes all durable"),
+    (
+        "crash",
+        "N",
+        Verb::Crash,
+        "a crash that keeps N actions since the last flush, and an opening",
+    ),
+    ("dump", "", Verb::Line, "prints all pairs"),
+    ("new", "", Verb::New, "an empty store, opened"),
+    ("reopen", "", Verb::Reopen, "opens the store again"),
+    (
+        "recover",
+        "",
+        Verb::Recover,
+        "a crash that keeps all actions, and an opening",
+    ),
+    (
+        "recovered",
+        "",
+        Verb::Recovered,
+        "prints whether the store is what a crash left",
+    ),
+];
+
+// Looking, help and the end.
+const ENDS: [Form; 8] = [
+    (
+        "pages",
+        "",
+        Verb::Pages,
+        "prints how many pages each level of the tree has, and the most entries of one",
+    ),
+    (
+        "draw",
+        "",
+        Verb::Draw(Drawing::Text),
+        "draws the tree level by level, with what is half done",
+    ),
+    (
+        "draw dot",
+        "",
+        Verb::Draw(Drawing::Dot),
+        "draws it as a graph for the program dot",
+    ),
+    ("why", "", Verb::Why, "prints the text of the last refusal"),
+    (
+        "help",
+        "[WORD]",
+        Verb::Help,
+        "lists all lines; with a WORD what those take and do that begin with it, with `tests` those that are for tests",
+    ),
+    ("?", "[WORD]", Verb::Help, "the same as help"),
+    ("quit", "", Verb::Quit, "ends"),
+    ("exit", "", Verb::Quit, "the same as quit"),
 ];
 
 // Calls of the database itself.
@@ -591,58 +535,133 @@ const OWNED: [Form; 17] = [
     ),
 ];
 
-// The rest.
-const ENDS: [Form; 2] = [
-    ("help", "", Verb::Help, "prints these lines"),
-    ("quit", "", Verb::Quit, "ends"),
+// For tests.
+const TESTS: [Form; 6] = [
+    (
+        "new refuse",
+        "N ..",
+        Verb::New,
+        "an empty store, opened, which refuses its calls of these numbers",
+    ),
+    (
+        "reopen refuse",
+        "N ..",
+        Verb::Refuse,
+        "opens the store again, which refuses its calls of these numbers from then on",
+    ),
+    (
+        "reopen unreadable",
+        "PID ..",
+        Verb::Unreadable,
+        "opens the store again, of which these pages cannot be read",
+    ),
+    (
+        "reopen mark",
+        "N",
+        Verb::Mark,
+        "opens the store again, in which ids up to N are set aside",
+    ),
+    (
+        "recover refuse",
+        "N ..",
+        Verb::Recover,
+        "a crash that keeps all actions, and an opening of the store left, which refuses its calls of these numbers",
+    ),
+    (
+        "handle",
+        "DATABASE NAME N",
+        Verb::Handle,
+        "makes current what names a tree: a database, the tree's name and its number",
+    ),
 ];
 
 // The commands, in several lists, each of which one function alone names: a list is made anew in each function that does, and the check
 // takes four times as long for one of twice the length.
-fn calls() -> &'static [Form] {
-    &CALLS
+fn keys() -> &'static [Form] {
+    &KEYS
 }
 
-fn stores() -> &'static [Form] {
-    &STORES
-}
-
-fn counts() -> &'static [Form] {
-    &COUNTS
+fn flights() -> &'static [Form] {
+    &FLIGHTS
 }
 
 fn reads() -> &'static [Form] {
     &READS
 }
 
-fn trees() -> &'static [Form] {
-    &TREES
+fn ranges() -> &'static [Form] {
+    &RANGES
 }
 
 fn wholes() -> &'static [Form] {
     &WHOLES
 }
 
-fn owned() -> &'static [Form] {
-    &OWNED
+fn trees() -> &'static [Form] {
+    &TREES
+}
+
+fn subscribers() -> &'static [Form] {
+    &SUBSCRIBERS
+}
+
+fn stores() -> &'static [Form] {
+    &STORES
 }
 
 fn ends() -> &'static [Form] {
     &ENDS
 }
 
-fn forms() -> [&'static [Form]; 8] {
+fn owned() -> &'static [Form] {
+    &OWNED
+}
+
+fn others() -> &'static [Form] {
+    &TESTS
+}
+
+// Commands that belong together, and what they are about.
+type Group = (&'static str, &'static [Form]);
+
+// The groups of commands for people.
+fn groups() -> [Group; 9] {
     [
-        calls(),
-        stores(),
-        counts(),
-        reads(),
-        trees(),
-        wholes(),
-        owned(),
-        ends(),
+        ("A key of the current tree", keys()),
+        ("Calls in flight, step by step", flights()),
+        ("Reads that repair nothing", reads()),
+        ("Pairs in order", ranges()),
+        ("Many pairs by one call", wholes()),
+        ("Trees by name, and ids", trees()),
+        ("Subscribers", subscribers()),
+        ("The store", stores()),
+        ("Looking, help and the end", ends()),
     ]
 }
+
+// The lists of commands for tests.
+fn tests() -> [&'static [Form]; 2] {
+    [owned(), others()]
+}
+
+fn all() -> [&'static [Form]; 11] {
+    [
+        keys(),
+        flights(),
+        reads(),
+        ranges(),
+        wholes(),
+        trees(),
+        subscribers(),
+        stores(),
+        ends(),
+        owned(),
+        others(),
+    ]
+}
+
+const MORE: &str =
+    "`help WORD` says what the lines do that begin with WORD; `help tests` has those that are for tests\n";
 
 /// What a line asks for.
 #[derive(Drop)]
@@ -659,6 +678,8 @@ struct Match<'a> {
     form: Form,
     words: Option<&'a [u8]>,
 }
+
+const SPACED: &str = "a line begins with a word; one space stands between two";
 
 // Why a line has the words of no command.
 #[derive(Clone, Copy)]
@@ -713,6 +734,16 @@ fn is_space(byte: &u8) -> bool {
     *byte == b' '
 }
 
+// Whether a line begins with a word, and each space of it stands between two.
+fn is_spaced(line: &[u8]) -> bool {
+    for word in line.split(is_space) {
+        if word.is_empty() {
+            return false;
+        }
+    }
+    true
+}
+
 /// Adds a word in quotes, and what is said of it.
 pub fn quote<'a>(why: &mut Vec<u8>, word: &'a [u8], said: &'a str) -> Result<()> {
     push_pieces(
@@ -740,11 +771,8 @@ fn push_misfit<'a>(why: &mut Vec<u8>, line: &'a [u8], misfit: Misfit<'a>) -> Res
     }
 }
 
-// Adds why a line does not have the words that its command takes, if it has not. Steps are read where they are done.
+// Adds why a line does not have the words that its command takes, if it has not.
 fn check(alloc: Global, found: Match<'_>, why: &mut Vec<u8>) -> Result<()> {
-    if matches!(found.form.2, Verb::Run) && found.words.is_some() {
-        return Ok(());
-    }
     compare(alloc, (found.form.0, found.form.1), found.words, why)
 }
 
@@ -800,7 +828,11 @@ pub fn read(
     numbers: &mut Vec<u64>,
     why: &mut Vec<u8>,
 ) -> Result<Option<Command>> {
-    let verb = match find(&forms(), line) {
+    if !is_spaced(line) {
+        push_text(why, SPACED.as_bytes())?;
+        return Ok(None);
+    }
+    let verb = match find(&all(), line) {
         Ok(found) => {
             check(alloc, found, why)?;
             read_numbers(found.words, numbers)?;
@@ -817,9 +849,9 @@ pub fn read(
     command_of(alloc, line, verb)
 }
 
-// Adds the line of a command.
-fn push_form(out: &mut Vec<u8>, form: &Form) -> std::result::Result<(), Stopped> {
-    let (own, takes, _, does) = *form;
+// Adds a command, with what it takes.
+fn push_form(out: &mut Told, form: &Form) -> std::result::Result<(), Stopped> {
+    let (own, takes, _, _) = *form;
     let space = if takes.is_empty() { "" } else { " " };
     tell(
         out,
@@ -827,25 +859,61 @@ fn push_form(out: &mut Vec<u8>, form: &Form) -> std::result::Result<(), Stopped>
             Text(own.as_bytes()),
             Text(space.as_bytes()),
             Text(takes.as_bytes()),
-            Text(b": "),
-            Text(does.as_bytes()),
-            Text(b"\n"),
         ],
     )
 }
 
-// Adds the lines of these commands.
-fn push_forms(out: &mut Vec<u8>, forms: &[Form]) -> std::result::Result<(), Stopped> {
-    for form in forms {
-        push_form(out, form)?;
-    }
-    Ok(())
+// Adds the line of a command that says what it does.
+fn push_meaning(out: &mut Told, form: &Form) -> std::result::Result<(), Stopped> {
+    push_form(out, form)?;
+    let does = form.3.as_bytes();
+    tell(out, &[Text(b": "), Text(does), Text(b"\n")])
 }
 
-/// Adds a line for each command.
-pub fn push_help(out: &mut Vec<u8>) -> std::result::Result<(), Stopped> {
-    for forms in forms() {
-        push_forms(out, forms)?;
+// Adds the commands of a group, below what they are about.
+fn push_group(out: &mut Told, group: Group) -> std::result::Result<(), Stopped> {
+    let (title, forms) = group;
+    tell(out, &[Text(title.as_bytes()), Text(b":\n")])?;
+    let mut before = "    ";
+    for form in forms {
+        tell(out, &[Text(before.as_bytes())])?;
+        push_form(out, form)?;
+        before = ", ";
     }
-    Ok(())
+    tell(out, &[Text(b"\n")])
+}
+
+/// Adds the commands for people in groups, and how to learn more of each.
+pub fn push_groups(out: &mut Told) -> std::result::Result<(), Stopped> {
+    for group in groups() {
+        push_group(out, group)?;
+    }
+    tell(out, &[Text(MORE.as_bytes())])
+}
+
+// Adds what these commands do, so far as they begin with a text: whether one does.
+fn push_begun(out: &mut Told, forms: &[Form], text: &[u8]) -> std::result::Result<bool, Stopped> {
+    let mut is_any = false;
+    for form in forms {
+        if form.0.as_bytes().starts_with(text) {
+            push_meaning(out, form)?;
+            is_any = true;
+        }
+    }
+    Ok(is_any)
+}
+
+/// Adds what the commands do that begin with a text, or those for tests: whether there are any.
+pub fn push_help(out: &mut Told, text: &[u8]) -> std::result::Result<bool, Stopped> {
+    let mut is_any = false;
+    if text == b"tests".as_slice() {
+        for forms in tests() {
+            is_any |= push_begun(out, forms, b"")?;
+        }
+        return Ok(is_any);
+    }
+    for forms in all() {
+        is_any |= push_begun(out, forms, text)?;
+    }
+    Ok(is_any)
 }

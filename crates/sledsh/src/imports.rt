@@ -1,14 +1,14 @@
 //! Imports of pairs into trees by name.
 
-use crate::calls::{Result, bytes_of, tell_outcome};
-use crate::counting::Counting;
 use crate::operators::Operator;
 use crate::places::{is_semicolon, words_of};
+use shell_parts::tell::{Result, Told, bytes_of, tell_outcome};
 use sled_lines::input::{Stopped, without_end};
 use sled_lines::session::Session;
 use sled_lines::words::first_word;
 use sled_model::{Collection, Whole};
 use sled_nodes::IVec;
+use sled_pages::MemPages;
 use std::alloc::Global;
 
 /// What a line has of what it imports.
@@ -97,10 +97,10 @@ fn collections_of(alloc: Global, import: Import, words: &[&[u8]]) -> Result<Vec<
 /// Imports what a line spells, and adds how that came out.
 pub fn tell_import(
     alloc: Global,
-    session: &mut Session<Counting<'_>, Operator>,
+    session: &mut Session<MemPages, Operator>,
     import: Import,
     line: &[u8],
-    out: &mut Vec<u8>,
+    out: &mut Told,
 ) -> Result<()> {
     let words = words_of(alloc, first_word(without_end(line)).1)?;
     let collections = collections_of(alloc, import, words.as_slice())?;

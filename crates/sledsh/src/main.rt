@@ -3,22 +3,15 @@
 #![tactic(auto)]
 
 mod calls;
-mod counting;
-mod crowd;
-mod draw;
 mod fetch;
 mod forms;
 mod imports;
-mod levels;
-mod look;
 mod names;
 mod operators;
 mod owned;
 mod places;
-mod plain;
 mod pops;
 mod shell;
-mod store;
 mod subscribers;
 
 use line_files::check;
@@ -27,6 +20,9 @@ use sled_lines::input::Stopped;
 use std::io::{BufReader, BufWriter, IsTerminal, Write};
 use std::process::ExitCode;
 use std::{env, fs};
+
+// The version of the whole repository.
+const VERSION: &str = "0.1.0";
 
 // Runs standard input as a session: whether each line could be read.
 fn run_input(rt: &HostRuntime, output: &mut impl Write) -> Result<bool, Stopped> {
@@ -47,6 +43,10 @@ fn run_files(rt: &HostRuntime, names: &[String], output: &mut impl Write) -> Res
 fn run_names(rt: &HostRuntime, names: &[String], output: &mut impl Write) -> Result<bool, Stopped> {
     match names {
         [] => run_input(rt, output),
+        [word] if word.as_str() == "version" => {
+            writeln!(output, "sledsh {VERSION}")?;
+            Ok(true)
+        }
         [first, names @ ..] if first.as_str() == "check" => Ok(check(
             rt, &Sessions, names, output,
         )?),

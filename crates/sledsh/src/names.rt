@@ -1,13 +1,13 @@
 //! Trees by name, and ids.
 
-use crate::calls::{Result, bytes_of, tell, tell_outcome, tell_refused};
-use crate::counting::Counting;
 use crate::operators::Operator;
+use shell_parts::tell::{Result, Told, bytes_of, tell, tell_outcome, tell_refused};
 use sled_lines::input::{Stopped, without_end};
 use sled_lines::print::Piece::{Number, Text, Word};
 use sled_lines::session::Session;
 use sled_lines::words::first_word;
 use sled_model::{Outcome, Reply, Tree, Whole};
+use sled_pages::MemPages;
 use std::alloc::Global;
 
 /// Which call it is.
@@ -67,7 +67,7 @@ impl Names {
     }
 }
 
-fn tell_id(out: &mut Vec<u8>, outcome: &Outcome) -> Result<()> {
+fn tell_id(out: &mut Told, outcome: &Outcome) -> Result<()> {
     match outcome {
         Outcome::Decided(Reply::Number(id)) => {
             tell(out, &[Text(b"number "), Number(*id), Text(b"\n")])
@@ -78,9 +78,9 @@ fn tell_id(out: &mut Vec<u8>, outcome: &Outcome) -> Result<()> {
 
 /// Makes a tree current, and adds its line.
 pub fn take_tree(
-    session: &mut Session<Counting<'_>, Operator>,
+    session: &mut Session<MemPages, Operator>,
     tree: &Tree,
-    out: &mut Vec<u8>,
+    out: &mut Told,
 ) -> Result<()> {
     match tree.clone() {
         Ok(tree) => {
@@ -98,9 +98,9 @@ pub fn take_tree(
 // Makes the tree of a name current.
 fn open(
     alloc: Global,
-    session: &mut Session<Counting<'_>, Operator>,
+    session: &mut Session<MemPages, Operator>,
     line: &[u8],
-    out: &mut Vec<u8>,
+    out: &mut Told,
 ) -> Result<()> {
     let name = bytes_of(alloc, first_word(without_end(line)).1.unwrap_or(b""))?;
     let outcome = session.whole(Whole::OpenTree(name));
@@ -115,10 +115,10 @@ fn open(
 /// Makes a call with the word that its line has, and adds what it answers.
 pub fn tell_named(
     alloc: Global,
-    session: &mut Session<Counting<'_>, Operator>,
+    session: &mut Session<MemPages, Operator>,
     named: Named,
     line: &[u8],
-    out: &mut Vec<u8>,
+    out: &mut Told,
 ) -> Result<()> {
     match named {
         Named::Open => open(alloc, session, line, out),

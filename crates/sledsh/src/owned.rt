@@ -1,11 +1,10 @@
 //! Calls of the database itself, with no machine round it.
 
-use crate::calls::{Result, bytes_of, tell, tell_outcome, tell_refused};
-use crate::counting::Counting;
 use crate::fetch::{Fetch, tell_owned_fetch};
-use crate::look::{tell_found, tell_is, tell_value};
 use crate::operators::Operator;
 use crate::subscribers::{Listen, Subscribers, tell_owned_listen};
+use shell_parts::look::{tell_found, tell_is, tell_value};
+use shell_parts::tell::{Result, Told, bytes_of, tell, tell_outcome, tell_refused};
 use sled::{CompareAndSwapResult, Db};
 use sled_lines::input::{Stopped, without_end};
 use sled_lines::print::Piece::{Number, Text, Word};
@@ -13,6 +12,7 @@ use sled_lines::session::Session;
 use sled_lines::words::{first_word, read_value};
 use sled_model::{Outcome, Reply, Tree};
 use sled_nodes::IVec;
+use sled_pages::MemPages;
 use std::alloc::Global;
 
 // What a call of a database answers.
@@ -37,7 +37,7 @@ pub enum Owned {
     Listen(Listen),
 }
 
-fn tell_old(out: &mut Vec<u8>, stood: Answer<Option<IVec>>) -> Result<()> {
+fn tell_old(out: &mut Told, stood: Answer<Option<IVec>>) -> Result<()> {
     match stood {
         Ok(Some(value)) => {
             let told = tell(out, &[Text(b"old "), Word(value.as_ref()), Text(b"\n")]);
@@ -49,7 +49,7 @@ fn tell_old(out: &mut Vec<u8>, stood: Answer<Option<IVec>>) -> Result<()> {
     }
 }
 
-fn tell_swap(out: &mut Vec<u8>, swapped: CompareAndSwapResult) -> Result<()> {
+fn tell_swap(out: &mut Told, swapped: CompareAndSwapResult) -> Result<()> {
     match swapped {
         Ok(swapped) => {
             let outcome = Outcome::Decided(Reply::Swapped(swapped));
@@ -61,14 +61,14 @@ fn tell_swap(out: &mut Vec<u8>, swapped: CompareAndSwapResult) -> Result<()> {
     }
 }
 
-fn tell_id(out: &mut Vec<u8>, id: Answer<u64>) -> Result<()> {
+fn tell_id(out: &mut Told, id: Answer<u64>) -> Result<()> {
     match id {
         Ok(id) => tell(out, &[Text(b"number "), Number(id), Text(b"\n")]),
         Err(e) => tell_refused(out, e),
     }
 }
 
-fn tell_flushed(out: &mut Vec<u8>, count: Answer<usize>) -> Result<()> {
+fn tell_flushed(out: &mut Told, count: Answer<usize>) -> Result<()> {
     match count {
         Ok(count) => tell(out, &[Text(b"flushed "), Number(count as u64), Text(b"\n")]),
         Err(e) => tell_refused(out, e),
@@ -78,9 +78,9 @@ fn tell_flushed(out: &mut Vec<u8>, count: Answer<usize>) -> Result<()> {
 // Drops the tree of a name.
 fn drop_tree(
     alloc: Global,
-    db: &mut Db<Counting<'_>, Operator>,
+    db: &mut Db<MemPages, Operator>,
     word: &[u8],
-    out: &mut Vec<u8>,
+    out: &mut Told,
 ) -> Result<()> {
     let name = bytes_of(alloc, word)?;
     let dropped = db.drop_tree(name.as_ref());
@@ -88,7 +88,7 @@ fn drop_tree(
     tell_is(out, dropped)
 }
 
-fn tell_done(out: &mut Vec<u8>, done: Answer<()>) -> Result<()> {
+fn tell_done(out: &mut Told, done: Answer<()>) -> Result<()> {
     match done {
         Ok(()) => tell(out, &[Text(b"done\n")]),
         Err(e) => tell_refused(out, e),
@@ -130,11 +130,11 @@ fn pair_of(alloc: Global, words: &[u8]) -> Result<(IVec, IVec)> {
 
 fn insert(
     alloc: Global,
-    db: &mut Db<Counting<'_>, Operator>,
+    db: &mut Db<MemPages, Operator>,
     tree: &Tree,
     owned: Owned,
     words: &[u8],
-    out: &mut Vec<u8>,
+    out: &mut Told,
 ) -> Result<()> {
     let (key, value) = pair_of(alloc, words)?;
     let stood = match owned {
@@ -148,11 +148,11 @@ fn insert(
 
 fn remove(
     alloc: Global,
-    db: &mut Db<Counting<'_>, Operator>,
+    db: &mut Db<MemPages, Operator>,
     tree: &Tree,
     owned: Owned,
     word: &[u8],
-    out: &mut Vec<u8>,
+    out: &mut Told,
 ) -> Result<()> {
     let key = bytes_of(alloc, word)?;
     let stood = match owned {
@@ -166,11 +166,11 @@ fn remove(
 // A swap at a key.
 fn swap_at(
     alloc: Global,
-    db: &mut Db<Counting<'_>, Operator>,
+    db: &mut Db<MemPages, Operator>,
     tree: &Tree,
     key: &[u8],
     values: &[u8],
-    out: &mut Vec<u8>,
+    out: &mut Told,
 ) -> Result<()> {
     let (old, new) = first_word(values);
     let old = value_of(alloc, old)?;
@@ -189,10 +189,10 @@ fn swap_at(
 
 fn swap(
     alloc: Global,
-    db: &mut Db<Counting<'_>, Operator>,
+    db: &mut Db<MemPages, Operator>,
     tree: &Tree,
     words: &[u8],
-    out: &mut Vec<u8>,
+    out: &mut Told,
 ) -> Result<()> {
     let (key, values) = first_word(words);
     let key = bytes_of(alloc, key)?;
@@ -203,10 +203,10 @@ fn swap(
 
 fn merge(
     alloc: Global,
-    db: &mut Db<Counting<'_>, Operator>,
+    db: &mut Db<MemPages, Operator>,
     tree: &Tree,
     words: &[u8],
-    out: &mut Vec<u8>,
+    out: &mut Told,
 ) -> Result<()> {
     let (key, bytes) = pair_of(alloc, words)?;
     let merged = db.merge(tree, key.as_ref(), bytes.as_ref());
@@ -218,12 +218,12 @@ fn merge(
 // Makes a call with the words that its line has, and adds what it answers.
 fn make(
     alloc: Global,
-    db: &mut Db<Counting<'_>, Operator>,
+    db: &mut Db<MemPages, Operator>,
     tree: &Tree,
     subscribers: &mut Subscribers,
     owned: Owned,
     words: &[u8],
-    out: &mut Vec<u8>,
+    out: &mut Told,
 ) -> Result<()> {
     match owned {
         Owned::Insert | Owned::Set => insert(alloc, db, tree, owned, words, out),
@@ -252,14 +252,14 @@ fn words_of(line: &[u8]) -> &[u8] {
 
 /// Takes a session apart, makes the call of its database that a line says, adds what it answers, and makes a session again,
 /// where the same tree is current. The calls in flight are given up.
-pub fn tell_owned<'a>(
+pub fn tell_owned(
     alloc: Global,
-    session: Session<Counting<'a>, Operator>,
+    session: Session<MemPages, Operator>,
     subscribers: &mut Subscribers,
     owned: Owned,
     line: &[u8],
-    out: &mut Vec<u8>,
-) -> (Session<Counting<'a>, Operator>, Result<()>) {
+    out: &mut Told,
+) -> (Session<MemPages, Operator>, Result<()>) {
     let (mut db, tree) = session.into_parts();
     let told = make(
         alloc,

@@ -2,10 +2,10 @@
 
 use crate::fetch::takes_bytes;
 use crate::forms::quote;
-use crate::look::read_bound;
 use crate::operators::operator_of;
+use shell_parts::look::read_bound;
 use sled_lines::print::Piece::Text;
-use sled_lines::print::push_pieces;
+use sled_lines::print::{push_pieces, push_text};
 use sled_lines::words::{first_word, read_number, read_value, read_word};
 use sled_nodes::Result;
 use std::alloc::Global;
@@ -16,6 +16,8 @@ const NO_BYTES: &str =
     "is no byte string: % and two lower-case hexadecimal digits stand for a byte";
 
 const NO_BOUND: &str = "is no bound: [ or ( and a byte string, or ..";
+
+const NO_BRACKET: &str = "is no bound: write [";
 
 const NO_CHANGE: &str = "does not change a value: count, append V, set V, delete and short do";
 
@@ -48,6 +50,8 @@ enum Tail {
     Parts,
     // What is made of a value, and the bytes that this takes.
     How,
+    // Two words at the most.
+    Maybe,
 }
 
 // Which it is, and the number of words that say it.
@@ -60,6 +64,8 @@ fn tail_of(takes: &[u8]) -> (Tail, usize) {
         (Tail::Numbers, 2)
     } else if takes.ends_with(b"HOW") {
         (Tail::How, 1)
+    } else if takes.ends_with(b"[WORD]") {
+        (Tail::Maybe, 1)
     } else {
         (Tail::Nothing, 0)
     }
@@ -80,6 +86,7 @@ fn fits(takes: Takes<'_>, count: usize) -> bool {
         (Tail::Nothing, Some(more)) => more == 0,
         (Tail::Numbers, Some(more)) => more > 0,
         (Tail::How, Some(more)) => more == 1 || more == 2,
+        (Tail::Maybe, Some(more)) => more <= 2,
         (Tail::Pairs | Tail::Parts, Some(more)) => more % 2 == 0,
     }
 }
@@ -91,6 +98,7 @@ fn place_of<'a>(takes: Takes<'a>, place: usize) -> &'a [u8] {
         (None, Tail::Nothing | Tail::Numbers) => b"N",
         (None, Tail::How) if place == takes.once.len() => b"HOW",
         (None, Tail::How) => b"V",
+        (None, Tail::Maybe) => b"[WORD]",
         (None, Tail::Pairs | Tail::Parts) if (place - takes.once.len()) % 2 == 0 => b"K",
         (None, Tail::Pairs | Tail::Parts) => b"V",
     }
@@ -108,6 +116,7 @@ fn count_of(takes: Takes<'_>) -> (&'static str, &'static str) {
         Tail::Nothing => (count, ""),
         Tail::Numbers => (", one word or more", ""),
         Tail::How => (", two words or three", ""),
+        Tail::Maybe => (", two words at the most", ""),
         Tail::Pairs => (count, " and pairs"),
         Tail::Parts => (count, " and pairs in each part"),
     }
@@ -123,9 +132,10 @@ enum Kind {
     Operator,
     How,
     Number,
+    Any,
 }
 
-const KINDS: [(&str, Kind); 12] = [
+const KINDS: [(&str, Kind); 13] = [
     ("K", Kind::Bytes),
     ("V", Kind::Bytes),
     ("P", Kind::Bytes),
@@ -138,6 +148,7 @@ const KINDS: [(&str, Kind); 12] = [
     ("HI", Kind::Bound),
     ("OPERATOR", Kind::Operator),
     ("HOW", Kind::How),
+    ("[WORD]", Kind::Any),
 ];
 
 // What the word stands for in this place of a command.
@@ -162,15 +173,31 @@ fn said_of<T: Drop>(read: Result<Option<T>>, otherwise: &'static str) -> Result<
     }
 }
 
+// What is said of a word that is no bound; the word stands behind it where it is a byte string.
+fn odd_bound(alloc: Global, word: &[u8]) -> Result<&'static str> {
+    match word {
+        [b'[' | b'(', ..] => said_of(read_bound(alloc, word), NO_BOUND),
+        b".." => Ok(""),
+        word => match read_word(alloc, word)? {
+            Some(key) => {
+                drop(key);
+                Ok(NO_BRACKET)
+            }
+            None => Ok(NO_BOUND),
+        },
+    }
+}
+
 // What is said of a word that is not what a command takes in its place; nothing where it is.
 fn odd(alloc: Global, place: &[u8], word: &[u8]) -> Result<&'static str> {
     match kind_of(place) {
         Kind::Bytes => said_of(read_word(alloc, word), NO_BYTES),
         Kind::Value => said_of(read_value(alloc, word), NO_BYTES),
-        Kind::Bound => said_of(read_bound(alloc, word), NO_BOUND),
+        Kind::Bound => odd_bound(alloc, word),
         Kind::Operator => said_of(Ok(operator_of(word)), NO_OPERATOR),
         Kind::How => said_of(Ok(takes_bytes(word)), NO_CHANGE),
         Kind::Number => said_of(Ok(read_number(word)), NO_NUMBER),
+        Kind::Any => Ok(""),
     }
 }
 
@@ -184,7 +211,12 @@ fn compare_words(
     for (place, word) in words.iter().enumerate() {
         let said = odd(alloc, place_of(takes, place), *word)?;
         if !said.is_empty() {
-            return quote(why, *word, said);
+            quote(why, *word, said)?;
+            return if said.ends_with("[") {
+                push_text(why, *word)
+            } else {
+                Ok(())
+            };
         }
     }
     Ok(())

@@ -1,10 +1,10 @@
 //! Whole calls that take pairs out of the current tree.
 
-use crate::calls::{Result, tell_outcome, tell_refused};
-use crate::counting::Counting;
 use crate::operators::Operator;
+use shell_parts::tell::{Result, Told, tell_outcome, tell_refused};
 use sled_lines::session::Session;
 use sled_model::Whole;
+use sled_pages::MemPages;
 
 /// Which pairs are taken out.
 #[derive(Clone, Copy)]
@@ -15,11 +15,7 @@ pub enum Pop {
 }
 
 /// Makes the call in one step of the machine, and adds the line of its outcome.
-pub fn tell_pop(
-    session: &mut Session<Counting<'_>, Operator>,
-    pop: Pop,
-    out: &mut Vec<u8>,
-) -> Result<()> {
+pub fn tell_pop(session: &mut Session<MemPages, Operator>, pop: Pop, out: &mut Told) -> Result<()> {
     let tree = match session.tree().clone() {
         Ok(tree) => tree,
         Err(error) => return tell_refused(out, error),

@@ -1,34 +1,35 @@
 //! A session of the shell: lines, from opening to opening.
 
-use crate::calls::{
-    ask, bytes_of, run_steps, set_operator, take_handle, tell, tell_refused, tell_turns,
-};
-use crate::counting::Counting;
-use crate::crowd::run_calls;
-use crate::draw::{Drawing, tell_drawing};
+use crate::calls::{set_operator, take_handle};
 use crate::fetch::{Fetch, tell_fetch};
-use crate::forms::{Command, Verb, push_help, read};
+use crate::forms::{Command, Verb, push_groups, push_help, quote, read};
 use crate::imports::{Import, tell_import};
-use crate::levels::tell_levels;
-use crate::look::{Look, tell_look};
 use crate::names::{Named, Names, take_tree, tell_named};
 use crate::operators::Operator;
 use crate::owned::{Owned, tell_owned};
 use crate::pops::tell_pop;
-use crate::store::Kept;
 use crate::subscribers::{Listen, Subscribers, tell_listen, tell_no_subscriber};
 use line_files::Program;
+use shell_parts::known::tell_known;
+use shell_parts::look::{Look, tell_look};
+use shell_parts::store::Kept;
+use shell_parts::tell::{
+    Told, answered, bytes_of, tell, tell_refused, tell_turns, tell_whether, tell_why,
+};
 use sled::Db;
+use sled_draw::draw::{Drawing, draw};
+use sled_draw::levels::count_levels;
 use sled_lines::command;
 use sled_lines::input::{Stopped, read_line, without_end};
 use sled_lines::print::Piece::{Number, Text, Word};
+use sled_lines::print::push_pieces;
 use sled_lines::session::{Session, write};
 use sled_lines::words::first_word;
 use sled_nodes::Error;
+use sled_pages::MemPages;
 use sled_store::Pages;
 use std::alloc::Global;
 use std::io::{BufRead, Write};
-use std::sync::atomic::{AtomicU64, Ordering};
 
 // The name that databases are opened under.
 const DATABASE: &[u8] = b"sledsh";
@@ -37,21 +38,21 @@ const DATABASE: &[u8] = b"sledsh";
 fn opening(last: Verb) -> &'static [u8] {
     match last {
         Verb::Crash => b"recovered\n",
-        Verb::Pages | Verb::Draw(_) | Verb::Quit => b"",
+        Verb::Quit => b"",
         _ => b"opened\n",
     }
 }
 
 // The store: opened, or the pages that a refused opening gave back.
-enum State<'a> {
-    Open(Session<Counting<'a>, Operator>),
+enum State {
+    Open(Session<MemPages, Operator>),
     Shut(Kept),
 }
 
-impl State<'_> {
+impl State {
     fn into_kept(self) -> Kept {
         match self {
-            State::Open(session) => Kept::of_counting(session.into_db()),
+            State::Open(session) => Kept::of(session.into_db()),
             State::Shut(kept) => kept,
         }
     }
@@ -59,7 +60,7 @@ impl State<'_> {
 
 // The line that was read last and its number, and what is to be printed.
 #[derive(Drop)]
-struct Shell<'a> {
+struct Shell {
     alloc: Global,
     prompts: bool,
     line: Vec<u8>,
@@ -67,7 +68,7 @@ struct Shell<'a> {
     number: u64,
     // Whether each line could be read.
     good: bool,
-    out: Vec<u8>,
+    out: Told,
     // The numbers of the line.
     numbers: Vec<u64>,
     // Why the line cannot be read; empty where it can be.
@@ -75,13 +76,9 @@ struct Shell<'a> {
     mark: u64,
     names: Names,
     subscribers: Subscribers,
-    // The tree that is told level by level.
-    shown: Vec<u8>,
     // The command that changed the store last, or ended; and why the pages cannot be opened after it.
     last: Verb,
     refused: Option<Error>,
-    // How many pages were read since that was asked.
-    reads: &'a AtomicU64,
 }
 
 // The first three numbers, or 0 where there are fewer.
@@ -95,7 +92,7 @@ fn three(numbers: &[u64]) -> [u64; 3] {
 }
 
 // Adds what a line prints that `sledrun` knows too, where there is no database.
-fn tell_shut(out: &mut Vec<u8>, line: command::Command) -> Result<(), Stopped> {
+fn tell_shut(out: &mut Told, line: command::Command) -> Result<(), Stopped> {
     let names_slot = matches!(
         &line,
         command::Command::Step(_) | command::Command::Finish(_) | command::Command::Abandon(_)
@@ -109,9 +106,9 @@ fn tell_shut(out: &mut Vec<u8>, line: command::Command) -> Result<(), Stopped> {
 }
 
 // Adds what a command prints that asks a database, where there is none.
-fn tell_unasked(out: &mut Vec<u8>, verb: Verb) -> Result<(), Stopped> {
+fn tell_unasked(out: &mut Told, verb: Verb) -> Result<(), Stopped> {
     match verb {
-        Verb::Turns | Verb::Overtake => tell_turns(out, None),
+        Verb::Turns => tell_turns(out, None),
         Verb::Listen(Listen::Next | Listen::Unwatch)
         | Verb::Owned(Owned::Listen(Listen::Next | Listen::Unwatch)) => tell_no_subscriber(out),
         _ => tell_refused(out, Error::Closed),
@@ -119,7 +116,7 @@ fn tell_unasked(out: &mut Vec<u8>, verb: Verb) -> Result<(), Stopped> {
 }
 
 // Adds the line of one that cannot be read.
-fn push_bad(out: &mut Vec<u8>, number: u64, why: &[u8]) -> Result<(), Stopped> {
+fn push_bad(out: &mut Told, number: u64, why: &[u8]) -> Result<(), Stopped> {
     tell(
         out,
         &[
@@ -134,17 +131,25 @@ fn push_bad(out: &mut Vec<u8>, number: u64, why: &[u8]) -> Result<(), Stopped> {
 
 // Adds why a name was no tree before.
 fn tell_none(why: &mut Vec<u8>, name: &[u8]) -> Result<(), Stopped> {
-    tell(
+    answered(push_pieces(
         why,
         &[
             Text(b"`"),
             Word(name),
             Text(b"` has no older tree: fewer than two lines `tree` named it since the opening"),
         ],
-    )
+    ))
 }
 
-impl<'a> Shell<'a> {
+// Whether a text goes on so from a place.
+fn goes_on(text: &[u8], start: usize, with: &[u8]) -> bool {
+    match text.get(start..) {
+        Some(rest) => rest.starts_with(with),
+        None => false,
+    }
+}
+
+impl Shell {
     // Adds the line of one that cannot be read, if there is a reason why.
     fn tell_bad(&mut self) -> Result<(), Stopped> {
         if self.why.is_empty() {
@@ -156,7 +161,7 @@ impl<'a> Shell<'a> {
 
     // Adds why ids cannot be set aside.
     fn tell_below(&mut self, upto: u64) -> Result<(), Stopped> {
-        tell(
+        answered(push_pieces(
             &mut self.why,
             &[
                 Text(b"`"),
@@ -164,16 +169,8 @@ impl<'a> Shell<'a> {
                 Text(b"` is below the mark, which is "),
                 Number(self.mark),
             ],
-        )?;
+        ))?;
         self.tell_bad()
-    }
-
-    fn tell_reads(&mut self) -> Result<(), Stopped> {
-        let reads = self.reads.swap(0, Ordering::Relaxed);
-        tell(
-            &mut self.out,
-            &[Text(b"reads "), Number(reads), Text(b"\n")],
-        )
     }
 
     // What the line asks for, if it does. One that cannot be read is told.
@@ -198,7 +195,7 @@ impl<'a> Shell<'a> {
     ) -> Result<bool, Stopped> {
         let prompt = if self.prompts { "> " } else { "" };
         tell(&mut self.out, &[Text(prompt.as_bytes())])?;
-        write(output, &mut self.out)?;
+        write(output, &mut self.out.text)?;
         let length = read_line(input, output, &mut self.line, &mut self.left)?;
         self.number = self.number.saturating_add(1);
         Ok(length > 0)
@@ -224,10 +221,10 @@ impl<'a> Shell<'a> {
     // Opens a tree by its name, or takes an id. What a line `tree` got is taken down.
     fn name(
         &mut self,
-        session: &mut Session<Counting<'a>, Operator>,
+        session: &mut Session<MemPages, Operator>,
         named: Named,
     ) -> Result<(), Stopped> {
-        let start = self.out.len();
+        let start = self.out.text.len();
         tell_named(
             self.alloc,
             session,
@@ -235,8 +232,7 @@ impl<'a> Shell<'a> {
             self.line.as_slice(),
             &mut self.out,
         )?;
-        let printed = self.out.get(start..).unwrap_or(b"");
-        if printed.starts_with(b"tree ") {
+        if goes_on(self.out.text.as_slice(), start, b"tree ") {
             return self.names.push(session.tree());
         }
         Ok(())
@@ -245,7 +241,7 @@ impl<'a> Shell<'a> {
     // Imports what the line says.
     fn import(
         &mut self,
-        session: &mut Session<Counting<'a>, Operator>,
+        session: &mut Session<MemPages, Operator>,
         import: Import,
     ) -> Result<(), Stopped> {
         tell_import(
@@ -260,7 +256,7 @@ impl<'a> Shell<'a> {
     // Reads a value and writes what is made of it, which the line says.
     fn fetch(
         &mut self,
-        session: &mut Session<Counting<'a>, Operator>,
+        session: &mut Session<MemPages, Operator>,
         call: Fetch,
     ) -> Result<(), Stopped> {
         tell_fetch(
@@ -275,7 +271,7 @@ impl<'a> Shell<'a> {
     // Adds a subscriber, takes an event of one, or ends one.
     fn listen(
         &mut self,
-        session: &mut Session<Counting<'a>, Operator>,
+        session: &mut Session<MemPages, Operator>,
         listen: Listen,
     ) -> Result<(), Stopped> {
         tell_listen(
@@ -288,24 +284,8 @@ impl<'a> Shell<'a> {
         )
     }
 
-    // Does steps of calls in flight, which the line says.
-    fn run_steps(&mut self, session: &mut Session<Counting<'a>, Operator>) -> Result<(), Stopped> {
-        run_steps(
-            self.alloc,
-            session,
-            self.line.as_slice(),
-            &mut self.out,
-            &mut self.why,
-        )?;
-        self.tell_bad()
-    }
-
     // Answers a read, with the words behind its own.
-    fn look(
-        &mut self,
-        session: &Session<Counting<'a>, Operator>,
-        which: Look,
-    ) -> Result<(), Stopped> {
+    fn look(&mut self, session: &Session<MemPages, Operator>, which: Look) -> Result<(), Stopped> {
         let text = first_word(without_end(self.line.as_slice())).1;
         let (first, more) = first_word(text.unwrap_or(b""));
         let words = (first, more.unwrap_or(b""));
@@ -327,7 +307,7 @@ impl<'a> Shell<'a> {
     }
 
     // Makes current what a name was before.
-    fn take_old(&mut self, state: &mut State<'a>) -> Result<(), Stopped> {
+    fn take_old(&mut self, state: &mut State) -> Result<(), Stopped> {
         let name = bytes_of(self.alloc, self.words())?;
         let told = match (state, self.names.older(name.as_ref())) {
             (State::Open(session), Some(tree)) => take_tree(session, tree, &mut self.out),
@@ -338,24 +318,29 @@ impl<'a> Shell<'a> {
         self.tell_bad()
     }
 
-    // Makes the current tree, if it is there, the one that is told level by level: whether it is not, which is told.
-    fn show(&mut self, state: &State<'a>) -> Result<bool, Stopped> {
-        let State::Open(session) = state else {
-            tell_refused(&mut self.out, Error::Closed)?;
-            return Ok(true);
+    // Draws the current tree, or counts its pages, from the pages as they are.
+    fn show(
+        &mut self,
+        session: &Session<MemPages, Operator>,
+        drawing: Option<Drawing>,
+    ) -> Result<(), Stopped> {
+        let (db, tree) = (session.db(), session.tree());
+        if let Err(error) = db.check(tree) {
+            return tell_refused(&mut self.out, error);
+        }
+        let (pages, name) = (db.pages(), tree.name.as_ref());
+        let drawn = match drawing {
+            Some(drawing) => draw(self.alloc, pages, name, drawing, &mut self.out.text),
+            None => count_levels(self.alloc, pages, name, &mut self.out.text),
         };
-        match session.db().check(session.tree()) {
-            Ok(()) => {
-                self.shown.clear();
-                self.shown.extend_from_slice(session.tree().name.as_ref())?;
-                Ok(false)
-            }
-            Err(error) => tell_refused(&mut self.out, error).map(|()| true),
+        match drawn {
+            Ok(()) => Ok(()),
+            Err(error) => tell_refused(&mut self.out, error),
         }
     }
 
     // Answers a command that is a call of the database itself.
-    fn owned(&mut self, state: &mut State<'a>, owned: Owned) -> Result<(), Stopped> {
+    fn owned(&mut self, state: &mut State, owned: Owned) -> Result<(), Stopped> {
         let shut = State::Shut(Kept::empty(self.alloc));
         let (next, told) = match std::mem::replace(state, shut) {
             State::Open(session) => {
@@ -379,10 +364,10 @@ impl<'a> Shell<'a> {
         told
     }
 
-    // Answers a command that makes a call of its own kind, or that counts.
+    // Answers a command that makes a call of its own kind, or that asks.
     fn call(
         &mut self,
-        session: &mut Session<Counting<'a>, Operator>,
+        session: &mut Session<MemPages, Operator>,
         verb: Verb,
         numbers: [u64; 3],
     ) -> Result<(), Stopped> {
@@ -392,34 +377,33 @@ impl<'a> Shell<'a> {
             Verb::Fetch(call) => self.fetch(session, call),
             Verb::Listen(listen) => self.listen(session, listen),
             Verb::Pop(pop) => tell_pop(session, pop, &mut self.out),
-            verb => {
-                let out = &mut self.out;
-                ask(self.alloc, session, self.reads, verb, numbers, out)
-            }
+            Verb::Turns => tell_turns(&mut self.out, session.turns(numbers[0])),
+            _ => tell_whether(&mut self.out, session.db().was_recovered()),
         }
     }
 
     // Answers a command that asks a session.
     fn ask_session(
         &mut self,
-        session: &mut Session<Counting<'a>, Operator>,
+        session: &mut Session<MemPages, Operator>,
         verb: Verb,
         numbers: [u64; 3],
     ) -> Result<(), Stopped> {
         match verb {
-            Verb::Run => self.run_steps(session),
             Verb::Handle => {
                 let line = self.line.as_slice();
                 take_handle(self.alloc, session, line, &mut self.out)
             }
             Verb::Operator => set_operator(session, self.line.as_slice(), &mut self.out),
             Verb::Look(which) => self.look(session, which),
+            Verb::Pages => self.show(session, None),
+            Verb::Draw(drawing) => self.show(session, Some(drawing)),
             verb => self.call(session, verb, numbers),
         }
     }
 
     // Answers a command that asks a database.
-    fn ask(&mut self, state: &mut State<'a>, verb: Verb, numbers: [u64; 3]) -> Result<(), Stopped> {
+    fn ask(&mut self, state: &mut State, verb: Verb, numbers: [u64; 3]) -> Result<(), Stopped> {
         match state {
             State::Open(session) => self.ask_session(session, verb, numbers),
             State::Shut(_) => tell_unasked(&mut self.out, verb),
@@ -427,18 +411,16 @@ impl<'a> Shell<'a> {
     }
 
     // Answers a command of the shell's own that does not change the store: whether it is one.
-    fn answers(&mut self, state: &mut State<'a>, verb: Verb) -> Result<bool, Stopped> {
+    fn answers(&mut self, state: &mut State, verb: Verb) -> Result<bool, Stopped> {
         let numbers = three(self.numbers.as_slice());
         let told = match verb {
             Verb::Turns
             | Verb::Recovered
-            | Verb::Run
-            | Verb::Load
-            | Verb::Find
-            | Verb::Overtake
             | Verb::Handle
             | Verb::Operator
             | Verb::Look(_)
+            | Verb::Pages
+            | Verb::Draw(_)
             | Verb::Named(_)
             | Verb::Fetch(_)
             | Verb::Listen(_)
@@ -446,25 +428,37 @@ impl<'a> Shell<'a> {
             | Verb::Pop(_) => self.ask(state, verb, numbers),
             Verb::OldTree => self.take_old(state),
             Verb::Owned(owned) => self.owned(state, owned),
-            Verb::Pages | Verb::Draw(_) => return self.show(state),
             Verb::Mark if numbers[0] < self.mark => self.tell_below(numbers[0]),
-            Verb::Crowd => run_calls(self.alloc, numbers[0], numbers[1], &mut self.out),
-            Verb::Reads => self.tell_reads(),
-            Verb::Help => push_help(&mut self.out),
+            Verb::Why => tell_why(&mut self.out),
+            Verb::Help => self.help(),
             _ => return Ok(false),
         };
         told.map(|()| true)
     }
 
+    // Lists the commands: all in groups, or those that the line asks for.
+    fn help(&mut self) -> Result<(), Stopped> {
+        let line = without_end(self.line.as_slice());
+        match first_word(line).1 {
+            None => push_groups(&mut self.out),
+            Some(word) => {
+                if !push_help(&mut self.out, word)? {
+                    answered(quote(&mut self.why, word, "begins no line; `help` lists them"))?;
+                }
+                self.tell_bad()
+            }
+        }
+    }
+
     // Runs a line that `sledrun` knows too.
     fn line<W: Write>(
         &mut self,
-        state: &mut State<'a>,
+        state: &mut State,
         line: command::Command,
         output: &mut W,
     ) -> Result<(), Stopped> {
         match state {
-            State::Open(session) => session.run(line, output, &mut self.out),
+            State::Open(session) => tell_known(session, line, output, &mut self.out),
             State::Shut(_) => tell_shut(&mut self.out, line),
         }
     }
@@ -472,7 +466,7 @@ impl<'a> Shell<'a> {
     // Answers a line, unless it changes the store.
     fn answer<W: Write>(
         &mut self,
-        state: &mut State<'a>,
+        state: &mut State,
         command: Command,
         output: &mut W,
     ) -> Result<Option<Verb>, Stopped> {
@@ -489,7 +483,7 @@ impl<'a> Shell<'a> {
     // Answers lines up to one that changes the store, or ends.
     fn lines<R: BufRead, W: Write>(
         &mut self,
-        state: &mut State<'a>,
+        state: &mut State,
         input: &mut R,
         output: &mut W,
     ) -> Result<Verb, Stopped> {
@@ -505,7 +499,7 @@ impl<'a> Shell<'a> {
     // Answers lines up to one that changes the store, or ends: the pages and that line's command.
     fn live_in<R: BufRead, W: Write>(
         &mut self,
-        mut state: State<'a>,
+        mut state: State,
         input: &mut R,
         output: &mut W,
     ) -> Result<(Kept, Verb), Stopped> {
@@ -538,7 +532,7 @@ impl<'a> Shell<'a> {
     // The same after an opening, which is told.
     fn live_over<R: BufRead, W: Write>(
         &mut self,
-        db: Db<Counting<'a>, Operator>,
+        db: Db<MemPages, Operator>,
         input: &mut R,
         output: &mut W,
     ) -> Result<(Kept, Verb), Stopped> {
@@ -573,14 +567,10 @@ impl<'a> Shell<'a> {
         if pages.in_group() {
             return self.live_shut(Kept::closed(pages, crashes), Error::Closed, input, output);
         }
-        let counting = Counting {
-            inner: pages,
-            reads: self.reads,
-        };
-        match Db::open(self.alloc, counting, DATABASE) {
+        match Db::open(self.alloc, pages, DATABASE) {
             Ok(db) => self.live_over(db.with_operators(), input, output),
-            Err((counting, error)) => {
-                self.live_shut(Kept::refused(counting.inner, crashes), error, input, output)
+            Err((pages, error)) => {
+                self.live_shut(Kept::refused(pages, crashes), error, input, output)
             }
         }
     }
@@ -610,30 +600,6 @@ impl<'a> Shell<'a> {
         kept
     }
 
-    // Adds the levels of the tree that is shown. The pages are opened again without a word.
-    fn tell_levels(&mut self, kept: Kept) -> Result<Kept, Stopped> {
-        let tree = self.shown.as_slice();
-        match tell_levels(self.alloc, kept.pages(), tree, &mut self.out) {
-            Ok(()) => Ok(kept),
-            Err(stopped) => {
-                drop(kept);
-                Err(stopped)
-            }
-        }
-    }
-
-    // Adds a drawing of the tree that is shown. The pages are opened again without a word.
-    fn draw(&mut self, kept: Kept, drawing: Drawing) -> Result<Kept, Stopped> {
-        let tree = self.shown.as_slice();
-        match tell_drawing(self.alloc, kept.pages(), tree, drawing, &mut self.out) {
-            Ok(()) => Ok(kept),
-            Err(stopped) => {
-                drop(kept);
-                Err(stopped)
-            }
-        }
-    }
-
     // What is made of the pages by a line that changes them, which are opened then.
     fn changed(&mut self, kept: Kept, verb: Verb) -> Result<Kept, Stopped> {
         self.last = verb;
@@ -650,8 +616,6 @@ impl<'a> Shell<'a> {
             Verb::Refuse => kept.refuse(numbers),
             Verb::Unreadable => kept.unreadable(numbers),
             Verb::Mark => Ok(self.set_aside(kept, first)),
-            Verb::Pages => self.tell_levels(kept),
-            Verb::Draw(drawing) => self.draw(kept, drawing),
             _ => Ok(kept),
         }
     }
@@ -680,7 +644,6 @@ pub fn run<R: BufRead, W: Write>(
     output: &mut W,
     prompts: bool,
 ) -> Result<bool, Stopped> {
-    let reads = AtomicU64::new(0);
     let mut shell = Shell {
         alloc,
         prompts,
@@ -688,16 +651,14 @@ pub fn run<R: BufRead, W: Write>(
         left: 0,
         number: 0,
         good: true,
-        out: Vec::new(alloc),
+        out: Told::new(alloc, prompts),
         numbers: Vec::new(alloc),
         why: Vec::new(alloc),
         mark: 0,
         names: Names::empty(alloc),
         subscribers: Subscribers::empty(alloc),
-        shown: Vec::new(alloc),
         last: Verb::Quit,
         refused: None,
-        reads: &reads,
     };
     let ran = shell.run(input, output);
     let good = shell.good;

@@ -1,8 +1,7 @@
 //! Subscribers, by the lines that got them.
 
-use crate::calls::{Result, answered, bytes_of, tell, tell_outcome, tell_refused};
-use crate::counting::Counting;
 use crate::operators::Operator;
+use shell_parts::tell::{Result, Told, answered, bytes_of, tell, tell_outcome, tell_refused};
 use sled::Db;
 use sled_lines::input::{Stopped, without_end};
 use sled_lines::print::Piece::Text;
@@ -11,6 +10,7 @@ use sled_lines::session::Session;
 use sled_lines::words::{first_word, read_number};
 use sled_model::{Outcome, Reply, Subscriber, Tree, Whole};
 use sled_nodes::IVec;
+use sled_pages::MemPages;
 use std::alloc::Global;
 
 /// Which call it is.
@@ -40,9 +40,9 @@ impl Subscribers {
     }
 
     // Takes a subscriber down, and adds its line, by its number among those that lines got.
-    fn push(&mut self, subscriber: Subscriber, out: &mut Vec<u8>) -> Result<()> {
+    fn push(&mut self, subscriber: Subscriber, out: &mut Told) -> Result<()> {
         self.got.push(subscriber)?;
-        answered(push_subscriber(out, self.got.len() as u64))
+        answered(push_subscriber(&mut out.text, self.got.len() as u64))
     }
 
     // The subscriber of the number that a word is.
@@ -54,16 +54,12 @@ impl Subscribers {
 }
 
 /// Adds that no line got the subscriber.
-pub fn tell_no_subscriber(out: &mut Vec<u8>) -> Result<()> {
+pub fn tell_no_subscriber(out: &mut Told) -> Result<()> {
     tell(out, &[Text(b"no subscriber\n")])
 }
 
 // Makes a whole call in one step of the machine.
-fn make(
-    session: &mut Session<Counting<'_>, Operator>,
-    whole: Whole,
-    out: &mut Vec<u8>,
-) -> Result<()> {
+fn make(session: &mut Session<MemPages, Operator>, whole: Whole, out: &mut Told) -> Result<()> {
     let outcome = session.whole(whole);
     let told = tell_outcome(out, &outcome);
     drop(outcome);
@@ -71,7 +67,7 @@ fn make(
 }
 
 // The call that watches the keys of the current tree that begin with a prefix.
-fn watch_of(session: &Session<Counting<'_>, Operator>, prefix: IVec) -> sled_nodes::Result<Whole> {
+fn watch_of(session: &Session<MemPages, Operator>, prefix: IVec) -> sled_nodes::Result<Whole> {
     match session.tree().clone() {
         Ok(tree) => Ok(Whole::Watch(tree, prefix)),
         Err(error) => {
@@ -82,7 +78,7 @@ fn watch_of(session: &Session<Counting<'_>, Operator>, prefix: IVec) -> sled_nod
 }
 
 // Takes down the subscriber of an outcome that has one, and adds the line.
-fn take(subscribers: &mut Subscribers, outcome: Outcome, out: &mut Vec<u8>) -> Result<()> {
+fn take(subscribers: &mut Subscribers, outcome: Outcome, out: &mut Told) -> Result<()> {
     let number = match &outcome {
         Outcome::Decided(Reply::Subscriber(subscriber)) => Some(subscriber.0),
         _ => None,
@@ -98,10 +94,10 @@ fn take(subscribers: &mut Subscribers, outcome: Outcome, out: &mut Vec<u8>) -> R
 // Watches the keys that begin with what a word spells.
 fn watch(
     alloc: Global,
-    session: &mut Session<Counting<'_>, Operator>,
+    session: &mut Session<MemPages, Operator>,
     subscribers: &mut Subscribers,
     word: &[u8],
-    out: &mut Vec<u8>,
+    out: &mut Told,
 ) -> Result<()> {
     let prefix = bytes_of(alloc, word)?;
     match watch_of(session, prefix) {
@@ -113,11 +109,11 @@ fn watch(
 /// Makes the call that a line spells, and adds what it answers.
 pub fn tell_listen(
     alloc: Global,
-    session: &mut Session<Counting<'_>, Operator>,
+    session: &mut Session<MemPages, Operator>,
     subscribers: &mut Subscribers,
     listen: Listen,
     line: &[u8],
-    out: &mut Vec<u8>,
+    out: &mut Told,
 ) -> Result<()> {
     let word = first_word(without_end(line)).1.unwrap_or(b"");
     match (listen, subscribers.named(word)) {
@@ -131,11 +127,11 @@ pub fn tell_listen(
 // The same for a database.
 fn watch_owned(
     alloc: Global,
-    db: &mut Db<Counting<'_>, Operator>,
+    db: &mut Db<MemPages, Operator>,
     tree: &Tree,
     subscribers: &mut Subscribers,
     word: &[u8],
-    out: &mut Vec<u8>,
+    out: &mut Told,
 ) -> Result<()> {
     let prefix = bytes_of(alloc, word)?;
     let watched = db.watch_prefix(tree, prefix.as_ref());
@@ -147,11 +143,7 @@ fn watch_owned(
 }
 
 // Takes the next event of a subscriber, or ends it.
-fn make_owned(
-    db: &mut Db<Counting<'_>, Operator>,
-    listen: Listen,
-    subscriber: &Subscriber,
-) -> Reply {
+fn make_owned(db: &mut Db<MemPages, Operator>, listen: Listen, subscriber: &Subscriber) -> Reply {
     match listen {
         Listen::Next => Reply::Event(db.next(subscriber)),
         _ => {
@@ -164,12 +156,12 @@ fn make_owned(
 /// Makes the call of a database that a word spells, and adds what it answers.
 pub fn tell_owned_listen(
     alloc: Global,
-    db: &mut Db<Counting<'_>, Operator>,
+    db: &mut Db<MemPages, Operator>,
     tree: &Tree,
     subscribers: &mut Subscribers,
     listen: Listen,
     word: &[u8],
-    out: &mut Vec<u8>,
+    out: &mut Told,
 ) -> Result<()> {
     if matches!(listen, Listen::Watch) {
         return watch_owned(alloc, db, tree, subscribers, word, out);

@@ -1,7 +1,5 @@
 //! The levels of a tree, from its pages.
 
-use crate::calls::tell_refused;
-use sled_lines::input::Stopped;
 use sled_lines::print::Piece::{Number, Text};
 use sled_lines::print::push_pieces;
 use sled_nodes::{Data, Pid, Result};
@@ -71,7 +69,13 @@ fn push_level<P: Pages>(
     Ok(level.below)
 }
 
-fn push_levels<P: Pages>(alloc: Global, pages: &P, name: &[u8], out: &mut Vec<u8>) -> Result<()> {
+/// Adds a line for each level of the tree of this name, from the root down. Refused where a page cannot be read, or with `NoMemory`.
+pub fn count_levels<P: Pages>(
+    alloc: Global,
+    pages: &P,
+    name: &[u8],
+    out: &mut Vec<u8>,
+) -> Result<()> {
     let mut first = pages.root(name);
     for levels in 0..u64::MAX {
         let Some(pid) = first else {
@@ -80,17 +84,4 @@ fn push_levels<P: Pages>(alloc: Global, pages: &P, name: &[u8], out: &mut Vec<u8
         first = push_level(alloc, pages, pid, out)?;
     }
     Ok(())
-}
-
-/// Adds a line for each level of the tree of this name, from the root down, or the refusal of a read.
-pub fn tell_levels<P: Pages>(
-    alloc: Global,
-    pages: &P,
-    name: &[u8],
-    out: &mut Vec<u8>,
-) -> std::result::Result<(), Stopped> {
-    match push_levels(alloc, pages, name, out) {
-        Ok(()) => Ok(()),
-        Err(error) => tell_refused(out, error),
-    }
 }

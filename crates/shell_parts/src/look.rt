@@ -1,14 +1,13 @@
 //! Reads that take no slot, and what they print.
 
-use crate::calls::{Result, tell, tell_refused, tell_whether};
-use crate::counting::Counting;
-use crate::operators::Operator;
+use crate::tell::{Result, Told, tell, tell_refused, tell_whether};
 use sled::{Db, Iter};
 use sled_lines::input::Stopped;
 use sled_lines::print::Piece::{Number, Text, Word};
-use sled_lines::words::read_word;
-use sled_model::Tree;
-use sled_nodes::IVec;
+use sled_lines::words::{first_word, read_word};
+use sled_model::{MergeOperator, Tree};
+use sled_nodes::{Error, IVec};
+use sled_store::Pages;
 use std::alloc::Global;
 use std::iter::{DoubleEndedIterator, Iterator};
 use std::ops::Bound;
@@ -41,6 +40,38 @@ pub enum Look {
     Keys(Side),
     Values(Side),
     Prefix(Side),
+}
+
+// The reads, by the words that ask for them.
+const LOOKS: [(&str, Look); 18] = [
+    ("has", Look::Has),
+    ("read", Look::Read),
+    ("lt", Look::Below),
+    ("gt", Look::Above),
+    ("first", Look::First),
+    ("last", Look::Last),
+    ("len", Look::Len),
+    ("empty", Look::Empty),
+    ("names", Look::Names),
+    ("range", Look::Pairs(Side::Front)),
+    ("range-back", Look::Pairs(Side::Back)),
+    ("range-ends", Look::Pairs(Side::Ends)),
+    ("prefix", Look::Prefix(Side::Front)),
+    ("prefix-back", Look::Prefix(Side::Back)),
+    ("keys", Look::Keys(Side::Front)),
+    ("keys-back", Look::Keys(Side::Back)),
+    ("values", Look::Values(Side::Front)),
+    ("values-back", Look::Values(Side::Back)),
+];
+
+/// The read of a word, if it is one.
+pub fn look_of(name: &[u8]) -> Option<Look> {
+    for (own, look) in &LOOKS {
+        if own.as_bytes() == name {
+            return Some(*look);
+        }
+    }
+    None
 }
 
 // A key, if the word is one.
@@ -86,14 +117,14 @@ fn lend(bound: &Bound<IVec>) -> Bound<&[u8]> {
 }
 
 /// Adds whether it is so.
-pub fn tell_is(out: &mut Vec<u8>, is: Answer<bool>) -> Result<()> {
+pub fn tell_is(out: &mut Told, is: Answer<bool>) -> Result<()> {
     match is {
         Ok(is) => tell_whether(out, is),
         Err(e) => tell_refused(out, e),
     }
 }
 
-fn tell_count(out: &mut Vec<u8>, count: Answer<usize>) -> Result<()> {
+fn tell_count(out: &mut Told, count: Answer<usize>) -> Result<()> {
     match count {
         Ok(count) => tell(out, &[Text(b"number "), Number(count as u64), Text(b"\n")]),
         Err(e) => tell_refused(out, e),
@@ -101,7 +132,7 @@ fn tell_count(out: &mut Vec<u8>, count: Answer<usize>) -> Result<()> {
 }
 
 // Adds names, each on a line, and how many they are.
-fn push_names(out: &mut Vec<u8>, names: &[IVec]) -> Result<()> {
+fn push_names(out: &mut Told, names: &[IVec]) -> Result<()> {
     for name in names {
         tell(out, &[Text(b"name "), Word(name.as_ref()), Text(b"\n")])?;
     }
@@ -111,7 +142,7 @@ fn push_names(out: &mut Vec<u8>, names: &[IVec]) -> Result<()> {
     )
 }
 
-fn tell_names(out: &mut Vec<u8>, names: Answer<Vec<IVec>>) -> Result<()> {
+fn tell_names(out: &mut Told, names: Answer<Vec<IVec>>) -> Result<()> {
     match names {
         Ok(names) => {
             let told = push_names(out, names.as_slice());
@@ -122,7 +153,8 @@ fn tell_names(out: &mut Vec<u8>, names: Answer<Vec<IVec>>) -> Result<()> {
     }
 }
 
-pub fn tell_value(out: &mut Vec<u8>, value: Answer<Option<IVec>>) -> Result<()> {
+/// Adds the value that stands at a key, or none.
+pub fn tell_value(out: &mut Told, value: Answer<Option<IVec>>) -> Result<()> {
     match value {
         Ok(Some(value)) => {
             let told = tell(out, &[Text(b"value "), Word(value.as_ref()), Text(b"\n")]);
@@ -135,7 +167,7 @@ pub fn tell_value(out: &mut Vec<u8>, value: Answer<Option<IVec>>) -> Result<()> 
 }
 
 // Adds a pair, and ends the line. A list of pieces has words of one owner alone.
-fn tell_pair(out: &mut Vec<u8>, pair: (IVec, IVec)) -> Result<()> {
+fn tell_pair(out: &mut Told, pair: (IVec, IVec)) -> Result<()> {
     let first = tell(out, &[Word(pair.0.as_ref()), Text(b" ")]);
     let second = tell(out, &[Word(pair.1.as_ref()), Text(b"\n")]);
     drop(pair);
@@ -143,7 +175,7 @@ fn tell_pair(out: &mut Vec<u8>, pair: (IVec, IVec)) -> Result<()> {
 }
 
 /// Adds the pair that was found, if there was one.
-pub fn tell_found(out: &mut Vec<u8>, found: Answer<Option<(IVec, IVec)>>) -> Result<()> {
+pub fn tell_found(out: &mut Told, found: Answer<Option<(IVec, IVec)>>) -> Result<()> {
     match found {
         Ok(Some(pair)) => tell(out, &[Text(b"found ")]).and(tell_pair(out, pair)),
         Ok(None) => tell(out, &[Text(b"found -\n")]),
@@ -151,7 +183,7 @@ pub fn tell_found(out: &mut Vec<u8>, found: Answer<Option<(IVec, IVec)>>) -> Res
     }
 }
 
-fn tell_end(out: &mut Vec<u8>, count: u64) -> Result<()> {
+fn tell_end(out: &mut Told, count: u64) -> Result<()> {
     tell(out, &[Text(b"end "), Number(count), Text(b"\n")])
 }
 
@@ -164,84 +196,105 @@ fn is_back(from: Side, turn: u64) -> bool {
     }
 }
 
-// Adds the pairs, and how many there were or why no more come.
-fn tell_pairs(out: &mut Vec<u8>, mut pairs: Iter<'_, Counting<'_>>, from: Side) -> Result<()> {
-    let mut told = Ok(());
-    for turn in 0..u64::MAX {
-        let item = if is_back(from, turn) {
-            pairs.next_back()
-        } else {
-            pairs.next()
-        };
-        match item {
-            Some(Ok(pair)) => {
-                told = told
-                    .and(tell(out, &[Text(b"at ")]))
-                    .and(tell_pair(out, pair));
-            },
-            Some(Err(e)) => {
-                drop(pairs);
-                return told.and(tell_refused(out, e));
-            }
-            None => {
-                drop(pairs);
-                return told.and(tell_end(out, turn));
-            }
-        }
-    }
-    drop(pairs);
-    told
+// What is asked of an iterator behind an item.
+#[derive(Clone, Copy)]
+enum Next {
+    More,
+    // One more item, after a refusal: there should be none.
+    Once,
+    Nothing,
 }
 
-// Adds a key or a value, and whether more can come.
-fn tell_item(out: &mut Vec<u8>, item: Option<Answer<IVec>>, count: u64) -> Result<bool> {
+// Adds what is told of the end of an iterator that gave so many items, or of a refusal.
+fn tell_last(out: &mut Told, refused: Option<Error>, count: u64) -> Result<Next> {
+    match refused {
+        Some(e) => tell_refused(out, e).map(|()| Next::Once),
+        None => tell_end(out, count).map(|()| Next::Nothing),
+    }
+}
+
+// Adds a pair, or why none came.
+fn tell_at(out: &mut Told, item: Option<Answer<(IVec, IVec)>>, count: u64) -> Result<Next> {
+    match item {
+        Some(Ok(pair)) => {
+            let told = tell(out, &[Text(b"at ")]).and(tell_pair(out, pair));
+            told.map(|()| Next::More)
+        }
+        Some(Err(e)) => tell_last(out, Some(e), count),
+        None => tell_last(out, None, count),
+    }
+}
+
+// Adds a key or a value, or why none came.
+fn tell_item(out: &mut Told, item: Option<Answer<IVec>>, count: u64) -> Result<Next> {
     match item {
         Some(Ok(item)) => {
             let told = tell(out, &[Text(b"at "), Word(item.as_ref()), Text(b"\n")]);
             drop(item);
-            told.map(|()| true)
+            told.map(|()| Next::More)
         }
-        Some(Err(e)) => tell_refused(out, e).map(|()| false),
-        None => tell_end(out, count).map(|()| false),
+        Some(Err(e)) => tell_last(out, Some(e), count),
+        None => tell_last(out, None, count),
     }
 }
 
-fn tell_keys(out: &mut Vec<u8>, pairs: Iter<'_, Counting<'_>>, from: Side) -> Result<()> {
-    let (mut keys, mut more) = (pairs.keys(), Ok(true));
+// Adds the pairs, and how many there were. After a refusal it asks once more.
+fn tell_pairs<P: Pages>(out: &mut Told, pairs: Iter<'_, P>, from: Side) -> Result<()> {
+    let (mut items, mut next) = (pairs, Ok(Next::More));
     for turn in 0..u64::MAX {
+        let is_last = matches!(next, Ok(Next::Once));
         let item = if is_back(from, turn) {
-            keys.next_back()
+            items.next_back()
         } else {
-            keys.next()
+            items.next()
         };
-        more = tell_item(out, item, turn);
-        if !matches!(more, Ok(true)) {
+        next = tell_at(out, item, turn.saturating_sub(u64::from(is_last)));
+        if is_last || matches!(next, Ok(Next::Nothing) | Err(_)) {
             break;
         }
     }
-    drop(keys);
-    more.map(|_| ())
+    drop(items);
+    next.map(|_| ())
 }
 
-fn tell_values(out: &mut Vec<u8>, pairs: Iter<'_, Counting<'_>>, from: Side) -> Result<()> {
-    let (mut values, mut more) = (pairs.values(), Ok(true));
+fn tell_keys<P: Pages>(out: &mut Told, pairs: Iter<'_, P>, from: Side) -> Result<()> {
+    let (mut items, mut next) = (pairs.keys(), Ok(Next::More));
     for turn in 0..u64::MAX {
+        let is_last = matches!(next, Ok(Next::Once));
         let item = if is_back(from, turn) {
-            values.next_back()
+            items.next_back()
         } else {
-            values.next()
+            items.next()
         };
-        more = tell_item(out, item, turn);
-        if !matches!(more, Ok(true)) {
+        next = tell_item(out, item, turn.saturating_sub(u64::from(is_last)));
+        if is_last || matches!(next, Ok(Next::Nothing) | Err(_)) {
             break;
         }
     }
-    drop(values);
-    more.map(|_| ())
+    drop(items);
+    next.map(|_| ())
+}
+
+fn tell_values<P: Pages>(out: &mut Told, pairs: Iter<'_, P>, from: Side) -> Result<()> {
+    let (mut items, mut next) = (pairs.values(), Ok(Next::More));
+    for turn in 0..u64::MAX {
+        let is_last = matches!(next, Ok(Next::Once));
+        let item = if is_back(from, turn) {
+            items.next_back()
+        } else {
+            items.next()
+        };
+        next = tell_item(out, item, turn.saturating_sub(u64::from(is_last)));
+        if is_last || matches!(next, Ok(Next::Nothing) | Err(_)) {
+            break;
+        }
+    }
+    drop(items);
+    next.map(|_| ())
 }
 
 // Adds what is taken of a range.
-fn tell_range(out: &mut Vec<u8>, pairs: Answer<Iter<'_, Counting<'_>>>, look: Look) -> Result<()> {
+fn tell_range<P: Pages>(out: &mut Told, pairs: Answer<Iter<'_, P>>, look: Look) -> Result<()> {
     match pairs {
         Err(e) => tell_refused(out, e),
         Ok(pairs) => match look {
@@ -254,12 +307,12 @@ fn tell_range(out: &mut Vec<u8>, pairs: Answer<Iter<'_, Counting<'_>>>, look: Lo
 }
 
 // Adds what a read of one key or prefix answers.
-fn look_at(
-    db: &Db<Counting<'_>, Operator>,
+fn look_at<P: Pages, M: MergeOperator>(
+    db: &Db<P, M>,
     tree: &Tree,
     look: Look,
     key: &[u8],
-    out: &mut Vec<u8>,
+    out: &mut Told,
 ) -> Result<()> {
     match look {
         Look::Has => tell_is(out, db.contains_key(tree, key)),
@@ -271,13 +324,13 @@ fn look_at(
 }
 
 // Adds what a read between two bounds answers.
-fn look_between(
+fn look_between<P: Pages, M: MergeOperator>(
     alloc: Global,
-    db: &Db<Counting<'_>, Operator>,
+    db: &Db<P, M>,
     tree: &Tree,
     look: Look,
     words: (&[u8], &[u8]),
-    out: &mut Vec<u8>,
+    out: &mut Told,
 ) -> Result<()> {
     let lo = bound_of(alloc, words.0)?;
     let hi = match bound_of(alloc, words.1) {
@@ -293,14 +346,45 @@ fn look_between(
     told
 }
 
+// Whether a word is a bound.
+fn is_bound(alloc: Global, word: &[u8]) -> Answer<bool> {
+    let bound = read_bound(alloc, word)?;
+    let is = bound.is_some();
+    drop(bound);
+    Ok(is)
+}
+
+// Whether a word is a byte string.
+fn is_key(alloc: Global, word: &[u8]) -> Answer<bool> {
+    let key = read_word(alloc, word)?;
+    let is = key.is_some();
+    drop(key);
+    Ok(is)
+}
+
+/// Whether a read takes these words, which stand behind its own.
+pub fn is_read(alloc: Global, look: Look, words: Option<&[u8]>) -> Answer<bool> {
+    match (look, words) {
+        (Look::First | Look::Last | Look::Len | Look::Empty | Look::Names, words) => {
+            Ok(words.is_none())
+        }
+        (_, None) => Ok(false),
+        (Look::Pairs(_) | Look::Keys(_) | Look::Values(_), Some(words)) => match first_word(words) {
+            (lo, Some(hi)) => Ok(is_bound(alloc, lo)? && is_bound(alloc, hi)?),
+            (_, None) => Ok(false),
+        },
+        (_, Some(word)) => is_key(alloc, word),
+    }
+}
+
 /// Adds what a read answers, with the words that its line has.
-pub fn tell_look(
+pub fn tell_look<P: Pages, M: MergeOperator>(
     alloc: Global,
-    db: &Db<Counting<'_>, Operator>,
+    db: &Db<P, M>,
     tree: &Tree,
     look: Look,
     words: (&[u8], &[u8]),
-    out: &mut Vec<u8>,
+    out: &mut Told,
 ) -> Result<()> {
     match look {
         Look::First => tell_found(out, db.first(tree)),

@@ -1,5 +1,8 @@
 //! A store in memory that counts the pages that are read.
 
+use shell_parts::store::Kept;
+use sled::Db;
+use sled_model::MergeOperator;
 use sled_nodes::{IVec, Link, Node, Pid, Result as Told, Version};
 use sled_pages::MemPages;
 use sled_store::{Pages, View};
@@ -88,4 +91,9 @@ impl<'a> Pages for Counting<'a> {
     ghost sealed = { λ c. c.inner.kept.sealed };
 
     ghost given = { λ c. law_given c.inner };
+}
+
+/// The pages of a database, which are counted no more.
+pub fn kept_of<M: MergeOperator>(db: Db<Counting<'_>, M>) -> Kept {
+    Kept::refused(db.into_pages().inner, true)
 }

@@ -1,11 +1,13 @@
 //! Eight calls in flight at once, and crashes, beside the plain program, in an order that looks random.
 
-use crate::calls::{call_of, mixed, tell, tell_outcome};
+use crate::many::{call_of, mixed};
 use crate::plain::{Pairs, Plain, copied};
-use crate::store::Kept;
+use shell_parts::store::Kept;
+use shell_parts::tell::{Told, answered, tell};
 use sled::{Collection, DEFAULT_TREE, Db};
 use sled_lines::input::{Stopped, without_end};
 use sled_lines::print::Piece::{Number, Text, Word};
+use sled_lines::print::{Shown, push_outcome, push_pieces};
 use sled_machine::Machine;
 use sled_model::{Call, Outcome, Reply, Slot, Tree, Whole};
 use sled_nodes::IVec;
@@ -166,7 +168,7 @@ fn tell_difference<'a>(
     is: &'a [u8],
     wanted: &'a [u8],
 ) -> Result<(), Stopped> {
-    tell(
+    answered(push_pieces(
         out,
         &[
             Text(b"differed: "),
@@ -178,7 +180,7 @@ fn tell_difference<'a>(
             Text(without_end(wanted)),
             Text(b"`\n"),
         ],
-    )
+    ))
 }
 
 // The plain program, and what both are to do.
@@ -201,7 +203,7 @@ impl Crowd {
     // Takes down what differed.
     fn differed(&mut self, what: &'static str) {
         if self.differs.is_empty() {
-            let told = tell(
+            let told = push_pieces(
                 &mut self.differs,
                 &[Text(b"differed: "), Text(what.as_bytes()), Text(b"\n")],
             );
@@ -216,7 +218,8 @@ impl Crowd {
     // Compares how both sides came out.
     fn compare(&mut self, did: &'static str, slot: Slot, outcome: &Outcome, wanted: &Outcome) {
         let (mut one, mut other) = (Vec::new(self.alloc), Vec::new(self.alloc));
-        let told = tell_outcome(&mut one, outcome).and(tell_outcome(&mut other, wanted));
+        let told = push_outcome(&mut one, Shown::Value, outcome);
+        let told = told.and(push_outcome(&mut other, Shown::Value, wanted));
         self.stopped |= told.is_err();
         if one.as_slice() != other.as_slice() && self.differs.is_empty() {
             let (is, wanted) = (one.as_slice(), other.as_slice());
@@ -476,7 +479,7 @@ fn run(crowd: &mut Crowd) -> Result<(), Stopped> {
 }
 
 /// Runs so many calls on a store of its own beside the plain program, and adds whether all came out the same.
-pub fn run_calls(alloc: Global, seed: u64, calls: u64, out: &mut Vec<u8>) -> Result<(), Stopped> {
+pub fn run_calls(alloc: Global, seed: u64, calls: u64, out: &mut Told) -> Result<(), Stopped> {
     let mut crowd = Crowd {
         alloc,
         plain: Plain::new(alloc, Vec::new(alloc)),

@@ -1,7 +1,5 @@
 //! A tree drawn level by level, from its pages: as text, or as DOT.
 
-use crate::calls::tell_refused;
-use sled_lines::input::Stopped;
 use sled_lines::print::{push_number, push_text};
 use sled_lines::words::push_word;
 use sled_nodes::{Data, Error, IVec, Node, Pid, Result};
@@ -14,6 +12,24 @@ pub enum Drawing {
     Text,
     /// For the program `dot`.
     Dot,
+}
+
+// How a page is reached from above.
+#[derive(Clone, Copy)]
+enum Place {
+    // It is the root.
+    Top,
+    // By a pointer of the index of this number.
+    Under(Pid),
+    // By no pointer.
+    Unpointed,
+}
+
+// A page that is pointed to, and from where.
+#[derive(Clone, Copy)]
+struct Pointed {
+    pid: Pid,
+    place: Place,
 }
 
 // What is drawn so far. Want of memory for a part is kept in mind, so that no part has to tell it: then the drawing is cut.
@@ -98,26 +114,37 @@ impl Picture {
     }
 
     // Adds what is half done with a page.
-    fn marks(&mut self, node: &Node, is_pointed: bool) {
+    fn marks(&mut self, node: &Node, place: &Place) {
         if node.merging {
             self.text(" merging");
         }
         self.link(" merging-child ", node.merging_child);
-        if !is_pointed {
+        if matches!(place, Place::Unpointed) {
             self.text(" no-pointer");
         }
     }
 
-    // Adds what a page is: its bounds, the page to its right, and what is half done with it.
-    fn head(&mut self, node: &Node, pid: Pid, is_pointed: bool) {
+    // Adds the index that a page is under; in a graph the arrows say it.
+    fn parent(&mut self, place: &Place) {
+        if self.is_dot() {
+            return;
+        }
+        if let Place::Under(parent) = place {
+            self.page(" under ", *parent);
+        }
+    }
+
+    // Adds what a page is: the index above it, its bounds, the page to its right, and what is half done with it.
+    fn head(&mut self, node: &Node, pid: Pid, place: &Place) {
         let kind = match &node.content {
             Data::Leaf(_) => "leaf ",
             Data::Index(_) => "index ",
         };
         self.page(kind, pid);
+        self.parent(place);
         self.bounds(node);
         self.link(" next ", node.next);
-        self.marks(node, is_pointed);
+        self.marks(node, place);
         self.text(":");
     }
 
@@ -182,10 +209,11 @@ impl Picture {
         self.text("\n");
     }
 
-    // Takes down the pages that these point to.
-    fn take_down(&mut self, below: &mut Vec<Pid>, pointers: &[(IVec, Pid)]) {
+    // Takes down the pages that a page points to.
+    fn take_down(&mut self, below: &mut Vec<Pointed>, parent: Pid, pointers: &[(IVec, Pid)]) {
         for pointer in pointers {
-            self.is_cut |= below.push(pointer.1).is_err();
+            let (pid, place) = (pointer.1, Place::Under(parent));
+            self.is_cut |= below.push(Pointed { pid, place }).is_err();
         }
     }
 
@@ -200,16 +228,16 @@ impl Picture {
     // Adds a page, and takes down the pages that it points to.
     fn node(
         &mut self,
-        below: &mut Vec<Pid>,
+        below: &mut Vec<Pointed>,
         node: &Node,
         pid: Pid,
-        is_pointed: bool,
+        place: &Place,
     ) -> Result<()> {
         self.start(pid);
-        self.head(node, pid, is_pointed);
+        self.head(node, pid, place);
         let pointers = self.pointers_of(node)?;
         self.end(node, pid, pointers.as_slice());
-        self.take_down(below, pointers.as_slice());
+        self.take_down(below, pid, pointers.as_slice());
         drop(pointers);
         Ok(())
     }
@@ -218,27 +246,36 @@ impl Picture {
     fn view<P: Pages>(
         &mut self,
         pages: &P,
-        below: &mut Vec<Pid>,
+        below: &mut Vec<Pointed>,
         pid: Pid,
-        is_pointed: bool,
+        place: &Place,
     ) -> Result<Option<Pid>> {
         let Some(view) = pages.read(self.alloc, pid)? else {
             return Ok(None);
         };
-        let added = self.node(below, &view.node, pid, is_pointed);
+        let added = self.node(below, &view.node, pid, place);
         let next = view.node.next;
         drop(view);
         added.map(|()| next)
     }
 
     // Adds a level, from the first of the pages that the level above points to, and takes down the pages that it points to.
-    fn level<P: Pages>(&mut self, pages: &P, pointed: &[Pid], below: &mut Vec<Pid>) -> Result<()> {
-        let mut next = pointed.first().copied();
+    fn level<P: Pages>(
+        &mut self,
+        pages: &P,
+        pointed: &[Pointed],
+        below: &mut Vec<Pointed>,
+    ) -> Result<()> {
+        let mut next = match pointed {
+            [first, ..] => Some(first.pid),
+            [] => None,
+        };
         for _ in 0..u64::MAX {
             let Some(pid) = next else {
                 break;
             };
-            next = self.view(pages, below, pid, is_among(pointed, pid))?;
+            let place = place_of(pointed, pid);
+            next = self.view(pages, below, pid, &place)?;
         }
         Ok(())
     }
@@ -253,7 +290,7 @@ impl Picture {
     }
 
     // Adds all levels, from the one of these pages down.
-    fn levels<P: Pages>(&mut self, pages: &P, mut pointed: Vec<Pid>) -> Result<()> {
+    fn levels<P: Pages>(&mut self, pages: &P, mut pointed: Vec<Pointed>) -> Result<()> {
         for level in 0..u64::MAX {
             if pointed.is_empty() {
                 break;
@@ -272,7 +309,8 @@ impl Picture {
     fn tree<P: Pages>(&mut self, pages: &P, name: &[u8]) -> Result<()> {
         let mut roots = Vec::new(self.alloc);
         if let Some(root) = pages.root(name) {
-            roots.push(root)?;
+            let (pid, place) = (root, Place::Top);
+            roots.push(Pointed { pid, place })?;
         }
         self.levels(pages, roots)
     }
@@ -290,23 +328,24 @@ impl Picture {
     }
 }
 
-fn is_among(pids: &[Pid], pid: Pid) -> bool {
-    for other in pids {
-        if other.0 == pid.0 {
-            return true;
+fn place_of(pointed: &[Pointed], pid: Pid) -> Place {
+    for other in pointed {
+        if other.pid.0 == pid.0 {
+            return other.place;
         }
     }
-    false
+    Place::Unpointed
 }
 
-/// Adds a drawing of the tree of this name, or what there is of it and the refusal of a read.
-pub fn tell_drawing<P: Pages>(
+/// Adds a drawing of the tree of this name. Refused where a page cannot be read, or with `NoMemory`; then there is what was drawn
+/// so far.
+pub fn draw<P: Pages>(
     alloc: Global,
     pages: &P,
     name: &[u8],
     drawing: Drawing,
     out: &mut Vec<u8>,
-) -> std::result::Result<(), Stopped> {
+) -> Result<()> {
     let mut picture = Picture {
         alloc,
         drawing,
@@ -319,7 +358,7 @@ pub fn tell_drawing<P: Pages>(
     drop(picture);
     match drawn {
         Ok(false) => Ok(()),
-        Ok(true) => tell_refused(out, Error::NoMemory),
-        Err(error) => tell_refused(out, error),
+        Ok(true) => Err(Error::NoMemory),
+        Err(error) => Err(error),
     }
 }

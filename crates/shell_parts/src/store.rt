@@ -3,7 +3,6 @@ ghost use Rattle.std.specs.Prelude.{◌≡◌, true, IfOk};
 ghost use Rattle.sled_pages.specs.Memory.{store_of};
 ghost use Rattle.tree_laws.specs.Crashes.{IsCrashConsistent};
 
-use crate::counting::Counting;
 use sled::{DEFAULT_TREE, Db, crash_pages, empty_pages};
 use sled_lines::input::Stopped;
 use sled_model::MergeOperator;
@@ -25,7 +24,7 @@ pub struct Kept {
 impl Model for Kept {
     ghost use Rattle.std.specs.Prelude.{Bool};
     ghost use Rattle.sled_pages.specs.Memory.{store_of};
-    ghost use Rattle.sledsh.specs.Store.{IsKept};
+    ghost use Rattle.shell_parts.specs.Store.{IsKept};
 
     ghost Value = { Bool };
 
@@ -35,7 +34,7 @@ impl Model for Kept {
 }
 
 impl Kept {
-    ghost use Rattle.sledsh.specs.Store.{IsKept, HasDefault};
+    ghost use Rattle.shell_parts.specs.Store.{IsKept, HasDefault};
 
     /// An empty store.
     pub fn empty(alloc: Global) -> Kept {
@@ -48,11 +47,6 @@ impl Kept {
     /// The pages of a database.
     pub fn of<M: MergeOperator>(db: Db<MemPages, M>) -> Kept {
         Kept::refused(db.into_pages(), true)
-    }
-
-    /// The same, where the pages are counted that are read.
-    pub fn of_counting<M: MergeOperator>(db: Db<Counting<'_>, M>) -> Kept {
-        Kept::refused(db.into_pages().inner, true)
     }
 
     /// Pages that an opening gave back.
@@ -77,11 +71,6 @@ impl Kept {
         let Kept { pages, crashes } = self;
         let has_default = pages.root(DEFAULT_TREE.as_bytes()).is_some();
         (pages, crashes && has_default)
-    }
-
-    /// The pages.
-    pub fn pages(&self) -> &MemPages {
-        &self.pages
     }
 
     /// What a crash leaves that keeps so many actions. Where nothing is known of that it is an empty store.

@@ -2,7 +2,7 @@
 //! merge operator.
 ghost use Rattle.std.specs.Prelude.{◌≤◌, length};
 
-use crate::operators::Operator;
+use sled_lines::operator::NoOperator;
 use sled_model::{Call, Decision, Effect, Outcome, Slot};
 use sled_nodes::{IVec, Result};
 use std::alloc::Global;
@@ -61,7 +61,7 @@ fn apply(pairs: &mut Pairs, key: &IVec, effect: Effect) -> Result<()> {
 // Does a call on the pairs.
 fn decide(alloc: Global, pairs: &mut Pairs, call: &Call) -> Result<Outcome> {
     let value = value_at(pairs.as_slice(), call.key())?;
-    let Decision { effect, reply } = call.at_link(alloc, value, None::<&Operator>)?;
+    let Decision { effect, reply } = call.at_link(alloc, value, None::<&NoOperator>)?;
     match apply(pairs, call.key(), effect) {
         Ok(()) => Ok(Outcome::Decided(reply)),
         Err(error) => {

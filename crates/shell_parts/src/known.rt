@@ -1,0 +1,55 @@
+//! Lines that `sledrun` knows too, with the texts of their refusals.
+
+use crate::tell::{Result, Told, tell_refused, tell_shown};
+use sled_lines::command::Command;
+use sled_lines::print::Shown;
+use sled_lines::session::{Act, Session, write_trees};
+use sled_model::{MergeOperator, Outcome};
+use sled_store::Pages;
+use std::io::Write;
+
+// Adds the line of an outcome.
+fn show(out: &mut Told, told: (Shown, Outcome)) -> Result<()> {
+    let (shown, outcome) = told;
+    let told = tell_shown(out, shown, &outcome);
+    drop(outcome);
+    told
+}
+
+// Prints all pairs.
+fn dump<P: Pages, M: MergeOperator, W: Write>(
+    session: &Session<P, M>,
+    output: &mut W,
+    out: &mut Told,
+) -> Result<()> {
+    match session.db().export() {
+        Ok(trees) => {
+            let written = write_trees(output, &mut out.text, trees.as_slice());
+            drop(trees);
+            written
+        }
+        Err(error) => tell_refused(out, error),
+    }
+}
+
+/// Runs a line, and adds how that came out. A crash ends the session, so it is passed over.
+pub fn tell_known<P: Pages, M: MergeOperator, W: Write>(
+    session: &mut Session<P, M>,
+    line: Command,
+    output: &mut W,
+    out: &mut Told,
+) -> Result<()> {
+    match line {
+        Command::Point(call) => show(out, session.point(call)),
+        Command::Begin(call) => {
+            let begun = session.begin(call)?;
+            show(out, begun)
+        }
+        Command::Step(number) => show(out, session.act(number, Act::Step)),
+        Command::Finish(number) => show(out, session.act(number, Act::Finish)),
+        Command::Abandon(number) => show(out, session.act(number, Act::Abandon)),
+        Command::Flush => show(out, (Shown::Value, session.flush())),
+        Command::Dump => dump(session, output, out),
+        line => session.run(line, output, &mut out.text),
+    }
+}
