@@ -4,9 +4,11 @@ use Rattle.sled_nodes.specs.Order.{Key}
 use Rattle.sled_store.specs.Store.{Store}
 use Rattle.sled_model.specs.Maps.{Map, Merge}
 use Rattle.sled_model.specs.State.{NamedTree, Queue}
-use Rattle.sled_model.specs.Queues.{waiting_in}
+use Rattle.sled_model.specs.Backlog.{no_backlog}
+use Rattle.sled_model.specs.Queues.{backlog_in, waiting_in}
 use Rattle.sled_model.specs.declared.call.Whole.TheVariants.{Watch}
 use Rattle.sled_model.specs.declared.event.Event.{Event}
+use Rattle.sled_model.specs.declared.event.Next.{Next}
 use Rattle.sled_model.specs.declared.tree.Tree.{Tree}
 use Rattle.sled_model.specs.declared.reply.Reply.TheVariants.{Subscriber}
 use Rattle.sled_model.specs.declared.outcome.Step.{Step}
@@ -16,7 +18,8 @@ use Rattle.sled_model.specs.declared.outcome.Outcome.TheVariants.{Decided}
 use Rattle.sled_queues.specs.Values.{queue_at}
 use Rattle.sled_queues.specs.Queues.{queues_of}
 use Rattle.sled_queues.specs.Events.{Turn, after_turns, brought}
-use Rattle.sled_queues.specs.Copies.{IsCopy, after_events}
+use Rattle.sled_queues.specs.Hears as queues
+use Rattle.sled_queues.specs.Copies.{IsCopy, after_events, events_told, TellsEvents}
 use Rattle.sled_queues.specs.Turns.{turns_of, told_at, gives_up}
 use Rattle.sled_queues.specs.Trees.{drops}
 use Rattle.sled.specs.Sound.{IsDb}
@@ -39,8 +42,8 @@ abbrev pub turns_of_run : {P M : Type 0} (store : P → Store) (flush_number : P
 turns_of_run store flush_number meant NoStep = []
 turns_of_run store flush_number meant (OneStep {a = a} {m = m} {step = s} {outcome = o} one rest) = turns_of_step store flush_number meant a s o m one ++ turns_of_run store flush_number meant rest
 
--- the events that a subscriber is told by these steps, in order
-abbrev pub told_to : ℕ → List Step → List Outcome → List Event
+-- what a subscriber is told by these steps, in order
+abbrev pub told_to : ℕ → List Step → List Outcome → List Next
 told_to n (s ∷ ss) (o ∷ os) = told_at n s o ++ told_to n ss os
 told_to n ss os = []
 
@@ -65,18 +68,21 @@ pub record IsCopyOfTree {P M : Type 0} (store : P → Store) (meant : M → Merg
 pub record Hears {P M : Type 0} (store : P → Store) (flush_number : P → ℕ) (meant : M → Merge) : Type 0 where
   -- a subscriber that is added watches its prefix of its tree, and nothing waits for it yet
   pub begins : (a b : MachineValue P M) (tree : Tree) (prefix : Key) (n : ℕ) → MachineStep store flush_number meant a (step.Whole (Watch tree prefix)) (Decided (Subscriber n)) b
-      → queues_at b n ≡ Some (record { tree = tree.number; prefix = prefix; events = [] })
+      → queues_at b n ≡ Some (record { tree = tree.number; prefix = prefix; backlog = no_backlog })
   -- the queues after the steps are those that their turns make of them
   pub queues : (a b : MachineValue P M) (steps : List Step) (outcomes : List Outcome) (run : MakesSteps store flush_number meant a steps outcomes b)
       → queues_at b ≡ after_turns (turns_of_run store flush_number meant run) (queues_at a)
-  -- what its calls told it, and then what waits for it, are what waited at first and then the events under its prefix of its tree that
-  -- the decided calls brought, each once and in the order of their decisions
+  -- what its calls told it, with n events at each `Missed(n)`, then as many as its count, and then those that wait for it, are what it had
+  -- at first and then the events under its prefix of its tree that the decided calls brought, each once and in the order of their
+  -- decisions, while the count was never at the greatest u64
   pub hears : (a b : MachineValue P M) (steps : List Step) (outcomes : List Outcome) (run : MakesSteps store flush_number meant a steps outcomes b)
       → (n : ℕ) (q : Queue) → queues_at a n ≡ Some q → IsKept n steps
-      → told_to n steps outcomes ++ waiting_in (queues_at b n) ≡ q.events ++ brought q (turns_of_run store flush_number meant run)
-  -- while the database is open, a copy that it changes by each event that it is told is, once it is changed by those that wait too, a copy
-  -- of its tree's map
+      → queues.CountsAll n (turns_of_run store flush_number meant run) (queues_at a) → (all : List Event) → queues.Holds q.backlog all
+      → queues.Hears (told_to n steps outcomes) (all ++ brought q (turns_of_run store flush_number meant run)) (backlog_in (queues_at b n))
+  -- while the database is open and it missed none, a copy that it changes by each event that it is told is, once it is changed by those
+  -- that wait too, a copy of its tree's map
   pub follows : (a b : MachineValue P M) (steps : List Step) (outcomes : List Outcome) → MakesSteps store flush_number meant a steps outcomes b → IsDb store a.db → (db_state store meant b.db).is_open ≡ true
       → (n : ℕ) (q : Queue) → queues_at a n ≡ Some q → IsKept n steps → (name : Key) → KeepsTree name steps outcomes
-      → (copy : Map) → IsCopyOfTree store meant a name q.tree q.prefix (after_events q.events copy)
-      → IsCopyOfTree store meant b name q.tree q.prefix (after_events (waiting_in (queues_at b n)) (after_events (told_to n steps outcomes) copy))
+      → TellsEvents (told_to n steps outcomes) → (backlog_in (queues_at b n)).missed ≡ 0
+      → (copy : Map) → IsCopyOfTree store meant a name q.tree q.prefix (after_events q.backlog.events copy)
+      → IsCopyOfTree store meant b name q.tree q.prefix (after_events (waiting_in (queues_at b n)) (after_events (events_told (told_to n steps outcomes)) copy))

@@ -1,6 +1,7 @@
 pub mod Maps
 pub mod Event
 pub mod Answer
+pub mod Backlog
 pub mod State
 pub mod Ids
 pub mod Collections

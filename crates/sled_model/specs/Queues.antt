@@ -1,29 +1,34 @@
--- What becomes of the queues of subscribers, but for the events that they are given (`queues_after`).
-use Rattle.std.specs.Prelude.{ℕ, List, [], drop, Option, Some, None, option_map, slice_get}
+-- What becomes of the queues of subscribers, but for the events that come to them (`queues_after`).
+use Rattle.std.specs.Prelude.{ℕ, List, Option, Some, None, option_map}
 use Rattle.sled_nodes.specs.Order.{Key}
 use Rattle.sled_store.specs.Update.{put_at}
+use Rattle.sled_model.specs.Backlog.{Backlog, no_backlog, next_of, after_next}
 use Rattle.sled_model.specs.State.{Queue}
 use Rattle.sled_model.specs.declared.event.Event.{Event}
+use Rattle.sled_model.specs.declared.event.Next.{Next}
 
--- the events that wait in a queue; in none there are none
+-- what waits in a queue; in none there is nothing
+abbrev pub backlog_in : Option Queue → Backlog
+backlog_in None = no_backlog
+backlog_in (Some q) = q.backlog
+
+-- .. the events of it, and what its subscriber is told next
 abbrev pub waiting_in : Option Queue → List Event
-waiting_in None = []
-waiting_in (Some q) = q.events
+waiting_in q = (backlog_in q).events
 
--- the oldest event of a queue, if one waits there
-abbrev pub oldest : Option Queue → Option Event
-oldest q = slice_get (waiting_in q) 0
+abbrev pub next_in : Option Queue → Option Next
+next_in q = next_of (backlog_in q)
 
 -- a new subscriber has this number, and watches keys of this prefix in the tree
 abbrev pub watched : ℕ → ℕ → Key → (ℕ → Option Queue) → ℕ → Option Queue
-watched n tree prefix queues = put_at queues n (Some (record { tree = tree; prefix = prefix; events = [] }))
+watched n tree prefix queues = put_at queues n (Some (record { tree = tree; prefix = prefix; backlog = no_backlog }))
 
-abbrev pub without_oldest : Queue → Queue
-without_oldest q = record q { events = drop 1 q.events }
+abbrev pub without_next : Queue → Queue
+without_next q = record q { backlog = after_next q.backlog }
 
--- the oldest event of a subscriber was taken, if one waited
+-- a subscriber was told what was next
 abbrev pub taken : ℕ → (ℕ → Option Queue) → ℕ → Option Queue
-taken n queues = put_at queues n (option_map without_oldest (queues n))
+taken n queues = put_at queues n (option_map without_next (queues n))
 
 -- a subscriber's queue is given up
 abbrev pub given_up : ℕ → (ℕ → Option Queue) → ℕ → Option Queue

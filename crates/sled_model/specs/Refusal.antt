@@ -4,11 +4,10 @@ use Rattle.std.specs.Str.{bytes_eq}
 use Rattle.sled_nodes.specs.Order.{Key}
 use Rattle.sled_store.specs.Store.{Store, HasUnreadable}
 use Rattle.sled_nodes.specs.declared.error.Error.{Error}
-use Rattle.sled_nodes.specs.declared.error.Error.TheVariants.{CollectionNotFound, Unsupported, ReportableBug, Io, NoMemory, FullQueue, Closed}
+use Rattle.sled_nodes.specs.declared.error.Error.TheVariants.{CollectionNotFound, Unsupported, ReportableBug, Io, NoMemory, Closed}
 use Rattle.sled_nodes.specs.declared.texts.TheConstants.{HANDLE_OF_ANOTHER_DATABASE, NO_MERGE_OPERATOR, NUMBERS_USED_UP, IDS_USED_UP, CORE_STRUCTURES, WALK_PASSED_TURNS, UNKNOWN_COLLECTION_TYPE}
 use Rattle.sled_model.specs.Maps.{Map, IsLeast, IsGreatest}
-use Rattle.sled_model.specs.Answer.{answer_of}
-use Rattle.sled_model.specs.State.{State, NamedTree, CallInFlight, Queue, default_name, matches}
+use Rattle.sled_model.specs.State.{State, NamedTree, CallInFlight, default_name}
 use Rattle.sled_model.specs.Ids.{greatest_of_all}
 use Rattle.sled_model.specs.Collections.{Content, contents_of, are_trees}
 use Rattle.sled_model.specs.declared.call.Call.{Call}
@@ -16,7 +15,6 @@ use Rattle.sled_model.specs.declared.call.Call.TheVariants.{Get, Insert, Remove,
 use Rattle.sled_model.specs.declared.call.Call.TheVariants as call
 use Rattle.sled_model.specs.declared.call.Whole.{Whole}
 use Rattle.sled_model.specs.declared.call.Whole.TheVariants.{Flush, PopMin, PopMax, Clear, OpenTree, DropTree, GenerateId, Import, Watch, Next, Unsubscribe}
-use Rattle.sled_model.specs.declared.event.Event.{Event}
 use Rattle.sled_model.specs.declared.tree.Tree.{Tree}
 
 -- what was asked of the database: to begin a call, to go on with the call in a slot, to make a call at once, a whole call, or to set
@@ -112,34 +110,10 @@ tells HasNoOperator e = ⊥
 abbrev pub turns_limit : ℕ
 turns_limit = 1000000
 
--- so many events wait in a queue at the most
-abbrev pub queue_limit : ℕ
-queue_limit = 1024
-
--- the call would bring this event by the map now, and the queue of some subscriber is full
-pub record MeetsFullQueue (s : State) (t : Tree) (call : Call) : Type 0 where
-  pub tree : NamedTree
-  pub there : s.trees t.name ≡ Some tree
-  pub event : Event
-  pub brings : (answer_of tree.merge call tree.map).event ≡ Some event
-  pub subscriber : ℕ
-  pub queue : Queue
-  pub waits : s.queues subscriber ≡ Some queue
-  pub matching : matches tree.number event queue ≡ true
-  pub full : queue_limit ≤ length queue.events
-
 -- the error of a call that has no turns left
 abbrev pub TellsTurns : Error → Type 0
 TellsTurns (ReportableBug text) = text.now ≡ WALK_PASSED_TURNS.now
 TellsTurns e = ⊥
-
--- the removal of the pair at this end of the tree's map would meet a full queue
-pub record EndMeetsFullQueue (is_end : Map → Option (Key × Key) → Type 0) (s : State) (t : Tree) : Type 0 where
-  pub named : NamedTree
-  pub there : s.trees t.name ≡ Some named
-  pub pair : Key × Key
-  pub ends : is_end named.map (Some pair)
-  pub meets : MeetsFullQueue s t (Remove pair.0)
 
 -- the store counted a fault, or some page is not readable. a is the store before, b the store after
 abbrev pub HasFault : Store → Store → Type 0
@@ -182,7 +156,6 @@ abbrev pub cause_of_step : State → Store → Store → CallInFlight → Error 
 cause_of_step s a b f NoMemory = Unit {0}
 cause_of_step s a b f (Io fault) = HasFault a b
 cause_of_step s a b f (ReportableBug text) = (text.now ≡ WALK_PASSED_TURNS.now) × (f.turns ≡ turns_limit)
-cause_of_step s a b f FullQueue = MeetsFullQueue s f.tree f.call
 cause_of_step s a b f e = ⊥
 
 -- why a call that is made at once is refused
@@ -190,7 +163,6 @@ abbrev pub cause_of_point : State → Store → Store → Tree → Call → Erro
 cause_of_point s a b tree call NoMemory = Unit {0}
 cause_of_point s a b tree call (Io fault) = HasFault a b
 cause_of_point s a b tree call (ReportableBug text) = text.now ≡ WALK_PASSED_TURNS.now
-cause_of_point s a b tree call FullQueue = MeetsFullQueue s tree call
 cause_of_point s a b tree call e = ⊥
 
 -- why a flush is refused
@@ -204,7 +176,6 @@ abbrev pub cause_at_end : (Map → Option (Key × Key) → Type 0) → State →
 cause_at_end is_end s a b tree NoMemory = Unit {0}
 cause_at_end is_end s a b tree (Io fault) = HasFault a b
 cause_at_end is_end s a b tree (ReportableBug text) = text.now ≡ WALK_PASSED_TURNS.now
-cause_at_end is_end s a b tree FullQueue = EndMeetsFullQueue is_end s tree
 cause_at_end is_end s a b tree e = ⊥
 
 -- why a name is not opened: there is no memory; or it is new, and a fault was counted or all numbers of trees were given
@@ -234,7 +205,7 @@ cause_of_setting NoMemory = Unit {0}
 cause_of_setting e = ⊥
 
 -- The causes of a refusal that is none of those tests: slots, trees and subscribers are numbered up to the greatest u64; the call has
--- no turns left; the store counted a fault, or some page is not readable; a queue is full. a is the store before, b the store after
+-- no turns left; the store counted a fault, or some page is not readable. a is the store before, b the store after
 abbrev pub cause_of : State → Store → Store → Asked → Error → Type 0
 cause_of s a b (ToBegin tree call) e = cause_of_begin s e
 cause_of s a b (ToStep f) e = cause_of_step s a b f e

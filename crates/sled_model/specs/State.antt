@@ -7,6 +7,7 @@ use Rattle.sled_store.specs.Update.{put_at, put_name}
 use Rattle.sled_model.specs.Maps.{Map, Maps, Merge}
 use Rattle.sled_model.specs.Event.{key_of_event}
 use Rattle.sled_model.specs.Answer.{Answer}
+use Rattle.sled_model.specs.Backlog.{Backlog, comes}
 use Rattle.sled_model.specs.declared.call.Call.{Call}
 use Rattle.sled_model.specs.declared.event.Event.{Event}
 use Rattle.sled_model.specs.declared.tree.Tree.{Tree}
@@ -21,11 +22,11 @@ pub record NamedTree : Type 0 where
   pub map : Map
   pub merge : Option Merge
 
--- a subscriber's queue: the tree and the prefix that it watches, and the events that wait, the oldest first
+-- a subscriber's queue: the tree and the prefix that it watches, and what waits for it
 pub record Queue : Type 0 where
   pub tree : ℕ
   pub prefix : Key
-  pub events : List Event
+  pub backlog : Backlog
 
 -- a range of keys that a scan has still to read
 pub record Range : Type 0 where
@@ -70,10 +71,10 @@ call_begun tree call = record { tree = tree; call = call; turns = 0; waiting = [
 abbrev pub matches : ℕ → Event → Queue → Bool
 matches tree e q = nat_eq q.tree tree && starts_with nat_eq (key_of_event e) q.prefix
 
--- the event goes to the end of each queue that waits for it
+-- the event comes to each queue that waits for it
 abbrev pub queues_after : ℕ → Option Event → (ℕ → Option Queue) → ℕ → Option Queue
 queues_after tree None queues n = queues n
-queues_after tree (Some e) queues n = option_map (λ q. if matches tree e q then (record q { events = q.events ++ e ∷ [] }) else q) (queues n)
+queues_after tree (Some e) queues n = option_map (λ q. if matches tree e q then (record q { backlog = comes e q.backlog }) else q) (queues n)
 
 -- the state after a call was decided on the tree of this name
 abbrev pub after_decision_on : State → Key → NamedTree → Answer → State

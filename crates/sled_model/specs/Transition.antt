@@ -10,12 +10,12 @@ use Rattle.sled_model.specs.Refusal.{ToBegin, ToStep, ToCall, must_refuse, MayRe
 use Rattle.sled_model.specs.declared.call.Call.{Call}
 use Rattle.sled_model.specs.declared.call.Whole.{Whole}
 use Rattle.sled_model.specs.declared.call.Whole.TheVariants.{Flush, PopMin, PopMax, Clear, OpenTree, DropTree, GenerateId, Import, Watch, Next, Unsubscribe}
-use Rattle.sled_model.specs.Whole.{Pops, Clears, StopsClearing, OpensTree, DropsTreeOf, GeneratesId, Watches, TakesEvent, GivesUpQueue}
+use Rattle.sled_model.specs.Whole.{Pops, Clears, StopsClearing, OpensTree, DropsTreeOf, GeneratesId, Watches, TakesNext, GivesUpQueue}
 use Rattle.sled_model.specs.Collections.{contents_of}
 use Rattle.sled_model.specs.Imports.{Imports, StopsImporting}
 use Rattle.sled_model.specs.declared.tree.Tree.{Tree}
 use Rattle.sled_model.specs.declared.reply.Reply.{Reply}
-use Rattle.sled_model.specs.declared.event.Event.{Event}
+use Rattle.sled_model.specs.declared.event.Next as event
 use Rattle.sled_model.specs.declared.reply.Reply.TheVariants.{Number, Done}
 use Rattle.sled_model.specs.declared.reply.Reply.TheVariants as told
 use Rattle.sled_model.specs.declared.outcome.Step.{Step}
@@ -97,7 +97,8 @@ kind_of (Watch tree prefix) = Listening
 kind_of (Next subscriber) = Listening
 kind_of (Unsubscribe subscriber) = Listening
 
--- A whole call is decided. A flush answers the store's number. An event is taken and a queue given up on a closed database too
+-- A whole call is decided. A flush answers the store's number. A subscriber is told what is next and a queue given up on a closed database
+-- too
 abbrev pub WholeDecides : Configuration → Whole → Reply → State → List Maps → Type 0
 WholeDecides old Flush reply new maps = (must_refuse old.state (ToCall Flush) ≡ None) × (reply ≡ Number old.flush_number) × (new ≡ old.state) × (maps ≡ [])
 WholeDecides old (PopMin tree) reply new maps = Pops IsLeast old.state (PopMin tree) tree reply new maps
@@ -108,7 +109,7 @@ WholeDecides old (DropTree name) reply new maps = DropsTreeOf old.state name rep
 WholeDecides old GenerateId reply new maps = GeneratesId old.state reply new maps
 WholeDecides old (Import collections) reply new maps = (reply ≡ Done) × Imports old.state (contents_of collections.items) new maps
 WholeDecides old (Watch tree prefix) reply new maps = (number : ℕ) × (reply ≡ told.Subscriber number) × Watches old.state tree prefix number new × (maps ≡ [])
-WholeDecides old (Next subscriber) reply new maps = (event : Option Event) × (reply ≡ told.Event event) × TakesEvent old.state subscriber event new × (maps ≡ [])
+WholeDecides old (Next subscriber) reply new maps = (next : Option event.Next) × (reply ≡ told.Next next) × TakesNext old.state subscriber next new × (maps ≡ [])
 WholeDecides old (Unsubscribe subscriber) reply new maps = (reply ≡ Done) × GivesUpQueue old.state subscriber new × (maps ≡ [])
 
 -- a whole call is refused for a cause, and nothing changes

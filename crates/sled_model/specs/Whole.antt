@@ -7,7 +7,7 @@ use Rattle.sled_nodes.specs.declared.error.Error.{Error}
 use Rattle.sled_model.specs.Maps.{Map, Maps, Merge}
 use Rattle.sled_model.specs.Answer.{answer_of}
 use Rattle.sled_model.specs.State.{State, NamedTree, default_name, maps_of, after_decision_on}
-use Rattle.sled_model.specs.Queues.{oldest, watched, taken, given_up}
+use Rattle.sled_model.specs.Queues.{next_in, watched, taken, given_up}
 use Rattle.sled_model.specs.Refusal.{ToPoint, ToCall, ToSetOperator, must_refuse, MayRefuse}
 use Rattle.sled_model.specs.Ids.{mark_above}
 use Rattle.sled_model.specs.Collections.{contents_of}
@@ -15,7 +15,7 @@ use Rattle.sled_model.specs.declared.call.Call.{Call}
 use Rattle.sled_model.specs.declared.call.Call.TheVariants.{Remove}
 use Rattle.sled_model.specs.declared.call.Whole.{Whole}
 use Rattle.sled_model.specs.declared.call.Whole.TheVariants.{Flush, PopMin, PopMax, Clear, OpenTree, DropTree, GenerateId, Import, Watch, Next, Unsubscribe}
-use Rattle.sled_model.specs.declared.event.Event.{Event}
+use Rattle.sled_model.specs.declared.event.Next as event
 use Rattle.sled_model.specs.declared.tree.Tree.{Tree}
 use Rattle.sled_model.specs.declared.reply.Reply.{Reply}
 use Rattle.sled_model.specs.declared.reply.Reply.TheVariants.{Pair, Number, Flag}
@@ -49,9 +49,9 @@ pub record Watches (old : State) (tree : Tree) (prefix : Key) (number : ℕ) (ne
   pub fresh : old.queues number ≡ None
   pub is : new ≡ record old { queues = watched number tree.number prefix old.queues; subscribers_given = number }
 
--- A subscriber takes the oldest event that waits for it, if one does, and all else is as it was
-pub record TakesEvent (old : State) (subscriber : ℕ) (event : Option Event) (new : State) : Type 0 where
-  pub gives : event ≡ oldest (old.queues subscriber)
+-- A subscriber is told how many events it missed, or else takes the oldest event that waits for it, if one does, and all else is as it was
+pub record TakesNext (old : State) (subscriber : ℕ) (next : Option event.Next) (new : State) : Type 0 where
+  pub gives : next ≡ next_in (old.queues subscriber)
   pub is : new ≡ record old { queues = taken subscriber old.queues }
 
 -- A subscriber has no queue any more, and the events that waited there are gone

@@ -14,6 +14,16 @@ pub enum Event {
     Remove { key: IVec },
 }
 
+/// What a subscriber is told next.
+#[derive(Debug, Drop, PartialEq, Eq, PartialOrd, Ord)]
+pub enum Next {
+    /// A change of a key.
+    Event(Event),
+    /// So many changes were missed since the last answer: each came while `QUEUE_LIMIT` events waited, and the oldest one went to
+    /// make room. The number is never 0, and `u64::MAX` stands for as many or more.
+    Missed(u64),
+}
+
 impl Event {
     /// The key that changed.
     ///

@@ -2,7 +2,7 @@
 ghost use Rattle.std.specs.Prelude.{◌≡◌, IfOk, IfErr};
 ghost use Rattle.sled_nodes.specs.declared.error.Error.TheVariants.{NoMemory};
 
-use crate::event::Event;
+use crate::event::Next;
 use crate::subscriber::Subscriber;
 use crate::tree::Tree;
 use sled_nodes::{IVec, Result};
@@ -61,8 +61,8 @@ pub enum Reply {
     Flag(bool),
     /// The subscriber that was added.
     Subscriber(Subscriber),
-    /// The event that was taken, if one waited.
-    Event(Option<Event>),
+    /// What a subscriber was told next, if something waited for it.
+    Next(Option<Next>),
 }
 
 // The same value, if there is one.

@@ -28,8 +28,6 @@ pub enum Error {
     Corruption(Fault),
     /// There was no memory for what the call needs.
     NoMemory,
-    /// A subscriber's queue has no room for the event.
-    FullQueue,
     /// A group of writes was refused midway, and the database is closed.
     Closed,
 }
@@ -51,7 +49,6 @@ impl Error {
             Error::Io(fault) => Error::Io(*fault),
             Error::Corruption(fault) => Error::Corruption(*fault),
             Error::NoMemory => Error::NoMemory,
-            Error::FullQueue => Error::FullQueue,
             Error::Closed => Error::Closed,
         })
     }
@@ -66,7 +63,6 @@ impl Display for Error {
             Error::Io(fault) => write!(f, "io fault {}", fault.0),
             Error::Corruption(fault) => write!(f, "corruption {}", fault.0),
             Error::NoMemory => f.write_str("no memory"),
-            Error::FullQueue => f.write_str("queue full"),
             Error::Closed => f.write_str("closed"),
         }
     }

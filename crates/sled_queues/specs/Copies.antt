@@ -8,10 +8,12 @@ use Rattle.sled_model.specs.Maps.{Map}
 use Rattle.sled_model.specs.Answer.{map_after, event_of}
 use Rattle.sled_model.specs.Event.{key_of_event}
 use Rattle.sled_model.specs.State.{Queue}
-use Rattle.sled_model.specs.Queues.{waiting_in}
+use Rattle.sled_model.specs.Queues.{backlog_in, waiting_in}
 use Rattle.sled_model.specs.declared.decision.Effect.{Effect}
 use Rattle.sled_model.specs.declared.event.Event.{Event}
 use Rattle.sled_model.specs.declared.event.Event.TheVariants.{Insert, Remove}
+use Rattle.sled_model.specs.declared.event.Next.{Next}
+use Rattle.sled_model.specs.declared.event.Next.TheVariants as told
 use Rattle.sled_queues.specs.Events.{Turn, Comes, after_turns, taken_by, Stays}
 
 -- a map that an event changes, and that events change one after the other
@@ -56,9 +58,22 @@ abbrev pub came_to : ℕ → List Turn → List Event
 came_to tree [] = []
 came_to tree (t ∷ ts) = came_to_at tree t ++ came_to tree ts
 
--- A subscriber that keeps a copy changes it by each event that it takes. Where the copy, once the events that wait have changed it too,
--- was a copy of the tree's map, it still is: so where none waits any more, it is one by itself
+-- the events of what was told, and that nothing of it was a count of missed ones
+abbrev pub events_told : List Next → List Event
+events_told [] = []
+events_told (told.Event e ∷ ns) = e ∷ events_told ns
+events_told (told.Missed n ∷ ns) = events_told ns
+
+abbrev pub TellsEvents : List Next → Type 0
+TellsEvents [] = Unit {0}
+TellsEvents (told.Event e ∷ ns) = TellsEvents ns
+TellsEvents (told.Missed n ∷ ns) = ⊥
+
+-- A subscriber that keeps a copy changes it by each event that it takes. Where it missed none, and the copy, once the events that wait
+-- have changed it too, was a copy of the tree's map, it still is: so where none waits any more, it is one by itself
 abbrev pub FollowsLaw : Type 0
 FollowsLaw = (turns : List Turn) (n : ℕ) (queues : ℕ → Option Queue) (q : Queue) → queues n ≡ Some q → Stays n turns
-    → (copy m : Map) → IsCopy q.prefix (after_events q.events copy) m
-    → IsCopy q.prefix (after_events (waiting_in (after_turns turns queues n)) (after_events (taken_by n turns queues) copy)) (after_events (came_to q.tree turns) m)
+    → TellsEvents (taken_by n turns queues) → (backlog_in (after_turns turns queues n)).missed ≡ 0
+    → (copy m : Map) → IsCopy q.prefix (after_events q.backlog.events copy) m
+    → IsCopy q.prefix (after_events (waiting_in (after_turns turns queues n)) (after_events (events_told (taken_by n turns queues)) copy))
+    (after_events (came_to q.tree turns) m)

@@ -3,10 +3,11 @@ use Rattle.std.specs.Prelude.{ℕ, nat_eq, Bool, false, ◌≡◌, List, [], ◌
 use Rattle.std.specs.Option.{option_to_list}
 use Rattle.sled_nodes.specs.Order.{Key}
 use Rattle.sled_model.specs.State.{Queue, matches, queues_after}
-use Rattle.sled_model.specs.Queues.{oldest, watched, taken, given_up}
+use Rattle.sled_model.specs.Queues.{next_in, watched, taken, given_up}
 use Rattle.sled_model.specs.declared.event.Event.{Event}
+use Rattle.sled_model.specs.declared.event.Next.{Next}
 
--- what happens to queues: an event comes to a tree, a subscriber watches a prefix of a tree, takes its oldest event, or is given up
+-- what happens to queues: an event comes to a tree, a subscriber watches a prefix of a tree, takes what is next, or is given up
 pub data Turn : Type 0 where
   Comes : (tree : ℕ) (event : Event) → Turn
   Watches : (subscriber tree : ℕ) (prefix : Key) → Turn
@@ -23,16 +24,16 @@ abbrev pub after_turns : List Turn → (ℕ → Option Queue) → ℕ → Option
 after_turns [] queues = queues
 after_turns (t ∷ ts) queues = after_turns ts (after_turn t queues)
 
--- the events that a subscriber takes at these turns, in order
-abbrev pub taken_at : ℕ → Turn → (ℕ → Option Queue) → List Event
-taken_at n (Takes m) queues = if nat_eq m n then option_to_list (oldest (queues n)) else []
+-- what a subscriber takes at these turns, in order
+abbrev pub taken_at : ℕ → Turn → (ℕ → Option Queue) → List Next
+taken_at n (Takes m) queues = if nat_eq m n then option_to_list (next_in (queues n)) else []
 taken_at n t queues = []
 
-abbrev pub taken_by : ℕ → List Turn → (ℕ → Option Queue) → List Event
+abbrev pub taken_by : ℕ → List Turn → (ℕ → Option Queue) → List Next
 taken_by n [] queues = []
 taken_by n (t ∷ ts) queues = taken_at n t queues ++ taken_by n ts (after_turn t queues)
 
--- the events among them that a queue waits for, in order
+-- the events that come at these turns and that a queue waits for, in order
 abbrev pub brought_at : Queue → Turn → List Event
 brought_at q (Comes tree e) = if matches tree e q then e ∷ [] else []
 brought_at q t = []

@@ -17,6 +17,7 @@ use Rattle.sled_model.specs.declared.call.Call.TheVariants.{Insert, Remove}
 use Rattle.sled_model.specs.declared.call.Whole.{Whole}
 use Rattle.sled_model.specs.declared.call.Whole.TheVariants.{Flush, PopMin, PopMax, Clear, OpenTree, DropTree, GenerateId, Import, Watch, Next, Unsubscribe}
 use Rattle.sled_model.specs.declared.event.Event.{Event}
+use Rattle.sled_model.specs.declared.event.Next as event
 use Rattle.sled_model.specs.declared.tree.Tree.{Tree}
 use Rattle.sled_model.specs.declared.reply.Reply.{Reply}
 use Rattle.sled_model.specs.declared.reply.Reply.TheVariants as told
@@ -100,9 +101,9 @@ abbrev pub TurnsLaw : Type 0
 TurnsLaw = (old : Configuration) (s : Step) (o : Outcome) (new : Configuration) (maps : List Maps) (t : transition_as old s o new maps)
     → new.state.queues ≡ after_turns (turns_of old s o new maps t) old.state.queues
 
--- the event that a subscriber is told by this step, if it is its `Next`
-abbrev pub told_at : ℕ → Step → Outcome → List Event
-told_at n (step.Whole (Next subscriber)) (Decided (told.Event e)) = if nat_eq subscriber n then option_to_list e else []
+-- what a subscriber is told by this step, if it is its `Next`
+abbrev pub told_at : ℕ → Step → Outcome → List event.Next
+told_at n (step.Whole (Next subscriber)) (Decided (told.Next next)) = if nat_eq subscriber n then option_to_list next else []
 told_at n s o = []
 
 -- the step gives the subscriber up

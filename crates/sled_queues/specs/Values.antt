@@ -4,14 +4,14 @@ use Rattle.std.specs.Map.{lookup}
 use Rattle.std.specs.BTreeMap.{is_at}
 use Rattle.std.specs.Ordering.{nat_cmp}
 use Rattle.sled_nodes.specs.Order.{Key}
+use Rattle.sled_model.specs.Backlog.{Backlog}
 use Rattle.sled_model.specs.declared.event.Event.{Event}
 
--- A queue: the tree and the prefix that its subscriber watches, the events that wait, the oldest first, and those that are prepared,
--- which come behind them
+-- A queue: the tree and the prefix that its subscriber watches, what waits for it, and the events that are prepared, which will come to it
 pub record WaitingValue : Type 0 where
   pub tree : ℕ
   pub prefix : Key
-  pub events : List Event
+  pub backlog : Backlog
   pub coming : List Event
 
 -- the queues by subscriber, and how many subscribers were numbered so far
