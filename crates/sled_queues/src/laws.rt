@@ -1,5 +1,5 @@
 //! The laws of queues.
-ghost use Rattle.sled_queues.specs.Laws.{DeliversLaw, CancelsLaw, GroupLaw, CalmLaw, FullLaw, ServesLaw};
+ghost use Rattle.sled_queues.specs.Laws.{DeliversLaw, CancelsLaw, GroupLaw, CalmLaw, ServesLaw};
 ghost use Rattle.sled_queues.specs.Hears.{HearsLaw, HearsAllLaw};
 ghost use Rattle.sled_queues.specs.Copies.{ChangesLaw, CopyLaw, FollowsLaw};
 ghost use Rattle.sled_queues.specs.Turns.{TurnsLaw, HeardLaw};
@@ -15,8 +15,8 @@ pub fn law_cancels()
     ensures { CancelsLaw }
 {}
 
-/// Events of several trees that are prepared one after the other are delivered in that order once their trees are
-/// committed, and are gone once these are cancelled, where nothing was prepared before.
+/// Events of several trees that are prepared one after the other are delivered in that order once they are committed, and
+/// are gone once they are cancelled, where nothing was prepared before.
 pub fn law_delivers_all()
     ensures { GroupLaw }
 {}
@@ -26,17 +26,12 @@ pub fn law_stays_calm()
     ensures { CalmLaw }
 {}
 
-/// Where nothing is prepared, a queue is full exactly where the model's is.
-pub fn law_tells_full()
-    ensures { FullLaw }
-{}
-
-/// A new subscriber, the next event and the end of a subscriber are those of the model.
+/// A new subscriber, what a subscriber is told next and the end of a subscriber are those of the model.
 pub fn law_serves()
     ensures { ServesLaw }
 {}
 
-/// A subscriber gets each event that comes for it once, in order.
+/// A subscriber gets each event that comes for it once and in order, or is told how many it missed.
 pub fn law_hears()
     ensures { HearsLaw }
 {}
@@ -56,7 +51,8 @@ pub fn law_copy()
     ensures { CopyLaw }
 {}
 
-/// A subscriber that changes a copy by each event that it takes has a copy of its tree's map where nothing waits for it.
+/// A subscriber that missed none and changes a copy by each event that it takes has a copy of its tree's map where nothing
+/// waits for it.
 pub fn law_follows()
     ensures { FollowsLaw }
 {}

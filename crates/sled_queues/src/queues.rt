@@ -2,22 +2,22 @@
 ghost use Rattle.std.specs.Prelude.{◌≡◌, ◌+◌, Some, None, OnOk, OnErr, IfOk, IfErr};
 ghost use Rattle.sled_nodes.specs.declared.error.Error.TheVariants.{NoMemory};
 ghost use Rattle.sled_queues.specs.Values.{queue_at};
-ghost use Rattle.sled_queues.specs.Queues.{AreQueues, Becomes, no_queues, with_subscriber, committed, cancelled, oldest_in, without_oldest_of, without_subscriber};
-ghost use Rattle.sled_queues.specs.Tells.{prepares_as, is_full_as, is_watched_as, refuses_watch};
+ghost use Rattle.sled_queues.specs.Queues.{AreQueues, Becomes, no_queues, with_subscriber, prepared, committed, cancelled, next_at, without_next_of, without_subscriber};
+ghost use Rattle.sled_queues.specs.Tells.{is_watched_as, refuses_watch};
 
 use crate::lists::{
-    add, any_full, cancel_all, commit_all, enlist, numbers_of, prepare_all, remove, take, unlist,
+    add, any_waits, cancel_all, commit_all, enlist, numbers_of, prepare_all, remove, take, unlist,
 };
 use crate::waiting::Waiting;
-use sled_model::{Event, Subscriber};
+use sled_model::{Event, Next, Subscriber};
 use sled_nodes::texts::NUMBERS_USED_UP;
 use sled_nodes::{Error, IVec, Result};
 use std::alloc::Global;
 use std::collections::BTreeMap;
 use std::marker::Model;
 
-/// The queues of the subscribers of a database, which holds at most 1024 events in each. An event costs the subscribers of
-/// its tree alone.
+/// The queues of the subscribers of a database. At most 1024 events wait in each: where one more comes, the oldest goes and is
+/// counted.
 #[derive(Drop)]
 pub struct Queues {
     // the queues by subscriber
@@ -90,88 +90,72 @@ impl Queues {
         Ok(Subscriber(number))
     }
 
-    /// Whether a tree may have a subscriber. Where it answers `false`, no event of the tree comes into a queue. It costs no more
-    /// than to find the tree among those that have one.
+    /// Whether some subscriber waits for what happens to a key of a tree. Where it answers `false`, an event of that key comes
+    /// into no queue.
     ///
     /// ```
-    /// if queues.is_watched(tree.number) {
-    ///     // An event of the tree has to be prepared.
+    /// if queues.is_watched(tree.number, b"ulm") {
+    ///     // An event of the key has to be prepared.
     /// }
     /// ```
-    pub fn is_watched(&self, tree: u64) -> bool
-        ensures { is_watched_as tree (queue_at self.now) result }
+    pub fn is_watched(&self, tree: u64, key: &[u8]) -> bool
+        ensures { is_watched_as tree key.now (queue_at self.now) result }
     {
-        !numbers_of(&self.lists, tree).is_empty()
-    }
-
-    /// Whether a queue that waits for what happens to a key of a tree is full: it holds 1024 events, waiting and prepared ones
-    /// together. Then `prepare` has no room for an event of that key.
-    ///
-    /// ```
-    /// let is_full = queues.is_full(tree.number, b"ulm");
-    /// ```
-    pub fn is_full(&self, tree: u64, key: &[u8]) -> bool
-        ensures { is_full_as tree key.now (queue_at self.now) result }
-    {
-        any_full(&self.queues, numbers_of(&self.lists, tree), key)
+        any_waits(&self.queues, numbers_of(&self.lists, tree), key)
     }
 
     /// Prepares an event of a tree: a copy comes behind the events of each queue that waits for it, where `next` does not
-    /// give it yet. Answers whether there was room: where a queue that waits for it holds 1024 events, waiting and prepared
-    /// ones together, nothing changes. Refused with `NoMemory` alone, and then nothing changes.
+    /// give it yet. Refused with `NoMemory` alone, and then nothing changes.
     ///
     /// ```
-    /// if queues.prepare(tree.number, &event)? {
-    ///     // There is room: the change is made, and then the event waits.
-    ///     queues.commit(tree.number);
-    /// }
+    /// queues.prepare(tree.number, &event)?;
+    /// queues.commit(); // The change is made, and the event waits.
     /// ```
-    pub fn prepare(&mut self, tree: u64, event: &Event) -> Result<bool>
-        ensures ok { IfOk result (λ room. prepares_as tree event.now self.old room self.new) }
+    pub fn prepare(&mut self, tree: u64, event: &Event) -> Result<()>
+        ensures ok { OnOk result (Becomes (prepared tree event.now (queue_at self.old)) self.old.given self.new) }
         ensures err { OnErr result (self.new ≡ self.old) }
         ensures cause { IfErr result (λ e. e ≡ NoMemory) }
     {
-        let numbers = numbers_of(&self.lists, tree);
-        if any_full(&self.queues, numbers, event.key().as_ref()) {
-            return Ok(false);
-        }
-        if let Err(e) = prepare_all(&mut self.queues, numbers, event) {
-            return Err(e);
-        }
-        Ok(true)
+        prepare_all(&mut self.queues, numbers_of(&self.lists, tree), event)
     }
 
-    /// Makes wait all that is prepared in the queues of a tree. It takes no memory.
+    /// Makes wait all that is prepared. Where 1024 events wait in a queue, the oldest goes for each that comes, and is counted.
+    /// It takes no memory.
     ///
     /// ```
-    /// queues.commit(tree.number); // Now `next` gives it.
+    /// queues.commit(); // Now `next` gives it.
     /// ```
-    pub fn commit(&mut self, tree: u64)
-        ensures { Becomes (committed tree (queue_at self.old)) self.old.given self.new }
+    pub fn commit(&mut self)
+        ensures { Becomes (committed (queue_at self.old)) self.old.given self.new }
     {
-        commit_all(&mut self.queues, numbers_of(&self.lists, tree));
+        commit_all(&mut self.queues);
     }
 
-    /// Drops all that is prepared in the queues of a tree.
+    /// Drops all that is prepared.
     ///
     /// ```
-    /// queues.cancel(tree.number); // The change was not made.
+    /// queues.cancel(); // The change was not made.
     /// ```
-    pub fn cancel(&mut self, tree: u64)
-        ensures { Becomes (cancelled tree (queue_at self.old)) self.old.given self.new }
+    pub fn cancel(&mut self)
+        ensures { Becomes (cancelled (queue_at self.old)) self.old.given self.new }
     {
-        cancel_all(&mut self.queues, numbers_of(&self.lists, tree));
+        cancel_all(&mut self.queues);
     }
 
-    /// Takes the oldest event that waits for a subscriber: `None` where none waits, and for an unknown subscriber. It takes no
-    /// memory, and no longer where many wait.
+    /// Tells a subscriber how many events it missed, where it missed some since that was told last, and takes the oldest event
+    /// that waits otherwise: `None` where none waits, and for an unknown subscriber. It takes no memory, and no longer where many
+    /// wait.
     ///
     /// ```
-    /// let oldest = queues.next(&subscriber);
+    /// match queues.next(&subscriber) {
+    ///     Some(Next::Event(event)) => follow(&event),
+    ///     Some(Next::Missed(n)) => read_again(n),
+    ///     None => {}
+    /// }
     /// ```
-    pub fn next(&mut self, subscriber: &Subscriber) -> Option<Event>
-        ensures is { result ≡ oldest_in (queue_at self.old subscriber.now) }
-        ensures rest { Becomes (without_oldest_of subscriber.now (queue_at self.old)) self.old.given self.new }
+    pub fn next(&mut self, subscriber: &Subscriber) -> Option<Next>
+        ensures is { result ≡ next_at (queue_at self.old subscriber.now) }
+        ensures rest { Becomes (without_next_of subscriber.now (queue_at self.old)) self.old.given self.new }
     {
         take(&mut self.queues, subscriber.0)
     }
