@@ -26,7 +26,6 @@ use Rattle.sled_tree.specs.declared.flight.Went.{Went}
 use Rattle.sled_tree.specs.declared.flight.Went.TheVariants.{Moved, Decided, Refused}
 use Rattle.sled.specs.Values.{DbValue, db_state, snapshot_of_db}
 use Rattle.sled.specs.Flights.{DbSteps, DbRunsToEnd, Ends, GoesOn, call_in_flight_of, has_turns, outcome_of}
-use Rattle.sled.proofs.Watching.{root_act}
 use Rattle.sled.proofs.Flying.{end_reached}
 use Rattle.sled_machine.specs.Slots.{kept_at}
 use Rattle.sled_machine.specs.Values.{MachineValue}
@@ -137,7 +136,7 @@ module _ {P M : Type 0} (store : P → Store) (number : P → ℕ) (meant : M �
               subst (λ z. IsOnPath (now (store v.db.pages)) (course_of f) z path) (sym ((im.known slot f there).begins unused))
               (subst (λ aim. IsClean (now (store v.db.pages)) f.job.tree.name aim path) (sym (im.known slot f there).aimed)
               (subst (λ (z : CallInFlight). IsClean (now (store v.db.pages)) z.tree.name (Included (key_of z.call)) path) (sym same) clean)) in
-              let p = flies.passes (record { is = λ view at. root_act (sym ((im.known slot f there).begins unused) ∙ at) }) path start (below f.turns (length path) unused fits) in record {
+              let p = flies.passes path start (below f.turns (length path) unused fits) in record {
                 fits = p.fits;
                 unlimited = tells_turns went p.unlimited;
               };

@@ -6,8 +6,10 @@ use Rattle.sled_nodes.specs.Order.{Key}
 use Rattle.sled_store.specs.Store.{Store}
 use Rattle.sled_model.specs.Maps.{Map, Merge}
 use Rattle.sled_model.specs.State.{State, NamedTree, Queue}
-use Rattle.sled_model.specs.Queues.{waiting_in}
+use Rattle.sled_model.specs.Backlog.{no_backlog}
+use Rattle.sled_model.specs.Queues.{backlog_in, waiting_in}
 use Rattle.sled_model.specs.declared.call.Whole.TheVariants.{Watch}
+use Rattle.sled_model.specs.declared.event.Event.{Event}
 use Rattle.sled_model.specs.declared.tree.Tree.{Tree}
 use Rattle.sled_model.specs.declared.reply.Reply.TheVariants.{Subscriber}
 use Rattle.sled_model.specs.declared.outcome.Step.{Step}
@@ -15,7 +17,8 @@ use Rattle.sled_model.specs.declared.outcome.Step.TheVariants as step
 use Rattle.sled_model.specs.declared.outcome.Outcome.{Outcome}
 use Rattle.sled_model.specs.declared.outcome.Outcome.TheVariants.{Decided}
 use Rattle.sled_queues.specs.Events.{after_turns, taken_by, brought, Stays}
-use Rattle.sled_queues.specs.Copies.{IsCopy, after_events, came_to}
+use Rattle.sled_queues.specs.Hears as queues
+use Rattle.sled_queues.specs.Copies.{IsCopy, after_events, came_to, events_told, TellsEvents}
 use Rattle.sled_queues.specs.Trees.{AreNumbered, IsTreeAfter}
 use Rattle.sled_queues.proofs.Hearing.{hears_law, stays_there}
 use Rattle.sled_queues.proofs.Copied.{follows_law}
@@ -58,13 +61,13 @@ module _ {P M : Type 0} (store : P → Store) (number : P → ℕ) (meant : M �
       is name t there = number_named (numbers_of m.db.trees name) _ _ t there
 
   begins : (a b : MachineValue P M) (tree : Tree) (prefix : Key) (n : ℕ) → MachineStep store number meant a (step.Whole (Watch tree prefix)) (Decided (Subscriber n)) b
-      → queues_at b n ≡ Some (record { tree = tree.number; prefix = prefix; events = [] })
+      → queues_at b n ≡ Some (record { tree = tree.number; prefix = prefix; backlog = no_backlog })
   begins a b tree prefix n one =
       let t = one.step.is in
       let same : n ≡ t.0 = subscriber_is t.1 in
       ap (λ (s : State). s.queues n) t.2.is
-      ∙ ap (λ k. cond (nat_eq n k) (Some (record { tree = tree.number; prefix = prefix; events = [] })) (queues_at a n)) (sym same)
-      ∙ ap (λ z. cond z (Some (record { tree = tree.number; prefix = prefix; events = [] })) (queues_at a n)) (eq-eqb n n refl)
+      ∙ ap (λ k. cond (nat_eq n k) (Some (record { tree = tree.number; prefix = prefix; backlog = no_backlog })) (queues_at a n)) (sym same)
+      ∙ ap (λ z. cond z (Some (record { tree = tree.number; prefix = prefix; backlog = no_backlog })) (queues_at a n)) (eq-eqb n n refl)
     where
       subscriber_is : {k l : ℕ} → Subscriber k ≡ Subscriber l → k ≡ l
       subscriber_is e = cc
@@ -92,12 +95,14 @@ module _ {P M : Type 0} (store : P → Store) (number : P → ℕ) (meant : M �
       )
 
   hears : {a b : MachineValue P M} {ss : List Step} {os : List Outcome} (run : MakesSteps store number meant a ss os b) (n : ℕ) (q : Queue) → queues_at a n ≡ Some q → IsKept n ss
-      → told_to n ss os ++ waiting_in (queues_at b n) ≡ q.events ++ brought q (turns_of_run store number meant run)
-  hears {a = a} {b = b} run n q here kept =
+      → queues.CountsAll n (turns_of_run store number meant run) (queues_at a) → (all : List Event) → queues.Holds q.backlog all
+      → queues.Hears (told_to n ss os) (all ++ brought q (turns_of_run store number meant run)) (backlog_in (queues_at b n))
+  hears {a = a} {b = b} run n q here kept counts all holds =
+      let ts = turns_of_run store number meant run in
       let h = run_heard run n q here kept in
-      ap (λ l. l ++ waiting_in (queues_at b n)) h.1
-      ∙ ap (λ (f : ℕ → Option Queue). taken_by n (turns_of_run store number meant run) (queues_at a) ++ waiting_in (f n)) (run_queues run)
-      ∙ hears_law (turns_of_run store number meant run) n (queues_at a) q here h.0
+      subst (λ l. queues.Hears l (all ++ brought q ts) (backlog_in (queues_at b n))) (sym h.1)
+      (subst (λ (f : ℕ → Option Queue). queues.Hears (taken_by n ts (queues_at a)) (all ++ brought q ts) (backlog_in (f n))) (sym (run_queues run))
+      (hears_law ts n (queues_at a) q here h.0 counts all holds))
 
   -- no step opens a closed database
   run_open : {a b : MachineValue P M} {ss : List Step} {os : List Outcome} → MakesSteps store number meant a ss os b → (state_at b).is_open ≡ true → (state_at a).is_open ≡ true
@@ -115,21 +120,24 @@ module _ {P M : Type 0} (store : P → Store) (number : P → ℕ) (meant : M �
 
   follows : {a b : MachineValue P M} {ss : List Step} {os : List Outcome} (run : MakesSteps store number meant a ss os b) → IsDb store a.db → (state_at b).is_open ≡ true
       → (n : ℕ) (q : Queue) → queues_at a n ≡ Some q → IsKept n ss → (name : Key) → KeepsTree name ss os
-      → (copy : Map) → IsCopyOfTree store meant a name q.tree q.prefix (after_events q.events copy)
-      → IsCopyOfTree store meant b name q.tree q.prefix (after_events (waiting_in (queues_at b n)) (after_events (told_to n ss os) copy))
-  follows {a = a} {b = b} {ss = ss} {os = os} run db is_open n q here kept name keeps copy c =
+      → TellsEvents (told_to n ss os) → (backlog_in (queues_at b n)).missed ≡ 0
+      → (copy : Map) → IsCopyOfTree store meant a name q.tree q.prefix (after_events q.backlog.events copy)
+      → IsCopyOfTree store meant b name q.tree q.prefix (after_events (waiting_in (queues_at b n)) (after_events (events_told (told_to n ss os)) copy))
+  follows {a = a} {b = b} {ss = ss} {os = os} run db is_open n q here kept name keeps told none copy c =
       let ts = turns_of_run store number meant run in
       let h = run_heard run n q here kept in
       let x = run_trees run (numbered a db) is_open name c.tree c.there keeps in
       let e : x.tree.map ≡ after_events (came_to q.tree ts) c.tree.map = x.map ∙ ap (λ k. after_events (came_to k ts) c.tree.map) c.same in
-      let f : after_events (waiting_in (queues_at b n)) (after_events (told_to n ss os) copy) ≡ after_events (waiting_in (after_turns ts (queues_at a) n)) (after_events (taken_by n ts (queues_at a)) copy)
-      = ap (λ (g : ℕ → Option Queue). after_events (waiting_in (g n)) (after_events (told_to n ss os) copy)) (run_queues run)
-      ∙ ap (λ l. after_events (waiting_in (after_turns ts (queues_at a) n)) (after_events l copy)) h.1 in
+      let f : after_events (waiting_in (queues_at b n)) (after_events (events_told (told_to n ss os)) copy) ≡ after_events (waiting_in (after_turns ts (queues_at a) n)) (after_events (events_told (taken_by n ts (queues_at a))) copy)
+      = ap (λ (g : ℕ → Option Queue). after_events (waiting_in (g n)) (after_events (events_told (told_to n ss os)) copy)) (run_queues run)
+      ∙ ap (λ l. after_events (waiting_in (after_turns ts (queues_at a) n)) (after_events (events_told l) copy)) h.1 in
+      let all : TellsEvents (taken_by n ts (queues_at a)) = subst TellsEvents h.1 told in
+      let counted : (backlog_in (after_turns ts (queues_at a) n)).missed ≡ 0 = subst (λ (g : ℕ → Option Queue). (backlog_in (g n)).missed ≡ 0) (run_queues run) none in
       record {
         tree = x.tree;
         there = x.there;
         same = x.number ∙ c.same;
-        copied = subst (λ z. IsCopy q.prefix z x.tree.map) (sym f) (subst (IsCopy q.prefix (after_events (waiting_in (after_turns ts (queues_at a) n)) (after_events (taken_by n ts (queues_at a)) copy))) (sym e) (follows_law ts n (queues_at a) q here h.0 copy c.tree.map c.copied));
+        copied = subst (λ z. IsCopy q.prefix z x.tree.map) (sym f) (subst (IsCopy q.prefix (after_events (waiting_in (after_turns ts (queues_at a) n)) (after_events (events_told (taken_by n ts (queues_at a))) copy))) (sym e) (follows_law ts n (queues_at a) q here h.0 all counted copy c.tree.map c.copied));
       }
 
   pub hears_runs : Hears store number meant

@@ -33,9 +33,9 @@ use Rattle.sled_tree.specs.declared.flight.Went.TheVariants.{Moved, Decided, Ref
 use Rattle.sled.specs.Values.{DbValue, state_of, db_state, configuration_of as instant_of_db, snapshot_of_db}
 use Rattle.sled.specs.Calls.{MustBeRefused, must_be_refused_as}
 use Rattle.sled_tree.specs.Known.{IsKnown, AreApart}
-use Rattle.sled.specs.Flights.{FindsRoom, DbFindsRoom, call_in_flight_of, KeepsTreePages, BringsEvent, DbStepContract, outcome_of, slot_after, maps_added}
+use Rattle.sled.specs.Flights.{call_in_flight_of, KeepsTreePages, BringsEvent, DbStepContract, outcome_of, slot_after, maps_added}
 use Rattle.sled.specs.Flush.{FlushesDb, RefusesFlush}
-use Rattle.sled.proofs.Flying.{loses_nothing, moved_state}
+use Rattle.sled.proofs.Flying.{loses_nothing}
 use Rattle.sled.proofs.Flushing.{stays_state, stays_moment}
 use Rattle.sled.proofs.Resting.{SameNow, flushed_now, rests_only_faults, rests_now, rests_extends}
 use Rattle.sled_machine.specs.Slots.{kept_at}
@@ -113,7 +113,6 @@ module _ {P M : Type 0} (store : P → Store) (number : P → ℕ) (meant : M �
     does = record { is = refl };
     follows = record { is = λ f there. none_some (sym e ∙ there) };
     passes = record { is = tt };
-    room = record { is = λ f there. none_some (sym e ∙ there) };
     slots = record { starts = tt; others = λ q off. refl };
     loses = record { none = loses_nothing None (snapshot_of_db store v.db) };
     leaves = record { is = λ w is. subst (λ o. LeaksNoPage (owned_by o) (owned_by o) (now (store v.db.pages)) (now (store v.db.pages)) w) (sym e) (leaves_same_pages [] [] (now (store v.db.pages)) w (λ q i. i)) };
@@ -129,7 +128,6 @@ module _ {P M : Type 0} (store : P → Store) (number : P → ℕ) (meant : M �
     does = record { is = refl };
     follows = record { is = tt };
     passes = record { is = tt };
-    room = record { is = tt };
     slots = record { starts = tt; others = λ q off. refl };
     loses = record { none = loses_nothing None (snapshot_of_db store v.db) };
     leaves = record { is = tt };
@@ -149,7 +147,6 @@ module _ {P M : Type 0} (store : P → Store) (number : P → ℕ) (meant : M �
       does = record { is = refl };
       follows = record { is = tt };
       passes = record { is = tt };
-      room = record { is = tt };
       slots = record { starts = tt; others = elsewhere v.flights gs slot None gone };
       loses = record { none = loses_nothing None (snapshot_of_db store v.db) };
       leaves = record { is = tt };
@@ -174,7 +171,7 @@ module _ {P M : Type 0} (store : P → Store) (number : P → ℕ) (meant : M �
     after = snapshot_of_db store db
 
     reach : (f next : InFlight) (went : Went) → kept_at v.flights slot ≡ Some f → DbStepContract store meant v.db f went db next → (kept : Option InFlight) → option_map call_in_flight_of kept ≡ slot_after went next → kept ≡ flight_after went next → ((q : ℕ) → kept_at gs q ≡ put_at (kept_at v.flights) slot kept q)
-        → advances_on_path_as store meant v (step.Step slot) (outcome_of went) (record v { db = db; flights = gs }) → leaks_no_page_at store v (step.Step slot) (outcome_of went) (record v { db = db; flights = gs })
+        → advances_on_path_as store v (step.Step slot) (outcome_of went) (record v { db = db; flights = gs }) → leaks_no_page_at store v (step.Step slot) (outcome_of went) (record v { db = db; flights = gs })
         → MachineStepContract store number meant v (step.Step slot) (outcome_of went) (record v { db = db; flights = gs })
     reach f next went there flies kept is stands are passes leaves = record {
       step = record {
@@ -186,25 +183,16 @@ module _ {P M : Type 0} (store : P → Store) (number : P → ℕ) (meant : M �
       sound = record { keeps = flies.sound.keeps };
       does = record { is = acts_flying went flies };
       follows = record {
-        is = λ g here must fits finds other. let same : g ≡ f = some_is (sym here ∙ there) in record {
+        is = λ g here must fits. let same : g ≡ f = some_is (sym here ∙ there) in record {
           went = went;
           next = next;
           outcome = refl;
           there = are slot ∙ put_here (kept_at v.flights) slot kept ∙ stands;
           follows = subst (λ (z : InFlight). FollowsOn (store v.db.pages) z went (store db.pages) next) (sym same)
-              (flies.follows (subst (λ (z : InFlight). must_refuse (db_state store meant v.db) (ToStep (call_in_flight_of z)) ≡ None) same must) (subst (λ (z : InFlight). z.turns < turns_limit) same fits) (subst (λ (z : InFlight). FindsRoom (db_state store meant v.db) z) same finds) (λ full. other (ap outcome_of full)));
+              (flies.follows (subst (λ (z : InFlight). must_refuse (db_state store meant v.db) (ToStep (call_in_flight_of z)) ≡ None) same must) (subst (λ (z : InFlight). z.turns < turns_limit) same fits));
         };
       };
       passes = record { is = passes };
-      room = record {
-        is = λ g here. record {
-          went = went;
-          next = next;
-          outcome = refl;
-          there = are slot ∙ put_here (kept_at v.flights) slot kept ∙ stands;
-          room = subst (λ (z : InFlight). DbFindsRoom store meant v.db z went db next) (some_is (sym there ∙ here)) flies.room;
-        };
-      };
       slots = record { starts = tt; others = elsewhere v.flights gs slot kept are };
       loses = record { none = flies.loses };
       leaves = record { is = leaves };
@@ -231,11 +219,11 @@ module _ {P M : Type 0} (store : P → Store) (number : P → ℕ) (meant : M �
         acts_flying (Refused r) k = k.does.does
 
     -- on a clean path the call has a page less ahead of it
-    further : (f next : InFlight) → kept_at v.flights slot ≡ Some f → DbStepContract store meant v.db f Moved db next → ((q : ℕ) → kept_at gs q ≡ put_at (kept_at v.flights) slot (Some next) q) → advances_on_path_as store meant v (step.Step slot) outcome.Moved (record v { db = db; flights = gs })
+    further : (f next : InFlight) → kept_at v.flights slot ≡ Some f → DbStepContract store meant v.db f Moved db next → ((q : ℕ) → kept_at gs q ≡ put_at (kept_at v.flights) slot (Some next) q) → advances_on_path_as store v (step.Step slot) outcome.Moved (record v { db = db; flights = gs })
     further f next there flies e path k =
         let same : k.flight ≡ f = some_is (sym k.here ∙ there) in
-        let p = (flies.passes (subst (λ (z : InFlight). FindsRoom (db_state store meant v.db) z) same k.room)).is path (subst (λ (z : InFlight). IsOnPath (now (store v.db.pages)) (course_of z) z.stage path) same k.clean) in
-        (p.0, p.1, record { flight = next; here = e slot ∙ put_here (kept_at v.flights) slot (Some next); clean = p.2; room = subst (λ s. FindsRoom s next) (sym (moved_state store meant v.db db f next flies)) (flies.room.room refl) })
+        let p = flies.passes.is path (subst (λ (z : InFlight). IsOnPath (now (store v.db.pages)) (course_of z) z.stage path) same k.clean) in
+        (p.0, p.1, record { flight = next; here = e slot ∙ put_here (kept_at v.flights) slot (Some next); clean = p.2 })
 
     -- what the call owned and what it owns, by its slot
     owns : (f : InFlight) (o : Option InFlight) → kept_at v.flights slot ≡ Some f → ((q : ℕ) → kept_at gs q ≡ put_at (kept_at v.flights) slot o q) → (w : Forest) → LeaksNoPage (owned f.stage) (owned_by o) (now (store v.db.pages)) (now (store db.pages)) w
@@ -292,7 +280,6 @@ module _ {P M : Type 0} (store : P → Store) (number : P → ℕ) (meant : M �
     does = record { is = refl };
     follows = record { is = tt };
     passes = record { is = tt };
-    room = record { is = tt };
     slots = record { starts = tt; others = λ q off. refl };
     loses = record { none = loses_nothing None (snapshot_of_db store v.db) };
     leaves = record { is = tt };
@@ -341,7 +328,6 @@ module _ {P M : Type 0} (store : P → Store) (number : P → ℕ) (meant : M �
         does = record { is = refl };
         follows = record { is = tt };
         passes = record { is = tt };
-        room = record { is = tt };
         slots = record { starts = added_kept slot ∙ put_here (kept_at v.flights) slot (Some f) ∙ ap Some is; others = elsewhere v.flights gs slot (Some f) added_kept };
         loses = record { none = loses_nothing None (snapshot_of_db store v.db) };
         leaves = record { is = tt };
@@ -389,7 +375,6 @@ module _ {P M : Type 0} (store : P → Store) (number : P → ℕ) (meant : M �
     does = record { is = f.is };
     follows = record { is = tt };
     passes = record { is = tt };
-    room = record { is = tt };
     slots = record { starts = tt; others = λ q off. refl };
     loses = flush_loses db f.same (flushed_now f.is) (outcome.Decided (Number n));
     leaves = record { is = tt };
@@ -412,7 +397,6 @@ module _ {P M : Type 0} (store : P → Store) (number : P → ℕ) (meant : M �
     does = record { is = f.is };
     follows = record { is = tt };
     passes = record { is = tt };
-    room = record { is = tt };
     slots = record { starts = tt; others = λ q off. refl };
     loses = flush_loses db f.same (rests_now rests) (outcome.Refused e);
     leaves = record { is = tt };

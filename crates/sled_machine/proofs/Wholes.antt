@@ -65,7 +65,6 @@ module _ {P M : Type 0} (store : P → Store) (number : P → ℕ) (meant : M �
     does = record { is = d.acts };
     follows = record { is = tt };
     passes = record { is = tt };
-    room = record { is = tt };
     slots = record { starts = tt; others = λ q other. refl };
     loses = record { none = loses_other (kind_of w) off (lost_of w reply) (snapshot_of_db store v.db) (snapshot_of_db store db) d.leaves.loses };
     leaves = record { is = tt };
@@ -85,7 +84,6 @@ module _ {P M : Type 0} (store : P → Store) (number : P → ℕ) (meant : M �
     does = record { is = d.acts };
     follows = record { is = tt };
     passes = record { is = tt };
-    room = record { is = tt };
     slots = record { starts = tt; others = λ q other. refl };
     loses = record { none = loses_other (kind_of w) off None (snapshot_of_db store v.db) (snapshot_of_db store db) d.leaves.loses };
     leaves = record { is = tt };

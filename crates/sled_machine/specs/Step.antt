@@ -10,7 +10,6 @@ use Rattle.sled_model.specs.Collections.{Content, contents_of}
 use Rattle.sled_model.specs.Imports.{parts_of}
 use Rattle.sled_model.specs.Transition.{Transition, Kind, Flushing, kind_of}
 use Rattle.sled_nodes.specs.declared.error.Error.{Error}
-use Rattle.sled_nodes.specs.declared.error.Error.TheVariants.{FullQueue}
 use Rattle.sled_model.specs.declared.call.Whole.{Whole}
 use Rattle.sled_model.specs.declared.call.Whole.TheVariants.{Flush, PopMin, PopMax, Clear, OpenTree, DropTree, GenerateId, Import, Watch, Next, Unsubscribe}
 use Rattle.sled_model.specs.declared.reply.Reply.TheVariants.{Pair, Flag}
@@ -34,7 +33,7 @@ use Rattle.sled_tree.specs.declared.flight.Went.{Went}
 use Rattle.tree_reads.specs.Walk.{once, for_each}
 use Rattle.sled.specs.Sound.{IsDb}
 use Rattle.sled.specs.Values.{DbValue, db_state, snapshot_of_db}
-use Rattle.sled.specs.Flights.{IsStepRefused, KeepsTreePages, call_in_flight_of, outcome_of, FindsRoom, DbFindsRoom}
+use Rattle.sled.specs.Flights.{IsStepRefused, KeepsTreePages, call_in_flight_of, outcome_of}
 use Rattle.sled.specs.Direct.{KeepsOrFreesTreePages, effect_of_whole, lost_of}
 use Rattle.sled.specs.Drops.{DropsTree, RefusesDrop}
 use Rattle.sled.specs.Opens.{OpensBySteps, OpenRefusedBySteps}
@@ -93,47 +92,27 @@ pub record FollowsAt {P M : Type 0} (store : P → Store) (old : MachineValue P 
   pub there : kept_at new.flights slot ≡ flight_after went next
   pub follows : FollowsOn (store old.db.pages) f went (store new.db.pages) next
 
--- a step of a slot follows from the stage of its call, where the tests pass and a turn is left; but for a call that meets a full queue at
--- its link, or as it comes there
+-- a step of a slot follows from the stage of its call, where the tests pass and a turn is left
 abbrev pub follows_stage_as : {P M : Type 0} → (P → Store) → (M → Merge) → MachineValue P M → Step → Outcome → MachineValue P M → Type 0
-follows_stage_as store meant old (step.Step slot) o new = (f : InFlight) → kept_at old.flights slot ≡ Some f → must_refuse (db_state store meant old.db) (ToStep (call_in_flight_of f)) ≡ None → f.turns < turns_limit → FindsRoom (db_state store meant old.db) f → o ≢ Refused FullQueue → FollowsAt store old f slot o new
+follows_stage_as store meant old (step.Step slot) o new = (f : InFlight) → kept_at old.flights slot ≡ Some f → must_refuse (db_state store meant old.db) (ToStep (call_in_flight_of f)) ≡ None → f.turns < turns_limit → FollowsAt store old f slot o new
 follows_stage_as store meant old s o new = Unit {0}
 
 pub record MachineFollows {P M : Type 0} (store : P → Store) (meant : M → Merge) (old : MachineValue P M) (s : Step) (o : Outcome) (new : MachineValue P M) : Type 0 where
   pub is : follows_stage_as store meant old s o new
 
--- what a full queue did to the call in a slot
-pub record FindsRoomAt {P M : Type 0} (store : P → Store) (meant : M → Merge) (old : MachineValue P M) (f : InFlight) (slot : ℕ) (o : Outcome) (new : MachineValue P M) : Type 0 where
-  pub went : Went
-  pub next : InFlight
-  pub outcome : o ≡ outcome_of went
-  pub there : kept_at new.flights slot ≡ flight_after went next
-  pub room : DbFindsRoom store meant old.db f went new.db next
-
--- a call that goes on comes to its link only where there is room, and is refused with `FullQueue` only where it would come there; and at
--- its link with a full queue it begins again
-abbrev pub finds_room_as : {P M : Type 0} → (P → Store) → (M → Merge) → MachineValue P M → Step → Outcome → MachineValue P M → Type 0
-finds_room_as store meant old (step.Step slot) o new = (f : InFlight) → kept_at old.flights slot ≡ Some f → FindsRoomAt store meant old f slot o new
-finds_room_as store meant old s o new = Unit {0}
-
-pub record MachineFindsRoom {P M : Type 0} (store : P → Store) (meant : M → Merge) (old : MachineValue P M) (s : Step) (o : Outcome) (new : MachineValue P M) : Type 0 where
-  pub is : finds_room_as store meant old s o new
-
--- the call in the slot has this path of pages ahead of it, nothing to repair on it, and no full queue in its way if it is to link its
--- change
-pub record IsPathAhead {P M : Type 0} (store : P → Store) (meant : M → Merge) (m : MachineValue P M) (slot : ℕ) (path : List ℕ) : Type 0 where
+-- the call in the slot has this path of pages ahead of it, and nothing to repair on it
+pub record IsPathAhead {P M : Type 0} (store : P → Store) (m : MachineValue P M) (slot : ℕ) (path : List ℕ) : Type 0 where
   pub flight : InFlight
   pub here : kept_at m.flights slot ≡ Some flight
   pub clean : IsOnPath (now (store m.db.pages)) (course_of flight) flight.stage path
-  pub room : FindsRoom (db_state store meant m.db) flight
 
 -- a step of a slot that goes on along a clean path has a page less ahead of it
-abbrev pub advances_on_path_as : {P M : Type 0} → (P → Store) → (M → Merge) → MachineValue P M → Step → Outcome → MachineValue P M → Type 0
-advances_on_path_as store meant old (step.Step slot) Moved new = (path : List ℕ) → IsPathAhead store meant old slot path → (rest : List ℕ) × (length path ≡ suc (length rest)) × IsPathAhead store meant new slot rest
-advances_on_path_as store meant old s o new = Unit {0}
+abbrev pub advances_on_path_as : {P M : Type 0} → (P → Store) → MachineValue P M → Step → Outcome → MachineValue P M → Type 0
+advances_on_path_as store old (step.Step slot) Moved new = (path : List ℕ) → IsPathAhead store old slot path → (rest : List ℕ) × (length path ≡ suc (length rest)) × IsPathAhead store new slot rest
+advances_on_path_as store old s o new = Unit {0}
 
-pub record MachinePasses {P M : Type 0} (store : P → Store) (meant : M → Merge) (old : MachineValue P M) (s : Step) (o : Outcome) (new : MachineValue P M) : Type 0 where
-  pub is : advances_on_path_as store meant old s o new
+pub record MachinePasses {P M : Type 0} (store : P → Store) (old : MachineValue P M) (s : Step) (o : Outcome) (new : MachineValue P M) : Type 0 where
+  pub is : advances_on_path_as store old s o new
 
 -- the slot that a step is about; a whole call is about none, and nor is a call that does not begin
 abbrev pub slot_of : Step → Outcome → Option ℕ
@@ -275,8 +254,7 @@ pub record MachineStepContract {P M : Type 0} (store : P → Store) (flush_numbe
   pub sound : MachineSound store old new
   pub does : MachineActs store meant old s o new
   pub follows : MachineFollows store meant old s o new
-  pub passes : MachinePasses store meant old s o new
-  pub room : MachineFindsRoom store meant old s o new
+  pub passes : MachinePasses store old s o new
   pub slots : MachineSlots old s o new
   pub loses : MachineKeepsTreePages store old s o new
   pub leaves : MachineLeaksNoPage store old s o new

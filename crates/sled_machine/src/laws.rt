@@ -21,8 +21,8 @@ pub fn law_flushed()
     ensures { FlushedLaw }
 {}
 
-/// Over every list of steps a subscriber is told each event under its prefix of its tree once, in the order of the decisions, and
-/// while the database is open a copy that it changes by them follows the map of its tree.
+/// Over every list of steps a subscriber is told each event under its prefix of its tree once, in the order of the decisions, or how
+/// many it missed; and while it misses none and the database is open, a copy that it changes by them follows the map of its tree.
 pub fn law_hears<P: Pages, M: MergeOperator>()
     ensures { Hears P.store P.flush_number M.meant }
 {}

@@ -52,7 +52,7 @@ impl<P: Pages, M: MergeOperator> Machine<P, M> {
     ghost use Rattle.sled.specs.Values.{db_state};
     ghost use Rattle.sled.specs.Operators.{OperatorSet, OperatorNotSet};
     ghost use Rattle.sled.specs.Fetch.{Stands, FetchDecided, FetchRefused};
-    ghost use Rattle.sled_machine.specs.Step.{MachineStep, MachineSound, MachineActs, MachineFollows, MachinePasses, MachineFindsRoom, MachineSlots, MachineKeepsTreePages, MachineLeaksNoPage, MachineStepContract};
+    ghost use Rattle.sled_machine.specs.Step.{MachineStep, MachineSound, MachineActs, MachineFollows, MachinePasses, MachineSlots, MachineKeepsTreePages, MachineLeaksNoPage, MachineStepContract};
     ghost use Rattle.sled_machine.specs.Run.{MachineRun, MachineSteps};
     ghost use Rattle.sled_machine.specs.Finish.{RunsToEnd, Completes};
     ghost use Rattle.sled_queues.specs.Queues.{AreQueues};
@@ -215,8 +215,7 @@ impl<P: Pages, M: MergeOperator> Machine<P, M> {
         ensures sound { MachineSound P.store self.old self.new }
         ensures does { MachineActs P.store M.meant self.old (step.Step slot) result self.new }
         ensures follows { MachineFollows P.store M.meant self.old (step.Step slot) result self.new }
-        ensures passes { MachinePasses P.store M.meant self.old (step.Step slot) result self.new }
-        ensures room { MachineFindsRoom P.store M.meant self.old (step.Step slot) result self.new }
+        ensures passes { MachinePasses P.store self.old (step.Step slot) result self.new }
         ensures slots { MachineSlots self.old (step.Step slot) result self.new }
         ensures loses { MachineKeepsTreePages P.store self.old (step.Step slot) result self.new }
         ensures leaves { MachineLeaksNoPage P.store self.old (step.Step slot) result self.new }
@@ -378,8 +377,8 @@ impl<P: Pages, M: MergeOperator> Machine<P, M> {
     fn next(&mut self, subscriber: &Subscriber) -> Outcome
         ensures { MachineStepContract P.store P.flush_number M.meant self.old (step.Whole (Next subscriber.now)) result self.new }
     {
-        let event = self.db.next(subscriber);
-        Outcome::Decided(Reply::Event(event))
+        let next = self.db.next(subscriber);
+        Outcome::Decided(Reply::Next(next))
     }
 
     fn unsubscribe(&mut self, subscriber: &Subscriber) -> Outcome

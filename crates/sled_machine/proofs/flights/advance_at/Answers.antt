@@ -16,6 +16,6 @@ returns g c =
       flight = c.in-Some.flight;
       next = c.advance.new.flight;
       there = here.0;
-      flew = record { step = f.step; sound = f.sound; does = f.does; follows = f.follows; passes = f.passes; room = f.room; loses = f.loses; leaves = f.leaves; knows = f.knows };
+      flew = record { step = f.step; sound = f.sound; does = f.does; follows = f.follows; passes = f.passes; loses = f.loses; leaves = f.leaves; knows = f.knows };
       is = ap (λ k. slice_set cells c.args.i (k, Some c.advance.new.flight)) here.1;
     }

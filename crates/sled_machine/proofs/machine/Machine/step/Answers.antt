@@ -7,7 +7,7 @@ pub find-requires : goal.find-requires
 find-requires g c = rise_table c.self.inside.table.cells.items _ c.self.invariant.1
 
 pub returns-in_default : goal.returns-in_default
-returns-in_default g c = let r = missing_step_as g.P.Pages.store g.P.Pages.flush_number g.M.MergeOperator.meant _ _ c.self.view_is c.self.invariant.0 _ _ c.slot.view_is c.in_default.ensures.missing in record { step = r.step; sound = r.sound; does = r.does; follows = r.follows; passes = r.passes; room = r.room; slots = r.slots; loses = r.loses; leaves = r.leaves }
+returns-in_default g c = let r = missing_step_as g.P.Pages.store g.P.Pages.flush_number g.M.MergeOperator.meant _ _ c.self.view_is c.self.invariant.0 _ _ c.slot.view_is c.in_default.ensures.missing in record { step = r.step; sound = r.sound; does = r.does; follows = r.follows; passes = r.passes; slots = r.slots; loses = r.loses; leaves = r.leaves }
 
 pub step_at-requires-clause-rise : goal.step_at-requires-clause-rise
 step_at-requires-clause-rise g c κs within = rise_table c.self.inside.table.cells.items _ c.self.invariant.1
@@ -25,4 +25,4 @@ invariant_of-self g c =
 pub returns : goal.returns
 returns g c =
     let s = c.step_at.ensures in
-    let r = stepped_slot g.P.Pages.store g.P.Pages.flush_number g.M.MergeOperator.meant _ _ c.self.view_is c.self.invariant.0 _ _ c.slot.view_is c.step_at.new.db (kept c.step_at.new.table.cells.items) c.step_at.result s.flight s.next s.went s.outcome s.there s.flew s.puts.kept in record { step = r.step; sound = r.sound; does = r.does; follows = r.follows; passes = r.passes; room = r.room; slots = r.slots; loses = r.loses; leaves = r.leaves }
+    let r = stepped_slot g.P.Pages.store g.P.Pages.flush_number g.M.MergeOperator.meant _ _ c.self.view_is c.self.invariant.0 _ _ c.slot.view_is c.step_at.new.db (kept c.step_at.new.table.cells.items) c.step_at.result s.flight s.next s.went s.outcome s.there s.flew s.puts.kept in record { step = r.step; sound = r.sound; does = r.does; follows = r.follows; passes = r.passes; slots = r.slots; loses = r.loses; leaves = r.leaves }
