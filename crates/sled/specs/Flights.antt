@@ -2,15 +2,14 @@
 use Rattle.std.specs.Prelude.{◌≡◌, ◌≢◌, ℕ, zero, suc, ◌+◌, ◌<◌, ◌≤◌, ◌⊎◌, true, List, [], ◌∷◌, length, Option, Some, None}
 use Rattle.sled_store.specs.In.{In}
 use Rattle.sled_nodes.specs.declared.error.Error.{Error}
-use Rattle.sled_nodes.specs.declared.error.Error.TheVariants.{Io, NoMemory, FullQueue}
+use Rattle.sled_nodes.specs.declared.error.Error.TheVariants.{Io}
 use Rattle.sled_nodes.specs.declared.node.Node.{Node}
-use Rattle.sled_store.specs.declared.page.View.{View}
 use Rattle.sled_store.specs.Store.{Store, now, HasUnreadable, only_faults}
 use Rattle.sled_store.specs.Update.{put_at}
 use Rattle.sled_model.specs.Maps.{Maps, Merge}
 use Rattle.sled_model.specs.Answer.{answer_of}
-use Rattle.sled_model.specs.State.{State, NamedTree, CallInFlight, maps_of}
-use Rattle.sled_model.specs.Refusal.{ToStep, must_refuse, MeetsFullQueue, TellsTurns, turns_limit}
+use Rattle.sled_model.specs.State.{NamedTree, CallInFlight, maps_of}
+use Rattle.sled_model.specs.Refusal.{ToStep, must_refuse, TellsTurns, turns_limit}
 use Rattle.sled_model.specs.Transition.{Transition}
 use Rattle.sled_model.specs.declared.event.Event.{Event}
 use Rattle.sled_model.specs.declared.reply.Reply.{Reply}
@@ -23,10 +22,9 @@ use Rattle.tree_laws.specs.Forest.{Tree, Place, Forest}
 use Rattle.tree_laws.specs.Crashes.{AddsCrashStates}
 use Rattle.tree_laws.specs.Snapshot.{Snapshot, nodes_at, HasForest}
 use Rattle.tree_laws.specs.Stages.{owned}
-use Rattle.tree_laws.specs.declared.flight.Stage.TheVariants as stage
 use Rattle.sled_tree.specs.Known.{IsKnown, AreApart}
 use Rattle.sled_tree.specs.StageAction.{ActsOnce, ActsAtMostOnce, leaks_no_page_as}
-use Rattle.sled_tree.specs.Follows.{Follows, FollowsOn}
+use Rattle.sled_tree.specs.Follows.{FollowsOn}
 use Rattle.sled_tree.specs.Passing.{IsOnPath, StepsOnPath}
 use Rattle.sled_tree.specs.Course.{course_of}
 use Rattle.sled_tree.specs.declared.flight.InFlight.{InFlight}
@@ -98,14 +96,6 @@ effect_of_step Moved old new = ActsAtMostOnce old new
 effect_of_step (Decided reply) old new = ActsAtMostOnce old new
 effect_of_step (Refused e) old new = IsStepRefused e old new
 
--- a call has no full queue in its way: an event that it would bring by the map now has room in every queue that waits for it
-abbrev pub MeetsNoFullQueue : State → InFlight → Type 0
-MeetsNoFullQueue s f = MeetsFullQueue s f.job.tree f.job.call → ⊥
-
--- .. or it is not to link its change yet
-pub record FindsRoom (s : State) (f : InFlight) : Type 0 where
-  pub is : (view : View) → f.stage ≡ stage.Act view → MeetsNoFullQueue s f
-
 -- a step fills the queues where it decides the call, and else leaves them as they are. It gives no subscriber a number
 abbrev pub keeps_queues : Went → QueuesValue → QueuesValue → Type 0
 keeps_queues Moved old new = Becomes (queue_at old) old.given new
@@ -132,33 +122,13 @@ pub record DbActs {P M : Type 0} (store : P → Store) (meant : M → Merge) (ol
   pub quiet : BringsEvent store meant old f went None → store new.pages ≡ store old.pages
   pub loud : (event : Event) → BringsEvent store meant old f went (Some event) → ActsOnce (store old.pages) (store new.pages)
 
--- where the tests pass and a turn is left, the step does what the call's stage is to do, and leads where that leads; but for a call that
--- meets a full queue at its link, or as it comes there
+-- where the tests pass and a turn is left, the step does what the call's stage is to do, and leads where that leads
 abbrev pub DbFollows : {P M : Type 0} → (P → Store) → (M → Merge) → DbValue P M → InFlight → Went → DbValue P M → InFlight → Type 0
-DbFollows store meant old f went new g = must_refuse (db_state store meant old) (ToStep (call_in_flight_of f)) ≡ None → f.turns < turns_limit → FindsRoom (db_state store meant old) f → went ≢ Refused FullQueue → FollowsOn (store old.pages) f went (store new.pages) g
+DbFollows store meant old f went new g = must_refuse (db_state store meant old) (ToStep (call_in_flight_of f)) ≡ None → f.turns < turns_limit → FollowsOn (store old.pages) f went (store new.pages) g
 
--- on a clean path the call goes one page further, or ends, but for one that is to link its change and meets a full queue
-abbrev pub DbPasses : {P M : Type 0} → (P → Store) → (M → Merge) → DbValue P M → InFlight → Went → DbValue P M → InFlight → Type 0
-DbPasses store meant old f went new g = FindsRoom (db_state store meant old) f → StepsOnPath (now (store old.pages)) f went (now (store new.pages)) g
-
--- the call begins again at the root, if there was memory
-abbrev pub turned_back : Went → InFlight → Type 0
-turned_back Moved g = g.stage ≡ stage.Root
-turned_back (Decided reply) g = ⊥
-turned_back (Refused e) g = e ≡ NoMemory
-
--- what the call's stage is to do leads to its link
-pub record LeadsToLink (old : Store) (f : InFlight) (new : Store) : Type 0 where
-  pub view : View
-  pub is : Follows (course_of f) old f.stage (next.Go (stage.Act view)) new
-
--- What a full queue does to a call: it does not come to its link, and only there is it refused for the queue; and where it is to link its
--- change, the queue having been filled since, it does nothing and begins again
-pub record DbFindsRoom {P M : Type 0} (store : P → Store) (meant : M → Merge) (old : DbValue P M) (f : InFlight) (went : Went) (new : DbValue P M) (g : InFlight) : Type 0 where
-  pub room : went ≡ Moved → FindsRoom (db_state store meant old) g
-  pub back : must_refuse (db_state store meant old) (ToStep (call_in_flight_of f)) ≡ None → f.turns < turns_limit → (view : View) → f.stage ≡ stage.Act view
-      → MeetsFullQueue (db_state store meant old) f.job.tree f.job.call → turned_back went g × (store new.pages ≡ store old.pages)
-  pub told : went ≡ Refused FullQueue → LeadsToLink (store old.pages) f (store new.pages)
+-- on a clean path the call goes one page further, or ends
+abbrev pub DbPasses : {P M : Type 0} → (P → Store) → DbValue P M → InFlight → Went → DbValue P M → InFlight → Type 0
+DbPasses store old f went new g = StepsOnPath (now (store old.pages)) f went (now (store new.pages)) g
 
 -- no page of the call's own is left behind, but by a call that is refused
 abbrev pub DbLeaksNoPage : {P M : Type 0} → (P → Store) → DbValue P M → InFlight → Went → DbValue P M → InFlight → Type 0
@@ -176,8 +146,7 @@ pub record DbStepContract {P M : Type 0} (store : P → Store) (meant : M → Me
   pub sound : DbSound store old new
   pub does : DbActs store meant old f went new
   pub follows : DbFollows store meant old f went new g
-  pub passes : DbPasses store meant old f went new g
-  pub room : DbFindsRoom store meant old f went new g
+  pub passes : DbPasses store old f went new g
   -- no page of a tree is lost
   pub loses : KeepsTreePages None (snapshot_of_db store old) (snapshot_of_db store new)
   pub leaves : DbLeaksNoPage store old f went new g
@@ -199,9 +168,8 @@ pub record TakesAtMost (moves : ℕ) (went : Went) (path : List ℕ) : Type 0 wh
   pub fits : moves ≤ length path
   pub unlimited : has_turns went
 
--- All steps of a call in flight to its end. Over a clean path of fewer pages than it has turns left it goes on at most once a page, but for
--- one that is to link its change and meets a full queue
+-- All steps of a call in flight to its end. Over a clean path of fewer pages than it has turns left it goes on at most once a page
 pub record DbRunsToEnd {P M : Type 0} (store : P → Store) (meant : M → Merge) (old : DbValue P M) (f : InFlight) (went : Went) (new : DbValue P M) (g : InFlight) : Type 0 where
   pub moves : ℕ
   pub flies : DbSteps store meant moves old f went new g
-  pub passes : FindsRoom (db_state store meant old) f → (path : List ℕ) → IsOnPath (now (store old.pages)) (course_of f) f.stage path → f.turns + length path < turns_limit → TakesAtMost moves went path
+  pub passes : (path : List ℕ) → IsOnPath (now (store old.pages)) (course_of f) f.stage path → f.turns + length path < turns_limit → TakesAtMost moves went path

@@ -6,9 +6,9 @@ use Rattle.sled_nodes.specs.declared.error.Error.{Error}
 use Rattle.sled_model.specs.Maps.{Merge}
 use Rattle.sled_model.specs.State.{CallInFlight}
 use Rattle.sled_model.specs.Refusal.{ToCall, MayRefuse}
-use Rattle.sled_model.specs.Whole.{Watches, TakesEvent, GivesUpQueue}
+use Rattle.sled_model.specs.Whole.{Watches, TakesNext, GivesUpQueue}
 use Rattle.sled_model.specs.declared.call.Whole.TheVariants.{Watch}
-use Rattle.sled_model.specs.declared.event.Event.{Event}
+use Rattle.sled_model.specs.declared.event.Next.{Next}
 use Rattle.sled_model.specs.declared.tree.Tree.{Tree}
 use Rattle.sled.specs.Values.{DbValue, state_of, db_state}
 use Rattle.sled.specs.Sound.{IsDb}
@@ -25,9 +25,9 @@ module _ {P M : Type 0} (store : P → Store) (meant : M → Merge) where
     pub may : MayRefuse (db_state store meant old) (store old.pages) (store old.pages) (ToCall (Watch tree prefix)) e
     pub is : new ≡ old
 
-  -- A subscriber took its oldest event, if one waited
-  pub record TakesFromDb (old : DbValue P M) (subscriber : ℕ) (event : Option Event) (new : DbValue P M) : Type 0 where
-    pub takes : (slots : ℕ → Option CallInFlight) (slots_given : ℕ) → TakesEvent (state_of store meant old slots slots_given) subscriber event (state_of store meant new slots slots_given)
+  -- A subscriber was told what was next, if something waited for it
+  pub record TakesFromDb (old : DbValue P M) (subscriber : ℕ) (next : Option Next) (new : DbValue P M) : Type 0 where
+    pub takes : (slots : ℕ → Option CallInFlight) (slots_given : ℕ) → TakesNext (state_of store meant old slots slots_given) subscriber next (state_of store meant new slots slots_given)
     pub same : new ≡ record old { queues = new.queues }
     pub sound : IsDb store old → IsDb store new
 

@@ -53,7 +53,7 @@ impl<P: Pages, M: MergeOperator> Db<P, M> {
     ghost use Rattle.sled.specs.Sound.{IsDb, MapsAscend};
     ghost use Rattle.sled.specs.Values.{db_state, snapshot_of_db};
     ghost use Rattle.sled_tree.specs.Known.{IsKnown};
-    ghost use Rattle.sled.specs.Flights.{DbStep, DbSound, DbActs, DbFollows, DbPasses, DbFindsRoom, DbLeaksNoPage, DbKnows, KeepsTreePages, DbStepContract, DbRunsToEnd, call_in_flight_of};
+    ghost use Rattle.sled.specs.Flights.{DbStep, DbSound, DbActs, DbFollows, DbPasses, DbLeaksNoPage, DbKnows, KeepsTreePages, DbStepContract, DbRunsToEnd, call_in_flight_of};
     ghost use Rattle.sled.specs.Flush.{FlushesDb, RefusesFlush};
     ghost use Rattle.sled_queues.specs.Queues.{AreQueues};
 
@@ -196,8 +196,8 @@ impl<P: Pages, M: MergeOperator> Db<P, M> {
         }
     }
 
-    /// One step of a call in flight, which may do one page action. The tests come first, and the count of turns last. It is refused
-    /// with `FullQueue` where the call comes to its link while 1024 events wait for a subscriber that would get one more.
+    /// One step of a call in flight, which may do one page action. The tests come first, and the count of turns last. No subscriber
+    /// keeps a call up: where 1024 events wait for one that gets one more, the oldest of them goes and is counted.
     ///
     /// ```
     /// let mut flight = InFlight::new(tree, Call::get(alloc, b"ulm")?);
@@ -209,8 +209,7 @@ impl<P: Pages, M: MergeOperator> Db<P, M> {
         ensures sound { DbSound P.store self.old self.new }
         ensures does { DbActs P.store M.meant self.old flight.old result self.new }
         ensures follows { DbFollows P.store M.meant self.old flight.old result self.new flight.new }
-        ensures passes { DbPasses P.store M.meant self.old flight.old result self.new flight.new }
-        ensures room { DbFindsRoom P.store M.meant self.old flight.old result self.new flight.new }
+        ensures passes { DbPasses P.store self.old flight.old result self.new flight.new }
         ensures loses { KeepsTreePages None (snapshot_of_db P.store self.old) (snapshot_of_db P.store self.new) }
         ensures leaves { DbLeaksNoPage P.store self.old flight.old result self.new flight.new }
         ensures knows { DbKnows P.store self.old flight.old result self.new flight.new }

@@ -80,8 +80,7 @@ impl<P: Pages, M: MergeOperator> Db<P, M> {
     }
 
     /// Sets the value at a key, and answers the value that stood there, or `None` where the key was absent. Where an equal
-    /// value stands already, nothing is written. Else its event comes to the subscribers of the tree that watch the key; where the queue of
-    /// one is full it is refused with `FullQueue`.
+    /// value stands already, nothing is written. Else its event comes to the subscribers of the tree that watch the key.
     ///
     /// Like a call of a machine it repairs what it meets half done on its way: splits and merges that a call before it did
     /// not finish. These stay also where it is refused itself, and change no map.

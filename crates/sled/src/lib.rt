@@ -29,7 +29,7 @@ pub use db::Db;
 pub use direct::CompareAndSwapResult;
 pub use memory::{crash_pages, empty_pages};
 pub use sled_model::{
-    Call, Collection, CompareAndSwapError, Decision, Effect, Event, MAX_LOOPS, MergeOperator,
+    Call, Collection, CompareAndSwapError, Decision, Effect, Event, MAX_LOOPS, MergeOperator, Next,
     Outcome, QUEUE_LIMIT, Reply, Slot, Step, Subscriber, Tree, Whole,
 };
 pub use sled_nodes::{

@@ -1,8 +1,8 @@
-//! Subscribers, each of which has a queue of the events of its tree.
+//! Subscribers, each of which has a queue of the events of its tree, and a count of those that it missed.
 ghost use Rattle.std.specs.Prelude.{IfOk, IfErr};
 
 use crate::db::Db;
-use sled_model::{Event, MergeOperator, Subscriber, Tree};
+use sled_model::{MergeOperator, Next, Subscriber, Tree};
 use sled_nodes::{IVec, Result};
 use sled_store::Pages;
 
@@ -10,9 +10,9 @@ impl<P: Pages, M: MergeOperator> Db<P, M> {
     ghost use Rattle.sled.specs.Watch.{WatchesDb, RefusesWatch, TakesFromDb, EndsSubscriber};
 
     /// A new subscriber to the keys of a tree that begin with a prefix. From now on each change of such a key that is decided
-    /// comes into its queue, in order, where `next` takes it out. At most 1024 events wait there: a call whose event a full
-    /// queue would get is refused with `FullQueue`. Subscribers are numbered from 1, and no number is given twice until the
-    /// database is opened again.
+    /// comes into its queue, in order, where `next` takes it out. At most 1024 events wait there: where one more comes, the
+    /// oldest goes and is counted, and `next` tells how many were missed so. A slow subscriber keeps no call up. Subscribers are
+    /// numbered from 1, and no number is given twice until the database is opened again.
     ///
     /// Refused as `check` tells, then for want of memory alone, and with `Unsupported` once all numbers of 64 bits are given.
     /// Then nothing changes.
@@ -35,20 +35,28 @@ impl<P: Pages, M: MergeOperator> Db<P, M> {
         self.queues.watch(self.alloc, tree.number, prefix)
     }
 
-    /// Takes the oldest event that waits for a subscriber. It answers at once: `None` where none waits, and for a subscriber that
-    /// is not known. It is never refused, takes no memory, and serves a closed database too. The events that waited when their tree
-    /// was dropped can still be taken.
+    /// What a subscriber is told next. Where it missed events since that was told last, it is `Missed` with their count, and the
+    /// events that wait stay; else it is the oldest event that waits, which is taken out. It answers at once: `None` where nothing
+    /// waits, and for a subscriber that is not known. It is never refused, takes no memory, and serves a closed database too. The
+    /// events that waited when their tree was dropped can still be taken.
+    ///
+    /// A subscriber that keeps a copy of its part of the tree by the events has to copy that part anew once it is told `Missed`.
     ///
     /// ```
-    /// // All that wait, in the order in which the changes were decided. No more than `QUEUE_LIMIT` can wait.
-    /// for _ in 0..QUEUE_LIMIT {
-    ///     let Some(event) = db.next(&subscriber) else {
-    ///         break;
-    ///     };
-    ///     let changed = event.key().as_ref();
+    /// // All that wait, in the order in which the changes were decided: at most a count, and then `QUEUE_LIMIT` events.
+    /// let mut missed = 0;
+    /// for _ in 0..QUEUE_LIMIT + 1 {
+    ///     match db.next(&subscriber) {
+    ///         Some(Next::Event(event)) => {
+    ///             let changed = event.key().as_ref();
+    ///         }
+    ///         Some(Next::Missed(count)) => missed = count,
+    ///         None => break,
+    ///     }
     /// }
+    /// let has_to_copy_anew = missed > 0;
     /// ```
-    pub fn next(&mut self, subscriber: &Subscriber) -> Option<Event>
+    pub fn next(&mut self, subscriber: &Subscriber) -> Option<Next>
         ensures { TakesFromDb P.store M.meant self.old subscriber.now result self.new }
     {
         self.queues.next(subscriber)
@@ -59,7 +67,7 @@ impl<P: Pages, M: MergeOperator> Db<P, M> {
     ///
     /// ```
     /// db.unsubscribe(&subscriber);
-    /// let event = db.next(&subscriber); // `None`
+    /// let next = db.next(&subscriber); // `None`
     /// ```
     pub fn unsubscribe(&mut self, subscriber: &Subscriber)
         ensures { EndsSubscriber P.store M.meant self.old subscriber.now self.new }

@@ -155,7 +155,6 @@ same_moment old new numbers given (error.CollectionNotFound name) t = absurd t
 same_moment old new numbers given (error.Unsupported text) t = absurd t
 same_moment old new numbers given (error.ReportableBug text) t = absurd t
 same_moment old new numbers given (error.Corruption fault) t = absurd t
-same_moment old new numbers given error.FullQueue t = absurd t
 same_moment old new numbers given error.Closed t = absurd t
 
 refuses : (j : Course) (old new : Store) (a : Stage) (e : Error) → is_action_refused_as e old new → StageAction j old a (next.Refused e) new
@@ -181,7 +180,6 @@ refused j old new a e r = refuses j old new a e (go e r.is)
     go (error.Unsupported text) t = absurd t
     go (error.ReportableBug text) t = absurd t
     go (error.Corruption fault) t = absurd t
-    go error.FullQueue t = absurd t
     go error.Closed t = absurd t
 
 -- a read is,
@@ -195,7 +193,6 @@ unread j s a pid e r = refuses j s s a e (go e r.is)
     go (error.Unsupported text) t = absurd t
     go (error.ReportableBug text) t = absurd t
     go (error.Corruption fault) t = absurd t
-    go error.FullQueue t = absurd t
     go error.Closed t = absurd t
 
 -- or there is no memory

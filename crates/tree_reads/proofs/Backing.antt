@@ -17,7 +17,7 @@ use Rattle.sled_store.specs.Store.{Store, now, AreGiven}
 use Rattle.sled_nodes.specs.declared.node.Node.{Node}
 use Rattle.sled_store.specs.declared.page.View.{View}
 use Rattle.sled_nodes.specs.declared.error.Error.{Error}
-use Rattle.sled_nodes.specs.declared.error.Error.TheVariants.{CollectionNotFound, Unsupported, ReportableBug, Io, Corruption, NoMemory, FullQueue, Closed}
+use Rattle.sled_nodes.specs.declared.error.Error.TheVariants.{CollectionNotFound, Unsupported, ReportableBug, Io, Corruption, NoMemory, Closed}
 use Rattle.tree_laws.specs.Forest.{Tree, Forest, place, head, Run, WellFormed, contents}
 use Rattle.tree_laws.specs.Paths.{tree_pages, pages_below}
 use Rattle.tree_laws.proofs.Cover.{chain_run}
@@ -181,7 +181,6 @@ refuses_more of up s root e more r = record { is = go e r.is }
     go (CollectionNotFound name) k = absurd k
     go (Unsupported text) k = absurd k
     go (Corruption fault) k = absurd k
-    go FullQueue k = absurd k
     go Closed k = absurd k
 
 -- a walk from nothing looked at

@@ -1,39 +1,30 @@
 -- One step of a call in flight, over the pages and the queues of subscribers.
-use Rattle.std.specs.Prelude.{◌≡◌, ◌⊎◌, ℕ, Bool, true, false, Option, Some, None}
+use Rattle.std.specs.Prelude.{◌≡◌, ℕ, Bool, true, false, Option, Some, None}
 use Rattle.sled_store.specs.Store.{Store}
-use Rattle.sled_nodes.specs.declared.error.Error.TheVariants.{FullQueue}
 use Rattle.sled_store.specs.declared.page.View.{View}
 use Rattle.sled_model.specs.Maps.{Merge}
 use Rattle.sled_model.specs.Answer.{event_of, key_of}
 use Rattle.sled_model.specs.declared.event.Event.{Event}
 use Rattle.sled_queues.specs.Values.{QueuesValue, queue_at}
 use Rattle.sled_queues.specs.Queues.{Becomes, prepared, committed}
-use Rattle.sled_queues.specs.Tells.{HasRoomAt, MeetsFullAt}
+use Rattle.sled_queues.specs.Tells.{IsUnwatched}
 use Rattle.tree_laws.specs.declared.flight.Stage.{Stage}
 use Rattle.tree_laws.specs.declared.flight.Stage.TheVariants as stage
 use Rattle.sled_tree.specs.Change.{decision_at}
-use Rattle.sled_tree.specs.theory.Linking.{begun_again, StepsBy}
+use Rattle.sled_tree.specs.theory.Linking.{IsAtLink, StepsBy}
 use Rattle.sled_tree.specs.declared.flight.InFlight.{InFlight}
 use Rattle.sled_tree.specs.declared.flight.Went.{Went}
 use Rattle.sled_tree.specs.declared.flight.Went.TheVariants.{Moved, Decided, Refused}
-use Rattle.sled.specs.Flights.{turned_back}
 
--- each queue that waits for the call's key has room, or some queue that does is full
-abbrev pub HasRoomFor : InFlight → QueuesValue → Type 0
-HasRoomFor f queues = HasRoomAt f.job.tree.number (key_of f.job.call) (queue_at queues)
-
-abbrev pub MeetsFullFor : InFlight → QueuesValue → Type 0
-MeetsFullFor f queues = MeetsFullAt f.job.tree.number (key_of f.job.call) (queue_at queues)
-
--- the call is to link its change, and some queue is full
-abbrev pub meets_full_as : QueuesValue → InFlight → Bool → Type 0
-meets_full_as queues f true = (view : View) × (f.stage ≡ stage.Act view) × MeetsFullFor f queues
-meets_full_as queues f false = (view : View) → f.stage ≡ stage.Act view → HasRoomFor f queues
+-- the call is to link its change, or it is not, or no queue waits for its key
+abbrev pub links_watched_as : QueuesValue → InFlight → Bool → Type 0
+links_watched_as queues f true = IsAtLink f.stage
+links_watched_as queues f false = (view : View) → f.stage ≡ stage.Act view → IsUnwatched f.job.tree.number (key_of f.job.call) (queue_at queues)
 
 -- an event of a tree was told, or there was none
 abbrev pub told : ℕ → Option Event → QueuesValue → QueuesValue → Type 0
 told tree None old new = Becomes (queue_at old) old.given new
-told tree (Some event) old new = Becomes (committed tree (prepared tree event (queue_at old))) old.given new
+told tree (Some event) old new = Becomes (committed (prepared tree event (queue_at old))) old.given new
 
 -- the event of a change was told that a call linked by this operator
 abbrev pub told_by : Option Merge → InFlight → Stage → QueuesValue → QueuesValue → Type 0
@@ -46,32 +37,7 @@ tells_as operator f Moved old new = Becomes (queue_at old) old.given new
 tells_as operator f (Decided reply) old new = told_by operator f f.stage old new
 tells_as operator f (Refused e) old new = Becomes (queue_at old) old.given new
 
--- The step is one over the pages alone. A call that comes to its link has room there
-pub record StepsOver (operator : Option Merge) (a : Store) (old : QueuesValue) (f : InFlight) (went : Went) (b : Store) (new : QueuesValue) (g : InFlight) : Type 0 where
+-- The step is one over the pages alone, and tells the event of the change that it links
+pub record AdvancesOver (operator : Option Merge) (a : Store) (old : QueuesValue) (f : InFlight) (went : Went) (b : Store) (new : QueuesValue) (g : InFlight) : Type 0 where
   pub steps : StepsBy operator a f went b g
   pub tells : tells_as operator f went old new
-  pub room : went ≡ Moved → (view : View) → g.stage ≡ stage.Act view → HasRoomFor f old
-  pub back : (view : View) → f.stage ≡ stage.Act view → MeetsFullFor f old → turned_back went g × (b ≡ a)
-
--- the call was to link its change, where some queue was full: it begins again
-pub record TurnsBack (a : Store) (old : QueuesValue) (f : InFlight) (went : Went) (b : Store) (new : QueuesValue) (g : InFlight) : Type 0 where
-  pub view : View
-  pub here : f.stage ≡ stage.Act view
-  pub full : MeetsFullFor f old
-  pub out : went ≡ Moved
-  pub same : b ≡ a
-  pub queues : new ≡ old
-  pub is : g ≡ begun_again f
-
--- it was about to come to its link, where some queue was full
-pub record MeetsFullThere (operator : Option Merge) (a : Store) (old : QueuesValue) (f : InFlight) (went : Went) (b : Store) (new : QueuesValue) (g : InFlight) : Type 0 where
-  pub off : (view : View) → f.stage ≡ stage.Act view → ⊥
-  pub steps : StepsBy operator a f Moved b g
-  pub view : View
-  pub here : g.stage ≡ stage.Act view
-  pub full : MeetsFullFor f old
-  pub out : went ≡ Refused FullQueue
-  pub queues : new ≡ old
-
-pub record AdvancesOver (operator : Option Merge) (a : Store) (old : QueuesValue) (f : InFlight) (went : Went) (b : Store) (new : QueuesValue) (g : InFlight) : Type 0 where
-  pub is : StepsOver operator a old f went b new g ⊎ (TurnsBack a old f went b new g ⊎ MeetsFullThere operator a old f went b new g)
