@@ -39,3 +39,9 @@ le_later p a b h e = grind (arith, nat_tests)
 pub le_more : (es : List (Key × ℕ)) (i a b : ℕ) (d : Key × ℕ) → i < length es → a ≤ b → (get_or es i d).1 ≤ b → list_all (λ e. nat_le e.1 a) (take i es) ≡ true → list_all (λ e. nat_le e.1 b) (take (i + 1) es) ≡ true
 le_more es i a b d h l k e = rw add-one (ap (list_all (λ x. nat_le x.1 b)) (take-suc es i d h)
     ∙ all_push (λ x. nat_le x.1 b) (take i es) (get_or es i d) (all_weaker (λ x. nat_le x.1 a) (λ x. nat_le x.1 b) (λ x. le_later x.1 a b l) (take i es) e) (le_is _ _ k))
+
+-- the first i numbers and the next one
+pub le_front : (es : List (Key × ℕ)) (i n : ℕ) (d : Key × ℕ) → i < length es → list_all (λ e. nat_le e.1 n) (take (i + 1) es) ≡ true → (list_all (λ e. nat_le e.1 n) (take i es) ≡ true) × ((get_or es i d).1 ≤ n)
+le_front es i n d h e =
+    let front = all_front (λ x. nat_le x.1 n) (take i es) (take (i + 1) es) (get_or es i d) (rw add-one (take-suc es i d h)) e in
+    (front.0, grind (arith, nat_tests, front.1))

@@ -5,7 +5,7 @@ ghost use Rattle.sled_nodes.specs.declared.error.Error.TheVariants.{NoMemory};
 use crate::error::Result;
 use crate::{IVec, Pid};
 
-///! Changes of one page.
+/// A change of one page.
 #[derive(Drop)]
 pub enum Link {
     /// A leaf has the value at the key.

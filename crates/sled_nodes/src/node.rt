@@ -1,5 +1,5 @@
 //! One page of a tree: a leaf of pairs or an index of pointers.
-ghost use Rattle.std.specs.Prelude.{◌≡◌, nat_le, true, ◌<◌, ◌≤◌, ◌++◌, ◌↔◌, IsTrue, false, None, if◌then◌else◌, is_none, length, IfOk, IfErr, OnOk, OnErr, MatchOption};
+ghost use Rattle.std.specs.Prelude.{◌≡◌, ℕ, nat_le, true, ◌<◌, ◌≤◌, ◌++◌, ◌↔◌, IsTrue, false, None, if◌then◌else◌, is_none, length, IfOk, IfErr, OnOk, OnErr, MatchOption};
 ghost use Rattle.sled_nodes.specs.declared.error.Error.TheVariants.{NoMemory};
 ghost use Rattle.std.specs.FinMap.Entries.{put, find};
 ghost use Rattle.std.specs.Option.{option_copied};
@@ -118,6 +118,7 @@ fn add_pointers(pointers: &mut Vec<(IVec, Pid)>, more: &[(IVec, Pid)]) -> Result
 fn greater_of(least: u64, pid: Option<Pid>) -> u64
     ensures least { least ≤ result }
     ensures all { all_of (λ p. nat_le p result) pid ≡ true }
+    ensures least_such { (n : ℕ) → least ≤ n → all_of (λ p. nat_le p n) pid ≡ true → result ≤ n }
 {
     match pid {
         Some(pid) => pid.0.max(least),
@@ -136,6 +137,10 @@ fn key_of_first<V>(alloc: Global, pairs: &[(IVec, V)]) -> Result<IVec>
 }
 
 /// A copy of a list of keys, each with a page number. Refused with `NoMemory` alone.
+///
+/// ```
+/// let copy = copy_pointers(alloc, &[(key, pid)])?; // The same keys in the same order, each with its page number.
+/// ```
 pub fn copy_pointers(alloc: Global, pointers: &[(IVec, Pid)]) -> Result<Vec<(IVec, Pid)>>
     ensures ok { IfOk result (λ copy. copy.items ≡ pointers.now) }
     ensures err { IfErr result (λ e. e ≡ NoMemory) }
@@ -457,6 +462,7 @@ impl Index {
     fn greatest(&self, least: u64) -> u64
         ensures least { least ≤ result }
         ensures all { list_all (λ e. nat_le e.1 result) self.now ≡ true }
+        ensures least_such { (n : ℕ) → least ≤ n → list_all (λ e. nat_le e.1 n) self.now ≡ true → result ≤ n }
     {
         let mut greatest = least;
         for pointer in self.pointers.as_slice() {
@@ -1037,9 +1043,14 @@ impl Node {
     }
 
     /// The greatest of this number and the page numbers that the node names.
+    ///
+    /// ```
+    /// let last = node.greatest(pid.0); // The number of `pid`, or a greater one that the node names.
+    /// ```
     pub fn greatest(&self, least: u64) -> u64
         ensures least { least ≤ result }
         ensures all { all_named (λ p. nat_le p result) self.now ≡ true }
+        ensures least_such { (n : ℕ) → least ≤ n → all_named (λ p. nat_le p n) self.now ≡ true → result ≤ n }
     {
         let next = greater_of(least, self.next);
         let child = greater_of(next, self.merging_child);

@@ -126,6 +126,11 @@ pub fn put_in<V: Drop>(pairs: &mut Vec<(IVec, V)>, i: usize, key: IVec, value: V
 }
 
 /// Puts a pair in its place, where `ascends` only if the keys ascend. Refused with `NoMemory` alone, and then unchanged.
+///
+/// ```
+/// let mut pairs = leaf.pairs(alloc)?;
+/// put_pair(&mut pairs, key, value, false)?; // The key has this value now, and no other.
+/// ```
 pub fn put_pair<V: Drop>(
     pairs: &mut Vec<(IVec, V)>,
     key: IVec,
@@ -173,6 +178,11 @@ pub fn take_pointers(pointers: &mut Vec<(IVec, Pid)>, to: Pid)
 }
 
 /// Takes the pairs of a key out.
+///
+/// ```
+/// let mut pairs = leaf.pairs(alloc)?;
+/// remove_key(&mut pairs, &key); // The others stay, in their order.
+/// ```
 pub fn remove_key<V: Drop>(pairs: &mut Vec<(IVec, V)>, key: &IVec)
     ensures { pairs.new.items ≡ where_key (slice_cmp nat_cmp) (λ x. not (eq_by_cmp (slice_cmp nat_cmp) key.now x)) pairs.old.items }
 {
@@ -180,6 +190,11 @@ pub fn remove_key<V: Drop>(pairs: &mut Vec<(IVec, V)>, key: &IVec)
 }
 
 /// The value of a key. A list that ascends by key, as `ascends` says, is searched by halves.
+///
+/// ```
+/// let pairs = leaf.pairs(alloc)?;
+/// let value = value_at(pairs.as_slice(), b"ulm", false); // `None` where no pair has the key.
+/// ```
 pub fn value_at<'a, V>(pairs: &'a [(IVec, V)], key: &[u8], ascends: bool) -> Option<&'a V>
     requires { ascends ≡ true → is_sorted (slice_cmp nat_cmp) pairs.now ≡ true }
     ensures { option_copied result ≡ find (slice_cmp nat_cmp) key.now pairs.now }

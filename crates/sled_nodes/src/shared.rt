@@ -83,6 +83,11 @@ impl Shared {
 
     /// Changes the node by a link, in place where no other holds it, and says how the change is taken back. Refused with `NoMemory`
     /// alone, and then unchanged.
+    ///
+    /// ```
+    /// let mut shared = Shared::new(alloc, node)?;
+    /// let back = shared.change(alloc, Link::Del(key))?; // A leaf has nothing at the key now.
+    /// ```
     pub fn change(&mut self, alloc: Global, link: Link) -> Result<Back>
         ensures ok { OnOk result (self.new ≡ after_link link self.old) }
         ensures back { IfOk result (λ back. put_back back self.new ≡ self.old) }
@@ -126,6 +131,12 @@ impl Shared {
     }
 
     /// Takes a change back. Refused with `NoMemory` alone, and then unchanged.
+    ///
+    /// ```
+    /// let mut shared = Shared::new(alloc, node)?;
+    /// let back = shared.change(alloc, link)?;
+    /// shared.change_back(alloc, back)?; // The node is what it was before the link.
+    /// ```
     pub fn change_back(&mut self, alloc: Global, back: Back) -> Result<()>
         ensures ok { OnOk result (self.new ≡ put_back back self.old) }
         ensures err { OnErr result (self.new ≡ self.old) }
