@@ -1,7 +1,7 @@
 //! What values are: their equality, their order, their copies and their texts.
 use crate::line::{Line, Word, named};
 use crate::text::Text;
-use sled_model::{Call, Collection, CompareAndSwapError, Event, Subscriber, Tree, Whole};
+use sled_model::{Call, Collection, CompareAndSwapError, Event, Next, Subscriber, Tree, Whole};
 use sled_nodes::{Error, Fault, IVec, Result, texts};
 
 /// What the values of a line are.
@@ -9,6 +9,7 @@ use sled_nodes::{Error, Fault, IVec, Result, texts};
 pub enum Kind {
     String,
     Event,
+    Next,
     Conflict,
     Error,
     Call,
@@ -16,9 +17,10 @@ pub enum Kind {
     Tree,
 }
 
-const KINDS: [(&str, Kind); 7] = [
+const KINDS: [(&str, Kind); 8] = [
     ("strings", Kind::String),
     ("events", Kind::Event),
+    ("told", Kind::Next),
     ("conflicts", Kind::Conflict),
     ("errors", Kind::Error),
     ("calls", Kind::Call),
@@ -91,6 +93,42 @@ impl Sample for Event {
     }
 }
 
+// What a subscriber is told.
+#[derive(Clone, Copy)]
+enum Said {
+    Event,
+    Missed,
+}
+
+const TOLD: [(&str, Said); 2] = [("event", Said::Event), ("missed", Said::Missed)];
+
+impl Sample for Next {
+    fn sample(line: &mut Line) -> Option<Next> {
+        match line.named(&TOLD)? {
+            Said::Event => Event::sample(line).map(Next::Event),
+            Said::Missed => Some(Next::Missed(line.number())),
+        }
+    }
+
+    fn copy(&self) -> Result<Next> {
+        match self {
+            Next::Event(event) => event.clone().map(Next::Event),
+            Next::Missed(count) => Ok(Next::Missed(*count)),
+        }
+    }
+
+    fn show(&self, out: &mut Text) {
+        match self {
+            Next::Event(event) => event.show(out),
+            Next::Missed(count) => out.push_numbered("missed", *count),
+        }
+    }
+
+    fn sign(&self, other: &Next) -> &'static str {
+        sign_of(self, other)
+    }
+}
+
 impl Sample for CompareAndSwapError {
     fn sample(line: &mut Line) -> Option<CompareAndSwapError> {
         let (current, proposed) = line.read()?;
@@ -142,7 +180,6 @@ fn error_of(number: u64) -> Option<Error> {
         4 => Some(Error::Io(Fault(3))),
         5 => Some(Error::Corruption(Fault(4))),
         6 => Some(Error::NoMemory),
-        7 => Some(Error::FullQueue),
         8 => Some(Error::Closed),
         _ => text_of(number).map(Error::Unsupported),
     }
@@ -386,6 +423,7 @@ pub fn compare_values(kind: Kind, items: &str, line: &mut Line) {
     match kind {
         Kind::String => compare_all::<IVec>(items, line),
         Kind::Event => compare_all::<Event>(items, line),
+        Kind::Next => compare_all::<Next>(items, line),
         Kind::Conflict => compare_all::<CompareAndSwapError>(items, line),
         Kind::Error => compare_all::<Error>(items, line),
         Kind::Call => compare_all::<Call>(items, line),
