@@ -1,8 +1,9 @@
 """Subscribers and their events."""
+import random
 from cases_fetch import eight
 from cases_flights import below
 from cases_levels import short
-from script import case, expect
+from script import case, expect, word
 
 DEFAULT = '__sled__default'
 
@@ -18,8 +19,18 @@ def sees(s, number, *events):
     s.line(f'next {number}', 'event -')
 
 
+def steps_of(s, *calls):
+    """What the steps of calls print, of one call after the other."""
+    for call in calls:
+        slot = s.shell.begun + 1
+        s.begin(slot, call)
+        while (printed := s.ask(f'step {slot}')) == ['moved']:
+            yield printed
+        yield printed
+
+
 def fill(s, count=1024):
-    """So many events wait for a subscriber to all keys: a key gets two values in turn."""
+    """So many events come to a subscriber to all keys: a key gets two values in turn."""
     for n in range(count):
         s.line(f'insert a {n % 2 + 1}', f'old {2 - n % 2 if n else "-"}')
 
@@ -59,38 +70,134 @@ def a_subscriber_sees_what_changes(s):
 
 
 @case
-def a_full_queue_refuses_what_brings_an_event(s):
-    """A queue holds 1024 events. With one more the write is refused and changes nothing; a write that brings no event is not
-    refused. An event that is taken makes room."""
+def a_slow_subscriber_misses_the_oldest_events(s):
+    """At most 1024 events wait for a subscriber. Where one more comes the write goes on and the oldest event goes. The subscriber is
+    told how many it missed before it takes the oldest that waits."""
     watch(s, 1, '%')
-    for n in range(1024):
+    for n in range(1025):
         s.line(f'insert {short(n)} {n}', 'old -')
-    new = short(1024)
-    s.line(f'insert {new} x', 'refused E7')
-    s.line(f'get {new}', 'value -')
-    s.line('len', 'number 1024')
-    s.line(f'insert {short(5)} 5', 'old 5')
-    s.line(f'remove {new}', 'old -')
-    s.line(f'cas {short(5)} 6 7', 'conflict 5 7')
-    for line in (f'insert {short(5)} 6', f'remove {short(5)}', f'cas {short(5)} 5 5', f'cas {new} - -', 'pop-min', 'pop-max', 'clear', f'owned set {new} x',
-                 f'owned del {short(5)}', f'owned cas {short(5)} 5 -', 'owned pop-min', 'owned pop-max', 'owned clear', f'import {DEFAULT} {new} x'):
-        s.line(line, 'refused E7')
-    s.line('operator concat', 'done')
-    s.line(f'merge {new} x', 'refused E7')
-    s.line(f'owned merge {new} x', 'refused E7')
-    s.line('len', 'number 1024')
-    s.note('A call in flight goes down to its leaf, and is refused where it reads it.')
-    s.line(f'begin insert {short(500)} x', 'slot 1')
-    for level in range(2):
-        s.line('step 1', 'moved')
-    s.line('step 1', 'refused E7')
-    s.line('step 1', 'no slot')
-    s.line('next 1', f'event insert {short(0)} 0')
-    s.line(f'insert {new} x', 'old -')
-    s.line(f'insert {new} y', 'refused E7')
-    for n in range(1, 1024):
-        s.line('next 1', f'event insert {short(n)} {n}')
-    sees(s, 1, f'insert {new} x')
+    s.line(f'get {short(1024)}', 'value 1024')
+    s.line('len', 'number 1025')
+    s.line('next 1', 'event missed 1')
+    sees(s, 1, *(f'insert {short(n)} {n}' for n in range(1, 1025)))
+    s.note('Where 1024 came none is missed. An event that is taken makes room.')
+    s.new()
+    watch(s, 1, '%')
+    fill(s)
+    s.line('next 1', 'event insert a 1')
+    s.line('insert b 1', 'old -')
+    s.line('next 1', 'event insert a 2')
+    s.line('insert c 1', 'old -')
+    s.line('insert d 1', 'old -')
+    s.line('next 1', 'event missed 1')
+    sees(s, 1, *(f'insert a {n % 2 + 1}' for n in range(3, 1024)), 'insert b 1', 'insert c 1', 'insert d 1')
+
+
+@case
+def missed_events_are_counted_from_one_answer_to_the_next(s):
+    """Of 1027 events three are missed. After that answer and the fourth event two more come, so the fifth is missed. Between two
+    answers all are counted together, and to be told them makes no room."""
+    def comes(*numbers):
+        for n in numbers:
+            s.line(f'insert {short(n)} {n}', 'old -')
+
+    def takes(*numbers):
+        for n in numbers:
+            s.line('next 1', f'event insert {short(n)} {n}')
+
+    watch(s, 1, '%')
+    comes(*range(1, 1028))
+    s.line('next 1', 'event missed 3')
+    takes(4)
+    comes(1028, 1029)
+    s.line('next 1', 'event missed 1')
+    takes(6)
+    s.note('1023 wait: 7 to 1029.')
+    comes(1030)
+    takes(7)
+    comes(1031, 1032, 1033, 1034)
+    s.line('next 1', 'event missed 3')
+    comes(1035)
+    s.line('next 1', 'event missed 1')
+    s.line('owned watch %', 'subscriber 2')
+    comes(1036)
+    s.line('owned next 1', 'event missed 1')
+    takes(*range(13, 1037))
+    s.line('next 1', 'event -')
+    sees(s, 2, f'insert {short(1036)} 1036')
+    s.note('All 3072 that came are told of 2048 missed ones, and then of those that wait.')
+    comes(*range(1037, 1037 + 3072))
+    s.line('next 1', 'event missed 2048')
+    takes(*range(1037 + 2048, 1037 + 3072))
+    s.line('next 1', 'event -')
+    s.line('next 2', 'event missed 2048')
+
+
+@case
+def each_change_goes_on_where_1024_events_wait(s):
+    """Where 1024 events wait, each line goes on that changes a key, and one event is missed for each that it brings. What brings none
+    misses none."""
+    s.rows('''
+        operator concat     done
+        insert k 5          old -
+        watch %             subscriber 1
+    ''')
+    fill(s)
+    s.rows('''
+        insert k 5          old 5
+        remove z            old -
+        cas k 6 7           conflict 5 7
+        owned set k 5       old 5
+        owned del z         old -
+        import __sled__default a 3    refused E2
+        tree t              tree t
+        insert k 1          old -
+        drop t              yes
+        tree __sled__default          tree __sled__default
+        next 1              event insert a 1
+        insert b 1          old -
+        next 1              event insert a 2
+        insert b 2          old 1
+        insert c 1          old -
+        next 1              event missed 1
+        remove c            old 1
+        next 1              event missed 1
+        cas b 2 2           swapped
+        next 1              event missed 1
+        cas z - -           swapped
+        next 1              event missed 1
+        merge b 3           value 23
+        next 1              event missed 1
+        update b set 4      value 4
+        fetch b delete      value 4
+        next 1              event missed 2
+        pop-min             found a 2
+        pop-max             found k 5
+        next 1              event missed 2
+        pop-max             found -
+        clear               done
+        import __sled__default e 1 f 2 g 3    done
+        next 1              event missed 3
+        import __sled__default h 1 f 3        refused E2
+        next 1              event missed 1
+        clear               done
+        next 1              event missed 4
+        owned set b 1       old -
+        owned cas b 1 2     swapped
+        owned merge b 3     value 23
+        next 1              event missed 3
+        owned update b append 4       value 234
+        owned fetch b set 1           value 234
+        owned pop-min       found b 1
+        owned insert c 1    old -
+        owned pop-max       found c 1
+        owned insert d 1    old -
+        owned del d         old 1
+        owned insert d 1    old -
+        owned clear         done
+        next 1              event missed 9
+    ''')
+    expect([s.ask('next 1') for _ in range(1025)][-1] == ['event -'], 'as many waited')
 
 
 @case
@@ -130,72 +237,93 @@ def each_subscriber_sees_the_keys_under_its_prefix(s):
 
 
 @case
-def a_queue_that_is_full_at_the_link_sends_the_call_back(s):
-    """Two inserts are in flight, and one event has room. The second finds no room at its link, goes back, and is refused where it
-    reads its leaf; where an event was taken in between it is decided."""
-    for taken in False, True:
-        s.new()
-        watch(s, 1, '%')
-        fill(s, 1023)
-        s.rows('''
-            begin insert x 1    slot 1
-            begin insert y 1    slot 2
-            step 1              moved
-            step 2              moved
-            step 1              old -
-            step 2              moved
-        ''')
-        s.reaches('a queue is full at the link')
-        if taken:
-            s.line('next 1', 'event insert a 1')
-            s.rows('''
-                step 2              moved
-                step 2              old -
-            ''')
-        else:
-            s.rows('''
-                step 2              refused E7
-                step 2              no slot
-            ''')
-        s.line('get y', f'value {1 if taken else "-"}')
-        s.line('len', f'number {3 if taken else 2}')
-    s.note('A removal, a swap and a merge too. What brings no event when it reads anew is decided.')
-    s.new()
-    s.line('operator concat', 'done')
-    s.line('insert y 1', 'old -')
-    s.line('insert x 1', 'old -')
+def a_call_in_flight_is_decided_where_1024_events_wait(s):
+    """Two inserts are in flight, and 1023 events wait. The one that comes too late reads anew and is decided as always; the oldest event
+    is missed."""
     watch(s, 1, '%')
     fill(s, 1023)
     s.rows('''
-        begin remove y      slot 1
-        begin cas y 1 2     slot 2
-        begin merge y 3     slot 3
-        begin remove z      slot 4
-        begin insert y 9    slot 5
-        begin cas y 7 8     slot 6
-        begin insert x 2    slot 7
+        begin insert x 1    slot 1
+        begin insert y 1    slot 2
         step 1              moved
         step 2              moved
-        step 3              moved
-        step 5              moved
-        step 7              moved
-        finish 7            old 1
-        step 1              moved
+        step 1              old -
         step 2              moved
-        step 3              moved
-        step 5              moved
-        turns 3             number 2
-        step 1              refused E7
-        step 2              refused E7
-        step 3              refused E7
-        step 4              old -
-        step 6              conflict 1 8
-        turns 5             number 2
+        step 2              moved
+        step 2              old -
+        next 1              event missed 1
         get y               value 1
-        next 1              event insert a 1
-        insert y 9          old 1
-        step 5              old 9
+        len                 number 3
     ''')
+    s.reaches('change is stale')
+    s.line('next 1', 'event insert a 2')
+    s.note('Each kind of call takes the steps that it takes where nobody watches.')
+    printed = []
+    for is_watched in True, False:
+        s.new()
+        s.line('operator concat', 'done')
+        s.insert(*below(18))
+        if is_watched:
+            watch(s, 1, '%')
+        fill(s)
+        printed.append(list(steps_of(s, 'insert %10 1', 'remove %01', 'cas %02 %02 1', 'cas %03 %03 %03', 'merge %04 1', 'cas z - -', 'insert %05 %05', 'remove z',
+                                     'cas %06 - 1', 'get %07')))
+        if is_watched:
+            s.line('next 1', 'event missed 6')
+    expect(printed[0] == printed[1], *printed)
+
+
+@case
+def a_change_that_is_not_decided_misses_no_event(s):
+    """Where 1024 events wait, none is missed before a change is decided: not as its call reads the leaf, not by a link that comes too
+    late or that the store refuses, and not by a call that is given up."""
+    watch(s, 1, '%')
+    fill(s)
+    s.rows('''
+        begin insert b 1    slot 1
+        begin insert b 2    slot 2
+        begin insert c 1    slot 3
+        step 1              moved
+        step 2              moved
+        step 3              moved
+        next 1              event insert a 1
+        step 1              old -
+        next 1              event insert a 2
+        insert d 1          old -
+        step 2              moved
+        abandon 3           abandoned
+        next 1              event insert a 1
+        insert e 1          old -
+        step 2              moved
+        next 1              event insert a 2
+        insert f 1          old -
+        step 2              moved
+        step 2              moved
+        step 2              old 1
+        next 1              event missed 1
+    ''')
+    s.note('A link that the store refuses: its 1028th call, of which an opening makes three and an insert one.')
+    s.new(1028)
+    watch(s, 1, '%')
+    fill(s)
+    s.rows('''
+        insert b 1          refused E4
+        next 1              event insert a 1
+        insert b 1          old -
+        insert b 2          old 1
+        next 1              event missed 1
+    ''')
+    s.note('A split, which the insert of a key makes first, brings no event.')
+    s.new()
+    s.insert(*below(15))
+    watch(s, 1, '%')
+    fill(s, 1023)
+    s.insert('%0f')
+    s.begin(1, 'insert %10 %10')
+    s.moves(1, 7)
+    s.line('next 1', 'event insert a 1')
+    s.line('step 1', 'old -')
+    s.line('next 1', 'event insert a 2')
 
 
 @case
@@ -309,26 +437,156 @@ def subscribers_are_of_a_tree_and_end_at_an_opening(s):
 
 @case
 def a_subscriber_that_is_given_up_gets_nothing(s):
-    """A subscriber that is given up has no events any more, and its number is not given again. Its full queue holds nothing up."""
+    """A subscriber that is given up has no events any more and missed none, and its number is not given again."""
     watch(s, 1, '%')
     watch(s, 2, 'a')
-    fill(s)
-    s.line('insert a x', 'refused E7')
-    s.line('insert b x', 'refused E7')
+    fill(s, 1025)
     s.line('unwatch 1', 'done')
     s.line('insert b x', 'old -')
-    s.line('insert a x', 'refused E7')
+    s.line('next 1', 'event -')
+    s.line('insert a x', 'old 1')
     s.line('next 1', 'event -')
     s.line('unwatch 1', 'done')
+    s.line('next 2', 'event missed 2')
+    s.line('insert a y', 'old x')
     s.line('unwatch 2', 'done')
-    s.line('insert a x', 'old 2')
+    s.line('insert a z', 'old y')
     s.line('next 2', 'event -')
     s.line('unwatch 3', 'no subscriber')
     s.line('unwatch 0', 'no subscriber')
     watch(s, 3, '%')
-    s.line('remove a', 'old x')
+    s.line('remove a', 'old z')
     sees(s, 3, 'remove a')
+    sees(s, 2)
     sees(s, 1)
+
+
+@case
+def a_slow_subscriber_holds_no_other_up(s):
+    """Of two subscribers of one prefix one takes each event as it comes and misses none, and the other takes none and misses six. One
+    of another prefix, to which fewer come, misses none."""
+    watch(s, 1, '%')
+    watch(s, 2, '%')
+    watch(s, 3, '0')
+    for n in range(1030):
+        s.line(f'insert {short(n)} {n}', 'old -')
+        s.line('next 2', f'event insert {short(n)} {n}')
+    s.line('next 2', 'event -')
+    s.line('next 1', 'event missed 6')
+    s.line('next 1', f'event insert {short(6)} 6')
+    sees(s, 3, *(f'insert {short(n)} {n}' for n in range(64)))
+    s.note('What was missed is told after the tree was dropped too, and then what waits; after an opening there is no subscriber.')
+    s.line('tree t', 'tree t')
+    s.line('owned watch %', 'subscriber 4')
+    fill(s, 1027)
+    s.line('drop t', 'yes')
+    s.line('next 4', 'event missed 3')
+    sees(s, 4, *(f'insert a {n % 2 + 1}' for n in range(3, 1027)))
+    s.line('recover', 'opened')
+    s.line('next 1', 'no subscriber')
+
+
+@case
+def subscribers_of_one_prefix_each_see_its_keys(s):
+    """Subscribers of one prefix each see a change, and so do those of the whole key, of its beginnings, and of the empty prefix; those of
+    other prefixes and of longer ones do not. Where one is given up, the others of its prefix stay."""
+    for number, prefix in enumerate(('ab', 'ab', 'abc', '%', 'b', 'abcd', 'ab%00', '%ff'), 1):
+        watch(s, number, prefix)
+    s.rows('''
+        insert abc 1        old -
+        insert ab 1         old -
+        insert a 1          old -
+        insert % 1          old -
+        insert ab%00%00 1   old -
+        insert b%00 1       old -
+    ''')
+    sees(s, 1, 'insert abc 1', 'insert ab 1', 'insert ab%00%00 1')
+    sees(s, 3, 'insert abc 1')
+    sees(s, 5, 'insert b%00 1')
+    sees(s, 6)
+    sees(s, 7, 'insert ab%00%00 1')
+    sees(s, 8)
+    s.note('One of two is given up, and the one of the longest prefix.')
+    s.line('unwatch 1', 'done')
+    s.line('unwatch 6', 'done')
+    s.line('remove abc', 'old 1')
+    s.line('insert abcd 1', 'old -')
+    watch(s, 9, 'abcd')
+    watch(s, 10, 'ab')
+    s.line('remove abcd', 'old 1')
+    s.line('insert abcde 1', 'old -')
+    sees(s, 1)
+    sees(s, 2, 'insert abc 1', 'insert ab 1', 'insert ab%00%00 1', 'remove abc', 'insert abcd 1', 'remove abcd', 'insert abcde 1')
+    sees(s, 3, 'remove abc', 'insert abcd 1', 'remove abcd', 'insert abcde 1')
+    sees(s, 6)
+    sees(s, 9, 'remove abcd', 'insert abcde 1')
+    sees(s, 10, 'remove abcd', 'insert abcde 1')
+    s.note('The others of both prefixes are given up too, and each is watched anew. Another tree has subscribers of its own.')
+    for number in 2, 10, 9, 4:
+        s.line(f'unwatch {number}', 'done')
+    s.line('insert ab 2', 'old 1')
+    watch(s, 11, 'ab')
+    s.line('insert ab 3', 'old 2')
+    watch(s, 12, '%')
+    s.line('tree t', 'tree t')
+    s.line('insert ab 4', 'old -')
+    watch(s, 13, 'ab')
+    s.line('insert abcd 5', 'old -')
+    s.line(f'tree {DEFAULT}', f'tree {DEFAULT}')
+    s.line('insert ab 6', 'old 3')
+    s.line('remove ab%00%00', 'old 1')
+    sees(s, 2)
+    sees(s, 4)
+    sees(s, 7, 'remove ab%00%00')
+    sees(s, 11, 'insert ab 3', 'insert ab 6', 'remove ab%00%00')
+    sees(s, 12, 'insert ab 6', 'remove ab%00%00')
+    sees(s, 13, 'insert abcd 5')
+
+
+@case
+def each_of_a_thousand_subscribers_sees_its_own_key(s):
+    """A thousand subscribers, each of a prefix of its own. A change comes to the one of its prefix, and to those of the empty prefix."""
+    for n in range(1000):
+        watch(s, n + 1, short(n))
+    watch(s, 1001, '%')
+    for n in range(0, 1000, 7):
+        s.line(f'insert {short(n)}x {n}', 'old -')
+    s.line('insert 0 x', 'old -')
+    for n in range(1000):
+        sees(s, n + 1, *[f'insert {short(n)}x {n}'] * (n % 7 == 0))
+    sees(s, 1001, *(f'insert {short(n)}x {n}' for n in range(0, 1000, 7)), 'insert 0 x')
+
+
+@case
+def subscribers_come_and_go_at_random(s):
+    """Lines at random: keys of few bytes in two trees change, and subscribers to their beginnings come, are told what is next, and go."""
+    dice = random.Random(15)
+    numbers = []
+
+    def some(most):
+        return word(bytes(dice.choice(b'\x00ab\xff') for _ in range(dice.randint(0, most))))
+
+    s.line('tree t', 'tree t')
+    for _ in range(2000):
+        what = dice.random()
+        if what < .08:
+            s.ask(f'{dice.choice(["", "owned "])}watch {some(3)}')
+            numbers.append(len(s.shell.subscribers))
+        elif what < .13 and numbers:
+            s.ask(f'unwatch {numbers.pop(dice.randrange(len(numbers)))}')
+        elif what < .45 and numbers:
+            s.ask(f'next {dice.choice(numbers)}')
+        elif what < .5:
+            s.ask(f'tree {dice.choice(["t", DEFAULT])}')
+        elif what < .8:
+            s.ask(f'{dice.choice(["", "owned "])}insert {some(4)} {dice.randint(1, 3)}')
+        elif what < .98:
+            s.ask(f'{dice.choice(["", "owned "])}remove {some(4)}')
+        else:
+            s.ask(dice.choice(['pop-min', 'pop-max', 'names', 'clear']))
+    for number in range(1, len(s.shell.subscribers) + 1):
+        while s.ask(f'next {number}') != ['event -']:
+            pass
 
 
 @case
@@ -385,28 +643,28 @@ def merges_pops_and_imports_bring_events(s):
         drop t                yes
         next 1                event -
     ''')
-    s.note('A clear and an import go as far as there is room.')
+    s.note('A clear and an import are made whole where there is room for some of their events alone.')
     s.new()
     s.insert('b', 'c', 'd')
     watch(s, 1, '%')
     fill(s, 1022)
     s.rows('''
-        clear                 refused E7
-        range .. ..           at c c
-                              at d d
-                              end 2
+        clear                 done
+        range .. ..           end 0
+        next 1                event missed 2
         next 1                event insert a 1
-        import __sled__default e 1 f 2    refused E7
-        range .. ..           at c c
-                              at d d
-                              at e 1
-                              end 3
+        import __sled__default e 1 f 2    done
+        range .. ..           at e 1
+                              at f 2
+                              end 2
+        next 1                event missed 1
+        next 1                event insert a 1
     ''')
 
 
 @case
 def fetches_always_bring_an_event(s):
-    """An update and a fetch bring an event each, whatever they write. Where no queue has room they are refused and write nothing."""
+    """An update and a fetch bring an event each, whatever they write, also where 1024 wait."""
     s.rows('''
         watch k                subscriber 1
         update k set 1         value 1
@@ -424,12 +682,15 @@ def fetches_always_bring_an_event(s):
     ''')
     for n in range(1024):
         s.line('update k count', f'value {eight(n)}')
-    s.line('update k count', 'refused E7')
-    s.line('fetch k delete', 'refused E7')
-    s.line('owned update k count', 'refused E7')
+    s.line('fetch k short', 'refused E6')
     s.line('update j count', f'value {eight(0)}')
     s.line('next 1', f'event insert k {eight(0)}')
     s.line('update k count', f'value {eight(1024)}')
+    s.line('update k count', f'value {eight(1025)}')
+    s.line('fetch k delete', f'value {eight(1025)}')
+    s.line('owned update k count', f'value {eight(0)}')
+    s.line('next 1', 'event missed 3')
+    s.line('next 1', f'event insert k {eight(4)}')
 
 
 @case

@@ -20,7 +20,7 @@ from dataclasses import dataclass, replace
 DATABASE = b'sledsh'
 TREE = b'__sled__default'
 GREATEST = 2**64 - 1
-# So many events a queue holds.
+# So many events wait for a subscriber at the most.
 ROOM = 1024
 
 
@@ -34,7 +34,7 @@ DEFAULT_TREE = 'cannot remove the core structures'
 PRESENT = 'import is overwriting existing data'
 UNKNOWN_TYPE = 'unknown collection type'
 IDS = 'ids used up'
-TEXTS = {1: 'collection not found', 2: 'unsupported: ', 6: 'no memory', 7: 'queue full', 8: 'closed'}
+TEXTS = {1: 'collection not found', 2: 'unsupported: ', 6: 'no memory', 8: 'closed'}
 
 
 class BadLine(Exception):
@@ -274,25 +274,36 @@ class Tree:
     def __init__(self, name, number):
         self.name, self.number, self.operator, self.queues = name, number, None, []
 
-    def queues_of(self, key):
-        """The queues of the subscribers that see this key."""
-        return [queue for queue in self.queues if key.startswith(queue.prefix)]
-
-    def is_full(self, key):
-        """Whether one of them has no room."""
-        return any(len(queue.events) == ROOM for queue in self.queues_of(key))
-
     def tell(self, key, value):
-        """A decided change goes last into each queue that sees its key."""
-        for queue in self.queues_of(key):
-            queue.events.append((key, value))
+        """A decided change comes to each subscriber that sees its key."""
+        for queue in self.queues:
+            if key.startswith(queue.prefix):
+                queue.come(key, value)
 
 
 class Queue:
-    """What waits for a subscriber to the keys that begin with a prefix: changed keys and their new values, or none."""
+    """What waits for a subscriber to the keys that begin with a prefix: changed keys and their new values, or none; and how many it
+    missed since it was told that."""
 
     def __init__(self, prefix):
-        self.prefix, self.events = prefix, deque()
+        self.prefix, self.missed, self.events = prefix, 0, deque()
+
+    def come(self, key, value):
+        """A change goes last. Where no more may wait the oldest goes out, and is counted."""
+        if len(self.events) == ROOM:
+            self.events.popleft()
+            self.missed = min(self.missed + 1, GREATEST)
+        self.events.append((key, value))
+
+    def next(self):
+        """What the subscriber is told next, which waits no longer."""
+        if self.missed:
+            missed, self.missed = self.missed, 0
+            return f'event missed {missed}'
+        if not self.events:
+            return 'event -'
+        key, value = self.events.popleft()
+        return f'event remove {word(key)}' if value is None else f'event insert {word(key)} {word(value)}'
 
 
 def make_tree(store, name):
@@ -418,13 +429,7 @@ def walk(store, tree, call):
     changes, value, answer = decide(call, node.get(key))
     if not changes:
         return answer
-    if tree.is_full(key):
-        raise Refused(7)
     yield
-    if tree.is_full(key):
-        store.notes['a queue is full at the link'] += 1
-        yield
-        return
     if call[0] == 'merge':
         value = OPERATORS[tree.operator](node.get(key), call[2])
         answer = f'value {word(value)}'
@@ -942,18 +947,15 @@ class Shell:
         return f'value {word(new if name == "update" else old)}'
 
     def subscribed(self, name, number):
-        """The next event of a subscriber, or its end."""
+        """What a subscriber is told next, or its end."""
         if not self.opened or not 1 <= number <= len(self.subscribers):
             return 'no subscriber'
         tree, queue = self.subscribers[number - 1]
         if name == 'unwatch':
             tree.queues = [other for other in tree.queues if other is not queue]
-            queue.events.clear()
+            self.subscribers[number - 1] = tree, Queue(queue.prefix)
             return 'done'
-        if not queue.events:
-            return 'event -'
-        key, value = queue.events.popleft()
-        return f'event remove {word(key)}' if value is None else f'event insert {word(key)} {word(value)}'
+        return queue.next()
 
     def flight(self, tree, *call):
         """A call in flight: its steps, how many of them went on, and its tree."""

@@ -42,6 +42,16 @@ def pair(k, v=None, tree='__sled__default'):
     return f'pair {tree} {k} {k if v is None else v}'
 
 
+def told(events):
+    """What a subscriber is told next, of the events that came to it and that it was not told yet. The last 1024 of them wait; those
+    before were missed."""
+    missed = max(len(events) - ROOM, 0)
+    if missed:
+        del events[:missed]
+        return f'event missed {missed}'
+    return events.pop(0) if events else 'event -'
+
+
 class Map:
     """A tree as a dictionary, as long as it is there."""
 
@@ -52,7 +62,6 @@ class Map:
         """A change is seen by each subscriber to a beginning of its key."""
         for prefix, events in self.queues:
             if key[:len(prefix)] == prefix:
-                expect(len(events) < ROOM, 'no queue holds more')
                 events.append(f'event remove {word(key)}' if value is None else f'event insert {word(key)} {word(value)}')
 
     def set(self, key, value):
@@ -223,9 +232,6 @@ class Plain:
             if last != 'refused E8':
                 self.imports(collections_of(*words), last, shell.contents())
             return
-        if last == 'refused E7':
-            map = self.calls[words[1]][1] if name in ('step', 'finish') else self.current
-            expect(any(len(events) == ROOM for _, events in map.queues), words, 'no queue is full')
         if last.startswith('refused'):
             return
         if name == 'watch':
@@ -234,7 +240,7 @@ class Plain:
             expect(last == f'subscriber {len(self.queues)}', words, last)
         elif name in ('next', 'unwatch'):
             events = self.queues[words[1] - 1] if 1 <= words[1] <= len(self.queues) else None
-            wanted = 'no subscriber' if events is None else 'done' if name == 'unwatch' else events.pop(0) if events else 'event -'
+            wanted = 'no subscriber' if events is None else 'done' if name == 'unwatch' else told(events)
             expect(last == wanted, words, last, wanted)
             if last == 'done':
                 events.clear()

@@ -4,7 +4,7 @@ use Rattle.std.specs.List.{flat_map}
 use Rattle.std.specs.Io.KnownBytes.{Appends, append_known}
 use Rattle.sled_nodes.specs.Order.{Key}
 use Rattle.sled_nodes.specs.declared.error.Error.{Error}
-use Rattle.sled_nodes.specs.declared.error.Error.TheVariants.{CollectionNotFound, Unsupported, ReportableBug, Io, Corruption, NoMemory, FullQueue, Closed}
+use Rattle.sled_nodes.specs.declared.error.Error.TheVariants.{CollectionNotFound, Unsupported, ReportableBug, Io, Corruption, NoMemory, Closed}
 use Rattle.sled_model.specs.Maps.{Map}
 use Rattle.sled_model.specs.declared.call.Call.{Call}
 use Rattle.sled_model.specs.declared.call.Call.TheVariants.{Get, Insert, Remove, CompareAndSwap, Merge}
@@ -12,6 +12,8 @@ use Rattle.sled_model.specs.declared.call.Whole.{Whole}
 use Rattle.sled_model.specs.declared.call.Whole.TheVariants.{GenerateId}
 use Rattle.sled_model.specs.declared.event.Event.{Event}
 use Rattle.sled_model.specs.declared.event.Event.TheVariants as event
+use Rattle.sled_model.specs.declared.event.Next.{Next}
+use Rattle.sled_model.specs.declared.event.Next.TheVariants as told
 use Rattle.sled_model.specs.declared.reply.Reply.{Reply}
 use Rattle.sled_model.specs.declared.reply.Reply.TheVariants.{Value, Swapped, Number, Done, Pair, Tree, Flag, Subscriber}
 use Rattle.sled_model.specs.declared.reply.Reply.TheVariants as reply
@@ -67,10 +69,15 @@ tree_line name = codes "tree " ++ printed name ++ end
 abbrev pub subscriber_line : ℕ → List ℕ
 subscriber_line n = codes "subscriber " ++ decimal n ++ end
 
-abbrev pub event_line : Option Event → List ℕ
-event_line None = codes "event -" ++ end
-event_line (Some (event.Insert key value)) = codes "event insert " ++ printed key ++ codes " " ++ printed value ++ end
-event_line (Some (event.Remove key)) = codes "event remove " ++ printed key ++ end
+abbrev pub event_line : Event → List ℕ
+event_line (event.Insert key value) = codes "event insert " ++ printed key ++ codes " " ++ printed value ++ end
+event_line (event.Remove key) = codes "event remove " ++ printed key ++ end
+
+-- what a subscriber was told: nothing, an event, or how many it missed
+abbrev pub next_line : Option Next → List ℕ
+next_line None = codes "event -" ++ end
+next_line (Some (told.Event taken)) = event_line taken
+next_line (Some (told.Missed count)) = codes "event missed " ++ decimal count ++ end
 
 abbrev pub reply_line : Shown → Reply → List ℕ
 reply_line show (Value bytes) = name_of show ++ word_of bytes ++ end
@@ -84,9 +91,9 @@ reply_line show (Tree tree) = tree_line tree.name
 reply_line show (Flag true) = codes "yes" ++ end
 reply_line show (Flag false) = codes "no" ++ end
 reply_line show (Subscriber n) = subscriber_line n
-reply_line show (reply.Event taken) = event_line taken
+reply_line show (reply.Next next) = next_line next
 
--- errors are numbered in the order of their variants
+-- errors are numbered in the order of their variants; 7 was the number of one that is no more
 abbrev pub error_number : Error → ℕ
 error_number (CollectionNotFound name) = 1
 error_number (Unsupported text) = 2
@@ -94,7 +101,6 @@ error_number (ReportableBug text) = 3
 error_number (Io fault) = 4
 error_number (Corruption fault) = 5
 error_number NoMemory = 6
-error_number FullQueue = 7
 error_number Closed = 8
 
 abbrev pub refused_line : Error → List ℕ

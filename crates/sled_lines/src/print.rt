@@ -6,10 +6,10 @@ ghost use Rattle.std.specs.List.{flat_map};
 ghost use Rattle.sled_nodes.specs.declared.error.Error.TheVariants.{NoMemory};
 ghost use Rattle.sled_model.specs.declared.event.Event.TheVariants.{Insert, Remove};
 ghost use Rattle.sled_lines.specs.Words.{word_of};
-ghost use Rattle.sled_lines.specs.Print.{end, piece_text, shown_of, shown_of_whole, name_of, number_name_of, conflict_line, found_line, tree_line, subscriber_line, event_line, reply_line, error_number, refused_line, slot_line, outcome_line, pair_line, end_line, recovered_line, bad_line};
+ghost use Rattle.sled_lines.specs.Print.{end, piece_text, shown_of, shown_of_whole, name_of, number_name_of, conflict_line, found_line, tree_line, subscriber_line, event_line, next_line, reply_line, error_number, refused_line, slot_line, outcome_line, pair_line, end_line, recovered_line, bad_line};
 
 use crate::words::push_word;
-use sled_model::{Call, CompareAndSwapError, Event, Outcome, Reply, Whole};
+use sled_model::{Call, CompareAndSwapError, Event, Next, Outcome, Reply, Whole};
 use sled_nodes::{Error, IVec, Result};
 use std::io::Write;
 
@@ -171,7 +171,7 @@ pub fn push_subscriber(out: &mut Vec<u8>, number: u64) -> Result<()>
 
 // Adds the line of a key that has this value now.
 fn push_inserted<'a>(out: &mut Vec<u8>, key: &'a [u8], value: &'a [u8]) -> Result<()>
-    ensures ok { OnOk result (out.new.items ≡ out.old.items ++ event_line (Some (Insert key.now value.now))) }
+    ensures ok { OnOk result (out.new.items ≡ out.old.items ++ event_line (Insert key.now value.now)) }
     ensures err { IfErr result (λ e. e ≡ NoMemory) }
 {
     push_pieces(
@@ -188,7 +188,7 @@ fn push_inserted<'a>(out: &mut Vec<u8>, key: &'a [u8], value: &'a [u8]) -> Resul
 
 // Adds the line of a key that has no value now.
 fn push_removed<'a>(out: &mut Vec<u8>, key: &'a [u8]) -> Result<()>
-    ensures ok { OnOk result (out.new.items ≡ out.old.items ++ event_line (Some (Remove key.now))) }
+    ensures ok { OnOk result (out.new.items ≡ out.old.items ++ event_line (Remove key.now)) }
     ensures err { IfErr result (λ e. e ≡ NoMemory) }
 {
     push_pieces(
@@ -201,15 +201,26 @@ fn push_removed<'a>(out: &mut Vec<u8>, key: &'a [u8]) -> Result<()>
     )
 }
 
-// Adds the line of an event that was taken, or of none.
-fn push_event(out: &mut Vec<u8>, event: &Option<Event>) -> Result<()>
+// Adds the line of an event that was taken.
+fn push_event(out: &mut Vec<u8>, event: &Event) -> Result<()>
     ensures ok { OnOk result (out.new.items ≡ out.old.items ++ event_line event.now) }
     ensures err { IfErr result (λ e. e ≡ NoMemory) }
 {
     match event {
+        Event::Insert { key, value } => push_inserted(out, key.as_ref(), value.as_ref()),
+        Event::Remove { key } => push_removed(out, key.as_ref()),
+    }
+}
+
+// Adds the line of what a subscriber was told, or of nothing.
+fn push_next(out: &mut Vec<u8>, next: &Option<Next>) -> Result<()>
+    ensures ok { OnOk result (out.new.items ≡ out.old.items ++ next_line next.now) }
+    ensures err { IfErr result (λ e. e ≡ NoMemory) }
+{
+    match next {
         None => push_text(out, b"event -\n"),
-        Some(Event::Insert { key, value }) => push_inserted(out, key.as_ref(), value.as_ref()),
-        Some(Event::Remove { key }) => push_removed(out, key.as_ref()),
+        Some(Next::Event(event)) => push_event(out, event),
+        Some(Next::Missed(count)) => push_numbered(out, b"event missed ", *count),
     }
 }
 
@@ -260,7 +271,7 @@ fn push_reply(out: &mut Vec<u8>, shown: Shown, reply: &Reply) -> Result<()>
         Reply::Flag(true) => push_text(out, b"yes\n"),
         Reply::Flag(false) => push_text(out, b"no\n"),
         Reply::Subscriber(subscriber) => push_subscriber(out, subscriber.0),
-        Reply::Event(event) => push_event(out, event),
+        Reply::Next(next) => push_next(out, next),
     }
 }
 
@@ -274,7 +285,6 @@ fn error_number(error: &Error) -> u64
         Error::Io(_) => 4,
         Error::Corruption(_) => 5,
         Error::NoMemory => 6,
-        Error::FullQueue => 7,
         Error::Closed => 8,
     }
 }

@@ -361,7 +361,7 @@ const SUBSCRIBERS: [Form; 3] = [
         "next",
         "N",
         Verb::Listen(Listen::Next),
-        "takes the oldest event that waits for a subscriber, and prints it",
+        "prints how many events a subscriber missed, or else takes the oldest that waits and prints it",
     ),
     (
         "unwatch",
@@ -525,7 +525,7 @@ const OWNED: [Form; 17] = [
         "owned next",
         "N",
         Verb::Owned(Owned::Listen(Listen::Next)),
-        "takes the oldest event that waits for a subscriber, and prints it",
+        "prints how many events a subscriber missed, or else takes the oldest that waits and prints it",
     ),
     (
         "owned unwatch",

@@ -142,10 +142,10 @@ fn watch_owned(
     }
 }
 
-// Takes the next event of a subscriber, or ends it.
+// Takes what a subscriber is told next, or ends it.
 fn make_owned(db: &mut Db<MemPages, Operator>, listen: Listen, subscriber: &Subscriber) -> Reply {
     match listen {
-        Listen::Next => Reply::Event(db.next(subscriber)),
+        Listen::Next => Reply::Next(db.next(subscriber)),
         _ => {
             db.unsubscribe(subscriber);
             Reply::Done
