@@ -1,13 +1,14 @@
 -- The queues of a list are changed one after the other.
-use Rattle.std.proofs.Common.{◌≡◌, ℕ, ◌+◌, ◌-◌, ◌<◌, Bool, true, false, cond, nat_eq, ◌||◌, List, [], ◌∷◌, ◌++◌, take, length, get_or, Option, Some, None, option_map, sym, refl, ap, ◌∙◌, arith}
-use Rattle.std.proofs.lemmas.Bool.{eqb-true}
+use Rattle.std.proofs.Common.{◌≡◌, ℕ, ◌+◌, ◌-◌, ◌<◌, Bool, true, false, cond, nat_eq, nat_lt, ◌||◌, List, [], ◌∷◌, ◌++◌, take, length, get_or, Option, Some, None, option_map, sym, refl, ap, ◌∙◌, arith}
+use Rattle.std.proofs.lemmas.Bool.{eqb-true, ltb-true}
+use Rattle.std.proofs.lemmas.Bool.Decides.{nat_tests}
 use Rattle.std.proofs.lemmas.List.{length-append}
 use Rattle.std.proofs.lemmas.List.Folds.{list_any_more}
 use Rattle.std.proofs.Math.Seq.{take-length, take-append_seam}
 use Rattle.sled_model.specs.declared.event.Event.{Event}
 use Rattle.sled_queues.specs.Values.{WaitingValue, Waitings}
 use Rattle.sled_queues.specs.Lists.{is_in, Rise}
-use Rattle.sled_queues.specs.theory.Lists.{changed_at, changed_in, has_prefix, gains, loses}
+use Rattle.sled_queues.specs.theory.Lists.{changed_at, changed_in, changed_below, changed_to, has_prefix, gains, loses}
 use Rattle.sled_queues.proofs.Rising.{unmet}
 
 one_more : {W : Type 0} (f : W → W) (b c : Bool) (o : Option W) → (c ≡ true → b ≡ false) → cond c (option_map f (cond b (option_map f o) o)) (cond b (option_map f o) o) ≡ cond (b || c) (option_map f o) o
@@ -26,6 +27,23 @@ changes_more f last ns i d a b c r l is next n =
 
 pub changes_all : (f : WaitingValue → WaitingValue) (ns : List ℕ) (i : ℕ) (a b : Waitings) → i ≡ length ns → ((n : ℕ) → b n ≡ changed_in f (take i ns) a n) → (n : ℕ) → b n ≡ changed_in f ns a n
 changes_all f ns i a b e is n = is n ∙ ap (λ k. changed_in f (take k ns) a n) e ∙ ap (λ l. changed_in f l a n) (take-length ns)
+
+-- those below a number
+pub below_more : (f : WaitingValue → WaitingValue) (i : ℕ) (a b c : Waitings) → ((n : ℕ) → b n ≡ changed_below f i a n) → ((n : ℕ) → c n ≡ changed_at f i b n) → (n : ℕ) → c n ≡ changed_below f (i + 1) a n
+below_more f i a b c is next n = next n ∙ ap (λ o. cond (nat_eq n i) (option_map f o) o) (is n) ∙ one_more f (nat_lt n i) (nat_eq n i) (a n) before ∙ ap (λ b. cond b (option_map f (a n)) (a n)) below
+  where
+    before : nat_eq n i ≡ true → nat_lt n i ≡ false
+    before e = go (nat_lt n i) refl
+      where
+        go : (b : Bool) → nat_lt n i ≡ b → b ≡ false
+        go true h = let l : n < i = ltb-true n i h in let s : n ≡ i = eqb-true n i e in absurd (omega (arith, l, s))
+        go false h = refl
+
+    below : (nat_lt n i || nat_eq n i) ≡ nat_lt n (i + 1)
+    below = grind (arith, nat_tests)
+
+pub below_end : (f : WaitingValue → WaitingValue) (i last : ℕ) (a b c : Waitings) → i ≡ last → ((n : ℕ) → b n ≡ changed_below f i a n) → ((n : ℕ) → c n ≡ changed_at f last b n) → (n : ℕ) → c n ≡ changed_to f last a n
+below_end f i last a b c e is next = below_more f last a b c (λ n. is n ∙ ap (λ k. changed_below f k a n) e) next
 
 -- the last one goes again
 shorter : {X : Type 0} (xs : List X) (x : X) → take (length (xs ++ x ∷ []) - 1) (xs ++ x ∷ []) ≡ xs

@@ -1,5 +1,6 @@
 pub mod Rising
 pub mod Changing
+pub mod Admitting
 pub mod Listed
 pub mod Lawful
 pub mod Grouped

@@ -1,22 +1,26 @@
 -- The queues of the subscribers in the list of a tree are those of the tree.
-use Rattle.std.proofs.Common.{◌≡◌, ◌≢◌, ℕ, ◌+◌, ◌<◌, ◌≤◌, Bool, true, false, cond, nat_eq, nat_le, ◌||◌, ◌&&◌, ◌⊎◌, inl, inr, List, [], ◌∷◌, ◌++◌, length, drop, Option, Some, None, option_map, sym, refl, ap, ◌∙◌, subst, arith}
+use Rattle.std.proofs.Common.{◌≡◌, ◌≢◌, ℕ, ◌+◌, ◌<◌, ◌≤◌, Bool, true, false, cond, nat_eq, nat_lt, nat_le, ◌||◌, ◌&&◌, ◌⊎◌, inl, inr, List, [], ◌∷◌, ◌++◌, length, drop, min, Option, Some, None, option_map, sym, refl, ap, ◌∙◌, subst, arith}
 use Rattle.std.proofs.Math.Path.{fun_ext}
 use mathlib.Core.Bool.{true≢false}
 use Rattle.std.specs.List.{list_any}
-use Rattle.std.proofs.lemmas.Bool.{eq-eqb, ne_eqb, eqb-true, leb-true, leb-false}
+use Rattle.std.proofs.lemmas.Bool.{eq-eqb, ne_eqb, eqb-true, ltb-false, leb-true, leb-false}
 use Rattle.std.proofs.lemmas.List.{length-append}
 use Rattle.std.proofs.lemmas.List.Folds.{list_any-append}
 use Rattle.sled_nodes.specs.Order.{Key}
 use Rattle.sled_store.specs.Update.{put_at}
 use Rattle.sled_model.specs.State.{matches}
-use Rattle.sled_model.specs.Refusal.{queue_limit}
+use Rattle.sled_model.specs.Backlog.{Backlog, queue_limit, most_missed, comes, come_all}
 use Rattle.sled_model.specs.declared.event.Event.{Event}
 use Rattle.sled_queues.specs.Values.{WaitingValue, QueuesValue, Waitings, queue_at}
-use Rattle.sled_queues.specs.Queues.{queue_of, held, AreQueues, Becomes, prepared_in, prepared, committed_in, committed, cancelled_in, cancelled, taken_in, without_oldest_of}
-use Rattle.sled_queues.specs.Tells.{HasRoomAt, MeetsFullAt, HasRoom, IsUnwatched}
+use Rattle.sled_queues.specs.Queues.{queue_of, AreQueues, Becomes, prepared_in, prepared, committed_in, committed, cancelled_in, cancelled, taken_in, without_next_of}
+use Rattle.sled_queues.specs.Tells.{IsWatched, IsUnwatched}
 use Rattle.sled_queues.specs.Lists.{is_in, Rise, AreListed}
-use Rattle.sled_queues.specs.theory.Lists.{without, changed_at, changed_in, begins, has_prefix, gains, tells, forgets, is_full_for}
+use Rattle.sled_queues.specs.theory.Lists.{without, changed_at, changed_in, changed_to, begins, has_prefix, gains, tells, forgets, waits_in}
 use Rattle.sled_queues.proofs.Rising.{is_out, raise, push_rises, without_rises, without_keeps, push_without}
+
+-- how many events wait in a queue
+abbrev waiting : WaitingValue → ℕ
+waiting w = length w.backlog.events
 
 none_some : {P A : Type 0} {a : A} → None ≡ Some a → P
 none_some e = cc
@@ -38,11 +42,11 @@ changed_listed g a b lists given keeps is l = record {
 }
 
 -- .. and their numbers; of their lengths it is to be shown
-pub changed_queues : (g : ℕ → WaitingValue → WaitingValue) (a b : QueuesValue) → ((n : ℕ) (w : WaitingValue) → queue_at a n ≡ Some w → held w ≤ queue_limit → held (g n w) ≤ queue_limit)
+pub changed_queues : (g : ℕ → WaitingValue → WaitingValue) (a b : QueuesValue) → ((n : ℕ) (w : WaitingValue) → queue_at a n ≡ Some w → waiting w ≤ queue_limit → waiting (g n w) ≤ queue_limit)
     → ((n : ℕ) → queue_at b n ≡ option_map (g n) (queue_at a n)) → b.given ≡ a.given → AreQueues a → AreQueues b
 changed_queues g a b keeps is same q = record {
   numbered = λ n w e. let v = was (g n) (queue_at a n) w (sym (is n) ∙ e) in let h = q.numbered n v.0 v.1 in (h.0, subst (λ k. n ≤ k) (sym same) h.1);
-  within = λ n w e. let v = was (g n) (queue_at a n) w (sym (is n) ∙ e) in subst (λ z. held z ≤ queue_limit) (sym v.2) (keeps n v.0 v.1 (q.within n v.0 v.1));
+  within = λ n w e. let v = was (g n) (queue_at a n) w (sym (is n) ∙ e) in subst (λ z. waiting z ≤ queue_limit) (sym v.2) (keeps n v.0 v.1 (q.within n v.0 v.1));
 }
 
 out : {W : Type 0} (c : Bool) (v w : W) → cond c (Some v) (Some w) ≡ Some (cond c v w)
@@ -62,38 +66,64 @@ same_tree : (b : Bool) (v w : WaitingValue) → v.tree ≡ w.tree → (cond b v 
 same_tree true v w e = e
 same_tree false v w e = refl
 
-bounded : (b : Bool) (v w : WaitingValue) → held v ≤ held w → held w ≤ queue_limit → held (cond b v w) ≤ queue_limit
+bounded : (b : Bool) (v w : WaitingValue) → waiting v ≤ waiting w → waiting w ≤ queue_limit → waiting (cond b v w) ≤ queue_limit
 bounded true v w e h = omega arith
 bounded false v w e h = h
 
 at_number : (f g : Waitings) (n : ℕ) → f ≡ g → f n ≡ g n
 at_number f g n e = ap (λ h. h n) e
 
--- what is prepared is committed in the queues of the list
-pub commits : (tree : ℕ) (ns : List ℕ) (a b : Waitings) (lists : ℕ → List ℕ) (given : ℕ) → AreListed a lists given → lists tree ≡ ns → ((n : ℕ) → b n ≡ changed_in tells ns a n) → b ≡ committed tree a
-commits tree ns a b lists given l e is = fun_ext (λ n. is n ∙ in_tree tells tree ns a lists given n l e)
+-- each queue is changed, where all have numbers up to the last
+all_changed : (f : WaitingValue → WaitingValue) (v : QueuesValue) (b : Waitings) → AreQueues v → ((n : ℕ) → b n ≡ changed_to f v.given (queue_at v) n) → (n : ℕ) → b n ≡ option_map f (queue_at v n)
+all_changed f v b q is n = is n ∙ go (queue_at v n) refl (nat_lt n (v.given + 1)) refl
+  where
+    go : (o : Option WaitingValue) → queue_at v n ≡ o → (c : Bool) → nat_lt n (v.given + 1) ≡ c → cond c (option_map f o) o ≡ option_map f o
+    go o h true e = refl
+    go None h false e = refl
+    go (Some w) h false e = let high : v.given + 1 ≤ n = ltb-false n (v.given + 1) e in let low : n ≤ v.given = (q.numbered n w h).1 in absurd (omega (arith, high, low))
 
-pub committed_listed : (tree : ℕ) (a b : Waitings) (lists : ℕ → List ℕ) (given : ℕ) → b ≡ committed tree a → AreListed a lists given → AreListed b lists given
-committed_listed tree a b lists given e l = changed_listed (λ n. committed_in tree) a b lists given (λ n w. same_tree (nat_eq w.tree tree) (tells w) w refl) (λ n. at_number b (committed tree a) n e) l
+-- what is prepared is committed
+pub commits : (v : QueuesValue) (b : Waitings) → AreQueues v → ((n : ℕ) → b n ≡ changed_to tells v.given (queue_at v) n) → b ≡ committed (queue_at v)
+commits v b q is = fun_ext (all_changed tells v b q is)
 
-told_held : (w : WaitingValue) → held (tells w) ≤ held w
-told_held w = let e = length-append w.events w.coming in omega (arith, e)
+pub committed_listed : (a b : Waitings) (lists : ℕ → List ℕ) (given : ℕ) → b ≡ committed a → AreListed a lists given → AreListed b lists given
+committed_listed a b lists given e l = changed_listed (λ n. committed_in) a b lists given (λ n w. refl) (λ n. at_number b (committed a) n e) l
 
-pub committed_queues : (tree : ℕ) (a b : QueuesValue) → queue_at b ≡ committed tree (queue_at a) → b.given ≡ a.given → AreQueues a → AreQueues b
-committed_queues tree a b e same q = changed_queues (λ n. committed_in tree) a b (λ n w there h. bounded (nat_eq w.tree tree) (tells w) w (told_held w) h) (λ n. at_number (queue_at b) (committed tree (queue_at a)) n e) same q
+-- an event that comes leaves at most 1024
+drop_one : (xs : List Event) (n : ℕ) → n ≤ length xs → 1 ≤ n → length xs ≤ n → length (drop 1 xs) + 1 ≡ length xs
+drop_one [] n a b c = absurd (omega (arith, a, b))
+drop_one (x ∷ xs) n a b c = omega arith
+
+come_bound : (e : Event) (q : Backlog) → length q.events ≤ queue_limit → length (comes e q).events ≤ queue_limit
+come_bound e q h = go (nat_le queue_limit (length q.events)) refl
+  where
+    go : (b : Bool) → nat_le queue_limit (length q.events) ≡ b → length (cond b (record { missed = min (q.missed + 1) most_missed; events = drop 1 q.events ++ e ∷ [] }) (record q { events = q.events ++ e ∷ [] })).events ≤ queue_limit
+    go true full =
+        let up : queue_limit ≤ length q.events = leb-true queue_limit (length q.events) full in
+        let l = length-append (drop 1 q.events) (e ∷ []) in
+        let d = drop_one q.events queue_limit up (omega arith) h in
+        omega (arith, l, d, h)
+    go false room =
+        let low : length q.events < queue_limit = leb-false queue_limit (length q.events) room in
+        let l = length-append q.events (e ∷ []) in
+        omega (arith, l, low)
+
+come_all_bound : (es : List Event) (q : Backlog) → length q.events ≤ queue_limit → length (come_all es q).events ≤ queue_limit
+come_all_bound [] q h = h
+come_all_bound (e ∷ es) q h = come_all_bound es (comes e q) (come_bound e q h)
+
+pub committed_queues : (a b : QueuesValue) → queue_at b ≡ committed (queue_at a) → b.given ≡ a.given → AreQueues a → AreQueues b
+committed_queues a b e same q = changed_queues (λ n. committed_in) a b (λ n w there h. come_all_bound w.coming w.backlog h) (λ n. at_number (queue_at b) (committed (queue_at a)) n e) same q
 
 -- .. or dropped
-pub cancels : (tree : ℕ) (ns : List ℕ) (a b : Waitings) (lists : ℕ → List ℕ) (given : ℕ) → AreListed a lists given → lists tree ≡ ns → ((n : ℕ) → b n ≡ changed_in forgets ns a n) → b ≡ cancelled tree a
-cancels tree ns a b lists given l e is = fun_ext (λ n. is n ∙ in_tree forgets tree ns a lists given n l e)
+pub cancels : (v : QueuesValue) (b : Waitings) → AreQueues v → ((n : ℕ) → b n ≡ changed_to forgets v.given (queue_at v) n) → b ≡ cancelled (queue_at v)
+cancels v b q is = fun_ext (all_changed forgets v b q is)
 
-pub cancelled_listed : (tree : ℕ) (a b : Waitings) (lists : ℕ → List ℕ) (given : ℕ) → b ≡ cancelled tree a → AreListed a lists given → AreListed b lists given
-cancelled_listed tree a b lists given e l = changed_listed (λ n. cancelled_in tree) a b lists given (λ n w. same_tree (nat_eq w.tree tree) (forgets w) w refl) (λ n. at_number b (cancelled tree a) n e) l
+pub cancelled_listed : (a b : Waitings) (lists : ℕ → List ℕ) (given : ℕ) → b ≡ cancelled a → AreListed a lists given → AreListed b lists given
+cancelled_listed a b lists given e l = changed_listed (λ n. cancelled_in) a b lists given (λ n w. refl) (λ n. at_number b (cancelled a) n e) l
 
-forgot_held : (w : WaitingValue) → held (forgets w) ≤ held w
-forgot_held w = omega arith
-
-pub cancelled_queues : (tree : ℕ) (a b : QueuesValue) → queue_at b ≡ cancelled tree (queue_at a) → b.given ≡ a.given → AreQueues a → AreQueues b
-cancelled_queues tree a b e same q = changed_queues (λ n. cancelled_in tree) a b (λ n w there h. bounded (nat_eq w.tree tree) (forgets w) w (forgot_held w) h) (λ n. at_number (queue_at b) (cancelled tree (queue_at a)) n e) same q
+pub cancelled_queues : (a b : QueuesValue) → queue_at b ≡ cancelled (queue_at a) → b.given ≡ a.given → AreQueues a → AreQueues b
+cancelled_queues a b e same q = changed_queues (λ n. cancelled_in) a b (λ n w there h. h) (λ n. at_number (queue_at b) (cancelled (queue_at a)) n e) same q
 
 -- an event is prepared in the queues of the list
 both_tests : {W : Type 0} (b c : Bool) (v w : W) → cond b (cond c v w) w ≡ cond (b && c) v w
@@ -108,12 +138,12 @@ prepares tree e ns a b lists given l k is = fun_ext (λ n.
 pub prepared_listed : (tree : ℕ) (e : Event) (a b : Waitings) (lists : ℕ → List ℕ) (given : ℕ) → b ≡ prepared tree e a → AreListed a lists given → AreListed b lists given
 prepared_listed tree e a b lists given k l = changed_listed (λ n. prepared_in tree e) a b lists given (λ n w. same_tree (matches tree e (queue_of w)) (record w { coming = w.coming ++ e ∷ [] }) w refl) (λ n. at_number b (prepared tree e a) n k) l
 
-roomy : (e : Event) (w : WaitingValue) (b : Bool) → (b ≡ true → held w < queue_limit) → held w ≤ queue_limit → held (cond b (record w { coming = w.coming ++ e ∷ [] }) w) ≤ queue_limit
-roomy e w true room h = let l = length-append w.coming (e ∷ []) in let r = room refl in omega (arith, l, r)
-roomy e w false room h = h
+as_long : (e : Event) (w : WaitingValue) (b : Bool) → waiting w ≤ queue_limit → waiting (cond b (record w { coming = w.coming ++ e ∷ [] }) w) ≤ queue_limit
+as_long e w true h = h
+as_long e w false h = h
 
-pub prepared_queues : (tree : ℕ) (e : Event) (a b : QueuesValue) → HasRoom tree e (queue_at a) → queue_at b ≡ prepared tree e (queue_at a) → b.given ≡ a.given → AreQueues a → AreQueues b
-prepared_queues tree e a b r k same q = changed_queues (λ n. prepared_in tree e) a b (λ n w there h. roomy e w (matches tree e (queue_of w)) (r.room n w there) h) (λ n. at_number (queue_at b) (prepared tree e (queue_at a)) n k) same q
+pub prepared_queues : (tree : ℕ) (e : Event) (a b : QueuesValue) → queue_at b ≡ prepared tree e (queue_at a) → b.given ≡ a.given → AreQueues a → AreQueues b
+prepared_queues tree e a b k same q = changed_queues (λ n. prepared_in tree e) a b (λ n w there h. as_long e w (matches tree e (queue_of w)) h) (λ n. at_number (queue_at b) (prepared tree e (queue_at a)) n k) same q
 
 -- a test that no number of a list passes, or one
 or_left : (a b : Bool) → (a || b) ≡ false → a ≡ false
@@ -123,14 +153,6 @@ or_left false b e = refl
 or_right : (a b : Bool) → (a || b) ≡ false → b ≡ false
 or_right true b e = absurd (true≢false e)
 or_right false b e = e
-
-and_left : (a b : Bool) → (a && b) ≡ true → a ≡ true
-and_left true b e = refl
-and_left false b e = absurd (true≢false (sym e))
-
-and_right : (a b : Bool) → (a && b) ≡ true → b ≡ true
-and_right true b e = e
-and_right false b e = absurd (true≢false (sym e))
 
 none_of : (p : ℕ → Bool) (ns : List ℕ) (n : ℕ) → list_any p ns ≡ false → is_in n ns ≡ true → p n ≡ false
 none_of p [] n h i = absurd (true≢false (sym i))
@@ -152,44 +174,41 @@ one_of p (m ∷ ns) h = go (p m) refl h (one_of p ns)
         or_true true b e = refl
         or_true false b e = e
 
-not_le : (a b : ℕ) → nat_le a b ≡ false → b < a
-not_le a b e = leb-false a b e
+and_is : (a b : Bool) → a ≡ true → b ≡ true → (a && b) ≡ true
+and_is true b e h = h
+and_is false b e h = absurd (true≢false (sym e))
 
-pub has_room : (tree : ℕ) (key : Key) (ns : List ℕ) (a : Waitings) (lists : ℕ → List ℕ) (given : ℕ) → AreListed a lists given → lists tree ≡ ns → list_any (λ n. is_full_for key (a n)) ns ≡ false → HasRoomAt tree key a
-has_room tree key ns a lists given l k none = record {
-  room = λ n w there m.
-      let here : is_in n ns ≡ true = ap (is_in n) (sym k) ∙ l.listed n w there tree ∙ and_left (nat_eq w.tree tree) (begins key w) m in
-      let full : (begins key w && nat_le queue_limit (held w)) ≡ false = ap (is_full_for key) (sym there) ∙ none_of (λ n. is_full_for key (a n)) ns n none here in
-      not_le queue_limit (held w) (ap (λ b. b && nat_le queue_limit (held w)) (sym (and_right (nat_eq w.tree tree) (begins key w) m)) ∙ full);
+none_waits : (a b : Bool) → (a ≡ true → b ≡ false) → (a && b) ≡ false
+none_waits true b h = h refl
+none_waits false b h = refl
+
+-- whether some queue of the list waits for the key
+pub is_unwatched : (tree : ℕ) (key : Key) (ns : List ℕ) (a : Waitings) (lists : ℕ → List ℕ) (given : ℕ) → AreListed a lists given → lists tree ≡ ns → list_any (λ n. waits_in key (a n)) ns ≡ false → IsUnwatched tree key a
+is_unwatched tree key ns a lists given l k none = record {
+  none = λ n w there. none_waits (nat_eq w.tree tree) (begins key w) (λ of.
+      ap (waits_in key) (sym there) ∙ none_of (λ n. waits_in key (a n)) ns n none (ap (is_in n) (sym k) ∙ l.listed n w there tree ∙ of));
 }
 
-pub meets_full : (tree : ℕ) (key : Key) (ns : List ℕ) (a : Waitings) (lists : ℕ → List ℕ) (given : ℕ) → AreListed a lists given → lists tree ≡ ns → list_any (λ n. is_full_for key (a n)) ns ≡ true → MeetsFullAt tree key a
-meets_full tree key ns a lists given l k some = let n = one_of (λ n. is_full_for key (a n)) ns some in go n.0 n.1 (a n.0) refl n.2
+pub is_watched : (tree : ℕ) (key : Key) (ns : List ℕ) (a : Waitings) (lists : ℕ → List ℕ) (given : ℕ) → AreListed a lists given → lists tree ≡ ns → list_any (λ n. waits_in key (a n)) ns ≡ true → IsWatched tree key a
+is_watched tree key ns a lists given l k some = let n = one_of (λ n. waits_in key (a n)) ns some in go n.0 n.1 (a n.0) refl n.2
   where
-    go : (n : ℕ) → is_in n ns ≡ true → (o : Option WaitingValue) → a n ≡ o → is_full_for key o ≡ true → MeetsFullAt tree key a
+    go : (n : ℕ) → is_in n ns ≡ true → (o : Option WaitingValue) → a n ≡ o → waits_in key o ≡ true → IsWatched tree key a
     go n i None there h = absurd (true≢false (sym h))
-    go n i (Some w) there h =
-        let here : nat_eq w.tree tree ≡ true = sym (l.listed n w there tree) ∙ ap (is_in n) k ∙ i in
-        record {
-          subscriber = n;
-          queue = w;
-          there = there;
-          matching = ap (λ b. b && begins key w) here ∙ and_left (begins key w) (nat_le queue_limit (held w)) h;
-          full = leb-true queue_limit (held w) (and_right (begins key w) (nat_le queue_limit (held w)) h);
-        }
+    go n i (Some w) there h = record {
+      subscriber = n;
+      queue = w;
+      there = there;
+      waits = and_is (nat_eq w.tree tree) (begins key w) (sym (l.listed n w there tree) ∙ ap (is_in n) k ∙ i) h;
+    }
 
--- a tree without a list has no queue
-pub is_unwatched : (tree : ℕ) (ns : List ℕ) (a : Waitings) (lists : ℕ → List ℕ) (given : ℕ) → AreListed a lists given → lists tree ≡ ns → ns ≡ [] → IsUnwatched tree a
-is_unwatched tree ns a lists given l k none = record { none = λ n w there. sym (l.listed n w there tree) ∙ ap (is_in n) (k ∙ none) }
-
--- the oldest event of one queue is taken
+-- what is next in one queue is taken
 at_option : {W : Type 0} (f : W → W) (b : Bool) (o : Option W) → cond b (option_map f o) o ≡ option_map (λ w. cond b (f w) w) o
 at_option f true None = refl
 at_option f true (Some w) = refl
 at_option f false None = refl
 at_option f false (Some w) = refl
 
-pub takes : (k : ℕ) (a b : Waitings) → ((n : ℕ) → b n ≡ changed_at taken_in k a n) → b ≡ without_oldest_of k a
+pub takes : (k : ℕ) (a b : Waitings) → ((n : ℕ) → b n ≡ changed_at taken_in k a n) → b ≡ without_next_of k a
 takes k a b is = fun_ext (λ n. is n ∙ go n (nat_eq n k) refl)
   where
     go : (n : ℕ) (c : Bool) → nat_eq n k ≡ c → cond c (option_map taken_in (a n)) (a n) ≡ cond c (option_map taken_in (a k)) (a n)
@@ -203,11 +222,15 @@ fewer : {X : Type 0} (xs : List X) → length (drop 1 xs) ≤ length xs
 fewer [] = omega arith
 fewer (x ∷ xs) = omega arith
 
-taken_held : (w : WaitingValue) → held (taken_in w) ≤ held w
-taken_held w = let e = fewer w.events in omega (arith, e)
+taken_shorter : (w : WaitingValue) → waiting (taken_in w) ≤ waiting w
+taken_shorter w = go (nat_eq w.backlog.missed 0)
+  where
+    go : (b : Bool) → length (cond b (record w.backlog { events = drop 1 w.backlog.events }) (record w.backlog { missed = 0 })).events ≤ waiting w
+    go true = fewer w.backlog.events
+    go false = omega arith
 
 pub taken_queues : (k : ℕ) (a b : QueuesValue) → ((n : ℕ) → queue_at b n ≡ changed_at taken_in k (queue_at a) n) → b.given ≡ a.given → AreQueues a → AreQueues b
-taken_queues k a b is same q = changed_queues (λ n w. cond (nat_eq n k) (taken_in w) w) a b (λ n w there h. bounded (nat_eq n k) (taken_in w) w (taken_held w) h) (λ n. is n ∙ at_option taken_in (nat_eq n k) (queue_at a n)) same q
+taken_queues k a b is same q = changed_queues (λ n w. cond (nat_eq n k) (taken_in w) w) a b (λ n w there h. bounded (nat_eq n k) (taken_in w) w (taken_shorter w) h) (λ n. is n ∙ at_option taken_in (nat_eq n k) (queue_at a n)) same q
 
 -- nothing is changed
 pub same_listed : (a b : Waitings) (lists more : ℕ → List ℕ) (given : ℕ) → ((n : ℕ) → b n ≡ a n) → ((t : ℕ) → more t ≡ lists t) → AreListed a lists given → AreListed b more given
@@ -280,7 +303,7 @@ added_listed tree given fresh a b lists more of is put l = record {
     rises t true = push_rises given (lists t) (l.rise t)
     rises t false = raise given (given + 1) (lists t) (omega arith) (l.rise t)
 
-pub added_queues : (fresh : WaitingValue) (a b : QueuesValue) → held fresh ≡ 0 → ((n : ℕ) → queue_at b n ≡ put_at (queue_at a) (a.given + 1) (Some fresh) n) → b.given ≡ a.given + 1 → AreQueues a → AreQueues b
+pub added_queues : (fresh : WaitingValue) (a b : QueuesValue) → waiting fresh ≡ 0 → ((n : ℕ) → queue_at b n ≡ put_at (queue_at a) (a.given + 1) (Some fresh) n) → b.given ≡ a.given + 1 → AreQueues a → AreQueues b
 added_queues fresh a b none is same q = record {
   numbered = λ n w e. number n w (put_is (queue_at a) (a.given + 1) (Some fresh) n w (sym (is n) ∙ e));
   within = λ n w e. bound n w (put_is (queue_at a) (a.given + 1) (Some fresh) n w (sym (is n) ∙ e));
@@ -290,8 +313,8 @@ added_queues fresh a b none is same q = record {
     number n w (inl h) = let e = h.0 in (omega (arith, e), omega (arith, e, same))
     number n w (inr h) = let m = q.numbered n w h.1 in let low = m.0 in let high = m.1 in (low, omega (arith, high, same))
 
-    bound : (n : ℕ) (w : WaitingValue) → ((n ≡ a.given + 1) × (Some fresh ≡ Some w)) ⊎ ((n ≢ a.given + 1) × (queue_at a n ≡ Some w)) → held w ≤ queue_limit
-    bound n w (inl h) = subst (λ (z : WaitingValue). held z ≤ queue_limit) (some_is h.1) (subst (λ k. k ≤ queue_limit) (sym none) (omega arith))
+    bound : (n : ℕ) (w : WaitingValue) → ((n ≡ a.given + 1) × (Some fresh ≡ Some w)) ⊎ ((n ≢ a.given + 1) × (queue_at a n ≡ Some w)) → waiting w ≤ queue_limit
+    bound n w (inl h) = subst (λ (z : WaitingValue). waiting z ≤ queue_limit) (some_is h.1) (subst (λ k. k ≤ queue_limit) (sym none) (omega arith))
     bound n w (inr h) = q.within n w h.1
 
 pub none_next : (a : QueuesValue) → AreQueues a → queue_at a (a.given + 1) ≡ None

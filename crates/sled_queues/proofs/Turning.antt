@@ -11,11 +11,12 @@ use Rattle.sled_model.specs.Maps.{Maps}
 use Rattle.sled_model.specs.State.{State, NamedTree, Queue, queues_after}
 use Rattle.sled_model.specs.Imports.{Part, OpensName, Puts, does_part_as, DoesParts, NoPart, OnePart, refuses_import_as, Stop, StopsAtPart}
 use Rattle.sled_model.specs.Whole.{after_pop, RemovesLeast, RemovesNone, RemovesOne, state_opened, state_dropped}
-use Rattle.sled_model.specs.Queues.{oldest}
+use Rattle.sled_model.specs.Queues.{next_in}
 use Rattle.sled_model.specs.Transition.{Configuration, transition_as}
 use Rattle.sled_model.specs.declared.call.Whole.{Whole}
 use Rattle.sled_model.specs.declared.call.Whole.TheVariants.{Flush, PopMin, PopMax, Clear, OpenTree, DropTree, GenerateId, Import, Watch, Next, Unsubscribe}
 use Rattle.sled_model.specs.declared.event.Event.{Event}
+use Rattle.sled_model.specs.declared.event.Next as event
 use Rattle.sled_model.specs.declared.tree.Tree.{Tree}
 use Rattle.sled_model.specs.declared.reply.Reply.{Reply}
 use Rattle.sled_model.specs.declared.reply.Reply.TheVariants as told
@@ -179,11 +180,11 @@ none_some : {P A : Type 0} {a : A} → None ≡ Some a → P
 none_some e = cc
 
 -- what its own `Next` tells
-next_told : (n m : ℕ) (reply : Reply) (e : Option Event) (queues : Queues) → reply ≡ told.Event e → e ≡ oldest (queues m) → told_at n (step.Whole (Next m)) (outcome.Decided reply) ≡ taken_by n (Takes m ∷ []) queues
+next_told : (n m : ℕ) (reply : Reply) (e : Option event.Next) (queues : Queues) → reply ≡ told.Next e → e ≡ next_in (queues m) → told_at n (step.Whole (Next m)) (outcome.Decided reply) ≡ taken_by n (Takes m ∷ []) queues
 next_told n m reply e queues r is = ap (λ z. told_at n (step.Whole (Next m)) (outcome.Decided z)) r ∙ go (nat_eq m n) refl
   where
-    go : (b : Bool) → nat_eq m n ≡ b → cond b (option_to_list e) [] ≡ cond b (option_to_list (oldest (queues n))) [] ++ []
-    go true h = ap option_to_list (is ∙ ap (λ k. oldest (queues k)) (eqb-true m n h)) ∙ sym (append-nil (option_to_list (oldest (queues n))))
+    go : (b : Bool) → nat_eq m n ≡ b → cond b (option_to_list e) [] ≡ cond b (option_to_list (next_in (queues n))) [] ++ []
+    go true h = ap option_to_list (is ∙ ap (λ k. next_in (queues k)) (eqb-true m n h)) ∙ sym (append-nil (option_to_list (next_in (queues n))))
     go false h = refl
 
 whole_heard : (n : ℕ) (q : Queue) (a : Configuration) (w : Whole) (o : Outcome) (b : Configuration) (maps : List Maps) (t : transition_as a (step.Whole w) o b maps)

@@ -5,33 +5,33 @@ ghost use Rattle.std.specs.Ordering.{nat_cmp};
 ghost use Rattle.std.specs.BTreeMap.{get, keys, IsOrdered};
 ghost use Rattle.sled_nodes.specs.declared.error.Error.TheVariants.{NoMemory};
 ghost use Rattle.sled_store.specs.Update.{put_at};
-ghost use Rattle.sled_queues.specs.Queues.{oldest_in, taken_in};
+ghost use Rattle.sled_queues.specs.Queues.{next_at, taken_in};
 ghost use Rattle.sled_queues.specs.Lists.{lists_of, Rise};
-ghost use Rattle.sled_queues.specs.theory.Lists.{without, changed_at, changed_in, gains, loses, tells, forgets, is_full_for};
+ghost use Rattle.sled_queues.specs.theory.Lists.{without, changed_at, changed_in, changed_to, gains, loses, tells, forgets, waits_in};
 
 use crate::waiting::Waiting;
-use sled_model::Event;
+use sled_model::{Event, Next};
 use sled_nodes::{Error, Result};
 use std::alloc::Global;
 use std::collections::BTreeMap;
 
-// Whether some queue of the list that waits for the key is full.
-pub(crate) fn any_full(queues: &BTreeMap<u64, Waiting>, numbers: &[u64], key: &[u8]) -> bool
-    ensures { result ≡ list_any (λ n. is_full_for key.now (get nat_cmp queues.now n)) numbers.now }
+// Whether some queue of the list waits for the key.
+pub(crate) fn any_waits(queues: &BTreeMap<u64, Waiting>, numbers: &[u64], key: &[u8]) -> bool
+    ensures { result ≡ list_any (λ n. waits_in key.now (get nat_cmp queues.now n)) numbers.now }
 {
     for i in 0..numbers.len() {
-        if is_full(queues, numbers[i], key) {
+        if waits(queues, numbers[i], key) {
             return true;
         }
     }
     false
 }
 
-fn is_full(queues: &BTreeMap<u64, Waiting>, number: u64, key: &[u8]) -> bool
-    ensures { result ≡ is_full_for key.now (get nat_cmp queues.now number) }
+fn waits(queues: &BTreeMap<u64, Waiting>, number: u64, key: &[u8]) -> bool
+    ensures { result ≡ waits_in key.now (get nat_cmp queues.now number) }
 {
     match queues.get(&number) {
-        Some(waiting) => waiting.begins(key) && waiting.is_full(),
+        Some(waiting) => waiting.begins(key),
         None => false,
     }
 }
@@ -89,14 +89,14 @@ fn take_back(queues: &mut BTreeMap<u64, Waiting>, number: u64, event: &Event)
     }
 }
 
-// Makes wait what is prepared in the queues of the list.
-pub(crate) fn commit_all(queues: &mut BTreeMap<u64, Waiting>, numbers: &[u64])
-    requires { (last : ℕ) × Rise last numbers.now }
-    ensures { (n : ℕ) → get nat_cmp queues.new n ≡ changed_in tells numbers.now (get nat_cmp queues.old) n }
+// Makes wait what is prepared in each queue up to a number.
+pub(crate) fn commit_all(queues: &mut BTreeMap<u64, Waiting>, last: u64)
+    ensures { (n : ℕ) → get nat_cmp queues.new n ≡ changed_to tells last (get nat_cmp queues.old) n }
 {
-    for i in 0..numbers.len() {
-        commit(queues, numbers[i]);
+    for i in 0..last {
+        commit(queues, i);
     }
+    commit(queues, last);
 }
 
 fn commit(queues: &mut BTreeMap<u64, Waiting>, number: u64)
@@ -107,14 +107,14 @@ fn commit(queues: &mut BTreeMap<u64, Waiting>, number: u64)
     }
 }
 
-// Drops what is prepared in the queues of the list.
-pub(crate) fn cancel_all(queues: &mut BTreeMap<u64, Waiting>, numbers: &[u64])
-    requires { (last : ℕ) × Rise last numbers.now }
-    ensures { (n : ℕ) → get nat_cmp queues.new n ≡ changed_in forgets numbers.now (get nat_cmp queues.old) n }
+// Drops what is prepared in each queue up to a number.
+pub(crate) fn cancel_all(queues: &mut BTreeMap<u64, Waiting>, last: u64)
+    ensures { (n : ℕ) → get nat_cmp queues.new n ≡ changed_to forgets last (get nat_cmp queues.old) n }
 {
-    for i in 0..numbers.len() {
-        cancel(queues, numbers[i]);
+    for i in 0..last {
+        cancel(queues, i);
     }
+    cancel(queues, last);
 }
 
 fn cancel(queues: &mut BTreeMap<u64, Waiting>, number: u64)
@@ -125,9 +125,9 @@ fn cancel(queues: &mut BTreeMap<u64, Waiting>, number: u64)
     }
 }
 
-// Takes the oldest event that waits in a queue, if there is one.
-pub(crate) fn take(queues: &mut BTreeMap<u64, Waiting>, number: u64) -> Option<Event>
-    ensures is { result ≡ oldest_in (get nat_cmp queues.old number) }
+// Takes what is next in a queue.
+pub(crate) fn take(queues: &mut BTreeMap<u64, Waiting>, number: u64) -> Option<Next>
+    ensures is { result ≡ next_at (get nat_cmp queues.old number) }
     ensures rest { (n : ℕ) → get nat_cmp queues.new n ≡ changed_at taken_in number (get nat_cmp queues.old) n }
 {
     match queues.get_mut(&number) {

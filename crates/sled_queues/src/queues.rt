@@ -116,7 +116,11 @@ impl Queues {
         ensures err { OnErr result (self.new ≡ self.old) }
         ensures cause { IfErr result (λ e. e ≡ NoMemory) }
     {
-        prepare_all(&mut self.queues, numbers_of(&self.lists, tree), event)
+        let numbers = numbers_of(&self.lists, tree);
+        if let Err(e) = prepare_all(&mut self.queues, numbers, event) {
+            return Err(e);
+        }
+        Ok(())
     }
 
     /// Makes wait all that is prepared. Where 1024 events wait in a queue, the oldest goes for each that comes, and is counted.
@@ -128,7 +132,7 @@ impl Queues {
     pub fn commit(&mut self)
         ensures { Becomes (committed (queue_at self.old)) self.old.given self.new }
     {
-        commit_all(&mut self.queues);
+        commit_all(&mut self.queues, self.given);
     }
 
     /// Drops all that is prepared.
@@ -139,7 +143,7 @@ impl Queues {
     pub fn cancel(&mut self)
         ensures { Becomes (cancelled (queue_at self.old)) self.old.given self.new }
     {
-        cancel_all(&mut self.queues);
+        cancel_all(&mut self.queues, self.given);
     }
 
     /// Tells a subscriber how many events it missed, where it missed some since that was told last, and takes the oldest event

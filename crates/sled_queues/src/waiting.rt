@@ -1,11 +1,11 @@
 //! One queue.
-ghost use Rattle.std.specs.Prelude.{◌≡◌, ◌++◌, ◌∷◌, [], slice_get, nat_le, OnOk, OnErr, IfErr};
+ghost use Rattle.std.specs.Prelude.{◌≡◌, ◌≤◌, ◌<◌, ◌+◌, ◌++◌, ◌∷◌, [], take, drop, length, OnOk, OnErr, IfErr};
 ghost use Rattle.sled_nodes.specs.declared.error.Error.TheVariants.{NoMemory};
-ghost use Rattle.sled_model.specs.Refusal.{queue_limit};
-ghost use Rattle.sled_queues.specs.Queues.{held, taken_in};
+ghost use Rattle.sled_model.specs.Backlog.{queue_limit, no_backlog, come_all, next_of};
+ghost use Rattle.sled_queues.specs.Queues.{taken_in};
 ghost use Rattle.sled_queues.specs.theory.Lists.{begins, has_prefix, gains, loses, tells, forgets};
 
-use sled_model::{Event, QUEUE_LIMIT};
+use sled_model::{Event, Next, QUEUE_LIMIT};
 use sled_nodes::{Error, IVec, Result};
 use std::alloc::Global;
 use std::collections::VecDeque;
@@ -21,6 +21,8 @@ pub(crate) struct Waiting {
     events: VecDeque<Event>,
     // how many wait
     is: usize,
+    // how many were missed
+    missed: u64,
 }
 
 impl Model for Waiting {
@@ -29,20 +31,58 @@ impl Model for Waiting {
 
     ghost Value = { WaitingValue };
 
-    ghost view = { λ w. record { tree = w.tree; prefix = w.prefix; events = take w.is w.events.items; coming = drop w.is w.events.items } };
+    ghost view = { λ w. record { tree = w.tree; prefix = w.prefix; backlog = record { missed = w.missed; events = take w.is w.events.items }; coming = drop w.is w.events.items } };
 
-    ghost invariant = { λ w. w.is ≤ length w.events.items };
+    ghost use Rattle.sled_model.specs.Backlog.{queue_limit};
+
+    ghost invariant = { λ w. (w.is ≤ length w.events.items) × (w.is ≤ queue_limit) };
+}
+
+// One event more waits: the first one behind those that wait. Where 1024 wait the oldest goes, and is counted.
+fn admit_one(events: &mut VecDeque<Event>, is: usize, missed: u64) -> (usize, u64)
+    requires some { is < length events.old.items }
+    requires within { is ≤ queue_limit }
+    ensures bound { result.0 ≤ length events.new.items }
+    ensures limit { result.0 ≤ queue_limit }
+    ensures comes { come_all (drop result.0 events.new.items) (record { missed = result.1; events = take result.0 events.new.items }) ≡ come_all (drop is events.old.items) (record { missed = missed; events = take is events.old.items }) }
+    ensures fewer { length (drop result.0 events.new.items) + 1 ≡ length (drop is events.old.items) }
+{
+    if is < QUEUE_LIMIT {
+        return (is + 1, missed);
+    }
+    let oldest = events.pop_front();
+    drop(oldest);
+    (is, missed.saturating_add(1))
+}
+
+// All events wait, one after the other.
+fn admit(events: &mut VecDeque<Event>, is: usize, missed: u64) -> (usize, u64)
+    requires bound { is ≤ length events.old.items }
+    requires within { is ≤ queue_limit }
+    ensures all { result.0 ≡ length events.new.items }
+    ensures limit { result.0 ≤ queue_limit }
+    ensures comes { record { missed = result.1; events = events.new.items } ≡ come_all (drop is events.old.items) (record { missed = missed; events = take is events.old.items }) }
+{
+    let mut is = is;
+    let mut missed = missed;
+    for _ in 0..events.len() - is {
+        let (more, count) = admit_one(events, is, missed);
+        is = more;
+        missed = count;
+    }
+    (is, missed)
 }
 
 impl Waiting {
     pub(crate) fn new(alloc: Global, tree: u64, prefix: IVec) -> Waiting
-        ensures { result ≡ record { tree = tree; prefix = prefix; events = []; coming = [] } }
+        ensures { result ≡ record { tree = tree; prefix = prefix; backlog = no_backlog; coming = [] } }
     {
         Waiting {
             tree,
             prefix,
             events: VecDeque::new(alloc),
             is: 0,
+            missed: 0,
         }
     }
 
@@ -64,13 +104,6 @@ impl Waiting {
         ensures { result ≡ has_prefix event.now self.now }
     {
         self.begins(event.key().as_ref())
-    }
-
-    // Whether there is no room for one event more.
-    pub(crate) fn is_full(&self) -> bool
-        ensures { result ≡ nat_le queue_limit (held self.now) }
-    {
-        QUEUE_LIMIT <= self.events.len()
     }
 
     // Prepares the event, where it has the prefix. Refused with `NoMemory` alone.
@@ -102,11 +135,13 @@ impl Waiting {
         }
     }
 
-    // Makes wait what is prepared.
+    // Makes wait what is prepared, one event after the other. Where 1024 wait, the oldest goes.
     pub(crate) fn commit(&mut self)
         ensures { self.new ≡ tells self.old }
     {
-        self.is = self.events.len();
+        let (is, missed) = admit(&mut self.events, self.is, self.missed);
+        self.is = is;
+        self.missed = missed;
     }
 
     // Drops what is prepared.
@@ -116,15 +151,23 @@ impl Waiting {
         self.events.truncate(self.is);
     }
 
-    // Takes the oldest event that waits.
-    pub(crate) fn next(&mut self) -> Option<Event>
-        ensures is { result ≡ slice_get self.old.events 0 }
+    // Takes the number of missed events, or else the oldest event that waits.
+    pub(crate) fn next(&mut self) -> Option<Next>
+        ensures is { result ≡ next_of self.old.backlog }
         ensures rest { self.new ≡ taken_in self.old }
     {
+        if self.missed != 0 {
+            let missed = self.missed;
+            self.missed = 0;
+            return Some(Next::Missed(missed));
+        }
         if self.is == 0 {
             return None;
         }
         self.is -= 1;
-        self.events.pop_front()
+        match self.events.pop_front() {
+            Some(event) => Some(Next::Event(event)),
+            None => None,
+        }
     }
 }

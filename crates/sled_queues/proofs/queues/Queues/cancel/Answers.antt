@@ -1,18 +1,12 @@
-use Rattle.std.proofs.Common.{refl, sym, subst}
-use Rattle.std.specs.Ordering.{nat_cmp}
-use Rattle.std.specs.BTreeMap.{get}
+use Rattle.std.proofs.Common.{refl}
 use Rattle.sled_queues.specs.Queues.{cancelled}
-use Rattle.sled_queues.specs.Lists.{lists_of, Rise}
 use Rattle.sled_queues.proofs.Listed.{cancels, cancelled_listed, cancelled_queues, becomes}
 use Rattle.sled_queues.proofs.queues.Queues.cancel.Goals as goal
 
-pub cancel_all-requires : goal.cancel_all-requires
-cancel_all-requires c = (c.self.inside.given, subst (Rise c.self.inside.given) (sym c.numbers_of.ensures) (c.self.invariant.1.rise c.args.tree))
-
 pub invariant_of-self : goal.invariant_of-self
 invariant_of-self c =
-    let is = cancels c.args.tree c.numbers_of.result.now (get nat_cmp c.self.inside.queues) (get nat_cmp c.cancel_all.new.queues) (lists_of c.self.inside.lists) c.self.inside.given c.self.invariant.1 (sym c.numbers_of.ensures) c.cancel_all.ensures in
-    (cancelled_queues c.args.tree _ _ is refl c.self.invariant.0, cancelled_listed c.args.tree _ _ _ _ is c.self.invariant.1)
+    let is = cancels _ _ c.self.invariant.0 c.cancel_all.ensures in
+    (cancelled_queues _ _ is refl c.self.invariant.0, cancelled_listed _ _ _ _ is c.self.invariant.1)
 
 pub returns : goal.returns
-returns c = becomes (cancelled c.args.tree) _ _ _ c.self.view_is (cancels c.args.tree c.numbers_of.result.now (get nat_cmp c.self.inside.queues) (get nat_cmp c.cancel_all.new.queues) (lists_of c.self.inside.lists) c.self.inside.given c.self.invariant.1 (sym c.numbers_of.ensures) c.cancel_all.ensures) refl
+returns c = becomes cancelled _ _ _ c.self.view_is (cancels _ _ c.self.invariant.0 c.cancel_all.ensures) refl
