@@ -45,6 +45,7 @@ struct Bench {
     shortest: u16,
     longest: u16,
     row: Vec<u8>,
+    subscribers: u64,
 }
 
 impl Bench {
@@ -91,6 +92,12 @@ impl Bench {
         self.insert(if choice % 2 == 0 { place } else { other }, !turn)
     }
 
+    // Nobody watches a map, so a subscriber has a number alone.
+    fn watch(&mut self) -> u64 {
+        self.subscribers += 1;
+        self.subscribers
+    }
+
     // So many pairs at most from a key on: how many there were, and a checksum of them.
     fn taken(&self, from: &[u8], most: usize) -> (u64, u64) {
         let pairs = self.map.range::<[u8], _>((Bound::Included(from), Bound::Unbounded));
@@ -116,6 +123,7 @@ impl Bench {
             "mix" => |bench, turn| bench.mixed(turn),
             "ranges" => |bench, turn| bench.taken(&bench.key(bench.loaded(turn)), RANGE).1,
             "gets" | "slots" => |bench, turn| bench.get(bench.loaded(turn)),
+            "watches" => |bench, _| bench.watch(),
             _ => return None,
         };
         let mut sum = 0u64;
@@ -142,6 +150,7 @@ fn measure(words: &[String]) -> Option<()> {
         row: (0..STARTS + u64::from(longest))
             .map(|place| scattered(place).to_be_bytes()[0])
             .collect(),
+        subscribers: 0,
     };
     // Direct or not is all one to the map.
     for workload in workloads.iter().filter(|word| *word != "direct") {

@@ -24,25 +24,31 @@ pub enum Workload {
     Removals,
     /// Gets of pairs that were loaded, which all begin before the first of them is ended.
     Slots,
+    /// New subscribers, each to a key that no other workload names.
+    Watches,
     /// All pairs, from the least key up, by an iterator.
     Scan,
     /// Ranges of a hundred pairs, each from a key that was loaded on.
     Ranges,
 }
 
-const WORKLOADS: [(&str, Workload); 8] = [
+const WORKLOADS: [(&str, Workload); 9] = [
     ("load", Workload::Load),
     ("gets", Workload::Gets),
     ("inserts", Workload::Inserts),
     ("mix", Workload::Mix),
     ("removals", Workload::Removals),
     ("slots", Workload::Slots),
+    ("watches", Workload::Watches),
     ("scan", Workload::Scan),
     ("ranges", Workload::Ranges),
 ];
 
 // How many pairs a range has at most.
 const RANGE: usize = 100;
+
+// The keys that are watched begin at this place, behind those of all pairs.
+const WATCHED: u64 = 1 << 62;
 
 /// The workload of a name.
 pub fn named(name: &str) -> Result<Workload> {
@@ -100,6 +106,14 @@ impl<M: MergeOperator> Client<M> {
                 Ok(_) => Ok(()),
                 Err(error) => Err(Stopped::from(error)),
             },
+        }
+    }
+
+    // A new subscriber: its number.
+    fn watch(&mut self, tree: &Tree, prefix: IVec) -> Result<u64> {
+        match self {
+            Client::Stepped(machine) => watch_step(machine, tree, prefix),
+            Client::Direct(db) => watch_direct(db, tree, prefix),
         }
     }
 
@@ -212,6 +226,7 @@ impl<M: MergeOperator> Bench<M> {
             Workload::Removals => self.remove(turn),
             Workload::Mix => self.mixed(turn),
             Workload::Ranges => self.range(loaded),
+            Workload::Watches => self.watch(turn),
             Workload::Gets | Workload::Slots | Workload::Scan => self.get(loaded),
         }
     }
@@ -258,6 +273,11 @@ impl<M: MergeOperator> Bench<M> {
         let digest = self.call(Call::Remove(key))?;
         self.changed()?;
         Ok(digest)
+    }
+
+    fn watch(&mut self, turn: u64) -> Result<u64> {
+        let prefix = self.pairs.key(WATCHED.wrapping_add(turn))?;
+        self.client.watch(&self.tree, prefix)
     }
 
     // The first pairs from a key on, by an iterator.
@@ -332,6 +352,38 @@ fn made<M: MergeOperator>(db: &mut Db<MemPages, M>, tree: &Tree, call: &Call) ->
     }
 }
 
+// A new subscriber by a step of a machine, and by a call of a database: its number.
+fn watch_step<M: MergeOperator>(
+    machine: &mut Machine<MemPages, M>,
+    tree: &Tree,
+    prefix: IVec,
+) -> Result<u64> {
+    let tree = match tree.clone() {
+        Ok(tree) => tree,
+        Err(error) => {
+            drop(prefix);
+            return Err(Stopped::from(error));
+        }
+    };
+    let outcome = machine.whole(Whole::Watch(tree, prefix));
+    let digest = digest_of(&outcome);
+    drop(outcome);
+    digest
+}
+
+fn watch_direct<M: MergeOperator>(
+    db: &mut Db<MemPages, M>,
+    tree: &Tree,
+    prefix: IVec,
+) -> Result<u64> {
+    let watched = db.watch_prefix(tree, prefix.as_ref());
+    drop(prefix);
+    match watched {
+        Ok(subscriber) => Ok(subscriber.0),
+        Err(error) => Err(Stopped::from(error)),
+    }
+}
+
 // What stands for a pair in a checksum.
 fn digest_of_pair(pair: (IVec, IVec)) -> u64 {
     let (key, value) = pair;
@@ -373,6 +425,7 @@ fn digest_of(outcome: &Outcome) -> Result<u64> {
     match outcome {
         Outcome::Decided(Reply::Value(value)) => Ok(digest(value)),
         Outcome::Decided(Reply::Number(_)) => Ok(0),
+        Outcome::Decided(Reply::Subscriber(subscriber)) => Ok(subscriber.0),
         _ => Err(Stopped),
     }
 }
