@@ -67,7 +67,7 @@ pub fn law_heard()
     ensures { HeardLaw }
 {}
 
-/// The events that come to a tree at a step tell all that the step changes in its map.
+/// The events that come to a tree at a step tell all that the step changes in its map, while the database is open.
 pub fn law_trees()
     ensures { TreesLaw }
 {}
