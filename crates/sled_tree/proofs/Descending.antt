@@ -1,6 +1,6 @@
 -- The steps of a walk.
 use native.Mathlib.Omega.{arith}
-use Rattle.std.proofs.Common.{◌≡◌, ◌↔◌, IsTrue, ℕ, ◌+◌, ◌<◌, ◌≤◌, true, false, Bool, Option, Some, None, Result, Ok, Err, IfOk, IfErr, OnOk, MatchOption, refl, sym, ap, ◌∙◌, subst, inl, inr}
+use Rattle.std.proofs.Common.{◌≡◌, ℕ, ◌+◌, ◌<◌, ◌≤◌, true, Bool, Option, Some, None, Result, Ok, Err, IfOk, IfErr, OnOk, MatchOption, refl, sym, ap, ◌∙◌, subst, inl, inr}
 use Rattle.sled_nodes.specs.Order.{Key}
 use Rattle.sled_nodes.specs.Among.{IsPointer, IsPointerFor}
 use Rattle.sled_nodes.specs.Node.{count, pointers}
@@ -15,8 +15,6 @@ use Rattle.sled_tree.specs.Change.{reply_at}
 use Rattle.sled_tree.specs.theory.Change.{IsLeaf, IsIndex}
 use Rattle.sled_tree.specs.theory.Descent.{way_of, met_as, RepairsParent, IsClean, Meets, Leads, Descends, Settles}
 use Rattle.sled_tree.specs.Follows.{follows_here, Follows, FollowsPage, done_at, follows_read, follows_root, follows_leaf, follows_content}
-use Rattle.sled_tree.specs.theory.StageAction.{AfterPage}
-use Rattle.sled_tree.specs.theory.Passing.{AdvancesFromPage}
 use Rattle.sled_tree.specs.declared.walk.Descent.TheVariants as descent
 use Rattle.sled_tree.specs.declared.flight.InFlight.{InFlight}
 use Rattle.sled_tree.specs.Course.{Course, course_of}

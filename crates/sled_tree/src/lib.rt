@@ -24,4 +24,3 @@ pub use tree_laws::flight::{
     Stage, SwapRoot, Walk,
 };
 pub use tree_laws::half::Half;
-pub use tree_reads::{Iter, Keys, Values};
