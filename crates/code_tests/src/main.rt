@@ -1,17 +1,29 @@
-//! What only code can test: readers and writers that fail, and a reader that waits for each answer. It prints what came of each
-//! case; `stdout` has what should have come.
+//! What only code can test: readers and writers that fail, a reader that waits for each answer, and batches. It prints what came of
+//! each case; `stdout` has what should have come.
 #![tactic(auto)]
 
+mod batches;
 mod streams;
 
 use std::io;
 use std::process::ExitCode;
+use sled_batch::Batch;
 use streams::{CASES, served};
 
 fn run(rt: &HostRuntime) -> io::Result<()> {
     for case in &CASES {
         let (status, lines) = served(rt.alloc(), case)?;
         println!(rt; "{}: status {status} and {lines} lines", case.0)?;
+    }
+    let batch = Batch::default(rt.alloc());
+    println!(rt; "{:?} has {} writes, is empty: {}", batch, batch.len(), batch.is_empty())?;
+    match batches::filled(rt.alloc()) {
+        Ok(batch) => println!(rt; "{:?} has {} writes, is empty: {}", batch, batch.len(), batch.is_empty())?,
+        Err(e) => println!(rt; "{e}")?,
+    }
+    match batches::copies(rt.alloc()) {
+        Ok((is_same, is_still)) => println!(rt; "a copy is the same: {is_same}, and once it is written to: {is_still}")?,
+        Err(e) => println!(rt; "{e}")?,
     }
     Ok(())
 }
