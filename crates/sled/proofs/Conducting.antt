@@ -31,10 +31,9 @@ use Rattle.sled.specs.Values.{DbValue, state_of, db_state, snapshot_of_db}
 use Rattle.sled.specs.Sound.{IsDb}
 use Rattle.sled.specs.Calls.{MustBeRefused, must_be_refused_as}
 use Rattle.sled.specs.Flights.{call_in_flight_of, maps_added, PagesLast, KeepsTreePages, effect_of_step, IsStepRefused, DbStepContract, DbSteps, Ends, GoesOn, DbRunsToEnd}
-use Rattle.sled.specs.Direct.{ActsOften, NoAction, OneAction, effects_until, StaysInChainOrWent, KeepsOrFreesTreePages, Conducts, begun_flight, PointDecided, StopsAtFirst, PointRefused, LeavesAll}
+use Rattle.sled.specs.Direct.{ActsOften, NoAction, OneAction, effects_until, StaysInChainOrWent, KeepsOrFreesTreePages, Conducts, begun_flight, PointDecided, PointRefused, LeavesAll}
 use Rattle.sled.proofs.Operating.{fails_first, passes_plain}
 use Rattle.sled.proofs.Flying.{loses_nothing, quiet_untold, everywhere, moved_state}
-use Rattle.sled.proofs.Watching.{root_act}
 
 none_some : {P X : Type 0} {x : X} → None ≡ Some x → P
 none_some e = cc
@@ -140,7 +139,6 @@ cause_alike s a m b tree call (error.CollectionNotFound name) r t = t
 cause_alike s a m b tree call (error.Unsupported text) r t = t
 cause_alike s a m b tree call (error.ReportableBug text) r t = t
 cause_alike s a m b tree call (error.Corruption fault) r t = t
-cause_alike s a m b tree call error.FullQueue r t = t
 cause_alike s a m b tree call error.Closed r t = t
 
 pub may_alike : (s : State) (a m b : Store) (tree : Tree) (call : Call) (e : Error) → ReadsAlike a m → MayRefuse s m b (ToPoint tree call) e → MayRefuse s a b (ToPoint tree call) e
@@ -159,7 +157,6 @@ module _ {P M : Type 0} (store : P → Store) (meant : M → Merge) (old : DbVal
   cause_at (error.Unsupported text) t = t
   cause_at (error.ReportableBug text) t = t.0
   cause_at (error.Corruption fault) t = t
-  cause_at error.FullQueue t = record { tree = t.tree; there = t.there; event = t.event; brings = t.brings; subscriber = t.subscriber; queue = t.queue; waits = t.waits; matching = t.matching; full = t.full }
   cause_at error.Closed t = t
 
   may_at : (e : Error) → MayRefuse (state_of store meant old slots 0) a b (ToStep f) e → MayRefuse (db_state store meant old) a b (ToPoint f.tree f.call) e
@@ -285,7 +282,7 @@ module _ {P M : Type 0} (store : P → Store) (meant : M → Merge) where
       conducts = begun_conducts (Refused e) flies;
       steps = inr (g, flies);
       turns = λ tells path clean. elim (cases_lt (length path) turns_limit) [
-        | inl fits ↦ absurd ((flies.passes (record { is = λ view here. root_act here }) path clean (unused (length path) fits)).unlimited tells)
+        | inl fits ↦ absurd ((flies.passes path clean (unused (length path) fits)).unlimited tells)
         | inr many ↦ many
       ];
     }
@@ -322,7 +319,6 @@ untold_turns o (error.Io fault) t tells = tells
 untold_turns o (error.CollectionNotFound name) t tells = tells
 untold_turns o (error.Unsupported text) t tells = tells
 untold_turns o (error.Corruption fault) t tells = tells
-untold_turns o error.FullQueue t tells = tells
 untold_turns o error.Closed t tells = tells
 
 untold_fault : (o : Option MustRefuse) (e : Error) → must_be_refused_as o e → (fault : Rattle.sled_nodes.specs.declared.error.Fault.Fault) → e ≡ error.Io fault → ⊥

@@ -32,7 +32,6 @@ only (error.CollectionNotFound name) a b t = absurd t
 only (error.Unsupported text) a b t = absurd t
 only (error.ReportableBug text) a b t = absurd t
 only (error.Corruption fault) a b t = absurd t
-only error.FullQueue a b t = absurd t
 only error.Closed a b t = absurd t
 
 module _ {P M : Type 0} (store : P → Store) (meant : M → Merge) (old : DbValue P M) where
@@ -109,7 +108,6 @@ module _ {P M : Type 0} (store : P → Store) (meant : M → Merge) (old : DbVal
   cause slots given q (error.Unsupported text) t = absurd t
   cause slots given q (error.ReportableBug text) t = absurd t
   cause slots given q (error.Corruption fault) t = absurd t
-  cause slots given q error.FullQueue t = absurd t
   cause slots given q error.Closed t = absurd t
 
   pub flush_refused : (q : P) (e : Error) → (now (store old.pages)).in_group ≡ false → IsRefused e (store old.pages) (store q) → RefusesFlush store meant old (record old { pages = q }) e

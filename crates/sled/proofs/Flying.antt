@@ -3,38 +3,34 @@ use Rattle.std.proofs.Common.{◌≡◌, ◌≢◌, ℕ, zero, suc, ◌+◌, ◌
 use Rattle.std.specs.FinMap.Entries.{find}
 use Rattle.std.specs.Ordering.{nat_cmp}
 use Rattle.std.specs.Str.{bytes_eq}
-use Rattle.sled_nodes.specs.Order.{Key, key_cmp}
+use Rattle.sled_nodes.specs.Order.{Key}
 use Rattle.sled_store.specs.In.{In}
 use Rattle.sled_store.specs.Update.{put_at, put_name}
 use Rattle.sled_store.specs.State.{nodes_of}
-use Rattle.sled_store.specs.Store.{Store, now, version_now}
+use Rattle.sled_store.specs.Store.{Store, now}
 use Rattle.sled_store.specs.declared.page.Page.{Page}
 use Rattle.sled_nodes.specs.declared.error.Fault.{Fault}
 use Rattle.sled_nodes.specs.declared.error.Error.{Error}
 use Rattle.sled_nodes.specs.declared.error.Error.TheVariants as error
 use Rattle.sled_model.specs.Maps.{Map, Merge}
-use Rattle.sled_nodes.specs.Node.{value_at, after_link}
+use Rattle.sled_nodes.specs.Node.{after_link}
 use Rattle.sled_nodes.specs.declared.link.Link.{Link}
 use Rattle.sled_nodes.specs.declared.node.Node.{Node}
 use Rattle.sled_store.specs.declared.page.View.{View}
-use Rattle.sled_model.specs.Event.{key_of_event}
 use Rattle.sled_model.specs.Answer.{Answer, answer_of, decision_of, event_of, key_of}
-use Rattle.sled_model.specs.State.{State, NamedTree, Queue, CallInFlight, maps_of, matches, queues_after, after_decision}
-use Rattle.sled_model.specs.Refusal.{MustRefuse, IsClosed, IsForeign, IsDropped, HasNoOperator, must_refuse, MayRefuse, MeetsFullQueue, ToStep, ToPoint, TellsTurns, cause_of, may_refuse_as, turns_limit}
+use Rattle.sled_model.specs.State.{State, NamedTree, CallInFlight, maps_of, queues_after, after_decision}
+use Rattle.sled_model.specs.Refusal.{MustRefuse, IsClosed, IsForeign, IsDropped, HasNoOperator, must_refuse, MayRefuse, ToStep, ToPoint, TellsTurns, cause_of, may_refuse_as, turns_limit}
 use Rattle.sled_model.specs.declared.event.Event.{Event}
-use Rattle.sled_model.specs.declared.decision.Effect.{Effect}
-use Rattle.sled_model.specs.declared.decision.Effect.TheVariants as effect
 use Rattle.sled_model.specs.declared.reply.Reply.{Reply}
-use Rattle.sled_queues.specs.Values.{WaitingValue, QueuesValue, queue_at}
-use Rattle.sled_queues.specs.Queues.{queue_of, queues_of, held, Becomes, IsCalm}
-use Rattle.sled_queues.specs.Tells.{waits_for}
+use Rattle.sled_queues.specs.Values.{QueuesValue, queue_at}
+use Rattle.sled_queues.specs.Queues.{queues_of, Becomes, IsCalm}
 use Rattle.sled_queues.proofs.Lawful.{delivers_law}
 use Rattle.sled_model.specs.declared.TheConstants.{MAX_LOOPS}
 use Rattle.tree_laws.specs.Forest.{Tree, Forest, contents}
 use Rattle.tree_laws.specs.Contents.{trees_of}
 use Rattle.tree_laws.specs.Crashes.{IsValid, IsCrashConsistent, AddsCrashStates}
 use Rattle.tree_laws.specs.theory.Crashes.{AddsAction}
-use Rattle.tree_laws.specs.Snapshot.{Snapshot, snapshot_of, nodes_at, HasForest, IsActing}
+use Rattle.tree_laws.specs.Snapshot.{Snapshot, nodes_at, HasForest, IsActing}
 use Rattle.tree_laws.specs.theory.Snapshot.{KeepsForest}
 use Rattle.tree_laws.proofs.Crashing.{adds_extends, adds_unseen, extends_same, extends_again, valid_law}
 use Rattle.tree_laws.proofs.Reading.{one_law}
@@ -51,23 +47,20 @@ use Rattle.tree_laws.specs.declared.flight.Stage.TheVariants as stage
 use Rattle.tree_laws.proofs.Known.{answers}
 use Rattle.sled_tree.specs.Stages.{Knows}
 use Rattle.sled_tree.specs.Known.{IsKnown}
-use Rattle.sled_tree.specs.Passing.{IsUnchanged, IsOnPath, StepsOnPath}
+use Rattle.sled_tree.specs.Passing.{IsOnPath, StepsOnPath}
 use Rattle.sled_tree.specs.Change.{link_of, decision_at}
 use Rattle.sled_tree.specs.Follows.{Follows, FollowsOn, TakesWay}
-use Rattle.sled_tree.specs.theory.Linking.{begun_again, StepsBy}
+use Rattle.sled_tree.specs.theory.Linking.{StepsBy}
 use Rattle.sled_tree.specs.StageAction.{ActsOnce, ActsAtMostOnce, LeaksNoPage}
-use Rattle.sled_tree.specs.theory.StageAction.{StageActionBy, KeepsContents, DecidesAs, Only, is_action_refused_as, FlightStepBy}
+use Rattle.sled_tree.specs.theory.StageAction.{StageActionBy, KeepsContents, DecidesAs, Only, is_action_refused_as}
 use Rattle.sled.specs.Values.{DbValue, numbers_of, given_to, named, state_of, db_state, snapshot_of_db}
 use Rattle.sled.specs.Sound.{IsDb}
 use Rattle.sled.specs.Calls.{MustBeRefused, must_be_refused_as}
-use Rattle.sled.specs.Flights.{call_in_flight_of, MeetsNoFullQueue, FindsRoom, DbFindsRoom, PagesLast, StaysInChain, KeepsTreePages, IsStepRefused, DbStepContract, DbSteps, Ends, GoesOn, has_turns, TakesAtMost, DbRunsToEnd}
-use Rattle.sled.specs.theory.Watched.{HasRoomFor, MeetsFullFor, told, told_by, StepsOver, TurnsBack, MeetsFullThere, AdvancesOver}
+use Rattle.sled.specs.Flights.{call_in_flight_of, PagesLast, StaysInChain, KeepsTreePages, IsStepRefused, DbStepContract, DbSteps, Ends, GoesOn, has_turns, TakesAtMost, DbRunsToEnd}
+use Rattle.sled.specs.theory.Watched.{told, told_by, AdvancesOver}
 use Rattle.sled_tree.proofs.Known.{not_own, known_kept}
-use Rattle.sled_tree.proofs.Deciding.{IsReading, decided_law, change_law}
-use Rattle.sled_tree.proofs.Facts.{restarts, by_these}
-use Rattle.sled_tree.proofs.Facts.{refused as refused_action}
-use Rattle.sled_tree.proofs.Replying.{links_law}
-use Rattle.sled.proofs.Watching.{same_queues, room_full, event_key, decided_moved, refused_moved, root_act}
+use Rattle.sled_tree.proofs.Deciding.{IsReading, decided_law}
+use Rattle.sled.proofs.Watching.{same_queues}
 use Rattle.sled.proofs.Resting.{Rests, rests_refused, now_rests, rests_extends, rests_left}
 use Rattle.sled.proofs.Testing.{tree_tested, limit_is, tested_calm}
 use Rattle.sled.proofs.Trees.{trees_at, trees_same, trees_put, maps_are, current, numbered}
@@ -130,7 +123,6 @@ refuses_quietly (error.CollectionNotFound name) a b t = absurd t
 refuses_quietly (error.Unsupported text) a b t = absurd t
 refuses_quietly (error.ReportableBug text) a b t = absurd t
 refuses_quietly (error.Corruption fault) a b t = absurd t
-refuses_quietly error.FullQueue a b t = absurd t
 refuses_quietly error.Closed a b t = absurd t
 
 -- no test and no limit tells `Io`
@@ -141,7 +133,6 @@ quiet_untold (error.CollectionNotFound name) a off = refl
 quiet_untold (error.Unsupported text) a off = refl
 quiet_untold (error.ReportableBug text) a off = refl
 quiet_untold (error.Corruption fault) a off = refl
-quiet_untold error.FullQueue a off = refl
 quiet_untold error.Closed a off = refl
 
 -- what an action adds to what a crash may leave
@@ -168,7 +159,6 @@ cause_is s f (error.CollectionNotFound name) a b t = absurd t
 cause_is s f (error.Unsupported text) a b t = absurd t
 cause_is s f (error.ReportableBug text) a b t = absurd t
 cause_is s f (error.Corruption fault) a b t = absurd t
-cause_is s f error.FullQueue a b t = absurd t
 cause_is s f error.Closed a b t = absurd t
 
 -- a page that a change was linked to stood at the version that was read
@@ -189,16 +179,6 @@ linked_page j a b view reply f = elim f.is [
     go d (Some l) (inl t) = (t.1.is.0, t.1.is.1)
     go d (Some l) (inr t) = off t.2
 
--- what was answered is not a full queue
-moved_told : {X : Type 0} → Moved ≡ Refused error.FullQueue → X
-moved_told e = cc
-
-decided_told : {X : Type 0} {reply : Reply} → Decided reply ≡ Refused error.FullQueue → X
-decided_told e = cc
-
-told_error : {e d : Error} → Refused e ≡ Refused d → e ≡ d
-told_error e = cc
-
 -- an action is counted
 acts_not : {X : Type 0} (a b : Store) → b ≡ a → ActsOnce a b → X
 acts_not a b same o = absurd (more a.actions b.actions (ap (λ (s : Store). s.actions) same) (ap (λ (s : Store). s.actions) o.is))
@@ -208,8 +188,8 @@ acts_not a b same o = absurd (more a.actions b.actions (ap (λ (s : Store). s.ac
 
 -- a call that is refused before it touches a page
 module _ {P M : Type 0} (store : P → Store) (meant : M → Merge) (old : DbValue P M) where
-  untouched : (f g : InFlight) (e : Error) → ((fault : Fault) → e ≡ error.Io fault → ⊥) → e ≢ error.FullQueue → (must_refuse (db_state store meant old) (ToStep (call_in_flight_of f)) ≡ None → f.turns < turns_limit → ⊥) → (must_refuse (db_state store meant old) (ToStep (call_in_flight_of f)) ≡ None → f.turns ≡ turns_limit → TellsTurns e) → ((slots : ℕ → Option CallInFlight) (given : ℕ) → MayRefuse (state_of store meant old slots given) (store old.pages) (store old.pages) (ToStep (call_in_flight_of f)) e) → DbStepContract store meant old f (Refused e) old g
-  untouched f g e off empty stopped limit may = record {
+  untouched : (f g : InFlight) (e : Error) → ((fault : Fault) → e ≡ error.Io fault → ⊥) → (must_refuse (db_state store meant old) (ToStep (call_in_flight_of f)) ≡ None → f.turns < turns_limit → ⊥) → (must_refuse (db_state store meant old) (ToStep (call_in_flight_of f)) ≡ None → f.turns ≡ turns_limit → TellsTurns e) → ((slots : ℕ → Option CallInFlight) (given : ℕ) → MayRefuse (state_of store meant old slots given) (store old.pages) (store old.pages) (ToStep (call_in_flight_of f)) e) → DbStepContract store meant old f (Refused e) old g
+  untouched f g e off stopped limit may = record {
     step = record {
       steps = λ slots given slot before after here. record { is = (record { flying = call_in_flight_of f; here = here; may = may slots given; limit = limit; is = refl }, refl) };
       extends = extends_same (store old.pages);
@@ -218,9 +198,8 @@ module _ {P M : Type 0} (store : P → Store) (meant : M → Merge) (old : DbVal
     };
     sound = record { keeps = λ d. d };
     does = record { does = quiet_untold e (store old.pages) off; quiet = λ q. refl; loud = λ event b. absurd (silent b.reply b.decided) };
-    follows = λ must fits finds other. absurd (stopped must fits);
-    passes = λ finds. record { is = tt };
-    room = record { room = λ e. absurd (apart e); back = λ must fits view here met. absurd (stopped must fits); told = λ full. absurd (empty (told_error full)) };
+    follows = λ must fits. absurd (stopped must fits);
+    passes = record { is = tt };
     loses = loses_nothing None (snapshot_of_db store old);
     leaves = λ v is. tt;
     knows = record { goes_on = λ e. absurd (apart e); others = λ h off k. (k, λ e. absurd (apart e)) };
@@ -234,7 +213,7 @@ module _ {P M : Type 0} (store : P → Store) (meant : M → Merge) (old : DbVal
 
   -- the tests refuse the call
   pub flies_untested : (f g : InFlight) (e : Error) → MustBeRefused (must_refuse (db_state store meant old) (ToStep (call_in_flight_of f))) e → DbStepContract store meant old f (Refused e) old g
-  flies_untested f g e tested = untouched f g e (λ fault io. untold fault (must_refuse (db_state store meant old) (ToStep (call_in_flight_of f))) (subst (λ z. must_be_refused_as (must_refuse (db_state store meant old) (ToStep (call_in_flight_of f))) z) io tested.is)) (λ full. unfilled (must_refuse (db_state store meant old) (ToStep (call_in_flight_of f))) (subst (λ z. must_be_refused_as (must_refuse (db_state store meant old) (ToStep (call_in_flight_of f))) z) full tested.is)) (λ none fits. absurd (subst (λ o. must_be_refused_as o e) none tested.is)) (λ none all. absurd (subst (λ o. must_be_refused_as o e) none tested.is)) (λ slots given. record { is = go slots given (must_refuse (db_state store meant old) (ToStep (call_in_flight_of f))) tested.is })
+  flies_untested f g e tested = untouched f g e (λ fault io. untold fault (must_refuse (db_state store meant old) (ToStep (call_in_flight_of f))) (subst (λ z. must_be_refused_as (must_refuse (db_state store meant old) (ToStep (call_in_flight_of f))) z) io tested.is)) (λ none fits. absurd (subst (λ o. must_be_refused_as o e) none tested.is)) (λ none all. absurd (subst (λ o. must_be_refused_as o e) none tested.is)) (λ slots given. record { is = go slots given (must_refuse (db_state store meant old) (ToStep (call_in_flight_of f))) tested.is })
     where
       go : (slots : ℕ → Option CallInFlight) (given : ℕ) (o : Option MustRefuse) → must_be_refused_as o e → may_refuse_as o (state_of store meant old slots given) (store old.pages) (store old.pages) (ToStep (call_in_flight_of f)) e
       go slots given None t = absurd t
@@ -248,14 +227,6 @@ module _ {P M : Type 0} (store : P → Store) (meant : M → Merge) (old : DbVal
       untold fault (Some (IsDropped name)) (inr t) = cc
       untold fault (Some HasNoOperator) t = t
 
-      unfilled : (o : Option MustRefuse) → must_be_refused_as o error.FullQueue → ⊥
-      unfilled None t = t
-      unfilled (Some IsClosed) t = cc
-      unfilled (Some IsForeign) t = t
-      unfilled (Some (IsDropped name)) (inl t) = cc
-      unfilled (Some (IsDropped name)) (inr t) = cc
-      unfilled (Some HasNoOperator) t = t
-
   -- the tests let the call pass
   module _ (f : InFlight) (must : must_refuse (db_state store meant old) (ToStep (call_in_flight_of f)) ≡ None) where
     may_refuse : (slots : ℕ → Option CallInFlight) (given : ℕ) (a b : Store) (e : Error) → cause_of (state_of store meant old slots given) a b (ToStep (call_in_flight_of f)) e → MayRefuse (state_of store meant old slots given) a b (ToStep (call_in_flight_of f)) e
@@ -263,7 +234,7 @@ module _ {P M : Type 0} (store : P → Store) (meant : M → Merge) (old : DbVal
 
     -- its turns are the limit
     pub flies_limit : (g : InFlight) (e : Error) → f.turns ≡ turns_limit → TellsTurns e → ((slots : ℕ → Option CallInFlight) (given : ℕ) → cause_of (state_of store meant old slots given) (store old.pages) (store old.pages) (ToStep (call_in_flight_of f)) e) → DbStepContract store meant old f (Refused e) old g
-    flies_limit g e all tells cause = untouched f g e (λ fault io. subst TellsTurns io tells) (λ full. subst TellsTurns full tells) (λ none fits. below f.turns all fits) (λ none all. tells) (λ slots given. may_refuse slots given (store old.pages) (store old.pages) e (cause slots given))
+    flies_limit g e all tells cause = untouched f g e (λ fault io. subst TellsTurns io tells) (λ none fits. below f.turns all fits) (λ none all. tells) (λ slots given. may_refuse slots given (store old.pages) (store old.pages) e (cause slots given))
       where
         below : (n : ℕ) → n ≡ turns_limit → n < turns_limit → ⊥
         below n all fits = omega arith
@@ -328,58 +299,11 @@ module _ {P M : Type 0} (store : P → Store) (meant : M → Merge) (old : DbVal
           count = t.count;
         }
 
-    -- a full queue that waits for the call's key, and the same in the model
-    meets_for : MeetsFullQueue (db_state store meant old) f.job.tree f.job.call → MeetsFullFor f old.queues
-    meets_for t = go (queue_at old.queues t.subscriber) refl t.waits
-      where
-        number : t.tree.number ≡ f.job.tree.number
-        number = ap (λ (z : NamedTree). z.number) (some_is (sym t.there ∙ there))
-
-        key : key_of_event t.event ≡ key_of f.job.call
-        key = event_key (decision_of t.tree.merge f.job.call (find key_cmp (key_of f.job.call) t.tree.map)).effect (key_of f.job.call) t.event t.brings
-
-        longer : (w : WaitingValue) → 1024 ≤ length w.events → 1024 ≤ held w
-        longer w h = omega arith
-
-        go : (o : Option WaitingValue) → queue_at old.queues t.subscriber ≡ o → option_map queue_of o ≡ Some t.queue → MeetsFullFor f old.queues
-        go None is e = none_some e
-        go (Some w) is e = record {
-          subscriber = t.subscriber;
-          queue = w;
-          there = is;
-          matching = subst (λ k. waits_for f.job.tree.number k w ≡ true) key (subst (λ n. waits_for n (key_of_event t.event) w ≡ true) number (subst (λ (z : Queue). matches t.tree.number t.event z ≡ true) (sym (some_is e)) t.matching));
-          full = longer w (subst (λ (z : Queue). 1024 ≤ length z.events) (sym (some_is e)) t.full);
-        }
-
     -- what the call comes to at a leaf that stands as it was read is what it comes to by the map
     module _ (view : View) (knows : Knows at db.forest (course_of f) (stage.Act view)) (node : Node) (page : (now (store old.pages)).pages view.pid ≡ Some (record { version = view.version; node = node })) where
       read_event : (answer_of operator f.job.call tree_now.map).event ≡ event_of (decision_at operator f.job.call view.node.content).effect (key_of f.job.call)
       read_event = ap (λ v. event_of (decision_of operator f.job.call v).effect (key_of f.job.call))
           (answers db.is f.job.tree.name f.job.tree.number (key_of f.job.call) view node (subst (λ aim. IsActing at db.forest f.job.tree.name f.job.tree.number aim view) knows.2 knows.0.0) (record { named = named_now; page = page }))
-
-      some_event : (event : Event) × (event_of (decision_at operator f.job.call view.node.content).effect (key_of f.job.call) ≡ Some event)
-      some_event = go (decision_at operator f.job.call view.node.content).effect (links_law operator f.job.call (value_at view.node.content (key_of f.job.call)) knows.1)
-        where
-          go : (e : Effect) → e ≢ effect.Nothing → (event : Event) × (event_of e (key_of f.job.call) ≡ Some event)
-          go effect.Nothing off = absurd (off refl)
-          go (effect.Set v) off = (_, refl)
-          go effect.Remove off = (_, refl)
-
-      meets_here : MeetsFullFor f old.queues → MeetsFullQueue (db_state store meant old) f.job.tree f.job.call
-      meets_here full = record {
-        tree = tree_now;
-        there = there;
-        event = some_event.0;
-        brings = read_event ∙ some_event.1;
-        subscriber = full.subscriber;
-        queue = queue_of full.queue;
-        waits = ap (option_map queue_of) full.there;
-        matching = subst (λ k. waits_for f.job.tree.number k full.queue ≡ true) (sym (event_key (decision_at operator f.job.call view.node.content).effect (key_of f.job.call) some_event.0 some_event.1)) full.matching;
-        full = calmly full.queue.events full.queue.coming (db.calm.none full.subscriber full.queue full.there) full.full;
-      }
-        where
-          calmly : (xs ys : List Event) → ys ≡ [] → 1024 ≤ length xs + length ys → 1024 ≤ length xs
-          calmly xs ys none h = let l = ap length none in omega (arith, l, h)
 
     module _ (q : P) (queues : QueuesValue) (known : IsKnown at f) where
       abbrev after : Snapshot
@@ -408,7 +332,7 @@ module _ {P M : Type 0} (store : P → Store) (meant : M → Merge) (old : DbVal
       whole v a (inr o) = valid_law o.action (store old.pages) (store q) (once_adds o) db.safe (λ no_group. well v a)
 
       -- the call goes on
-      module _ (fits : f.turns < turns_limit) (g : InFlight) (job : g.job ≡ f.job) (aim : g.aim ≡ f.aim) (turns : g.turns ≡ f.turns + 1) (moves : StageActionBy (Only operator) (course_of f) (store old.pages) f.stage (next.Go g.stage) (store q)) (further : FindsRoom (db_state store meant old) f → StepsOnPath (now (store old.pages)) f Moved (now (store q)) g) (follows : FindsRoom (db_state store meant old) f → FollowsOn (store old.pages) f Moved (store q) g) (keeps : Becomes (queue_at old.queues) old.queues.given queues) (room : DbFindsRoom store meant old f Moved new g) where
+      module _ (fits : f.turns < turns_limit) (g : InFlight) (job : g.job ≡ f.job) (aim : g.aim ≡ f.aim) (turns : g.turns ≡ f.turns + 1) (moves : StageActionBy (Only operator) (course_of f) (store old.pages) f.stage (next.Go g.stage) (store q)) (further : StepsOnPath (now (store old.pages)) f Moved (now (store q)) g) (follows : FollowsOn (store old.pages) f Moved (store q) g) (keeps : Becomes (queue_at old.queues) old.queues.given queues) where
         moved : (v : Forest) × KeepsForest (owned f.stage) (owned g.stage) at db.forest after v × (Knows after v (course_of f) g.stage × KeepsContents at db.forest after v) × LeaksNoPage (owned f.stage) (owned g.stage) (now (store old.pages)) (now (store q)) v
         moved = moves.is (numbers_of old.trees) (given_to old.trees_given) db.forest db.is named_now (known.is db.forest db.is)
 
@@ -466,9 +390,8 @@ module _ {P M : Type 0} (store : P → Store) (meant : M → Merge) (old : DbVal
           };
           sound = record { keeps = λ d. moved_db };
           does = record { does = moves.touches; quiet = λ k. absurd (apart k.reply k.decided); loud = λ event k. absurd (apart k.reply k.decided) };
-          follows = λ must fits finds other. follows finds;
+          follows = λ must fits. follows;
           passes = further;
-          room = room;
           loses = loses_acting at after db.forest moved.0 db.is moved.1;
           leaves = λ u is. subst (λ (z : Forest). LeaksNoPage (owned f.stage) (owned g.stage) (now (store old.pages)) (now (store q)) z) (one_law (nodes_at after) after.state.roots moved.0 u moved.1.is.formed is.formed) moved.3;
           knows = record {
@@ -481,12 +404,12 @@ module _ {P M : Type 0} (store : P → Store) (meant : M → Merge) (old : DbVal
             apart r e = cc
 
       -- the call is refused, and the store does what it does where it refuses an action
-      module _ (fits : f.turns < turns_limit) (g : InFlight) (e d : Error) (moves : StageActionBy (Only operator) (course_of f) (store old.pages) f.stage (next.Refused d) (store q)) (quietly : IsStepRefused e (store old.pages) (store q)) (cause : (slots : ℕ → Option CallInFlight) (given : ℕ) → cause_of (state_of store meant old slots given) (store old.pages) (store q) (ToStep (call_in_flight_of f)) e) (follows : FindsRoom (db_state store meant old) f → Refused e ≢ Refused error.FullQueue → FollowsOn (store old.pages) f (Refused e) (store q) g) (keeps : Becomes (queue_at old.queues) old.queues.given queues) (room : DbFindsRoom store meant old f (Refused e) new g) where
+      module _ (fits : f.turns < turns_limit) (g : InFlight) (e : Error) (moves : StageActionBy (Only operator) (course_of f) (store old.pages) f.stage (next.Refused e) (store q)) (quietly : IsStepRefused e (store old.pages) (store q)) (cause : (slots : ℕ → Option CallInFlight) (given : ℕ) → cause_of (state_of store meant old slots given) (store old.pages) (store q) (ToStep (call_in_flight_of f)) e) (follows : FollowsOn (store old.pages) f (Refused e) (store q) g) (keeps : Becomes (queue_at old.queues) old.queues.given queues) where
         refused : (v : Forest) × KeepsForest (owned f.stage) [] at db.forest after v × KeepsContents at db.forest after v × Unit {0}
         refused = moves.is (numbers_of old.trees) (given_to old.trees_given) db.forest db.is named_now (known.is db.forest db.is)
 
         rests : Rests (store old.pages) (store q)
-        rests = rests_refused d (store old.pages) (store q) moves.touches
+        rests = rests_refused e (store old.pages) (store q) moves.touches
 
         refused_extends : AddsCrashStates [] (store old.pages) (store q)
         refused_extends = rests_extends rests
@@ -518,9 +441,8 @@ module _ {P M : Type 0} (store : P → Store) (meant : M → Merge) (old : DbVal
           };
           sound = record { keeps = λ d. refused_db };
           does = record { does = quietly; quiet = λ k. absurd (apart k.reply k.decided); loud = λ event k. absurd (apart k.reply k.decided) };
-          follows = λ must fits finds other. follows finds other;
-          passes = λ finds. record { is = tt };
-          room = room;
+          follows = λ must fits. follows;
+          passes = record { is = tt };
           loses = loses_acting at after db.forest refused.0 db.is refused.1;
           leaves = λ v is. tt;
           knows = record { goes_on = λ e. absurd (off e); others = λ h a k. (known_kept db.is refused.1 h k a.off, λ e. absurd (off e)) };
@@ -536,7 +458,7 @@ module _ {P M : Type 0} (store : P → Store) (meant : M → Merge) (old : DbVal
             below n h e = omega arith
 
       -- the call is decided
-      module _ (fits : f.turns < turns_limit) (g : InFlight) (reply : Reply) (moves : StageActionBy (Only operator) (course_of f) (store old.pages) f.stage (next.Decided reply) (store q)) (follows : FindsRoom (db_state store meant old) f → FollowsOn (store old.pages) f (Decided reply) (store q) g) (tells : Told queues) (room : DbFindsRoom store meant old f (Decided reply) new g) where
+      module _ (fits : f.turns < turns_limit) (g : InFlight) (reply : Reply) (moves : StageActionBy (Only operator) (course_of f) (store old.pages) f.stage (next.Decided reply) (store q)) (follows : FollowsOn (store old.pages) f (Decided reply) (store q) g) (tells : Told queues) where
         done : (v : Forest) × KeepsForest (owned f.stage) [] at db.forest after v × DecidesAs operator (course_of f) reply (store old.pages) (store q) at db.forest after v × LeaksNoPage (owned f.stage) [] (now (store old.pages)) (now (store q)) v
         done = let d = moves.is (numbers_of old.trees) (given_to old.trees_given) db.forest db.is named_now (known.is db.forest db.is) in (d.0, d.1, d.2 operator refl, d.3)
 
@@ -620,9 +542,8 @@ module _ {P M : Type 0} (store : P → Store) (meant : M → Merge) (old : DbVal
             quiet = λ k. done.2.quiet (brought k.tree k.there ∙ k.is);
             loud = λ event k. done.2.loud (λ none. none_some (sym none ∙ brought k.tree k.there ∙ k.is));
           };
-          follows = λ must fits finds other. follows finds;
-          passes = λ finds. record { is = tt };
-          room = room;
+          follows = λ must fits. follows;
+          passes = record { is = tt };
           loses = loses_acting at after db.forest done.0 db.is done.1;
           leaves = λ u is. subst (λ (z : Forest). LeaksNoPage (owned f.stage) [] (now (store old.pages)) (now (store q)) z) (one_law (nodes_at after) after.state.roots done.0 u done.1.is.formed is.formed) done.3;
           knows = record { goes_on = λ e. absurd (off e); others = λ h a k. (known_kept db.is done.1 h k a.off, λ e. absurd (off e)) };
@@ -639,9 +560,6 @@ module _ {P M : Type 0} (store : P → Store) (meant : M → Merge) (old : DbVal
       module _ (fits : f.turns < turns_limit) (g : InFlight) where
         abbrev Flown : Went → Type 0
         Flown went = DbStepContract store meant old f went new g × IsDb store new
-
-        no_room : {X : Type 0} → HasRoomFor f old.queues → MeetsFullFor f old.queues → X
-        no_room = room_full f.job.tree.number (key_of f.job.call) (queue_at old.queues)
 
         -- the event of a change that was linked is the one by the map now
         linked_event : (view : View) → f.stage ≡ stage.Act view → (reply : Reply) → FollowsOn (store old.pages) f (Decided reply) (store q) g → (answer_of operator f.job.call tree_now.map).event ≡ event_of (decision_at operator f.job.call view.node.content).effect (key_of f.job.call)
@@ -665,116 +583,20 @@ module _ {P M : Type 0} (store : P → Store) (meant : M → Merge) (old : DbVal
                 let d = steps.advances.is.is (numbers_of old.trees) (given_to old.trees_given) db.forest db.is named_now (known.is db.forest db.is) in
                 acts_not (store old.pages) (store q) same ((d.2 operator refl).loud (λ none. none_some (sym none ∙ e)))
 
-        over : (went : Went) → StepsOver operator (store old.pages) old.queues f went (store q) queues g → Flown went
-        over Moved s = (
-          flies_moved fits g s.steps.advances.is.0 s.steps.advances.is.1 s.steps.advances.is.2 s.steps.advances.is.3 (λ finds. s.steps.passes) (λ finds. s.steps.follows) s.tells room,
-          moved_db fits g s.steps.advances.is.0 s.steps.advances.is.1 s.steps.advances.is.2 s.steps.advances.is.3 (λ finds. s.steps.passes) (λ finds. s.steps.follows) s.tells room,
-        )
-          where
-            room : DbFindsRoom store meant old f Moved new g
-            room = record {
-              room = λ moved. record { is = λ view here met. no_room (s.room refl view here) (meets_for (subst (λ (j : Job). MeetsFullQueue (db_state store meant old) j.tree j.call) s.steps.advances.is.0 met)) };
-              back = λ must fits view here met. s.back view here (meets_for met);
-              told = moved_told;
-            }
-        over (Decided reply) s = (
-          flies_decided fits g reply s.steps.advances.is (λ finds. s.steps.follows) (told_decided reply s.steps s.tells) room,
-          decided_db fits g reply s.steps.advances.is (λ finds. s.steps.follows) (told_decided reply s.steps s.tells) room,
-        )
-          where
-            room : DbFindsRoom store meant old f (Decided reply) new g
-            room = record { room = λ moved. decided_moved moved; back = λ must fits view here met. s.back view here (meets_for met); told = decided_told }
-        over (Refused e) s = (
-          flies_refused fits g e e s.steps.advances.is (refuses_quietly e (store old.pages) (store q) s.steps.advances.is.touches) (λ slots given. cause_is (state_of store meant old slots given) (call_in_flight_of f) e (store old.pages) (store q) s.steps.advances.is.touches) (λ finds other. s.steps.follows) s.tells room,
-          refused_db fits g e e s.steps.advances.is (refuses_quietly e (store old.pages) (store q) s.steps.advances.is.touches) (λ slots given. cause_is (state_of store meant old slots given) (call_in_flight_of f) e (store old.pages) (store q) s.steps.advances.is.touches) (λ finds other. s.steps.follows) s.tells room,
-        )
-          where
-            room : DbFindsRoom store meant old f (Refused e) new g
-            room = record { room = λ moved. refused_moved moved; back = λ must fits view here met. s.back view here (meets_for met); told = λ full. absurd (subst (λ z. is_action_refused_as z (store old.pages) (store q)) (told_error full) s.steps.advances.is.touches) }
-
-        -- a full queue sends the call back
-        turned : TurnsBack (store old.pages) old.queues f Moved (store q) queues (begun_again f) → DbStepContract store meant old f Moved new (begun_again f) × IsDb store new
-        turned t = (
-          flies_moved fits (begun_again f) refl refl refl moves further follows (same_queues old.queues queues t.queues) room,
-          moved_db fits (begun_again f) refl refl refl moves further follows (same_queues old.queues queues t.queues) room,
-        )
-          where
-            knows : Knows at db.forest (course_of f) (stage.Act t.view)
-            knows = subst (Knows at db.forest (course_of f)) t.here (known.is db.forest db.is)
-
-            moves : StageActionBy (Only operator) (course_of f) (store old.pages) f.stage (next.Go stage.Root) (store q)
-            moves = subst (λ b. StageActionBy (Only operator) (course_of f) (store old.pages) f.stage (next.Go stage.Root) b) (sym t.same)
-                (subst (λ z. StageActionBy (Only operator) (course_of f) (store old.pages) z (next.Go stage.Root) (store old.pages)) (sym t.here)
-                (by_these (course_of f) (store old.pages) (store old.pages) (stage.Act t.view) (next.Go stage.Root) (restarts (course_of f) (store old.pages) (stage.Act t.view) (λ q i. i))))
-
-            further : FindsRoom (db_state store meant old) f → StepsOnPath (now (store old.pages)) f Moved (now (store q)) (begun_again f)
-            further finds = record {
-              is = λ path on.
-                  let k = subst (λ z. IsOnPath (now (store old.pages)) (course_of f) z path) t.here on in
-                  absurd (finds.is t.view t.here (meets_here t.view knows t.view.node k.1 t.full));
-            }
-
-            -- another call was there first, since by the map now there is no event for a full queue
-            stale_at : MeetsNoFullQueue (db_state store meant old) f → version_now (store old.pages) t.view.pid ≡ Some t.view.version → ⊥
-            stale_at free same = go ((now (store old.pages)).pages t.view.pid) refl same
-              where
-                go : (o : Option Page) → (now (store old.pages)).pages t.view.pid ≡ o → option_map (λ (p : Page). p.version) o ≡ Some t.view.version → ⊥
-                go None is e = none_some e
-                go (Some p) is e = free (meets_here t.view knows p.node (is ∙ ap (λ v. Some (record { version = v; node = p.node })) (some_is e)) t.full)
-
-            follows : FindsRoom (db_state store meant old) f → FollowsOn (store old.pages) f Moved (store q) (begun_again f)
-            follows finds = record {
-              is = subst (λ b. Follows (course_of f) (store old.pages) f.stage (next.Go stage.Root) b) (sym t.same) (subst (λ z. Follows (course_of f) (store old.pages) z (next.Go stage.Root) (store old.pages)) (sym t.here) (record {
-                is = inl (record { operator = operator; is = go (link_of (decision_at operator f.job.call t.view.node.content).effect (key_of f.job.call)) });
-              }));
-            }
-              where
-                go : (l : Option Link) → MatchOption l ((store old.pages ≡ store old.pages) × (next.Go stage.Root ≡ next.Go stage.Root)) (λ link. TakesWay (after_link link) t.view.pid t.view.version (store old.pages) (store old.pages) (next.Go stage.Root) (λ _. next.Decided (decision_at operator f.job.call t.view.node.content).reply) (λ _. next.Go stage.Root))
-                go None = (refl, refl)
-                go (Some l) = inr (version_now (store old.pages) t.view.pid, record { is = (refl, refl, stale_at (finds.is t.view t.here)) }, refl)
-
-            room : DbFindsRoom store meant old f Moved new (begun_again f)
-            room = record { room = λ moved. record { is = λ view here. root_act here }; back = λ must fits view here met. (refl, t.same); told = moved_told }
-
-        -- .. or refuses it
-        met_full : MeetsFullThere operator (store old.pages) old.queues f (Refused error.FullQueue) (store q) queues g → Flown (Refused error.FullQueue)
-        met_full t = (
-          flies_refused fits g error.FullQueue error.NoMemory moves came.0 (λ slots given. met slots given) (λ finds other. absurd (other refl)) (same_queues old.queues queues t.queues) room,
-          refused_db fits g error.FullQueue error.NoMemory moves came.0 (λ slots given. met slots given) (λ finds other. absurd (other refl)) (same_queues old.queues queues t.queues) room,
-        )
-          where
-            came : (store q ≡ store old.pages) × IsUnchanged (now (store q)) t.view
-            came = change_law (course_of f) (store old.pages) (store q) f.stage t.view (subst (λ z. Follows (course_of f) (store old.pages) f.stage (next.Go z) (store q)) t.here t.steps.follows.is)
-
-            moves : StageActionBy (Only operator) (course_of f) (store old.pages) f.stage (next.Refused error.NoMemory) (store q)
-            moves = by_these (course_of f) (store old.pages) (store q) f.stage (next.Refused error.NoMemory) (refused_action (course_of f) (store old.pages) (store q) f.stage error.NoMemory (record { is = came.0 }))
-
-            knows : Knows at db.forest (course_of f) (stage.Act t.view)
-            knows =
-                let m = t.steps.advances.is.3.is (numbers_of old.trees) (given_to old.trees_given) db.forest db.is named_now (known.is db.forest db.is) in
-                subst (Knows at db.forest (course_of f)) t.here (go (store q) came.0 m.0 m.1.is m.2.0)
-              where
-                go : (b : Store) → b ≡ store old.pages → (v : Forest) → HasForest (snapshot_of b (numbers_of old.trees) (given_to old.trees_given)) v → Knows (snapshot_of b (numbers_of old.trees) (given_to old.trees_given)) v (course_of f) g.stage → Knows at db.forest (course_of f) g.stage
-                go b same v is k =
-                    let has = subst (λ (z : Store). HasForest (snapshot_of z (numbers_of old.trees) (given_to old.trees_given)) v) same is in
-                    subst (λ (w : Forest). Knows at w (course_of f) g.stage) (one_law (nodes_at at) at.state.roots v db.forest has.formed db.is.formed) (subst (λ (z : Store). Knows (snapshot_of z (numbers_of old.trees) (given_to old.trees_given)) v (course_of f) g.stage) same k)
-
-            there_now : MeetsFullQueue (db_state store meant old) f.job.tree f.job.call
-            there_now = meets_here t.view knows t.view.node (subst (λ (z : Store). IsUnchanged (now z) t.view) came.0 came.1) t.full
-
-            met : (slots : ℕ → Option CallInFlight) (given : ℕ) → MeetsFullQueue (state_of store meant old slots given) f.job.tree f.job.call
-            met slots given = let m = there_now in record { tree = m.tree; there = m.there; event = m.event; brings = m.brings; subscriber = m.subscriber; queue = m.queue; waits = m.waits; matching = m.matching; full = m.full }
-
-            room : DbFindsRoom store meant old f (Refused error.FullQueue) new g
-            room = record { room = λ moved. refused_moved moved; back = λ must fits view here met. absurd (t.off view here); told = λ full. record { view = t.view; is = subst (λ z. Follows (course_of f) (store old.pages) f.stage (next.Go z) (store q)) t.here t.steps.follows.is } }
-
         -- one step of the call, whatever comes of it
         pub flown : (went : Went) → AdvancesOver operator (store old.pages) old.queues f went (store q) queues g → Flown went
-        flown went a = elim a.is [
-          | inl s ↦ over went s
-          | inr (inl t) ↦ subst (λ w. Flown w) (sym t.out) (subst (λ (h : InFlight). DbStepContract store meant old f Moved new h × IsDb store new) (sym t.is) (turned (record { view = t.view; here = t.here; full = t.full; out = refl; same = t.same; queues = t.queues; is = refl })))
-          | inr (inr t) ↦ subst (λ w. Flown w) (sym t.out) (met_full (record { off = t.off; steps = t.steps; view = t.view; here = t.here; full = t.full; out = refl; queues = t.queues }))
-        ]
+        flown Moved s = (
+          flies_moved fits g s.steps.advances.is.0 s.steps.advances.is.1 s.steps.advances.is.2 s.steps.advances.is.3 s.steps.passes s.steps.follows s.tells,
+          moved_db fits g s.steps.advances.is.0 s.steps.advances.is.1 s.steps.advances.is.2 s.steps.advances.is.3 s.steps.passes s.steps.follows s.tells,
+        )
+        flown (Decided reply) s = (
+          flies_decided fits g reply s.steps.advances.is s.steps.follows (told_decided reply s.steps s.tells),
+          decided_db fits g reply s.steps.advances.is s.steps.follows (told_decided reply s.steps s.tells),
+        )
+        flown (Refused e) s = (
+          flies_refused fits g e s.steps.advances.is (refuses_quietly e (store old.pages) (store q) s.steps.advances.is.touches) (λ slots given. cause_is (state_of store meant old slots given) (call_in_flight_of f) e (store old.pages) (store q) s.steps.advances.is.touches) s.steps.follows s.tells,
+          refused_db fits g e s.steps.advances.is (refuses_quietly e (store old.pages) (store q) s.steps.advances.is.touches) (λ slots given. cause_is (state_of store meant old slots given) (call_in_flight_of f) e (store old.pages) (store q) s.steps.advances.is.touches) s.steps.follows s.tells,
+        )
 
 -- the same, where a method knows the database by its fields
 module _ {P M : Type 0} (store : P → Store) (meant : M → Merge) (inside old : DbValue P M) (e : inside ≡ old) (db : IsDb store inside) (f : InFlight) where
@@ -847,7 +669,6 @@ module _ {P M : Type 0} (store : P → Store) (meant : M → Merge) (old new : D
   all_turns (error.CollectionNotFound name) tells flies = absurd tells
   all_turns (error.Unsupported text) tells flies = absurd tells
   all_turns (error.Corruption fault) tells flies = absurd tells
-  all_turns error.FullQueue tells flies = absurd tells
   all_turns error.Closed tells flies = absurd tells
 
   ends_with_turns : (went : Went) → DbStepContract store meant old f went new g → f.turns < turns_limit → has_turns went
@@ -860,12 +681,12 @@ module _ {P M : Type 0} (store : P → Store) (meant : M → Merge) (old new : D
 
 -- over a clean path a call goes on at most once a page
 module _ {P M : Type 0} (store : P → Store) (meant : M → Merge) where
-  prompt : (n : ℕ) (old new : DbValue P M) (f g : InFlight) (went : Went) → DbSteps store meant n old f went new g → FindsRoom (db_state store meant old) f → (path : List ℕ) → IsOnPath (now (store old.pages)) (course_of f) f.stage path → f.turns + length path < turns_limit → TakesAtMost n went path
-  prompt zero old new f g went (Ends flies off) finds path on fits = record { fits = omega arith; unlimited = ends_with_turns store meant old new f g went flies (omega arith) }
-  prompt (suc n) old new f g went (GoesOn {mid = mid} {h = h} flies db rest) finds path on fits =
-      let p = (flies.passes finds).is path on in
+  prompt : (n : ℕ) (old new : DbValue P M) (f g : InFlight) (went : Went) → DbSteps store meant n old f went new g → (path : List ℕ) → IsOnPath (now (store old.pages)) (course_of f) f.stage path → f.turns + length path < turns_limit → TakesAtMost n went path
+  prompt zero old new f g went (Ends flies off) path on fits = record { fits = omega arith; unlimited = ends_with_turns store meant old new f g went flies (omega arith) }
+  prompt (suc n) old new f g went (GoesOn {mid = mid} {h = h} flies db rest) path on fits =
+      let p = flies.passes.is path on in
       let turns = (turn_taken store meant old mid f h flies).1 in
-      let k = prompt n mid new h g went rest (subst (λ s. FindsRoom s h) (sym (moved_state store meant old mid f h flies)) (flies.room.room refl)) p.0 p.2 (fewer f.turns h.turns (length path) (length p.0) turns p.1 fits) in record {
+      let k = prompt n mid new h g went rest p.0 p.2 (fewer f.turns h.turns (length path) (length p.0) turns p.1 fits) in record {
         fits = more n (length p.0) (length path) p.1 k.fits;
         unlimited = k.unlimited;
       }

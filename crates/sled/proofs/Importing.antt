@@ -66,7 +66,6 @@ opening_alike s a m b name e r may = record { is = go (must_refuse s (ToCall (Op
     cause error.NoMemory k = tt
     cause (error.Io fault) k = (k.0, subst (λ n. n < b.faults) r.faults k.1)
     cause (error.ReportableBug text) k = k
-    cause error.FullQueue k = k
     cause (error.CollectionNotFound name) k = k
     cause (error.Unsupported text) k = k
     cause (error.Corruption fault) k = k
@@ -81,7 +80,6 @@ unread_alike (Some must) a m e r k = k
 unread_alike None a m error.NoMemory r k = tt
 unread_alike None a m (error.Io fault) r k = (k.0, subst (λ (f : ℕ → Bool). f k.0 ≡ false) r.readable k.1)
 unread_alike None a m (error.ReportableBug text) r k = k
-unread_alike None a m error.FullQueue r k = k
 unread_alike None a m (error.CollectionNotFound name) r k = k
 unread_alike None a m (error.Unsupported text) r k = k
 unread_alike None a m (error.Corruption fault) r k = k
@@ -299,7 +297,6 @@ module _ {P M : Type 0} (store : P → Store) (meant : M → Merge) where
           cause error.NoMemory k = tt
           cause (error.Io fault) k = k
           cause (error.ReportableBug text) k = k
-          cause error.FullQueue k = record { tree = k.tree; there = k.there; event = k.event; brings = k.brings; subscriber = k.subscriber; queue = k.queue; waits = k.waits; matching = k.matching; full = k.full }
           cause (error.CollectionNotFound name) k = k
           cause (error.Unsupported text) k = k
           cause (error.Corruption fault) k = k
@@ -320,7 +317,6 @@ module _ {P M : Type 0} (store : P → Store) (meant : M → Merge) where
     read_cause error.NoMemory k = tt
     read_cause (error.Io fault) k = k
     read_cause (error.ReportableBug text) k = k.0
-    read_cause error.FullQueue k = k
     read_cause (error.CollectionNotFound name) k = k
     read_cause (error.Unsupported text) k = k
     read_cause (error.Corruption fault) k = k

@@ -38,7 +38,6 @@ rests_raised (error.Unsupported text) a b t = rests_same t.2
 rests_raised (error.CollectionNotFound name) a b t = absurd t.1
 rests_raised (error.ReportableBug text) a b t = absurd t.1
 rests_raised (error.Corruption fault) a b t = absurd t.1
-rests_raised error.FullQueue a b t = absurd t.1
 rests_raised error.Closed a b t = absurd t.1
 
 module _ {P M : Type 0} (store : P → Store) (meant : M → Merge) (old : DbValue P M) where
@@ -142,7 +141,6 @@ module _ {P M : Type 0} (store : P → Store) (meant : M → Merge) (old : DbVal
       go (error.CollectionNotFound name) r = absurd r.is.1
       go (error.ReportableBug text) r = absurd r.is.1
       go (error.Corruption fault) r = absurd r.is.1
-      go error.FullQueue r = absurd r.is.1
       go error.Closed r = absurd r.is.1
 
   pub closed : (now (store old.pages)).in_group ≡ true → RefusesId store meant old error.Closed old
@@ -211,7 +209,6 @@ module _ {P M : Type 0} (store : P → Store) (meant : M → Merge) (old new : D
   id_refused (error.CollectionNotFound name) r = absurd r.is.1.is.1
   id_refused (error.ReportableBug text) r = absurd r.is.1.is.1
   id_refused (error.Corruption fault) r = absurd r.is.1.is.1
-  id_refused error.FullQueue r = absurd r.is.1.is.1
   id_refused error.Closed r = record {
     maps = [];
     refuses = λ slots given. (record { is = subst (λ o. may_refuse_as o (state_of store meant old slots given) (store old.pages) (store new.pages) (ToCall GenerateId) error.Closed) (sym (ap (λ b. first_of (first_of (cond (not b) None (Some IsClosed)) None) None) r.is.0)) refl }, r.state slots given, refl);

@@ -184,7 +184,6 @@ module _ (name : Key) where
   refused a b c (error.Unsupported text) k f r = absurd r.is
   refused a b c (error.ReportableBug text) k f r = absurd r.is
   refused a b c (error.Corruption fault) k f r = absurd r.is
-  refused a b c error.FullQueue k f r = absurd r.is
   refused a b c error.Closed k f r = absurd r.is
 
   -- there is no memory

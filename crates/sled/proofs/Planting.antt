@@ -107,7 +107,6 @@ step_refused (error.CollectionNotFound name) a b t = absurd t
 step_refused (error.Unsupported text) a b t = absurd t
 step_refused (error.ReportableBug text) a b t = absurd t
 step_refused (error.Corruption fault) a b t = absurd t
-step_refused error.FullQueue a b t = absurd t
 step_refused error.Closed a b t = absurd t
 
 module _ {P M : Type 0} (store : P → Store) (meant : M → Merge) (old : DbValue P M) (no_group : (now (store old.pages)).in_group ≡ false) (name : Key) where
@@ -248,7 +247,6 @@ module _ {P M : Type 0} (store : P → Store) (meant : M → Merge) (old : DbVal
         left_cause slots given (error.Unsupported text) t = absurd t
         left_cause slots given (error.ReportableBug text) t = absurd t
         left_cause slots given (error.Corruption fault) t = absurd t
-        left_cause slots given error.FullQueue t = absurd t
         left_cause slots given error.Closed t = absurd t
 
         left_refused : WholeRefused store meant old (OpenTree name) e left
@@ -281,7 +279,6 @@ module _ {P M : Type 0} (store : P → Store) (meant : M → Merge) (old : DbVal
       same_cause slots given (error.Unsupported text) t = absurd t
       same_cause slots given (error.ReportableBug text) t = absurd t
       same_cause slots given (error.Corruption fault) t = absurd t
-      same_cause slots given error.FullQueue t = absurd t
       same_cause slots given error.Closed t = absurd t
 
       same_refused : WholeRefused store meant old (OpenTree name) e (record old { pages = q })

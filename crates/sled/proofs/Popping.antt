@@ -36,7 +36,7 @@ use Rattle.sled.specs.Sound.{IsDb}
 use Rattle.sled.specs.Flights.{IsStepRefused}
 use Rattle.sled.specs.Reads.{ReadsMap, RefusesReading, refuses_reading_as, stops_reading}
 use Rattle.sled.specs.Direct.{ActsOften, NoAction, OneAction, Conducts, PointDecided, PointRefused, WholeDecided, WholeRefused, effect_of_whole, changes_only, lost_of, LeavesAll, changes_refused}
-use Rattle.sled.specs.Pops.{TakesOut, RefusesToTake, IsAtEnd, PopsBySteps, PopRefusedBySteps, GivesUpPop, ClearsBySteps, ClearsNone, ClearsMore, ClearRefusedBySteps, IsLongWay}
+use Rattle.sled.specs.Pops.{TakesOut, RefusesToTake, IsAtEnd, PopsBySteps, PopRefusedBySteps, GivesUpPop, ClearsBySteps, ClearsNone, ClearsMore, ClearRefusedBySteps}
 use Rattle.sled.proofs.Conducting.{conducts_then, conducts_none, conducts_refused}
 use Rattle.sled.proofs.Testing.{tested_calm}
 use Rattle.sled.proofs.Trees.{maps_are}
@@ -178,7 +178,6 @@ as_clear s a m b tree e faults readable may = record { is = told (must_refuse s 
     cause (error.Io fault) (inl k) = inl (subst (λ n. n < b.faults) faults k)
     cause (error.Io fault) (inr (pid, k)) = inr (pid, subst (λ (f : ℕ → Bool). f pid ≡ false) readable k)
     cause (error.ReportableBug text) k = k
-    cause error.FullQueue k = k
     cause (error.CollectionNotFound name) k = k
     cause (error.Unsupported text) k = k
     cause (error.Corruption fault) k = k
@@ -200,7 +199,6 @@ module _ {P M : Type 0} (store : P → Store) (meant : M → Merge) (old : DbVal
   read_cause of s error.NoMemory k = tt
   read_cause of s (error.Io fault) k = inr k
   read_cause of s (error.ReportableBug text) k = k.0
-  read_cause of s error.FullQueue k = absurd k
   read_cause of s (error.CollectionNotFound name) k = absurd k
   read_cause of s (error.Unsupported text) k = absurd k
   read_cause of s (error.Corruption fault) k = absurd k
@@ -231,7 +229,6 @@ module _ {P M : Type 0} (store : P → Store) (meant : M → Merge) (old : DbVal
       untold e = cc
   read_quiet of (error.Io fault) (Some HasNoOperator) k = absurd k
   read_quiet of (error.ReportableBug text) o k = refl
-  read_quiet of error.FullQueue o k = refl
   read_quiet of (error.CollectionNotFound name) o k = refl
   read_quiet of (error.Unsupported text) o k = refl
   read_quiet of (error.Corruption fault) o k = refl
@@ -285,13 +282,6 @@ module _ {P M : Type 0} (store : P → Store) (meant : M → Merge) (old : DbVal
     take_cause slots given b error.NoMemory k = tt
     take_cause slots given b (error.Io fault) k = k
     take_cause slots given b (error.ReportableBug text) k = k
-    take_cause slots given b error.FullQueue k = record {
-      named = r.named;
-      there = r.there;
-      pair = pair;
-      ends = r.is;
-      meets = record { tree = k.tree; there = k.there; event = k.event; brings = k.brings; subscriber = k.subscriber; queue = k.queue; waits = k.waits; matching = k.matching; full = k.full };
-    }
     take_cause slots given b (error.CollectionNotFound name) k = k
     take_cause slots given b (error.Unsupported text) k = k
     take_cause slots given b (error.Corruption fault) k = k
@@ -350,7 +340,6 @@ module _ {P M : Type 0} (store : P → Store) (meant : M → Merge) (old : DbVal
       go (error.ReportableBug text) o k turns = bug text o k
       go error.NoMemory o k turns = absurd turns
       go (error.Io fault) o k turns = absurd turns
-      go error.FullQueue o k turns = absurd turns
       go (error.CollectionNotFound name) o k turns = absurd turns
       go (error.Unsupported text) o k turns = absurd turns
       go (error.Corruption fault) o k turns = absurd turns

@@ -8,7 +8,7 @@ use Rattle.sled_nodes.specs.Among.{IsSuccessor}
 use Rattle.sled_store.specs.State.{nodes_of}
 use Rattle.sled_store.specs.Store.{Store, now, AreGiven}
 use Rattle.sled_nodes.specs.declared.error.Error.{Error}
-use Rattle.sled_nodes.specs.declared.error.Error.TheVariants.{CollectionNotFound, Unsupported, ReportableBug, Io, Corruption, NoMemory, FullQueue, Closed}
+use Rattle.sled_nodes.specs.declared.error.Error.TheVariants.{CollectionNotFound, Unsupported, ReportableBug, Io, Corruption, NoMemory, Closed}
 use Rattle.sled_model.specs.Maps.{Map, Merge}
 use Rattle.sled_model.specs.State.{NamedTree}
 use Rattle.sled_model.specs.Refusal.{MustRefuse, IsClosed, IsForeign, IsDropped, HasNoOperator, is_number, must_refuse_of, tells}
@@ -91,7 +91,6 @@ module _ {P M : Type 0} (store : P → Store) (meant : M → Merge) (d : DbValue
         go (CollectionNotFound name) k = absurd k
         go (Unsupported text) k = absurd k
         go (Corruption fault) k = absurd k
-        go FullQueue k = absurd k
         go Closed k = absurd k
 
     pub gives_up : (key : Key) (e : Error) → GivesUp (now (store d.pages)) root (Included key) 0 e → GivesUpGet store meant d tree key e
@@ -107,7 +106,6 @@ module _ {P M : Type 0} (store : P → Store) (meant : M → Merge) (d : DbValue
         go (CollectionNotFound name) k = tt
         go (Unsupported text) k = tt
         go (Corruption fault) k = tt
-        go FullQueue k = tt
         go Closed k = tt
 
     pub no_memory : RefusesRange store meant d tree NoMemory
@@ -153,7 +151,6 @@ module _ {P M : Type 0} (store : P → Store) (meant : M → Merge) (d : DbValue
       go (Some must) (CollectionNotFound name) k = tt
       go (Some must) (Unsupported text) k = tt
       go (Some must) (Corruption fault) k = tt
-      go (Some must) FullQueue k = tt
       go (Some must) Closed k = tt
 
   -- what follows of a map

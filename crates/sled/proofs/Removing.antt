@@ -351,7 +351,6 @@ module _ {P M : Type 0} (store : P → Store) (meant : M → Merge) (old : DbVal
       refused_as (error.Unsupported text) t = absurd t
       refused_as (error.ReportableBug text) t = absurd t
       refused_as (error.Corruption fault) t = absurd t
-      refused_as error.FullQueue t = absurd t
       refused_as error.Closed t = absurd t
 
       pub refused_drop : (e : Error) → is_action_refused_as e (store old.pages) (store q) → RefusesDrop store meant old name e (record old { pages = q })
@@ -509,7 +508,6 @@ module _ {P M : Type 0} (store : P → Store) (meant : M → Merge) (old new : D
       at (error.CollectionNotFound text) k slots given = absurd k
       at (error.ReportableBug text) k slots given = absurd k
       at (error.Corruption fault) k slots given = absurd k
-      at error.FullQueue k slots given = absurd k
       at error.Closed k slots given = absurd k
 
   there_is : MightDrop store meant old name → (db_state store meant old).trees name ≢ None
@@ -529,7 +527,6 @@ module _ {P M : Type 0} (store : P → Store) (meant : M → Merge) (old new : D
   drop_refused (error.CollectionNotFound text) r = absurd r.is
   drop_refused (error.ReportableBug text) r = absurd r.is
   drop_refused (error.Corruption fault) r = absurd r.is
-  drop_refused error.FullQueue r = absurd r.is
   drop_refused error.Closed r = record {
     maps = [];
     refuses = λ slots given. (record { is = subst (λ o. may_refuse_as o (state_of store meant old slots given) (store old.pages) (store new.pages) (ToCall (DropTree name)) error.Closed) (sym (ap (λ b. first_of (first_of (cond (not b) None (Some IsClosed)) None) None) r.is.0)) refl }, r.state slots given, refl);

@@ -38,7 +38,6 @@ rests_only_faults (error.CollectionNotFound name) a b t = rests_same t
 rests_only_faults (error.Unsupported text) a b t = rests_same t
 rests_only_faults (error.ReportableBug text) a b t = rests_same t
 rests_only_faults (error.Corruption fault) a b t = rests_same t
-rests_only_faults error.FullQueue a b t = rests_same t
 rests_only_faults error.Closed a b t = rests_same t
 
 pub rests_refused : (e : Error) (a b : Store) → is_action_refused_as e a b → Rests a b
@@ -49,7 +48,6 @@ rests_refused (error.CollectionNotFound name) a b t = absurd t
 rests_refused (error.Unsupported text) a b t = absurd t
 rests_refused (error.ReportableBug text) a b t = absurd t
 rests_refused (error.Corruption fault) a b t = absurd t
-rests_refused error.FullQueue a b t = absurd t
 rests_refused error.Closed a b t = absurd t
 
 module _ {a b : Store} (r : Rests a b) where

@@ -10,14 +10,15 @@ use Rattle.sled_nodes.specs.declared.error.Error.{Error}
 use Rattle.sled_nodes.specs.declared.error.Error.TheVariants as error
 use Rattle.sled_model.specs.Maps.{Merge}
 use Rattle.sled_model.specs.State.{Queue, CallInFlight}
-use Rattle.sled_model.specs.Queues.{oldest, without_oldest}
-use Rattle.sled_model.specs.Refusal.{MustRefuse, must_refuse, must_refuse_of, MayRefuse, ToCall, cause_of_watch, may_refuse_as}
+use Rattle.sled_model.specs.Backlog.{no_backlog}
+use Rattle.sled_model.specs.Queues.{next_in, without_next}
+use Rattle.sled_model.specs.Refusal.{MustRefuse, must_refuse, must_refuse_of, ToCall, cause_of_watch, may_refuse_as}
 use Rattle.sled_model.specs.declared.call.Whole.TheVariants.{Watch, Next, Unsubscribe}
-use Rattle.sled_model.specs.declared.event.Event.{Event}
+use Rattle.sled_model.specs.declared.event.Next as event
 use Rattle.sled_model.specs.declared.reply.Reply.TheVariants as reply
 use Rattle.sled_model.specs.declared.tree.Tree.{Tree}
 use Rattle.sled_queues.specs.Values.{WaitingValue, QueuesValue, Waitings, queue_at}
-use Rattle.sled_queues.specs.Queues.{IsCalm, Becomes, queue_of, queues_of, with_subscriber, oldest_in, taken_in, without_oldest_of, without_subscriber}
+use Rattle.sled_queues.specs.Queues.{IsCalm, Becomes, queue_of, queues_of, with_subscriber, next_at, taken_in, without_next_of, without_subscriber}
 use Rattle.sled_queues.specs.Laws.{ServesLaw}
 use Rattle.sled_queues.proofs.Grouped.{calm_law}
 use Rattle.sled_tree.specs.Known.{IsKnown}
@@ -41,18 +42,18 @@ put_mapped f n o = fun_ext (λ m. go m (nat_eq m n))
     go m true = refl
     go m false = refl
 
-taken_mapped : (o : Option WaitingValue) → option_map queue_of (option_map taken_in o) ≡ option_map without_oldest (option_map queue_of o)
+taken_mapped : (o : Option WaitingValue) → option_map queue_of (option_map taken_in o) ≡ option_map without_next (option_map queue_of o)
 taken_mapped None = refl
 taken_mapped (Some w) = refl
 
-oldest_mapped : (o : Option WaitingValue) → oldest_in o ≡ oldest (option_map queue_of o)
-oldest_mapped None = refl
-oldest_mapped (Some w) = refl
+next_mapped : (o : Option WaitingValue) → next_at o ≡ next_in (option_map queue_of o)
+next_mapped None = refl
+next_mapped (Some w) = refl
 
 serves_law : ServesLaw
 serves_law queues = record {
-  watches = λ n tree prefix. put_mapped queues n (Some (record { tree = tree; prefix = prefix; events = []; coming = [] }));
-  gives = λ n. oldest_mapped (queues n);
+  watches = λ n tree prefix. put_mapped queues n (Some (record { tree = tree; prefix = prefix; backlog = no_backlog; coming = [] }));
+  gives = λ n. next_mapped (queues n);
   takes = λ n. put_mapped queues n (option_map taken_in (queues n)) ∙ ap (put_at (queues_of queues) n) (taken_mapped (queues n));
   gives_up = λ n. put_mapped queues n None;
 }
@@ -63,7 +64,7 @@ module _ (old new : QueuesValue) (calm : IsCalm (queue_at old)) (n : ℕ) where
   watched_calm : (tree : ℕ) (prefix : Key) (given : ℕ) → Becomes (with_subscriber n tree prefix (queue_at old)) given new → IsCalm (queue_at new)
   watched_calm tree prefix given becomes = subst IsCalm (sym becomes.held) ((calm_law (queue_at old) calm).watches n tree prefix)
 
-  taken_calm : (given : ℕ) → Becomes (without_oldest_of n (queue_at old)) given new → IsCalm (queue_at new)
+  taken_calm : (given : ℕ) → Becomes (without_next_of n (queue_at old)) given new → IsCalm (queue_at new)
   taken_calm given becomes = subst IsCalm (sym becomes.held) ((calm_law (queue_at old) calm).takes n)
 
   ended_calm : (given : ℕ) → Becomes (without_subscriber n (queue_at old)) given new → IsCalm (queue_at new)
@@ -105,8 +106,8 @@ module _ {P M : Type 0} (store : P → Store) (meant : M → Merge) (old : DbVal
     sound = λ db. told_db store old new (watched_calm old.queues new db.calm n tree.number prefix n becomes) db;
   }
 
-  takes : (n : ℕ) (event : Option Event) → event ≡ oldest_in (queue_at old.queues n) → Becomes (without_oldest_of n (queue_at old.queues)) old.queues.given new → TakesFromDb store meant old n event after
-  takes n event is becomes = record {
+  takes : (n : ℕ) (next : Option event.Next) → next ≡ next_at (queue_at old.queues n) → Becomes (without_next_of n (queue_at old.queues)) old.queues.given new → TakesFromDb store meant old n next after
+  takes n next is becomes = record {
     takes = λ slots given. record {
       gives = is ∙ (serves_law (queue_at old.queues)).gives n;
       is = told_state _ old.queues.given (ap queues_of becomes.held ∙ (serves_law (queue_at old.queues)).takes n) becomes.count slots given;
@@ -134,8 +135,8 @@ module _ {P M : Type 0} (store : P → Store) (meant : M → Merge) (inside old 
       (watches store meant inside new tree prefix n (subst (λ z. must_refuse_of (db_state store meant z) (tree ∷ []) ≡ None) (sym e) must) next fresh (subst (λ z. Becomes (with_subscriber n tree.number z (queue_at inside.queues)) n new) same becomes))
   watched_told tree prefix copy (Err x) new same must next fresh becomes = tt
 
-  pub takes_told : (n : ℕ) (event : Option Event) (new : QueuesValue) → event ≡ oldest_in (queue_at inside.queues n) → Becomes (without_oldest_of n (queue_at inside.queues)) inside.queues.given new → TakesFromDb store meant old n event (record inside { queues = new })
-  takes_told n event new is becomes = subst (λ z. TakesFromDb store meant z n event (record inside { queues = new })) e (takes store meant inside new n event is becomes)
+  pub takes_told : (n : ℕ) (next : Option event.Next) (new : QueuesValue) → next ≡ next_at (queue_at inside.queues n) → Becomes (without_next_of n (queue_at inside.queues)) inside.queues.given new → TakesFromDb store meant old n next (record inside { queues = new })
+  takes_told n next new is becomes = subst (λ z. TakesFromDb store meant z n next (record inside { queues = new })) e (takes store meant inside new n next is becomes)
 
   pub ends_told : (n : ℕ) (new : QueuesValue) → Becomes (without_subscriber n (queue_at inside.queues)) inside.queues.given new → EndsSubscriber store meant old n (record inside { queues = new })
   ends_told n new becomes = subst (λ z. EndsSubscriber store meant z n (record inside { queues = new })) e (ends store meant inside new n becomes)
@@ -146,7 +147,7 @@ module _ {P M : Type 0} (store : P → Store) (inside : DbValue P M) (db : IsDb 
   watched_db tree prefix (Ok n) becomes same = told_db store inside new (watched_calm inside.queues new db.calm n tree prefix n becomes) db
   watched_db tree prefix (Err x) becomes same = subst (λ z. IsDb store (record inside { queues = z })) (sym same) db
 
-  pub taken_db : (n : ℕ) → Becomes (without_oldest_of n (queue_at inside.queues)) inside.queues.given new → IsDb store (record inside { queues = new })
+  pub taken_db : (n : ℕ) → Becomes (without_next_of n (queue_at inside.queues)) inside.queues.given new → IsDb store (record inside { queues = new })
   taken_db n becomes = told_db store inside new (taken_calm inside.queues new db.calm n inside.queues.given becomes) db
 
   pub ended_db : (n : ℕ) → Becomes (without_subscriber n (queue_at inside.queues)) inside.queues.given new → IsDb store (record inside { queues = new })
@@ -180,10 +181,10 @@ module _ {P M : Type 0} (store : P → Store) (meant : M → Merge) (old new : D
     same = w.same;
   }
 
-  pub next_decided : (subscriber : ℕ) (event : Option Event) → TakesFromDb store meant old subscriber event new → WholeDecided store meant old (Next subscriber) (reply.Event event) new
-  next_decided subscriber event t = record {
+  pub next_decided : (subscriber : ℕ) (next : Option event.Next) → TakesFromDb store meant old subscriber next new → WholeDecided store meant old (Next subscriber) (reply.Next next) new
+  next_decided subscriber next t = record {
     maps = [];
-    decides = λ slots given n. (event, refl, t.takes slots given, refl);
+    decides = λ slots given n. (next, refl, t.takes slots given, refl);
     acts = store_same store old new t.same;
     leaves = leaves_pages store old new t.same t.sound;
     same = t.same;

@@ -1,7 +1,7 @@
 use Rattle.std.proofs.Common.{refl}
 use Rattle.std.specs.Option.{option_map}
 use Rattle.sled_tree.proofs.Linking.{change_pair}
-use Rattle.sled.proofs.Watching.{at_link, short, turns_back, linked, unlinked}
+use Rattle.sled.proofs.Watching.{at_link, short, linked, unlinked}
 use Rattle.sled.proofs.step.link_watched.Goals as goal
 
 pub event_of-requires : goal.event_of-requires
@@ -19,17 +19,12 @@ returns-in-Err-prepare g c =
     let at = at_link c.args.flight.now.stage c.requires.here in
     short (option_map (λ o. g.M.MergeOperator.meant o.now) c.args.operator) (g.P.Pages.store c.args.pages.now) c.args.flight.now at.0 at.1 c.in-Err-prepare.e c.in-Err-prepare.ensures.cause c.args.queues.now c.prepare.new.self c.in-Err-prepare.ensures.err
 
-pub returns-then-not-room : goal.returns-then-not-room
-returns-then-not-room g c =
-    let at = at_link c.args.flight.now.stage c.requires.here in
-    rw c.begin_again-then-not-room.ensures (turns_back (option_map (λ o. g.M.MergeOperator.meant o.now) c.args.operator) (g.P.Pages.store c.args.pages.now) c.args.flight.now at.0 at.1 c.in-Ok-Some.change (rw c.in-Ok-Some.field-0-is at c.in-Ok-Some.ensures.ok) c.in-Ok.event c.in-Ok.ensures.ok c.args.queues.now c.prepare.new.self c.in-Ok-prepare.room c.in-Ok-prepare.ensures.ok c.if-not-room.true)
-
 pub returns-in-Decided : goal.returns-in-Decided
 returns-in-Decided g c =
     let at = at_link c.args.flight.now.stage c.requires.here in
-    linked (option_map (λ o. g.M.MergeOperator.meant o.now) c.args.operator) (g.P.Pages.store c.args.pages.now) c.args.flight.now at.0 at.1 c.in-Ok-Some.change (rw c.in-Ok-Some.field-0-is at c.in-Ok-Some.ensures.ok) c.in-Ok.event c.in-Ok.ensures.ok c.args.queues.now c.prepare.new.self c.in-Ok-prepare.room c.in-Ok-prepare.ensures.ok c.if-not-room.false _ _ _ _ c.in-Decided.is c.link_change.ensures _ c.commit.ensures
+    linked (option_map (λ o. g.M.MergeOperator.meant o.now) c.args.operator) (g.P.Pages.store c.args.pages.now) c.args.flight.now at.0 at.1 c.in-Ok-Some.change (rw c.in-Ok-Some.field-0-is at c.in-Ok-Some.ensures.ok) c.in-Ok.event c.in-Ok.ensures.ok c.args.queues.now c.prepare.new.self c.in_default.ensures.ok _ _ _ _ c.in-Decided.is c.link_change.ensures _ c.commit.ensures
 
-pub returns-in_default : goal.returns-in_default
-returns-in_default g c =
+pub returns-in_default-link_change : goal.returns-in_default-link_change
+returns-in_default-link_change g c =
     let at = at_link c.args.flight.now.stage c.requires.here in
-    unlinked (option_map (λ o. g.M.MergeOperator.meant o.now) c.args.operator) (g.P.Pages.store c.args.pages.now) c.args.flight.now at.0 at.1 c.in-Ok-Some.change (rw c.in-Ok-Some.field-0-is at c.in-Ok-Some.ensures.ok) c.in-Ok.event c.in-Ok.ensures.ok c.args.queues.now c.prepare.new.self c.in-Ok-prepare.room c.in-Ok-prepare.ensures.ok c.if-not-room.false c.requires.calm _ _ _ c.in_default.not-Decided c.link_change.ensures _ c.cancel.ensures
+    unlinked (option_map (λ o. g.M.MergeOperator.meant o.now) c.args.operator) (g.P.Pages.store c.args.pages.now) c.args.flight.now at.0 at.1 c.in-Ok-Some.change (rw c.in-Ok-Some.field-0-is at c.in-Ok-Some.ensures.ok) c.in-Ok.event c.in-Ok.ensures.ok c.args.queues.now c.prepare.new.self c.in_default.ensures.ok c.requires.calm _ _ _ c.in_default-link_change.not-Decided c.link_change.ensures _ c.cancel.ensures
