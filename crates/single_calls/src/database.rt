@@ -10,7 +10,7 @@ ghost use Rattle.sled.specs.Calls.{IsHandle, MustBeRefused};
 ghost use Rattle.sled.specs.Drops.{DropsTree};
 ghost use Rattle.sled.specs.Export.{collections};
 ghost use Rattle.sled_tree.specs.Known.{IsKnown};
-ghost use Rattle.sled.specs.Flights.{DbStep, DbSound, DbActs, DbFollows, DbPasses, DbFindsRoom, DbLeaksNoPage, DbKnows, KeepsTreePages, DbRunsToEnd};
+ghost use Rattle.sled.specs.Flights.{DbStep, DbSound, DbActs, DbFollows, DbPasses, DbLeaksNoPage, DbKnows, KeepsTreePages, DbRunsToEnd};
 ghost use Rattle.sled.specs.Flush.{FlushesDb};
 ghost use Rattle.sled.specs.Opens.{Opens};
 ghost use Rattle.sled.specs.Values.{db_state, snapshot_of_db};
@@ -96,8 +96,7 @@ pub fn advance<P: Pages, M: MergeOperator>(db: &mut Db<P, M>, flight: &mut InFli
     ensures sound { DbSound P.store db.old db.new }
     ensures does { DbActs P.store M.meant db.old flight.old result db.new }
     ensures follows { DbFollows P.store M.meant db.old flight.old result db.new flight.new }
-    ensures passes { DbPasses P.store M.meant db.old flight.old result db.new flight.new }
-    ensures room { DbFindsRoom P.store M.meant db.old flight.old result db.new flight.new }
+    ensures passes { DbPasses P.store db.old flight.old result db.new flight.new }
     ensures loses { KeepsTreePages None (snapshot_of_db P.store db.old) (snapshot_of_db P.store db.new) }
     ensures leaves { DbLeaksNoPage P.store db.old flight.old result db.new flight.new }
     ensures knows { DbKnows P.store db.old flight.old result db.new flight.new }

@@ -6,7 +6,7 @@ ghost use Rattle.sled_model.specs.declared.call.Whole.TheVariants.{DropTree};
 ghost use Rattle.sled_model.specs.declared.outcome.Outcome.TheVariants as outcome;
 ghost use Rattle.sled_model.specs.declared.outcome.Step.TheVariants as step;
 ghost use Rattle.sled_machine.specs.Values.{slots_of};
-ghost use Rattle.sled_machine.specs.Step.{MachineStep, MachineSound, MachineActs, MachineFollows, MachinePasses, MachineFindsRoom, MachineSlots, MachineKeepsTreePages, MachineLeaksNoPage, MachineStepContract};
+ghost use Rattle.sled_machine.specs.Step.{MachineStep, MachineSound, MachineActs, MachineFollows, MachinePasses, MachineSlots, MachineKeepsTreePages, MachineLeaksNoPage, MachineStepContract};
 ghost use Rattle.sled_machine.specs.Run.{MachineRun, MachineSteps};
 ghost use Rattle.sled_machine.specs.Finish.{RunsToEnd, Completes};
 
@@ -43,8 +43,7 @@ pub fn step<P: Pages, M: MergeOperator>(machine: &mut Machine<P, M>, slot: Slot)
     ensures sound { MachineSound P.store machine.old machine.new }
     ensures does { MachineActs P.store M.meant machine.old (step.Step slot) result machine.new }
     ensures follows { MachineFollows P.store M.meant machine.old (step.Step slot) result machine.new }
-    ensures passes { MachinePasses P.store M.meant machine.old (step.Step slot) result machine.new }
-    ensures room { MachineFindsRoom P.store M.meant machine.old (step.Step slot) result machine.new }
+    ensures passes { MachinePasses P.store machine.old (step.Step slot) result machine.new }
     ensures slots { MachineSlots machine.old (step.Step slot) result machine.new }
     ensures loses { MachineKeepsTreePages P.store machine.old (step.Step slot) result machine.new }
     ensures leaves { MachineLeaksNoPage P.store machine.old (step.Step slot) result machine.new }

@@ -3,7 +3,7 @@ ghost use Rattle.std.specs.Prelude.{IfOk, IfErr};
 ghost use Rattle.sled.specs.Watch.{WatchesDb, RefusesWatch, TakesFromDb, EndsSubscriber};
 
 use sled::{Db, Subscriber};
-use sled_model::{Event, MergeOperator, Tree};
+use sled_model::{MergeOperator, Next, Tree};
 use sled_nodes::Result;
 use sled_store::Pages;
 
@@ -19,8 +19,8 @@ pub fn watch_prefix<P: Pages, M: MergeOperator>(
     db.watch_prefix(tree, prefix)
 }
 
-/// The oldest event that waits for a subscriber.
-pub fn next<P: Pages, M: MergeOperator>(db: &mut Db<P, M>, subscriber: &Subscriber) -> Option<Event>
+/// What a subscriber is told next.
+pub fn next<P: Pages, M: MergeOperator>(db: &mut Db<P, M>, subscriber: &Subscriber) -> Option<Next>
     ensures { TakesFromDb P.store M.meant db.old subscriber.now result db.new }
 {
     db.next(subscriber)

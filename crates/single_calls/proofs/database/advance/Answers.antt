@@ -23,6 +23,3 @@ returns-clause-leaves c = assumption
 
 pub returns-clause-knows : goal.returns-clause-knows
 returns-clause-knows c = assumption
-
-pub returns-clause-room : goal.returns-clause-room
-returns-clause-room c = assumption

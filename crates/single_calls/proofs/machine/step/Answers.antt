@@ -15,9 +15,6 @@ returns-clause-follows c = assumption
 pub returns-clause-passes : goal.returns-clause-passes
 returns-clause-passes c = assumption
 
-pub returns-clause-room : goal.returns-clause-room
-returns-clause-room c = assumption
-
 pub returns-clause-slots : goal.returns-clause-slots
 returns-clause-slots c = assumption
 
