@@ -1,15 +1,14 @@
 -- The queues of a list are changed one after the other.
-use Rattle.std.proofs.Common.{◌≡◌, ℕ, ◌+◌, ◌-◌, ◌<◌, Bool, true, false, cond, nat_eq, nat_lt, ◌||◌, List, [], ◌∷◌, ◌++◌, take, length, get_or, Option, Some, None, option_map, sym, refl, ap, ◌∙◌, arith}
-use Rattle.std.proofs.lemmas.Bool.{eqb-true, ltb-true}
-use Rattle.std.proofs.lemmas.Bool.Decides.{nat_tests}
+use Rattle.std.proofs.Common.{◌≡◌, ℕ, ◌+◌, ◌-◌, ◌<◌, Bool, true, false, cond, nat_eq, ◌||◌, List, [], ◌∷◌, ◌++◌, take, length, get_or, Option, Some, None, option_map, sym, refl, ap, ◌∙◌, arith}
+use Rattle.std.proofs.lemmas.Bool.{eqb-true}
 use Rattle.std.proofs.lemmas.List.{length-append}
 use Rattle.std.proofs.lemmas.List.Folds.{list_any_more}
 use Rattle.std.proofs.Math.Seq.{take-length, take-append_seam}
 use Rattle.sled_model.specs.declared.event.Event.{Event}
 use Rattle.sled_queues.specs.Values.{WaitingValue, Waitings}
-use Rattle.sled_queues.specs.Lists.{is_in, Rise}
-use Rattle.sled_queues.specs.theory.Lists.{changed_at, changed_in, changed_below, changed_to, has_prefix, gains, loses}
-use Rattle.sled_queues.proofs.Rising.{unmet}
+use Rattle.sled_queues.specs.Lists.{is_in, Once}
+use Rattle.sled_queues.specs.theory.Lists.{changed_at, changed_in, gains, loses}
+use Rattle.sled_queues.proofs.Single.{unmet}
 
 one_more : {W : Type 0} (f : W → W) (b c : Bool) (o : Option W) → (c ≡ true → b ≡ false) → cond c (option_map f (cond b (option_map f o) o)) (cond b (option_map f o) o) ≡ cond (b || c) (option_map f o) o
 one_more f true true o h = ap (λ b. cond b (option_map f (option_map f o)) (option_map f o)) (h refl)
@@ -17,33 +16,32 @@ one_more f true false o h = refl
 one_more f false true o h = refl
 one_more f false false o h = refl
 
-pub changes_more : (f : WaitingValue → WaitingValue) (last : ℕ) (ns : List ℕ) (i d : ℕ) (a b c : Waitings) → Rise last ns → i < length ns
+pub changes_more : (f : WaitingValue → WaitingValue) (ns : List ℕ) (i d : ℕ) (a b c : Waitings) → Once ns → i < length ns
     → ((n : ℕ) → b n ≡ changed_in f (take i ns) a n) → ((n : ℕ) → c n ≡ changed_at f (get_or ns i d) b n) → (n : ℕ) → c n ≡ changed_in f (take (i + 1) ns) a n
-changes_more f last ns i d a b c r l is next n =
+changes_more f ns i d a b c r l is next n =
     next n
     ∙ ap (λ o. cond (nat_eq n (get_or ns i d)) (option_map f o) o) (is n)
-    ∙ one_more f (is_in n (take i ns)) (nat_eq n (get_or ns i d)) (a n) (λ e. ap (λ k. is_in k (take i ns)) (eqb-true n (get_or ns i d) e) ∙ unmet 0 last ns i d r.is l)
+    ∙ one_more f (is_in n (take i ns)) (nat_eq n (get_or ns i d)) (a n) (λ e. ap (λ k. is_in k (take i ns)) (eqb-true n (get_or ns i d) e) ∙ unmet ns i d r l)
+    ∙ sym (ap (λ b. cond b (option_map f (a n)) (a n)) (list_any_more (nat_eq n) ns i d l))
+
+-- .. also those that stand there more than once, where a second change changes nothing
+once_more : {W : Type 0} (f : W → W) (b c : Bool) (o : Option W) → ((w : W) → f (f w) ≡ f w) → cond c (option_map f (cond b (option_map f o) o)) (cond b (option_map f o) o) ≡ cond (b || c) (option_map f o) o
+once_more f true true None h = refl
+once_more f true true (Some w) h = ap Some (h w)
+once_more f true false o h = refl
+once_more f false true o h = refl
+once_more f false false o h = refl
+
+pub changes_again : (f : WaitingValue → WaitingValue) (ns : List ℕ) (i d : ℕ) (a b c : Waitings) → ((w : WaitingValue) → f (f w) ≡ f w) → i < length ns
+    → ((n : ℕ) → b n ≡ changed_in f (take i ns) a n) → ((n : ℕ) → c n ≡ changed_at f (get_or ns i d) b n) → (n : ℕ) → c n ≡ changed_in f (take (i + 1) ns) a n
+changes_again f ns i d a b c r l is next n =
+    next n
+    ∙ ap (λ o. cond (nat_eq n (get_or ns i d)) (option_map f o) o) (is n)
+    ∙ once_more f (is_in n (take i ns)) (nat_eq n (get_or ns i d)) (a n) r
     ∙ sym (ap (λ b. cond b (option_map f (a n)) (a n)) (list_any_more (nat_eq n) ns i d l))
 
 pub changes_all : (f : WaitingValue → WaitingValue) (ns : List ℕ) (i : ℕ) (a b : Waitings) → i ≡ length ns → ((n : ℕ) → b n ≡ changed_in f (take i ns) a n) → (n : ℕ) → b n ≡ changed_in f ns a n
 changes_all f ns i a b e is n = is n ∙ ap (λ k. changed_in f (take k ns) a n) e ∙ ap (λ l. changed_in f l a n) (take-length ns)
-
--- those below a number
-pub below_more : (f : WaitingValue → WaitingValue) (i : ℕ) (a b c : Waitings) → ((n : ℕ) → b n ≡ changed_below f i a n) → ((n : ℕ) → c n ≡ changed_at f i b n) → (n : ℕ) → c n ≡ changed_below f (i + 1) a n
-below_more f i a b c is next n = next n ∙ ap (λ o. cond (nat_eq n i) (option_map f o) o) (is n) ∙ one_more f (nat_lt n i) (nat_eq n i) (a n) before ∙ ap (λ b. cond b (option_map f (a n)) (a n)) below
-  where
-    before : nat_eq n i ≡ true → nat_lt n i ≡ false
-    before e = go (nat_lt n i) refl
-      where
-        go : (b : Bool) → nat_lt n i ≡ b → b ≡ false
-        go true h = let l : n < i = ltb-true n i h in let s : n ≡ i = eqb-true n i e in absurd (omega (arith, l, s))
-        go false h = refl
-
-    below : (nat_lt n i || nat_eq n i) ≡ nat_lt n (i + 1)
-    below = grind (arith, nat_tests)
-
-pub below_end : (f : WaitingValue → WaitingValue) (i last : ℕ) (a b c : Waitings) → i ≡ last → ((n : ℕ) → b n ≡ changed_below f i a n) → ((n : ℕ) → c n ≡ changed_at f last b n) → (n : ℕ) → c n ≡ changed_to f last a n
-below_end f i last a b c e is next = below_more f last a b c (λ n. is n ∙ ap (λ k. changed_below f k a n) e) next
 
 -- the last one goes again
 shorter : {X : Type 0} (xs : List X) (x : X) → take (length (xs ++ x ∷ []) - 1) (xs ++ x ∷ []) ≡ xs
@@ -52,15 +50,8 @@ shorter xs x = let e : length (xs ++ x ∷ []) - 1 ≡ length xs = minus (length
     minus : (a b : ℕ) → b ≡ a + 1 → b - 1 ≡ a
     minus a b e = omega arith
 
-pub gained_lost : (e : Event) (w : WaitingValue) → loses e (gains e w) ≡ w
-gained_lost e w = go (has_prefix e w) refl
-  where
-    go : (b : Bool) → has_prefix e w ≡ b → loses e (gains e w) ≡ w
-    go true h = ap (λ b. loses e (cond b (record w { coming = w.coming ++ e ∷ [] }) w)) h
-        ∙ ap (λ b. cond b (record w { coming = take (length (w.coming ++ e ∷ []) - 1) (w.coming ++ e ∷ []) }) (record w { coming = w.coming ++ e ∷ [] })) h
-        ∙ ap (λ l. record w { coming = l }) (shorter w.coming e)
-    go false h = ap (λ b. loses e (cond b (record w { coming = w.coming ++ e ∷ [] }) w)) h
-        ∙ ap (λ b. cond b (record w { coming = take (length w.coming - 1) w.coming }) w) h
+gained_lost : (e : Event) (w : WaitingValue) → loses (gains e w) ≡ w
+gained_lost e w = ap (λ l. record w { coming = l }) (shorter w.coming e)
 
 both : {W : Type 0} (f g : W → W) (b : Bool) (o : Option W) → ((w : W) → g (f w) ≡ w) → cond b (option_map g (cond b (option_map f o) o)) (cond b (option_map f o) o) ≡ o
 both f g true None h = refl
@@ -68,5 +59,5 @@ both f g true (Some w) h = ap Some (h w)
 both f g false o h = refl
 
 -- what some have gained they lose again
-pub goes_back : (e : Event) (ns : List ℕ) (a b c d : Waitings) → ((n : ℕ) → b n ≡ changed_in (gains e) ns a n) → ((n : ℕ) → c n ≡ b n) → ((n : ℕ) → d n ≡ changed_in (loses e) ns c n) → (n : ℕ) → d n ≡ a n
-goes_back e ns a b c d is same back n = back n ∙ ap (λ o. cond (is_in n ns) (option_map (loses e) o) o) (same n ∙ is n) ∙ both (gains e) (loses e) (is_in n ns) (a n) (gained_lost e)
+pub goes_back : (e : Event) (ns : List ℕ) (a b c d : Waitings) → ((n : ℕ) → b n ≡ changed_in (gains e) ns a n) → ((n : ℕ) → c n ≡ b n) → ((n : ℕ) → d n ≡ changed_in loses ns c n) → (n : ℕ) → d n ≡ a n
+goes_back e ns a b c d is same back n = back n ∙ ap (λ o. cond (is_in n ns) (option_map loses o) o) (same n ∙ is n) ∙ both (gains e) loses (is_in n ns) (a n) (gained_lost e)

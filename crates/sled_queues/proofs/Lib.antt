@@ -1,4 +1,6 @@
-pub mod Rising
+pub mod Single
+pub mod Beginning
+pub mod Prefixed
 pub mod Changing
 pub mod Admitting
 pub mod Listed

@@ -1,22 +1,23 @@
--- The queues of the subscribers in the list of a tree are those of the tree.
-use Rattle.std.proofs.Common.{◌≡◌, ◌≢◌, ℕ, ◌+◌, ◌<◌, ◌≤◌, Bool, true, false, cond, nat_eq, nat_lt, nat_le, ◌||◌, ◌&&◌, ◌⊎◌, inl, inr, List, [], ◌∷◌, ◌++◌, length, drop, min, Option, Some, None, option_map, sym, refl, ap, ◌∙◌, subst, arith}
+-- The queues of the subscribers that are listed at the beginnings of a key are those that wait for it.
+use Rattle.std.proofs.Common.{◌≡◌, ◌≢◌, ℕ, ◌+◌, ◌<◌, ◌≤◌, Bool, true, false, cond, nat_eq, nat_le, ◌||◌, ◌&&◌, ◌⊎◌, inl, inr, List, [], ◌∷◌, ◌++◌, length, drop, min, Option, Some, None, option_map, sym, refl, ap, ◌∙◌, subst, arith}
 use Rattle.std.proofs.Math.Path.{fun_ext}
 use mathlib.Core.Bool.{true≢false}
-use Rattle.std.specs.List.{list_any}
-use Rattle.std.proofs.lemmas.Bool.{eq-eqb, ne_eqb, eqb-true, ltb-false, leb-true, leb-false}
+use Rattle.std.specs.Str.{bytes_eq}
+use Rattle.std.proofs.lemmas.Bool.{eq-eqb, ne_eqb, eqb-true, leb-true, leb-false}
 use Rattle.std.proofs.lemmas.List.{length-append}
 use Rattle.std.proofs.lemmas.List.Folds.{list_any-append}
 use Rattle.sled_nodes.specs.Order.{Key}
 use Rattle.sled_store.specs.Update.{put_at}
-use Rattle.sled_model.specs.State.{matches}
 use Rattle.sled_model.specs.Backlog.{Backlog, queue_limit, most_missed, comes, come_all}
+use Rattle.sled_model.specs.Event.{key_of_event}
+use Rattle.sled_model.specs.State.{matches}
 use Rattle.sled_model.specs.declared.event.Event.{Event}
 use Rattle.sled_queues.specs.Values.{WaitingValue, QueuesValue, Waitings, queue_at}
 use Rattle.sled_queues.specs.Queues.{queue_of, AreQueues, Becomes, prepared_in, prepared, committed_in, committed, cancelled_in, cancelled, taken_in, without_next_of}
-use Rattle.sled_queues.specs.Tells.{IsWatched, IsUnwatched}
-use Rattle.sled_queues.specs.Lists.{is_in, Rise, AreListed}
-use Rattle.sled_queues.specs.theory.Lists.{without, changed_at, changed_in, changed_to, begins, has_prefix, gains, tells, forgets, waits_in}
-use Rattle.sled_queues.proofs.Rising.{is_out, raise, push_rises, without_rises, without_keeps, push_without}
+use Rattle.sled_queues.specs.Tells.{waits_for, IsWatched, is_watched_as}
+use Rattle.sled_queues.specs.Lists.{is_in, Once, watches, AreListed, ArePending}
+use Rattle.sled_queues.specs.theory.Lists.{without, waits_in, has_some, changed_at, changed_in, gains}
+use Rattle.sled_queues.proofs.Single.{push_once, without_once, without_keeps, without_gone, push_without}
 
 -- how many events wait in a queue
 abbrev waiting : WaitingValue → ℕ
@@ -33,12 +34,22 @@ was : {W : Type 0} (g : W → W) (o : Option W) (w : W) → option_map g o ≡ S
 was g None w e = none_some e
 was g (Some v) w e = (v, refl, sym (some_is e))
 
--- the queues that are changed keep their trees, and so their lists
-pub changed_listed : (g : ℕ → WaitingValue → WaitingValue) (a b : Waitings) (lists : ℕ → List ℕ) (given : ℕ) → ((n : ℕ) (w : WaitingValue) → (g n w).tree ≡ w.tree)
-    → ((n : ℕ) → b n ≡ option_map (g n) (a n)) → AreListed a lists given → AreListed b lists given
-changed_listed g a b lists given keeps is l = record {
-  listed = λ n w e t. let v = was (g n) (a n) w (sym (is n) ∙ e) in l.listed n v.0 v.1 t ∙ ap (λ k. nat_eq k t) (sym (ap (λ (z : WaitingValue). z.tree) v.2 ∙ keeps n v.0));
-  rise = l.rise;
+-- the queues that are changed keep what they watch, and so their lists
+same_watch : (g : WaitingValue → WaitingValue) (o : Option WaitingValue) (t : ℕ) (p : Key) → ((w : WaitingValue) → (g w).tree ≡ w.tree) → ((w : WaitingValue) → (g w).prefix ≡ w.prefix) → watches t p (option_map g o) ≡ watches t p o
+same_watch g None t p a b = refl
+same_watch g (Some w) t p a b = ap (λ k. nat_eq k t && bytes_eq (g w).prefix p) (a w) ∙ ap (λ k. nat_eq w.tree t && bytes_eq k p) (b w)
+
+pub changed_listed : (g : ℕ → WaitingValue → WaitingValue) (a b : Waitings) (lists : ℕ → Key → List ℕ) → ((n : ℕ) (w : WaitingValue) → (g n w).tree ≡ w.tree) → ((n : ℕ) (w : WaitingValue) → (g n w).prefix ≡ w.prefix)
+    → ((n : ℕ) → b n ≡ option_map (g n) (a n)) → AreListed a lists → AreListed b lists
+changed_listed g a b lists trees prefixes is l = record {
+  listed = λ n t p. l.listed n t p ∙ sym (ap (watches t p) (is n) ∙ same_watch (g n) (a n) t p (trees n) (prefixes n));
+  once = l.once;
+}
+
+-- .. and where nothing more is prepared in them, no more are pending
+pub changed_pending : (g : ℕ → WaitingValue → WaitingValue) (a b : Waitings) (ps : List ℕ) → ((n : ℕ) (w : WaitingValue) → (g n w).coming ≡ w.coming) → ((n : ℕ) → b n ≡ option_map (g n) (a n)) → ArePending a ps → ArePending b ps
+changed_pending g a b ps keeps is h = record {
+  rest = λ n w e out. let v = was (g n) (a n) w (sym (is n) ∙ e) in ap (λ (z : WaitingValue). z.coming) v.2 ∙ keeps n v.0 ∙ h.rest n v.0 v.1 out;
 }
 
 -- .. and their numbers; of their lengths it is to be shown
@@ -58,14 +69,6 @@ in_option f true None t h = refl
 in_option f false None t h = refl
 in_option f b (Some w) t h = ap (λ c. cond c (Some (f w)) (Some w)) (h w refl) ∙ out (t w) (f w) w
 
-in_tree : (f : WaitingValue → WaitingValue) (tree : ℕ) (ns : List ℕ) (a : Waitings) (lists : ℕ → List ℕ) (given n : ℕ) → AreListed a lists given → lists tree ≡ ns
-    → changed_in f ns a n ≡ option_map (λ (w : WaitingValue). cond (nat_eq w.tree tree) (f w) w) (a n)
-in_tree f tree ns a lists given n l e = in_option f (is_in n ns) (a n) (λ (w : WaitingValue). nat_eq w.tree tree) (λ w h. ap (is_in n) (sym e) ∙ l.listed n w h tree)
-
-same_tree : (b : Bool) (v w : WaitingValue) → v.tree ≡ w.tree → (cond b v w).tree ≡ w.tree
-same_tree true v w e = e
-same_tree false v w e = refl
-
 bounded : (b : Bool) (v w : WaitingValue) → waiting v ≤ waiting w → waiting w ≤ queue_limit → waiting (cond b v w) ≤ queue_limit
 bounded true v w e h = omega arith
 bounded false v w e h = h
@@ -73,21 +76,33 @@ bounded false v w e h = h
 at_number : (f g : Waitings) (n : ℕ) → f ≡ g → f n ≡ g n
 at_number f g n e = ap (λ h. h n) e
 
--- each queue is changed, where all have numbers up to the last
-all_changed : (f : WaitingValue → WaitingValue) (v : QueuesValue) (b : Waitings) → AreQueues v → ((n : ℕ) → b n ≡ changed_to f v.given (queue_at v) n) → (n : ℕ) → b n ≡ option_map f (queue_at v n)
-all_changed f v b q is n = is n ∙ go (queue_at v n) refl (nat_lt n (v.given + 1)) refl
+-- each queue is changed, where the others are as after the change
+all_changed : (f : WaitingValue → WaitingValue) (ps : List ℕ) (a b : Waitings) → ((n : ℕ) (w : WaitingValue) → a n ≡ Some w → is_in n ps ≡ false → f w ≡ w) → ((n : ℕ) → b n ≡ changed_in f ps a n) → (n : ℕ) → b n ≡ option_map f (a n)
+all_changed f ps a b h is n = is n ∙ go (a n) refl (is_in n ps) refl
   where
-    go : (o : Option WaitingValue) → queue_at v n ≡ o → (c : Bool) → nat_lt n (v.given + 1) ≡ c → cond c (option_map f o) o ≡ option_map f o
-    go o h true e = refl
-    go None h false e = refl
-    go (Some w) h false e = let high : v.given + 1 ≤ n = ltb-false n (v.given + 1) e in let low : n ≤ v.given = (q.numbered n w h).1 in absurd (omega (arith, high, low))
+    go : (o : Option WaitingValue) → a n ≡ o → (c : Bool) → is_in n ps ≡ c → cond c (option_map f o) o ≡ option_map f o
+    go o e true k = refl
+    go None e false k = refl
+    go (Some w) e false k = ap Some (sym (h n w e k))
+
+-- nothing is prepared any more
+none_pending : (f : WaitingValue → WaitingValue) (a b : Waitings) → ((w : WaitingValue) → (f w).coming ≡ []) → ((n : ℕ) → b n ≡ option_map f (a n)) → ArePending b []
+none_pending f a b none is = record {
+  rest = λ n w e out. let v = was f (a n) w (sym (is n) ∙ e) in ap (λ (z : WaitingValue). z.coming) v.2 ∙ none v.0;
+}
 
 -- what is prepared is committed
-pub commits : (v : QueuesValue) (b : Waitings) → AreQueues v → ((n : ℕ) → b n ≡ changed_to tells v.given (queue_at v) n) → b ≡ committed (queue_at v)
-commits v b q is = fun_ext (all_changed tells v b q is)
+same_committed : (w : WaitingValue) → w.coming ≡ [] → committed_in w ≡ w
+same_committed w calm = ap (λ l. record w { backlog = come_all l w.backlog; coming = [] }) calm ∙ ap (λ l. record w { coming = l }) (sym calm)
 
-pub committed_listed : (a b : Waitings) (lists : ℕ → List ℕ) (given : ℕ) → b ≡ committed a → AreListed a lists given → AreListed b lists given
-committed_listed a b lists given e l = changed_listed (λ n. committed_in) a b lists given (λ n w. refl) (λ n. at_number b (committed a) n e) l
+pub commits : (ps : List ℕ) (a b : Waitings) → ArePending a ps → ((n : ℕ) → b n ≡ changed_in committed_in ps a n) → b ≡ committed a
+commits ps a b h is = fun_ext (all_changed committed_in ps a b (λ n w e out. same_committed w (h.rest n w e out)) is)
+
+pub committed_listed : (a b : Waitings) (lists : ℕ → Key → List ℕ) → b ≡ committed a → AreListed a lists → AreListed b lists
+committed_listed a b lists e l = changed_listed (λ n. committed_in) a b lists (λ n w. refl) (λ n w. refl) (λ n. at_number b (committed a) n e) l
+
+pub committed_pending : (a b : Waitings) → b ≡ committed a → ArePending b []
+committed_pending a b e = none_pending committed_in a b (λ w. refl) (λ n. at_number b (committed a) n e)
 
 -- an event that comes leaves at most 1024
 drop_one : (xs : List Event) (n : ℕ) → n ≤ length xs → 1 ≤ n → length xs ≤ n → length (drop 1 xs) + 1 ≡ length xs
@@ -116,27 +131,50 @@ pub committed_queues : (a b : QueuesValue) → queue_at b ≡ committed (queue_a
 committed_queues a b e same q = changed_queues (λ n. committed_in) a b (λ n w there h. come_all_bound w.coming w.backlog h) (λ n. at_number (queue_at b) (committed (queue_at a)) n e) same q
 
 -- .. or dropped
-pub cancels : (v : QueuesValue) (b : Waitings) → AreQueues v → ((n : ℕ) → b n ≡ changed_to forgets v.given (queue_at v) n) → b ≡ cancelled (queue_at v)
-cancels v b q is = fun_ext (all_changed forgets v b q is)
+same_cancelled : (w : WaitingValue) → w.coming ≡ [] → cancelled_in w ≡ w
+same_cancelled w calm = ap (λ l. record w { coming = l }) (sym calm)
 
-pub cancelled_listed : (a b : Waitings) (lists : ℕ → List ℕ) (given : ℕ) → b ≡ cancelled a → AreListed a lists given → AreListed b lists given
-cancelled_listed a b lists given e l = changed_listed (λ n. cancelled_in) a b lists given (λ n w. refl) (λ n. at_number b (cancelled a) n e) l
+pub cancels : (ps : List ℕ) (a b : Waitings) → ArePending a ps → ((n : ℕ) → b n ≡ changed_in cancelled_in ps a n) → b ≡ cancelled a
+cancels ps a b h is = fun_ext (all_changed cancelled_in ps a b (λ n w e out. same_cancelled w (h.rest n w e out)) is)
+
+pub cancelled_listed : (a b : Waitings) (lists : ℕ → Key → List ℕ) → b ≡ cancelled a → AreListed a lists → AreListed b lists
+cancelled_listed a b lists e l = changed_listed (λ n. cancelled_in) a b lists (λ n w. refl) (λ n w. refl) (λ n. at_number b (cancelled a) n e) l
+
+pub cancelled_pending : (a b : Waitings) → b ≡ cancelled a → ArePending b []
+cancelled_pending a b e = none_pending cancelled_in a b (λ w. refl) (λ n. at_number b (cancelled a) n e)
 
 pub cancelled_queues : (a b : QueuesValue) → queue_at b ≡ cancelled (queue_at a) → b.given ≡ a.given → AreQueues a → AreQueues b
 cancelled_queues a b e same q = changed_queues (λ n. cancelled_in) a b (λ n w there h. h) (λ n. at_number (queue_at b) (cancelled (queue_at a)) n e) same q
 
--- an event is prepared in the queues of the list
-both_tests : {W : Type 0} (b c : Bool) (v w : W) → cond b (cond c v w) w ≡ cond (b && c) v w
-both_tests true c v w = refl
-both_tests false c v w = refl
+-- an event is prepared in the queues of those that are listed at the beginnings of its key
+pub prepares : (tree : ℕ) (e : Event) (ns : List ℕ) (a b : Waitings) → ((n : ℕ) → is_in n ns ≡ waits_in tree (key_of_event e) (a n)) → ((n : ℕ) → b n ≡ changed_in (gains e) ns a n) → b ≡ prepared tree e a
+prepares tree e ns a b found is = fun_ext (λ n.
+    is n ∙ in_option (gains e) (is_in n ns) (a n) (waits_for tree (key_of_event e)) (λ w h. found n ∙ ap (waits_in tree (key_of_event e)) h))
 
-pub prepares : (tree : ℕ) (e : Event) (ns : List ℕ) (a b : Waitings) (lists : ℕ → List ℕ) (given : ℕ) → AreListed a lists given → lists tree ≡ ns → ((n : ℕ) → b n ≡ changed_in (gains e) ns a n) → b ≡ prepared tree e a
-prepares tree e ns a b lists given l k is = fun_ext (λ n.
-    is n ∙ in_tree (gains e) tree ns a lists given n l k
-    ∙ ap (λ (f : WaitingValue → WaitingValue). option_map f (a n)) (fun_ext (λ (w : WaitingValue). both_tests (nat_eq w.tree tree) (has_prefix e w) (record w { coming = w.coming ++ e ∷ [] }) w)))
+still_watched : (e : Event) (w : WaitingValue) (b : Bool) → (cond b (gains e w) w).tree ≡ w.tree
+still_watched e w true = refl
+still_watched e w false = refl
 
-pub prepared_listed : (tree : ℕ) (e : Event) (a b : Waitings) (lists : ℕ → List ℕ) (given : ℕ) → b ≡ prepared tree e a → AreListed a lists given → AreListed b lists given
-prepared_listed tree e a b lists given k l = changed_listed (λ n. prepared_in tree e) a b lists given (λ n w. same_tree (matches tree e (queue_of w)) (record w { coming = w.coming ++ e ∷ [] }) w refl) (λ n. at_number b (prepared tree e a) n k) l
+still_under : (e : Event) (w : WaitingValue) (b : Bool) → (cond b (gains e w) w).prefix ≡ w.prefix
+still_under e w true = refl
+still_under e w false = refl
+
+pub prepared_listed : (tree : ℕ) (e : Event) (a b : Waitings) (lists : ℕ → Key → List ℕ) → b ≡ prepared tree e a → AreListed a lists → AreListed b lists
+prepared_listed tree e a b lists k l = changed_listed (λ n. prepared_in tree e) a b lists (λ n w. still_watched e w (matches tree e (queue_of w))) (λ n w. still_under e w (matches tree e (queue_of w))) (λ n. at_number b (prepared tree e a) n k) l
+
+pub prepared_pending : (e : Event) (ps ns : List ℕ) (a b : Waitings) → ((n : ℕ) → b n ≡ changed_in (gains e) ns a n) → ArePending a ps → ArePending b (ps ++ ns)
+prepared_pending e ps ns a b is h = record {
+  rest = λ n w there out. let o = sym (list_any-append (nat_eq n) ps ns) ∙ out in
+      h.rest n w (sym (ap (λ c. cond c (option_map (gains e) (a n)) (a n)) (right (is_in n ps) (is_in n ns) o)) ∙ sym (is n) ∙ there) (left (is_in n ps) (is_in n ns) o);
+}
+  where
+    left : (a b : Bool) → (a || b) ≡ false → a ≡ false
+    left true b e = e
+    left false b e = refl
+
+    right : (a b : Bool) → (a || b) ≡ false → b ≡ false
+    right true b e = absurd (true≢false e)
+    right false b e = e
 
 as_long : (e : Event) (w : WaitingValue) (b : Bool) → waiting w ≤ queue_limit → waiting (cond b (record w { coming = w.coming ++ e ∷ [] }) w) ≤ queue_limit
 as_long e w true h = h
@@ -145,61 +183,14 @@ as_long e w false h = h
 pub prepared_queues : (tree : ℕ) (e : Event) (a b : QueuesValue) → queue_at b ≡ prepared tree e (queue_at a) → b.given ≡ a.given → AreQueues a → AreQueues b
 prepared_queues tree e a b k same q = changed_queues (λ n. prepared_in tree e) a b (λ n w there h. as_long e w (matches tree e (queue_of w)) h) (λ n. at_number (queue_at b) (prepared tree e (queue_at a)) n k) same q
 
--- a test that no number of a list passes, or one
-or_left : (a b : Bool) → (a || b) ≡ false → a ≡ false
-or_left true b e = e
-or_left false b e = refl
-
-or_right : (a b : Bool) → (a || b) ≡ false → b ≡ false
-or_right true b e = absurd (true≢false e)
-or_right false b e = e
-
-none_of : (p : ℕ → Bool) (ns : List ℕ) (n : ℕ) → list_any p ns ≡ false → is_in n ns ≡ true → p n ≡ false
-none_of p [] n h i = absurd (true≢false (sym i))
-none_of p (m ∷ ns) n h i = go (nat_eq n m) refl i (none_of p ns n (or_right (p m) (list_any p ns) h))
+-- whether some queue waits for the key
+pub watched : (tree : ℕ) (key : Key) (ns : List ℕ) (a : Waitings) → ((n : ℕ) → is_in n ns ≡ waits_in tree key (a n)) → is_watched_as tree key a (has_some ns)
+watched tree key [] a found = record { none = λ n w there. sym (found n ∙ ap (waits_in tree key) there) }
+watched tree key (n ∷ ns) a found = go (a n) refl (sym (found n) ∙ ap (λ b. b || is_in n ns) (eq-eqb n n refl))
   where
-    go : (b : Bool) → nat_eq n m ≡ b → (b || is_in n ns) ≡ true → (is_in n ns ≡ true → p n ≡ false) → p n ≡ false
-    go true e j rest = ap p (eqb-true n m e) ∙ or_left (p m) (list_any p ns) h
-    go false e j rest = rest j
-
-one_of : (p : ℕ → Bool) (ns : List ℕ) → list_any p ns ≡ true → (n : ℕ) × (is_in n ns ≡ true) × (p n ≡ true)
-one_of p [] h = absurd (true≢false (sym h))
-one_of p (m ∷ ns) h = go (p m) refl h (one_of p ns)
-  where
-    go : (b : Bool) → p m ≡ b → (b || list_any p ns) ≡ true → (list_any p ns ≡ true → (n : ℕ) × (is_in n ns ≡ true) × (p n ≡ true)) → (n : ℕ) × (is_in n (m ∷ ns) ≡ true) × (p n ≡ true)
-    go true e j rest = (m, ap (λ b. b || is_in m ns) (eq-eqb m m refl), e)
-    go false e j rest = let r = rest j in (r.0, or_true (nat_eq r.0 m) (is_in r.0 ns) r.1, r.2)
-      where
-        or_true : (a b : Bool) → b ≡ true → (a || b) ≡ true
-        or_true true b e = refl
-        or_true false b e = e
-
-and_is : (a b : Bool) → a ≡ true → b ≡ true → (a && b) ≡ true
-and_is true b e h = h
-and_is false b e h = absurd (true≢false (sym e))
-
-none_waits : (a b : Bool) → (a ≡ true → b ≡ false) → (a && b) ≡ false
-none_waits true b h = h refl
-none_waits false b h = refl
-
--- whether some queue of the list waits for the key
-pub is_unwatched : (tree : ℕ) (key : Key) (ns : List ℕ) (a : Waitings) (lists : ℕ → List ℕ) (given : ℕ) → AreListed a lists given → lists tree ≡ ns → list_any (λ n. waits_in key (a n)) ns ≡ false → IsUnwatched tree key a
-is_unwatched tree key ns a lists given l k none = record {
-  none = λ n w there. none_waits (nat_eq w.tree tree) (begins key w) (λ of.
-      ap (waits_in key) (sym there) ∙ none_of (λ n. waits_in key (a n)) ns n none (ap (is_in n) (sym k) ∙ l.listed n w there tree ∙ of));
-}
-
-pub is_watched : (tree : ℕ) (key : Key) (ns : List ℕ) (a : Waitings) (lists : ℕ → List ℕ) (given : ℕ) → AreListed a lists given → lists tree ≡ ns → list_any (λ n. waits_in key (a n)) ns ≡ true → IsWatched tree key a
-is_watched tree key ns a lists given l k some = let n = one_of (λ n. waits_in key (a n)) ns some in go n.0 n.1 (a n.0) refl n.2
-  where
-    go : (n : ℕ) → is_in n ns ≡ true → (o : Option WaitingValue) → a n ≡ o → waits_in key o ≡ true → IsWatched tree key a
-    go n i None there h = absurd (true≢false (sym h))
-    go n i (Some w) there h = record {
-      subscriber = n;
-      queue = w;
-      there = there;
-      waits = and_is (nat_eq w.tree tree) (begins key w) (sym (l.listed n w there tree) ∙ ap (is_in n) k ∙ i) h;
-    }
+    go : (o : Option WaitingValue) → a n ≡ o → waits_in tree key o ≡ true → IsWatched tree key a
+    go None there h = absurd (true≢false (sym h))
+    go (Some w) there h = record { subscriber = n; queue = w; there = there; waits = h }
 
 -- what is next in one queue is taken
 at_option : {W : Type 0} (f : W → W) (b : Bool) (o : Option W) → cond b (option_map f o) o ≡ option_map (λ w. cond b (f w) w) o
@@ -215,8 +206,23 @@ takes k a b is = fun_ext (λ n. is n ∙ go n (nat_eq n k) refl)
     go n true e = ap (λ m. option_map taken_in (a m)) (eqb-true n k e)
     go n false e = refl
 
-pub taken_listed : (k : ℕ) (a b : Waitings) (lists : ℕ → List ℕ) (given : ℕ) → ((n : ℕ) → b n ≡ changed_at taken_in k a n) → AreListed a lists given → AreListed b lists given
-taken_listed k a b lists given is l = changed_listed (λ n w. cond (nat_eq n k) (taken_in w) w) a b lists given (λ n w. same_tree (nat_eq n k) (taken_in w) w refl) (λ n. is n ∙ at_option taken_in (nat_eq n k) (a n)) l
+taken_tree : (b : Bool) (w : WaitingValue) → (cond b (taken_in w) w).tree ≡ w.tree
+taken_tree true w = refl
+taken_tree false w = refl
+
+taken_prefix : (b : Bool) (w : WaitingValue) → (cond b (taken_in w) w).prefix ≡ w.prefix
+taken_prefix true w = refl
+taken_prefix false w = refl
+
+taken_coming : (b : Bool) (w : WaitingValue) → (cond b (taken_in w) w).coming ≡ w.coming
+taken_coming true w = refl
+taken_coming false w = refl
+
+pub taken_listed : (k : ℕ) (a b : Waitings) (lists : ℕ → Key → List ℕ) → ((n : ℕ) → b n ≡ changed_at taken_in k a n) → AreListed a lists → AreListed b lists
+taken_listed k a b lists is l = changed_listed (λ n w. cond (nat_eq n k) (taken_in w) w) a b lists (λ n w. taken_tree (nat_eq n k) w) (λ n w. taken_prefix (nat_eq n k) w) (λ n. is n ∙ at_option taken_in (nat_eq n k) (a n)) l
+
+pub taken_pending : (k : ℕ) (a b : Waitings) (ps : List ℕ) → ((n : ℕ) → b n ≡ changed_at taken_in k a n) → ArePending a ps → ArePending b ps
+taken_pending k a b ps is h = changed_pending (λ n w. cond (nat_eq n k) (taken_in w) w) a b ps (λ n w. taken_coming (nat_eq n k) w) (λ n. is n ∙ at_option taken_in (nat_eq n k) (a n)) h
 
 fewer : {X : Type 0} (xs : List X) → length (drop 1 xs) ≤ length xs
 fewer [] = omega arith
@@ -233,11 +239,14 @@ pub taken_queues : (k : ℕ) (a b : QueuesValue) → ((n : ℕ) → queue_at b n
 taken_queues k a b is same q = changed_queues (λ n w. cond (nat_eq n k) (taken_in w) w) a b (λ n w there h. bounded (nat_eq n k) (taken_in w) w (taken_shorter w) h) (λ n. is n ∙ at_option taken_in (nat_eq n k) (queue_at a n)) same q
 
 -- nothing is changed
-pub same_listed : (a b : Waitings) (lists more : ℕ → List ℕ) (given : ℕ) → ((n : ℕ) → b n ≡ a n) → ((t : ℕ) → more t ≡ lists t) → AreListed a lists given → AreListed b more given
-same_listed a b lists more given is same l = record {
-  listed = λ n w e t. ap (is_in n) (same t) ∙ l.listed n w (sym (is n) ∙ e) t;
-  rise = λ t. subst (Rise given) (sym (same t)) (l.rise t);
+pub same_listed : (a b : Waitings) (lists more : ℕ → Key → List ℕ) → ((n : ℕ) → b n ≡ a n) → ((t : ℕ) (p : Key) → more t p ≡ lists t p) → AreListed a lists → AreListed b more
+same_listed a b lists more is same l = record {
+  listed = λ n t p. ap (is_in n) (same t p) ∙ l.listed n t p ∙ ap (watches t p) (sym (is n));
+  once = λ t p. subst Once (sym (same t p)) (l.once t p);
 }
+
+pub same_pending : (a b : Waitings) (ps : List ℕ) → ((n : ℕ) → b n ≡ a n) → ArePending a ps → ArePending b ps
+same_pending a b ps is h = record { rest = λ n w e out. h.rest n w (sym (is n) ∙ e) out }
 
 pub same_entries : (a b : List (ℕ × WaitingValue)) (given : ℕ) → b ≡ a → (n : ℕ) → queue_at (record { queues = b; given = given }) n ≡ queue_at (record { queues = a; given = given }) n
 same_entries a b given e n = ap (λ (es : List (ℕ × WaitingValue)). queue_at (record { queues = es; given = given }) n) e
@@ -249,13 +258,18 @@ same_queues a b is same q = record {
 }
 
 -- a number is put into a list and taken out again
-pub put_back : (tree given : ℕ) (a : Waitings) (lists more last : ℕ → List ℕ) → AreListed a lists given → ((t : ℕ) → more t ≡ cond (nat_eq t tree) (lists t ++ (given + 1) ∷ []) (lists t))
-    → ((t : ℕ) → last t ≡ cond (nat_eq t tree) (without (given + 1) (more t)) (more t)) → (t : ℕ) → last t ≡ lists t
-put_back tree given a lists more last l put back t = back t ∙ ap (λ x. cond (nat_eq t tree) (without (given + 1) x) x) (put t) ∙ go (nat_eq t tree)
+pub put_back : (tree k : ℕ) (prefix : Key) (a : Waitings) (lists more last : ℕ → Key → List ℕ) → a k ≡ None → AreListed a lists
+    → ((t : ℕ) (p : Key) → more t p ≡ cond (nat_eq tree t && bytes_eq prefix p) (lists t p ++ k ∷ []) (lists t p))
+    → ((t : ℕ) (p : Key) → last t p ≡ cond (nat_eq tree t && bytes_eq prefix p) (without k (more t p)) (more t p)) → (t : ℕ) (p : Key) → last t p ≡ lists t p
+put_back tree k prefix a lists more last none l put back t p = back t p ∙ ap (λ x. cond (nat_eq tree t && bytes_eq prefix p) (without k x) x) (put t p) ∙ go (nat_eq tree t && bytes_eq prefix p)
   where
-    go : (b : Bool) → cond b (without (given + 1) (cond b (lists t ++ (given + 1) ∷ []) (lists t))) (cond b (lists t ++ (given + 1) ∷ []) (lists t)) ≡ lists t
-    go true = push_without (given + 1) (lists t) (is_out given (given + 1) (lists t) (l.rise t) (omega arith))
+    go : (b : Bool) → cond b (without k (cond b (lists t p ++ k ∷ []) (lists t p))) (cond b (lists t p ++ k ∷ []) (lists t p)) ≡ lists t p
+    go true = push_without k (lists t p) (l.listed k t p ∙ ap (watches t p) none)
     go false = refl
+
+-- the same place, by the values that it was named by
+pub at_place : (tree was : ℕ) (prefix under : Key) → tree ≡ was → prefix ≡ under → (xs ys : List ℕ) (t : ℕ) (p : Key) → cond (nat_eq tree t && bytes_eq prefix p) xs ys ≡ cond (nat_eq was t && bytes_eq under p) xs ys
+at_place tree was prefix under e h xs ys t p = ap (λ k. cond (nat_eq k t && bytes_eq prefix p) xs ys) e ∙ ap (λ q. cond (nat_eq was t && bytes_eq q p) xs ys) h
 
 -- a queue is put at a number, or is gone
 put_is : {W : Type 0} (a : ℕ → Option W) (k : ℕ) (o : Option W) (n : ℕ) (w : W) → put_at a k o n ≡ Some w → ((n ≡ k) × (o ≡ Some w)) ⊎ ((n ≢ k) × (a n ≡ Some w))
@@ -279,29 +293,42 @@ pushed_in k ns = list_any-append (nat_eq k) ns (k ∷ []) ∙ ap (λ b. is_in k 
     or_true true = refl
     or_true false = refl
 
--- a new queue stands in the list of its tree
-pub added_listed : (tree given : ℕ) (fresh : WaitingValue) (a b : Waitings) (lists more : ℕ → List ℕ) → fresh.tree ≡ tree → ((n : ℕ) → b n ≡ put_at a (given + 1) (Some fresh) n)
-    → ((t : ℕ) → more t ≡ cond (nat_eq t tree) (lists t ++ (given + 1) ∷ []) (lists t)) → AreListed a lists given → AreListed b more (given + 1)
-added_listed tree given fresh a b lists more of is put l = record {
-  listed = λ n w e t. ap (is_in n) (put t) ∙ go n w t (put_is a (given + 1) (Some fresh) n w (sym (is n) ∙ e));
-  rise = λ t. subst (Rise (given + 1)) (sym (put t)) (rises t (nat_eq t tree));
+-- a new queue stands in the list of its tree and prefix
+pub added_listed : (tree k : ℕ) (prefix : Key) (fresh : WaitingValue) (a b : Waitings) (lists more : ℕ → Key → List ℕ) → fresh.tree ≡ tree → fresh.prefix ≡ prefix → a k ≡ None → ((n : ℕ) → b n ≡ put_at a k (Some fresh) n)
+    → ((t : ℕ) (p : Key) → more t p ≡ cond (nat_eq tree t && bytes_eq prefix p) (lists t p ++ k ∷ []) (lists t p)) → AreListed a lists → AreListed b more
+added_listed tree k prefix fresh a b lists more of under none is put l = record {
+  listed = λ n t p. ap (is_in n) (put t p) ∙ go n t p (nat_eq n k) refl ∙ ap (watches t p) (sym (is n));
+  once = λ t p. subst Once (sym (put t p)) (once t p (nat_eq tree t && bytes_eq prefix p));
 }
   where
-    new : (t : ℕ) (b : Bool) → nat_eq t tree ≡ b → is_in (given + 1) (cond b (lists t ++ (given + 1) ∷ []) (lists t)) ≡ nat_eq tree t
-    new t true h = pushed_in (given + 1) (lists t) ∙ sym (eq-eqb tree t (sym (eqb-true t tree h)))
-    new t false h = is_out given (given + 1) (lists t) (l.rise t) (omega arith) ∙ sym (ne_eqb tree t (λ s. true≢false (sym (eq-eqb t tree (sym s)) ∙ h)))
+    out : (t : ℕ) (p : Key) → is_in k (lists t p) ≡ false
+    out t p = l.listed k t p ∙ ap (watches t p) none
 
-    older : (n : ℕ) (t : ℕ) (b : Bool) → n ≢ given + 1 → is_in n (cond b (lists t ++ (given + 1) ∷ []) (lists t)) ≡ is_in n (lists t)
-    older n t true h = in_pushed n (given + 1) (lists t) h
-    older n t false h = refl
+    new : (t : ℕ) (p : Key) (b : Bool) → is_in k (cond b (lists t p ++ k ∷ []) (lists t p)) ≡ b
+    new t p true = pushed_in k (lists t p)
+    new t p false = out t p
 
-    go : (n : ℕ) (w : WaitingValue) (t : ℕ) → ((n ≡ given + 1) × (Some fresh ≡ Some w)) ⊎ ((n ≢ given + 1) × (a n ≡ Some w)) → is_in n (cond (nat_eq t tree) (lists t ++ (given + 1) ∷ []) (lists t)) ≡ nat_eq w.tree t
-    go n w t (inl h) = ap (λ m. is_in m (cond (nat_eq t tree) (lists t ++ (given + 1) ∷ []) (lists t))) h.0 ∙ new t (nat_eq t tree) refl ∙ ap (λ k. nat_eq k t) (sym of ∙ ap (λ (z : WaitingValue). z.tree) (some_is h.1))
-    go n w t (inr h) = older n t (nat_eq t tree) h.0 ∙ l.listed n w h.1 t
+    older : (n t : ℕ) (p : Key) (b : Bool) → n ≢ k → is_in n (cond b (lists t p ++ k ∷ []) (lists t p)) ≡ is_in n (lists t p)
+    older n t p true h = in_pushed n k (lists t p) h
+    older n t p false h = refl
 
-    rises : (t : ℕ) (b : Bool) → Rise (given + 1) (cond b (lists t ++ (given + 1) ∷ []) (lists t))
-    rises t true = push_rises given (lists t) (l.rise t)
-    rises t false = raise given (given + 1) (lists t) (omega arith) (l.rise t)
+    go : (n t : ℕ) (p : Key) (c : Bool) → nat_eq n k ≡ c → is_in n (cond (nat_eq tree t && bytes_eq prefix p) (lists t p ++ k ∷ []) (lists t p)) ≡ watches t p (cond c (Some fresh) (a n))
+    go n t p true e =
+        ap (λ m. is_in m (cond (nat_eq tree t && bytes_eq prefix p) (lists t p ++ k ∷ []) (lists t p))) (eqb-true n k e)
+        ∙ new t p (nat_eq tree t && bytes_eq prefix p)
+        ∙ ap (λ z. nat_eq z t && bytes_eq prefix p) (sym of) ∙ ap (λ z. nat_eq fresh.tree t && bytes_eq z p) (sym under)
+    go n t p false e = older n t p (nat_eq tree t && bytes_eq prefix p) (λ s. true≢false (sym (eq-eqb n k s) ∙ e)) ∙ l.listed n t p
+
+    once : (t : ℕ) (p : Key) (b : Bool) → Once (cond b (lists t p ++ k ∷ []) (lists t p))
+    once t p true = push_once k (lists t p) (l.once t p) (out t p)
+    once t p false = l.once t p
+
+pub added_pending : (k : ℕ) (fresh : WaitingValue) (a b : Waitings) (ps : List ℕ) → fresh.coming ≡ [] → ((n : ℕ) → b n ≡ put_at a k (Some fresh) n) → ArePending a ps → ArePending b ps
+added_pending k fresh a b ps none is h = record { rest = λ n w e out. go n w out (put_is a k (Some fresh) n w (sym (is n) ∙ e)) }
+  where
+    go : (n : ℕ) (w : WaitingValue) → is_in n ps ≡ false → ((n ≡ k) × (Some fresh ≡ Some w)) ⊎ ((n ≢ k) × (a n ≡ Some w)) → w.coming ≡ []
+    go n w out (inl e) = ap (λ (z : WaitingValue). z.coming) (sym (some_is e.1)) ∙ none
+    go n w out (inr e) = h.rest n w e.1 out
 
 pub added_queues : (fresh : WaitingValue) (a b : QueuesValue) → waiting fresh ≡ 0 → ((n : ℕ) → queue_at b n ≡ put_at (queue_at a) (a.given + 1) (Some fresh) n) → b.given ≡ a.given + 1 → AreQueues a → AreQueues b
 added_queues fresh a b none is same q = record {
@@ -324,25 +351,38 @@ none_next a q = go (queue_at a (a.given + 1)) refl
     go None e = refl
     go (Some w) e = let h = (q.numbered (a.given + 1) w e).1 in absurd (omega (arith, h))
 
--- a queue that goes leaves the list of its tree
-pub removed_listed : (k tree given : ℕ) (a b : Waitings) (lists more : ℕ → List ℕ) → ((n : ℕ) → b n ≡ put_at a k None n) → ((t : ℕ) → more t ≡ cond (nat_eq t tree) (without k (lists t)) (lists t))
-    → AreListed a lists given → AreListed b more given
-removed_listed k tree given a b lists more is out l = record {
-  listed = λ n w e t. ap (is_in n) (out t) ∙ go n w t (put_is a k None n w (sym (is n) ∙ e));
-  rise = λ t. subst (Rise given) (sym (out t)) (rises t (nat_eq t tree));
+-- a queue that goes leaves its list
+pub removed_listed : (k : ℕ) (w : WaitingValue) (a b : Waitings) (lists more : ℕ → Key → List ℕ) → a k ≡ Some w → ((n : ℕ) → b n ≡ put_at a k None n)
+    → ((t : ℕ) (p : Key) → more t p ≡ cond (nat_eq w.tree t && bytes_eq w.prefix p) (without k (lists t p)) (lists t p)) → AreListed a lists → AreListed b more
+removed_listed k w a b lists more there is out l = record {
+  listed = λ n t p. ap (is_in n) (out t p) ∙ go n t p (nat_eq n k) refl ∙ ap (watches t p) (sym (is n));
+  once = λ t p. subst Once (sym (out t p)) (once t p (nat_eq w.tree t && bytes_eq w.prefix p));
 }
   where
-    others : (n t : ℕ) (b : Bool) → n ≢ k → is_in n (cond b (without k (lists t)) (lists t)) ≡ is_in n (lists t)
-    others n t true h = without_keeps k n (lists t) h
-    others n t false h = refl
+    gone : (t : ℕ) (p : Key) (b : Bool) → is_in k (lists t p) ≡ b → is_in k (cond b (without k (lists t p)) (lists t p)) ≡ false
+    gone t p true e = without_gone k (lists t p)
+    gone t p false e = e
 
-    go : (n : ℕ) (w : WaitingValue) (t : ℕ) → ((n ≡ k) × (None ≡ Some w)) ⊎ ((n ≢ k) × (a n ≡ Some w)) → is_in n (cond (nat_eq t tree) (without k (lists t)) (lists t)) ≡ nat_eq w.tree t
-    go n w t (inl h) = none_some h.1
-    go n w t (inr h) = others n t (nat_eq t tree) h.0 ∙ l.listed n w h.1 t
+    others : (n t : ℕ) (p : Key) (b : Bool) → n ≢ k → is_in n (cond b (without k (lists t p)) (lists t p)) ≡ is_in n (lists t p)
+    others n t p true h = without_keeps k n (lists t p) h
+    others n t p false h = refl
 
-    rises : (t : ℕ) (b : Bool) → Rise given (cond b (without k (lists t)) (lists t))
-    rises t true = without_rises given k (lists t) (l.rise t)
-    rises t false = l.rise t
+    go : (n t : ℕ) (p : Key) (c : Bool) → nat_eq n k ≡ c → is_in n (cond (nat_eq w.tree t && bytes_eq w.prefix p) (without k (lists t p)) (lists t p)) ≡ watches t p (cond c None (a n))
+    go n t p true e =
+        ap (λ m. is_in m (cond (nat_eq w.tree t && bytes_eq w.prefix p) (without k (lists t p)) (lists t p))) (eqb-true n k e)
+        ∙ gone t p (nat_eq w.tree t && bytes_eq w.prefix p) (l.listed k t p ∙ ap (watches t p) there)
+    go n t p false e = others n t p (nat_eq w.tree t && bytes_eq w.prefix p) (λ s. true≢false (sym (eq-eqb n k s) ∙ e)) ∙ l.listed n t p
+
+    once : (t : ℕ) (p : Key) (b : Bool) → Once (cond b (without k (lists t p)) (lists t p))
+    once t p true = without_once k (lists t p) (l.once t p)
+    once t p false = l.once t p
+
+pub removed_pending : (k : ℕ) (a b : Waitings) (ps : List ℕ) → ((n : ℕ) → b n ≡ put_at a k None n) → ArePending a ps → ArePending b ps
+removed_pending k a b ps is h = record { rest = λ n w e out. go n w out (put_is a k None n w (sym (is n) ∙ e)) }
+  where
+    go : (n : ℕ) (w : WaitingValue) → is_in n ps ≡ false → ((n ≡ k) × (None ≡ Some w)) ⊎ ((n ≢ k) × (a n ≡ Some w)) → w.coming ≡ []
+    go n w out (inl e) = none_some e.1
+    go n w out (inr e) = h.rest n w e.1 out
 
 pub removed_queues : (k : ℕ) (a b : QueuesValue) → ((n : ℕ) → queue_at b n ≡ put_at (queue_at a) k None n) → b.given ≡ a.given → AreQueues a → AreQueues b
 removed_queues k a b is same q = record {

@@ -13,6 +13,7 @@
 
 mod laws;
 mod lists;
+mod prefixes;
 mod queues;
 mod waiting;
 

@@ -5,9 +5,8 @@ ghost use Rattle.sled_queues.specs.Values.{queue_at};
 ghost use Rattle.sled_queues.specs.Queues.{AreQueues, Becomes, no_queues, with_subscriber, prepared, committed, cancelled, next_at, without_next_of, without_subscriber};
 ghost use Rattle.sled_queues.specs.Tells.{is_watched_as, refuses_watch};
 
-use crate::lists::{
-    add, any_waits, cancel_all, commit_all, enlist, numbers_of, prepare_all, remove, take, unlist,
-};
+use crate::lists::{add, cancel_all, commit_all, prepare_all, remove, take};
+use crate::prefixes::{Lengths, any_watches, enlist, find, unlist};
 use crate::waiting::Waiting;
 use sled_model::{Event, Next, Subscriber};
 use sled_nodes::texts::NUMBERS_USED_UP;
@@ -17,13 +16,15 @@ use std::collections::BTreeMap;
 use std::marker::Model;
 
 /// The queues of the subscribers of a database. At most 1024 events wait in each: where one more comes, the oldest goes and is
-/// counted.
+/// counted. An event costs the subscribers that watch a beginning of its key alone.
 #[derive(Drop)]
 pub struct Queues {
     // the queues by subscriber
     queues: BTreeMap<u64, Waiting>,
-    // the subscribers of each tree that has some, rising
-    lists: BTreeMap<u64, Vec<u64>>,
+    // the subscribers of each tree that has some, by the prefix that they watch
+    lists: BTreeMap<u64, Lengths>,
+    // those in whose queues something may be prepared
+    pending: Vec<u64>,
     // how many numbers were given
     given: u64,
 }
@@ -33,13 +34,13 @@ impl Model for Queues {
     ghost use Rattle.std.specs.BTreeMap.{get};
     ghost use Rattle.sled_queues.specs.Values.{QueuesValue};
     ghost use Rattle.sled_queues.specs.Queues.{AreQueues};
-    ghost use Rattle.sled_queues.specs.Lists.{AreListed, lists_of};
+    ghost use Rattle.sled_queues.specs.Lists.{AreListed, ArePending, lists_of};
 
     ghost Value = { QueuesValue };
 
     ghost view = { λ q. record { queues = q.queues.entries; given = q.given } };
 
-    ghost invariant = { λ q. AreQueues (record { queues = q.queues.entries; given = q.given }) × AreListed (get nat_cmp q.queues) (lists_of q.lists) q.given };
+    ghost invariant = { λ q. AreQueues (record { queues = q.queues.entries; given = q.given }) × AreListed (get nat_cmp q.queues) (lists_of q.lists) × ArePending (get nat_cmp q.queues) q.pending.items };
 }
 
 impl Queues {
@@ -54,6 +55,7 @@ impl Queues {
         Queues {
             queues: BTreeMap::new(alloc),
             lists: BTreeMap::new(alloc),
+            pending: Vec::new(alloc),
             given: 0,
         }
     }
@@ -78,13 +80,14 @@ impl Queues {
             return Err(Error::Unsupported(NUMBERS_USED_UP));
         }
         let number = self.given + 1;
-        if let Err(e) = enlist(&mut self.lists, alloc, tree, number) {
+        if let Err(e) = enlist(&mut self.lists, alloc, tree, prefix.as_ref(), number) {
             drop(prefix);
             return Err(e);
         }
-        if let Err(e) = add(&mut self.queues, number, Waiting::new(alloc, tree, prefix)) {
-            unlist(&mut self.lists, tree, number);
-            return Err(e);
+        if let Err(waiting) = add(&mut self.queues, number, Waiting::new(alloc, tree, prefix)) {
+            unlist(&mut self.lists, tree, waiting.prefix(), number);
+            drop(waiting);
+            return Err(Error::NoMemory);
         }
         self.given = number;
         Ok(Subscriber(number))
@@ -101,7 +104,7 @@ impl Queues {
     pub fn is_watched(&self, tree: u64, key: &[u8]) -> bool
         ensures { is_watched_as tree key.now (queue_at self.now) result }
     {
-        any_waits(&self.queues, numbers_of(&self.lists, tree), key)
+        any_watches(&self.lists, tree, key)
     }
 
     /// Prepares an event of a tree: a copy comes behind the events of each queue that waits for it, where `next` does not
@@ -116,8 +119,13 @@ impl Queues {
         ensures err { OnErr result (self.new ≡ self.old) }
         ensures cause { IfErr result (λ e. e ≡ NoMemory) }
     {
-        let numbers = numbers_of(&self.lists, tree);
-        if let Err(e) = prepare_all(&mut self.queues, numbers, event) {
+        let start = self.pending.len();
+        if let Err(e) = find(&self.lists, tree, event.key().as_ref(), &mut self.pending) {
+            self.pending.truncate(start);
+            return Err(e);
+        }
+        if let Err(e) = prepare_all(&mut self.queues, &self.pending[start..], event) {
+            self.pending.truncate(start);
             return Err(e);
         }
         Ok(())
@@ -132,7 +140,8 @@ impl Queues {
     pub fn commit(&mut self)
         ensures { Becomes (committed (queue_at self.old)) self.old.given self.new }
     {
-        commit_all(&mut self.queues, self.given);
+        commit_all(&mut self.queues, &self.pending);
+        self.pending.clear();
     }
 
     /// Drops all that is prepared.
@@ -143,7 +152,8 @@ impl Queues {
     pub fn cancel(&mut self)
         ensures { Becomes (cancelled (queue_at self.old)) self.old.given self.new }
     {
-        cancel_all(&mut self.queues, self.given);
+        cancel_all(&mut self.queues, &self.pending);
+        self.pending.clear();
     }
 
     /// Tells a subscriber how many events it missed, where it missed some since that was told last, and takes the oldest event
@@ -152,9 +162,9 @@ impl Queues {
     ///
     /// ```
     /// match queues.next(&subscriber) {
-    ///     Some(Next::Event(event)) => follow(&event),
-    ///     Some(Next::Missed(n)) => read_again(n),
-    ///     None => {}
+    ///     Some(Next::Event(event)) => drop(event), // The oldest one that waits.
+    ///     Some(Next::Missed(missed)) => drop(missed), // So many came, and went before they were taken.
+    ///     None => {} // Nothing is new.
     /// }
     /// ```
     pub fn next(&mut self, subscriber: &Subscriber) -> Option<Next>
@@ -172,8 +182,14 @@ impl Queues {
     pub fn unsubscribe(&mut self, subscriber: &Subscriber)
         ensures { Becomes (without_subscriber subscriber.now (queue_at self.old)) self.old.given self.new }
     {
-        if let Some(tree) = remove(&mut self.queues, subscriber.0) {
-            unlist(&mut self.lists, tree, subscriber.0);
+        if let Some(waiting) = remove(&mut self.queues, subscriber.0) {
+            unlist(
+                &mut self.lists,
+                waiting.tree(),
+                waiting.prefix(),
+                subscriber.0,
+            );
+            drop(waiting);
         }
     }
 

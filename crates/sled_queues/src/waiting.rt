@@ -2,8 +2,8 @@
 ghost use Rattle.std.specs.Prelude.{◌≡◌, ◌≤◌, ◌<◌, ◌+◌, ◌++◌, ◌∷◌, [], take, drop, length, OnOk, OnErr, IfErr};
 ghost use Rattle.sled_nodes.specs.declared.error.Error.TheVariants.{NoMemory};
 ghost use Rattle.sled_model.specs.Backlog.{queue_limit, no_backlog, come_all, next_of};
-ghost use Rattle.sled_queues.specs.Queues.{taken_in};
-ghost use Rattle.sled_queues.specs.theory.Lists.{begins, has_prefix, gains, loses, tells, forgets};
+ghost use Rattle.sled_queues.specs.Queues.{committed_in, cancelled_in, taken_in};
+ghost use Rattle.sled_queues.specs.theory.Lists.{gains, loses};
 
 use sled_model::{Event, Next, QUEUE_LIMIT};
 use sled_nodes::{Error, IVec, Result};
@@ -92,29 +92,18 @@ impl Waiting {
         self.tree
     }
 
-    // Whether the key has the prefix.
-    pub(crate) fn begins(&self, key: &[u8]) -> bool
-        ensures { result ≡ begins key.now self.now }
+    pub(crate) fn prefix(&self) -> &[u8]
+        ensures { result.now ≡ self.now.prefix }
     {
-        key.starts_with(self.prefix.as_ref())
+        self.prefix.as_ref()
     }
 
-    // Whether the event has it.
-    pub(crate) fn has_prefix(&self, event: &Event) -> bool
-        ensures { result ≡ has_prefix event.now self.now }
-    {
-        self.begins(event.key().as_ref())
-    }
-
-    // Prepares the event, where it has the prefix. Refused with `NoMemory` alone.
+    // Prepares the event. Refused with `NoMemory` alone.
     pub(crate) fn prepare(&mut self, event: &Event) -> Result<()>
         ensures ok { OnOk result (self.new ≡ gains event.now self.old) }
         ensures err { OnErr result (self.new ≡ self.old) }
         ensures cause { IfErr result (λ e. e ≡ NoMemory) }
     {
-        if !self.has_prefix(event) {
-            return Ok(());
-        }
         let copy = event.clone()?;
         match self.events.push_back(copy) {
             Ok(()) => Ok(()),
@@ -126,10 +115,10 @@ impl Waiting {
     }
 
     // Takes the event back that was prepared last.
-    pub(crate) fn take_back(&mut self, event: &Event)
-        ensures { self.new ≡ loses event.now self.old }
+    pub(crate) fn take_back(&mut self)
+        ensures { self.new ≡ loses self.old }
     {
-        if self.has_prefix(event) && self.is < self.events.len() {
+        if self.is < self.events.len() {
             let last = self.events.pop_back();
             drop(last);
         }
@@ -137,7 +126,7 @@ impl Waiting {
 
     // Makes wait what is prepared, one event after the other. Where 1024 wait, the oldest goes.
     pub(crate) fn commit(&mut self)
-        ensures { self.new ≡ tells self.old }
+        ensures { self.new ≡ committed_in self.old }
     {
         let (is, missed) = admit(&mut self.events, self.is, self.missed);
         self.is = is;
@@ -146,7 +135,7 @@ impl Waiting {
 
     // Drops what is prepared.
     pub(crate) fn cancel(&mut self)
-        ensures { self.new ≡ forgets self.old }
+        ensures { self.new ≡ cancelled_in self.old }
     {
         self.events.truncate(self.is);
     }

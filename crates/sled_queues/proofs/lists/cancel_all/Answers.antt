@@ -1,10 +1,10 @@
-use Rattle.std.proofs.Common.{arith}
-use Rattle.sled_queues.specs.theory.Lists.{forgets}
-use Rattle.sled_queues.proofs.Changing.{below_more, below_end}
+use Rattle.std.proofs.Common.{refl, arith}
+use Rattle.sled_queues.specs.Queues.{cancelled_in}
+use Rattle.sled_queues.proofs.Changing.{changes_again, changes_all}
 use Rattle.sled_queues.proofs.lists.cancel_all.Goals as goal
 
 pub loop-i-preserved : goal.loop-i-preserved
-loop-i-preserved c = below_more forgets c.loop-i.i _ _ _ c.loop-i.invariant c.cancel.ensures
+loop-i-preserved c = changes_again cancelled_in c.args.numbers.now c.loop-i.i 0 _ _ _ (λ w. refl) c.loop-i-test.true c.loop-i.invariant c.cancel.ensures
 
 pub returns : goal.returns
-returns c = below_end forgets c.loop-i.i c.args.last _ _ _ (omega arith) c.loop-i.invariant c.cancel-2.ensures
+returns c = changes_all cancelled_in c.args.numbers.now c.loop-i.i _ _ (omega arith) c.loop-i.invariant

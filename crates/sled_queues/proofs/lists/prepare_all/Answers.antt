@@ -4,18 +4,18 @@ use Rattle.std.specs.List.Sorted.{IsStrictlySortedBy}
 use Rattle.std.specs.Ordering.{nat_cmp}
 use Rattle.std.proofs.lemmas.Map.Lookups.{btree_map_from_get, exact_unsigned}
 use Rattle.sled_queues.specs.theory.Lists.{gains}
-use Rattle.sled_queues.proofs.Rising.{take_rises}
+use Rattle.sled_queues.proofs.Single.{take_once}
 use Rattle.sled_queues.proofs.Changing.{changes_more, changes_all, goes_back}
 use Rattle.sled_queues.proofs.lists.prepare_all.Goals as goal
 
 pub loop-i-preserved : goal.loop-i-preserved
 loop-i-preserved c = (
-  changes_more (gains c.args.event.now) c.requires.0 c.args.numbers.now c.loop-i.i 0 _ _ _ c.requires.1 c.loop-i-test.true c.loop-i.invariant.0 c.in_default.ensures.ok,
+  changes_more (gains c.args.event.now) c.args.numbers.now c.loop-i.i 0 _ _ _ c.requires c.loop-i-test.true c.loop-i.invariant.0 c.in_default.ensures.ok,
   c.prepare.ensures.keys ∙ c.loop-i.invariant.1,
 )
 
 pub take_back_all-requires : goal.take_back_all-requires
-take_back_all-requires c = (c.requires.0, take_rises c.requires.0 c.loop-i.i c.args.numbers.now c.requires.1)
+take_back_all-requires c = take_once c.loop-i.i c.args.numbers.now c.requires
 
 pub returns-in-Err-clause-err : goal.returns-in-Err-clause-err
 returns-in-Err-clause-err c =

@@ -5,4 +5,4 @@ use Rattle.sled_queues.specs.theory.Lists.{changed_in, loses}
 use Rattle.sled_queues.proofs.lists.take_back_all.Given as goal
 
 abbrev pub invariant-loop-i : goal.invariant-loop-i
-invariant-loop-i l = ((n : ℕ) → get nat_cmp l.queues n ≡ changed_in (loses l.event) (take l.i l.numbers) (get nat_cmp l.fn.queues) n) × (keys l.queues ≡ keys l.fn.queues)
+invariant-loop-i l = ((n : ℕ) → get nat_cmp l.queues n ≡ changed_in loses (take l.i l.numbers) (get nat_cmp l.fn.queues) n) × (keys l.queues ≡ keys l.fn.queues)
