@@ -1,5 +1,5 @@
 -- What a subscriber hears over a list of steps.
-use Rattle.std.proofs.Common.{◌≡◌, ℕ, ◌≤◌, true, nat_eq, cond, List, [], ◌++◌, Option, Some, None, refl, sym, ap, subst, ◌∙◌, arith}
+use Rattle.std.proofs.Common.{◌≡◌, ℕ, ◌≤◌, true, nat_eq, cond, List, ◌++◌, Option, Some, None, refl, sym, ap, subst, ◌∙◌, arith}
 use Rattle.std.proofs.lemmas.Bool.{eq-eqb}
 use Rattle.std.proofs.lemmas.Bool.Decides.{nat_tests}
 use Rattle.sled_nodes.specs.Order.{Key}
@@ -17,7 +17,7 @@ use Rattle.sled_model.specs.declared.outcome.Step.TheVariants as step
 use Rattle.sled_model.specs.declared.outcome.Outcome.{Outcome}
 use Rattle.sled_model.specs.declared.outcome.Outcome.TheVariants.{Decided}
 use Rattle.sled_queues.specs.Events.{after_turns, taken_by, brought, Stays}
-use Rattle.sled_queues.specs.Hears as queues
+use Rattle.sled_queues.specs.Hears as hearing
 use Rattle.sled_queues.specs.Copies.{IsCopy, after_events, came_to, events_told, TellsEvents}
 use Rattle.sled_queues.specs.Trees.{AreNumbered, IsTreeAfter}
 use Rattle.sled_queues.proofs.Hearing.{hears_law, stays_there}
@@ -95,13 +95,13 @@ module _ {P M : Type 0} (store : P → Store) (number : P → ℕ) (meant : M �
       )
 
   hears : {a b : MachineValue P M} {ss : List Step} {os : List Outcome} (run : MakesSteps store number meant a ss os b) (n : ℕ) (q : Queue) → queues_at a n ≡ Some q → IsKept n ss
-      → queues.CountsAll n (turns_of_run store number meant run) (queues_at a) → (all : List Event) → queues.Holds q.backlog all
-      → queues.Hears (told_to n ss os) (all ++ brought q (turns_of_run store number meant run)) (backlog_in (queues_at b n))
+      → hearing.CountsAll n (turns_of_run store number meant run) (queues_at a) → (all : List Event) → hearing.Holds q.backlog all
+      → hearing.Hears (told_to n ss os) (all ++ brought q (turns_of_run store number meant run)) (backlog_in (queues_at b n))
   hears {a = a} {b = b} run n q here kept counts all holds =
       let ts = turns_of_run store number meant run in
       let h = run_heard run n q here kept in
-      subst (λ l. queues.Hears l (all ++ brought q ts) (backlog_in (queues_at b n))) (sym h.1)
-      (subst (λ (f : ℕ → Option Queue). queues.Hears (taken_by n ts (queues_at a)) (all ++ brought q ts) (backlog_in (f n))) (sym (run_queues run))
+      subst (λ l. hearing.Hears l (all ++ brought q ts) (backlog_in (queues_at b n))) (sym h.1)
+      (subst (λ (f : ℕ → Option Queue). hearing.Hears (taken_by n ts (queues_at a)) (all ++ brought q ts) (backlog_in (f n))) (sym (run_queues run))
       (hears_law ts n (queues_at a) q here h.0 counts all holds))
 
   -- no step opens a closed database

@@ -18,7 +18,7 @@ use Rattle.sled_model.specs.declared.outcome.Outcome.TheVariants.{Decided}
 use Rattle.sled_queues.specs.Values.{queue_at}
 use Rattle.sled_queues.specs.Queues.{queues_of}
 use Rattle.sled_queues.specs.Events.{Turn, after_turns, brought}
-use Rattle.sled_queues.specs.Hears as queues
+use Rattle.sled_queues.specs.Hears as hearing
 use Rattle.sled_queues.specs.Copies.{IsCopy, after_events, events_told, TellsEvents}
 use Rattle.sled_queues.specs.Turns.{turns_of, told_at, gives_up}
 use Rattle.sled_queues.specs.Trees.{drops}
@@ -77,8 +77,8 @@ pub record Hears {P M : Type 0} (store : P → Store) (flush_number : P → ℕ)
   -- decisions, while the count was never at the greatest u64
   pub hears : (a b : MachineValue P M) (steps : List Step) (outcomes : List Outcome) (run : MakesSteps store flush_number meant a steps outcomes b)
       → (n : ℕ) (q : Queue) → queues_at a n ≡ Some q → IsKept n steps
-      → queues.CountsAll n (turns_of_run store flush_number meant run) (queues_at a) → (all : List Event) → queues.Holds q.backlog all
-      → queues.Hears (told_to n steps outcomes) (all ++ brought q (turns_of_run store flush_number meant run)) (backlog_in (queues_at b n))
+      → hearing.CountsAll n (turns_of_run store flush_number meant run) (queues_at a) → (all : List Event) → hearing.Holds q.backlog all
+      → hearing.Hears (told_to n steps outcomes) (all ++ brought q (turns_of_run store flush_number meant run)) (backlog_in (queues_at b n))
   -- while the database is open and it missed none, a copy that it changes by each event that it is told is, once it is changed by those
   -- that wait too, a copy of its tree's map
   pub follows : (a b : MachineValue P M) (steps : List Step) (outcomes : List Outcome) → MakesSteps store flush_number meant a steps outcomes b → IsDb store a.db → (db_state store meant b.db).is_open ≡ true
