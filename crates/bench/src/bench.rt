@@ -24,7 +24,7 @@ pub enum Workload {
     Removals,
     /// Gets of pairs that were loaded, which all begin before the first of them is ended.
     Slots,
-    /// New subscribers, each to a key that no other workload names.
+    /// New subscribers, each to a prefix of its own that begins no key of another workload.
     Watches,
     /// All pairs, from the least key up, by an iterator.
     Scan,
@@ -47,8 +47,11 @@ const WORKLOADS: [(&str, Workload); 9] = [
 // How many pairs a range has at most.
 const RANGE: usize = 100;
 
-// The keys that are watched begin at this place, behind those of all pairs.
+// The keys whose beginnings are watched stand from this place on, behind those of all pairs. A prefix has so many of their bytes at
+// least.
 const WATCHED: u64 = 1 << 62;
+
+const BEGINNING: u64 = 4;
 
 /// The workload of a name.
 pub fn named(name: &str) -> Result<Workload> {
@@ -276,7 +279,8 @@ impl<M: MergeOperator> Bench<M> {
     }
 
     fn watch(&mut self, turn: u64) -> Result<u64> {
-        let prefix = self.pairs.key(WATCHED.wrapping_add(turn))?;
+        let len = BEGINNING + turn % BEGINNING;
+        let prefix = self.pairs.beginning(WATCHED.wrapping_add(turn), len)?;
         self.client.watch(&self.tree, prefix)
     }
 

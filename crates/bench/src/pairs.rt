@@ -68,6 +68,13 @@ impl Pairs {
         IVec::from_slice(self.alloc, &number.to_be_bytes())
     }
 
+    /// The first bytes of the key at a place, or all of it.
+    pub fn beginning(&self, place: u64, len: u64) -> Result<IVec> {
+        let bytes = scattered(self.seed.wrapping_add(place)).to_be_bytes();
+        let first = bytes.get(..len as usize).unwrap_or(&bytes);
+        IVec::from_slice(self.alloc, first)
+    }
+
     /// A value by a number.
     pub fn value(&self, number: u64) -> Result<IVec> {
         let number = scattered(self.seed ^ number);
