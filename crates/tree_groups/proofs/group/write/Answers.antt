@@ -1,0 +1,18 @@
+use Rattle.std.proofs.Common.{refl, arith}
+use Rattle.tree_groups.proofs.Writing.{on_way_first, on_way_more, on_way_decided, on_way_refused, on_way_ends, limit_is}
+use Rattle.tree_groups.proofs.group.write.Goals as goal
+
+pub loop-flight-init : goal.loop-flight-init
+loop-flight-init g c = on_way_first _ _ c.requires.fresh
+
+pub loop-flight-preserved : goal.loop-flight-preserved
+loop-flight-preserved g c = on_way_more _ _ _ _ c.loop-flight.invariant _ _ c.in-Moved.ensures.advances c.in-Moved.ensures.passes
+
+pub returns-in-Decided-clause-ok : goal.returns-in-Decided-clause-ok
+returns-in-Decided-clause-ok g c = on_way_decided _ _ _ _ c.loop-flight.invariant _ c.requires.plain _ _ c.in-Decided.ensures.advances
+
+pub returns-in-Refused-clause-err : goal.returns-in-Refused-clause-err
+returns-in-Refused-clause-err g c = on_way_refused _ _ _ _ c.loop-flight.invariant _ _ _ c.in-Refused.ensures.advances
+
+pub returns-clause-err : goal.returns-clause-err
+returns-clause-err g c = on_way_ends _ _ _ _ c.loop-flight.invariant _ refl (omega (arith, limit_is))
