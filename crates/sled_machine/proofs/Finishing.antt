@@ -1,6 +1,7 @@
 -- Steps of one call until it ends.
-use Rattle.std.proofs.Common.{◌≡◌, ◌≢◌, ℕ, zero, suc, ◌+◌, ◌<◌, true, false, cond, nat_eq, List, [], ◌∷◌, ◌++◌, length, Some, None, option_map, inr, sym, refl, ap, ◌∙◌, subst, arith}
-use Rattle.std.proofs.lemmas.Bool.{eq-eqb, ne_eqb, eqb-true}
+use Rattle.std.proofs.Common.{◌≡◌, ◌≢◌, ℕ, zero, suc, ◌+◌, ◌<◌, true, false, cond, nat_eq, List, [], ◌∷◌, length, Some, None, option_map, inr, sym, refl, ap, ◌∙◌, subst, arith}
+use Rattle.std.specs.Cmp.{unsigned_tied}
+use Rattle.std.proofs.lemmas.Bool.{eqb-true}
 use Rattle.std.specs.declared.ops.Bound.TheVariants.{Included}
 use Rattle.sled_store.specs.Update.{put_at}
 use Rattle.sled_store.specs.Store.{Store, now}
@@ -27,16 +28,14 @@ use Rattle.sled_tree.specs.declared.flight.Went.TheVariants.{Moved, Decided, Ref
 use Rattle.sled.specs.Values.{DbValue, db_state, snapshot_of_db}
 use Rattle.sled.specs.Flights.{DbSteps, DbRunsToEnd, Ends, GoesOn, call_in_flight_of, has_turns, outcome_of}
 use Rattle.sled.proofs.Flying.{end_reached}
-use Rattle.sled_machine.specs.Slots.{kept_at}
-use Rattle.sled_machine.specs.Values.{MachineValue}
+use Rattle.sled_machine.specs.Values.{MachineValue, kept_at}
 use Rattle.sled_machine.specs.Sound.{IsMachine}
 use Rattle.sled_machine.specs.Step.{MachineStepContract}
 use Rattle.sled_machine.specs.Run.{MachineRun, MachineSteps, NoCalls, OneCall}
 use Rattle.sled_machine.specs.Finish.{steps_of, outcomes_of, RunsToEnd, Completes}
-use Rattle.sled_machine.proofs.Cells.{put_same, put_again}
-use Rattle.sled_machine.proofs.Steps.{ended_after}
+use Rattle.sled_machine.proofs.Steps.{put_same, put_again, ended_after}
 use Rattle.sled_machine.proofs.Runs.{performs_none, performs_first}
-use Rattle.sled_machine.proofs.Machines.{put_here, missing_step, stepped_as, begun_call, begun_machine, added_kept, free_slot}
+use Rattle.sled_machine.proofs.Machines.{put_here, missing_step, stepped_as, begun_call, begun_machine, free_slot, rests_as}
 
 none_some : {P A : Type 0} {a : A} → None ≡ Some a → P
 none_some e = cc
@@ -46,13 +45,7 @@ some_is e = cc
 
 -- a call stands in its slot as it is now, wherever it stood
 onto : (fs : List (ℕ × InFlight)) (slot : ℕ) (h : InFlight) (q : ℕ) → kept_at ((slot, h) ∷ fs) q ≡ put_at (kept_at fs) slot (Some h) q
-onto fs slot h q = elim (nat_eq slot q) as (λ b. nat_eq slot q ≡ b → cond b (Some h) (kept_at fs q) ≡ cond (nat_eq q slot) (Some h) (kept_at fs q)) [
-  | true ↦ λ t. ap (λ b. cond b (Some h) (kept_at fs q)) (sym (eq-eqb q slot (sym (eqb-true slot q t))))
-  | false ↦ λ t. ap (λ b. cond b (Some h) (kept_at fs q)) (sym (ne_eqb q slot (λ e. apart (sym t ∙ eq-eqb slot q (sym e)))))
-] refl
-  where
-    apart : false ≡ true → ⊥
-    apart e = cc
+onto fs slot h q = ap (λ b. cond b (Some h) (kept_at fs q)) (unsigned_tied q slot)
 
 -- nothing is put where nothing stood
 put_free : (fs : List (ℕ × InFlight)) (slot q : ℕ) → kept_at fs slot ≡ None → put_at (kept_at fs) slot None q ≡ kept_at fs q
@@ -164,19 +157,20 @@ module _ {P M : Type 0} (store : P → Store) (number : P → ℕ) (meant : M �
     completed : (slot : ℕ) → slot ≡ v.slots_given + 1 → (e : DbValue P M) (g : InFlight) (went : Went) → DbRunsToEnd store meant v.db f went e g
         → Completes store number meant v tree call (outcome_of went) (record v { db = e; slots_given = slot }) × IsMachine (snapshot_of_db store e) v.flights slot
     completed slot next e g went flies =
-        let gs : List (ℕ × InFlight) = v.flights ++ (slot, f) ∷ [] in
+        let gs : List (ℕ × InFlight) = (slot, f) ∷ v.flights in
         let begun : MachineValue P M = record v { flights = gs; slots_given = slot } in
-        let free = free_slot store number meant v im tree call must f is slot next gs refl in
-        let are = added_kept store number meant v im tree call must f is slot next gs refl in
-        let end = finished_all store number meant begun (begun_machine store number meant v im tree call must f is slot next gs refl) slot e v.flights f g went (are slot ∙ put_here (kept_at v.flights) slot (Some f)) flies
+        let free = free_slot store number meant v im slot next in
+        let are = onto v.flights slot f in
+        let end = finished_all store number meant begun (begun_machine store number meant v im tree call must f is slot next gs are) slot e v.flights f g went (are slot ∙ put_here (kept_at v.flights) slot (Some f)) flies
         (λ q. sym (put_same (kept_at gs) (put_at (kept_at v.flights) slot (Some f)) slot None q (are q) ∙ (put_again (kept_at v.flights) slot (Some f) None q ∙ put_free v.flights slot q free))) in
-        (inr (record { slot = slot; begun = begun; begins = begun_call store number meant v im tree call must f is slot next gs refl; finishes = end.0 }), end.1)
+        (inr (record { slot = slot; begun = begun; begins = begun_call store number meant v im tree call must f is slot next gs are; finishes = end.0 }), end.1)
 
 -- the same, where a method knows the machine by its fields
 module _ {P M : Type 0} (store : P → Store) (number : P → ℕ) (meant : M → Merge) (inside old : MachineValue P M) (e : inside ≡ old) (im : IsMachine (snapshot_of_db store inside.db) inside.flights inside.slots_given) where
   module _ (n slot : ℕ) (same : n ≡ slot) where
-    pub missing_finish_as : kept_at inside.flights n ≡ None → RunsToEnd store number meant old slot outcome.NoSuchSlot old
-    missing_finish_as free = subst (λ s. RunsToEnd store number meant old s outcome.NoSuchSlot old) same (subst (λ z. RunsToEnd store number meant z n outcome.NoSuchSlot z) e (missing_finish store number meant inside im n free))
+    pub missing_finish_as : (db : DbValue P M) (gs : List (ℕ × InFlight)) → db ≡ inside.db → gs ≡ inside.flights → kept_at inside.flights n ≡ None → RunsToEnd store number meant old slot outcome.NoSuchSlot (record inside { db = db; flights = gs })
+    missing_finish_as db gs d g free = subst (λ z. RunsToEnd store number meant old slot outcome.NoSuchSlot z) (sym e ∙ rests_as store number meant inside old e im n slot same db gs d g)
+        (subst (λ s. RunsToEnd store number meant old s outcome.NoSuchSlot old) same (subst (λ z. RunsToEnd store number meant z n outcome.NoSuchSlot z) e (missing_finish store number meant inside im n free)))
 
     pub finished_as : (db : DbValue P M) (gs : List (ℕ × InFlight)) (o : Outcome) (f g : InFlight) (went : Went) → o ≡ outcome_of went → kept_at inside.flights n ≡ Some f → DbRunsToEnd store meant inside.db f went db g → ((q : ℕ) → kept_at gs q ≡ put_at (kept_at inside.flights) n None q)
         → RunsToEnd store number meant old slot o (record inside { db = db; flights = gs })

@@ -1,5 +1,3 @@
-pub mod Places
-pub mod Cells
 pub mod Steps
 pub mod Machines
 pub mod Runs

@@ -1,5 +1,5 @@
 -- What the calls of a machine do, by its fields.
-use Rattle.std.proofs.Common.{◌≡◌, ◌≢◌, ℕ, ◌+◌, ◌<◌, ◌≤◌, true, false, cond, nat_eq, List, [], ◌∷◌, ◌++◌, Option, Some, None, Result, Ok, Err, IfErr, option_map, map, sym, refl, ap, ◌∙◌, subst, inl, inr, ◌⊎◌, arith}
+use Rattle.std.proofs.Common.{◌≡◌, ◌≢◌, ℕ, ◌+◌, ◌<◌, ◌≤◌, true, false, cond, nat_eq, List, [], ◌∷◌, ◌++◌, Option, Some, None, is_some, Result, Ok, Err, IfErr, option_map, map, sym, refl, ap, ◌∙◌, subst, inl, inr, ◌⊎◌, arith}
 use Rattle.std.proofs.Math.Path.{fun_ext}
 use Rattle.std.proofs.lemmas.Bool.{eq-eqb, ne_eqb, eqb-true}
 use Rattle.sled_store.specs.Update.{put_at}
@@ -38,8 +38,7 @@ use Rattle.sled.specs.Flush.{FlushesDb, RefusesFlush}
 use Rattle.sled.proofs.Flying.{loses_nothing}
 use Rattle.sled.proofs.Flushing.{stays_state, stays_moment}
 use Rattle.sled.proofs.Resting.{SameNow, flushed_now, rests_only_faults, rests_now, rests_extends}
-use Rattle.sled_machine.specs.Slots.{kept_at}
-use Rattle.sled_machine.specs.Values.{MachineValue, slots_of, configuration_of}
+use Rattle.sled_machine.specs.Values.{MachineValue, kept_at, slots_of, configuration_of}
 use Rattle.tree_laws.specs.Forest.{Forest}
 use Rattle.sled_tree.specs.Passing.{IsOnPath}
 use Rattle.tree_laws.specs.Stages.{owned}
@@ -50,7 +49,6 @@ use Rattle.sled_machine.specs.CrashMaps.{AreCrashMaps, crash_maps_after}
 use Rattle.sled_machine.specs.Step.{MachineStep, MachineKeepsTreePages, BringsAt, MachineStepContract, advances_on_path_as, leaks_no_page_at, owned_by, effect_of_machine_step}
 use Rattle.sled_machine.specs.Sound.{IsMachine}
 use Rattle.sled_machine.specs.StepsInSlot.{flight_after}
-use Rattle.sled_machine.proofs.Places.{push_kept}
 use Rattle.sled_machine.proofs.Runs.{extended, leaves_same}
 
 none_some : {P A : Type 0} {a : A} → None ≡ Some a → P
@@ -61,6 +59,15 @@ some_is e = cc
 
 false_true : {P : Type 0} → false ≡ true → P
 false_true e = cc
+
+-- whether there is some
+pub some_there : {A : Type 0} (o : Option A) → is_some o ≡ true → (a : A) × (o ≡ Some a)
+some_there None e = false_true e
+some_there (Some a) e = (a, refl)
+
+pub none_there : {A : Type 0} (o : Option A) → is_some o ≡ false → o ≡ None
+none_there None e = refl
+none_there (Some a) e = false_true (sym e)
 
 same_or_not : (a b : ℕ) → (a ≡ b) ⊎ (a ≢ b)
 same_or_not a b = elim (nat_eq a b) as (λ t. nat_eq a b ≡ t → (a ≡ b) ⊎ (a ≢ b)) [ true ↦ λ e. inl (eqb-true a b e) | false ↦ λ e. inr (λ h. false_true (sym e ∙ eq-eqb a b h)) ] refl
@@ -295,21 +302,18 @@ module _ {P M : Type 0} (store : P → Store) (number : P → ℕ) (meant : M �
       go None t = absurd t
       go (Some m) t = t
 
+  pub free_slot : (slot : ℕ) → slot ≡ v.slots_given + 1 → kept_at v.flights slot ≡ None
+  free_slot slot next = go (kept_at v.flights slot) refl
+    where
+      go : (o : Option InFlight) → kept_at v.flights slot ≡ o → o ≡ None
+      go None k = refl
+      go (Some g) k = let h = im.given slot g k in absurd (omega arith)
+
   module _ (tree : Tree) (call : Call) (must : must_refuse (db_state store meant v.db) (ToBegin tree call) ≡ None) where
     pub begin_caused : (e : Error) → cause_of (state_of store meant v.db (slots_of v.flights) v.slots_given) (store v.db.pages) (store v.db.pages) (ToBegin tree call) e → MachineStepContract store number meant v (step.Begin tree call) (outcome.Refused e) v
     begin_caused e cause = begin_refused tree call e (record { is = subst (λ o. may_refuse_as o (state_of store meant v.db (slots_of v.flights) v.slots_given) (store v.db.pages) (store v.db.pages) (ToBegin tree call) e) (sym must) cause })
 
-    module _ (f : InFlight) (is : f ≡ record { job = record { tree = tree; call = call }; aim = OwnKey; stage = Root; turns = 0 }) (slot : ℕ) (next : slot ≡ v.slots_given + 1) (gs : List (ℕ × InFlight)) (e : gs ≡ v.flights ++ (slot, f) ∷ []) where
-      pub free_slot : kept_at v.flights slot ≡ None
-      free_slot = go (kept_at v.flights slot) refl
-        where
-          go : (o : Option InFlight) → kept_at v.flights slot ≡ o → o ≡ None
-          go None k = refl
-          go (Some g) k = let h = im.given slot g k in absurd (omega arith)
-
-      pub added_kept : (q : ℕ) → kept_at gs q ≡ put_at (kept_at v.flights) slot (Some f) q
-      added_kept q = ap (λ z. kept_at z q) e ∙ push_kept v.flights slot f q free_slot
-
+    module _ (f : InFlight) (is : f ≡ record { job = record { tree = tree; call = call }; aim = OwnKey; stage = Root; turns = 0 }) (slot : ℕ) (next : slot ≡ v.slots_given + 1) (gs : List (ℕ × InFlight)) (added : (q : ℕ) → kept_at gs q ≡ put_at (kept_at v.flights) slot (Some f) q) where
       pub begun_call : MachineStepContract store number meant v (step.Begin tree call) (outcome.Begun slot) (record v { flights = gs; slots_given = slot })
       begun_call = record {
         step = idle (step.Begin tree call) (outcome.Begun slot) (record v { flights = gs; slots_given = slot }) refl
@@ -318,7 +322,7 @@ module _ {P M : Type 0} (store : P → Store) (number : P → ℕ) (meant : M �
                 record {
                   free = must;
                   next = next;
-                  is = ap (λ z. state_of store meant v.db z slot) (slots_put v.flights gs slot (Some f) added_kept ∙ ap (λ z. put_at (slots_of v.flights) slot (Some (call_in_flight_of z))) is);
+                  is = ap (λ z. state_of store meant v.db z slot) (slots_put v.flights gs slot (Some f) added ∙ ap (λ z. put_at (slots_of v.flights) slot (Some (call_in_flight_of z))) is);
                 },
                 refl,
               );
@@ -328,7 +332,7 @@ module _ {P M : Type 0} (store : P → Store) (number : P → ℕ) (meant : M �
         does = record { is = refl };
         follows = record { is = tt };
         passes = record { is = tt };
-        slots = record { starts = added_kept slot ∙ put_here (kept_at v.flights) slot (Some f) ∙ ap Some is; others = elsewhere v.flights gs slot (Some f) added_kept };
+        slots = record { starts = added slot ∙ put_here (kept_at v.flights) slot (Some f) ∙ ap Some is; others = elsewhere v.flights gs slot (Some f) added };
         loses = record { none = loses_nothing None (snapshot_of_db store v.db) };
         leaves = record { is = tt };
         gives_up = record { is = tt };
@@ -338,7 +342,7 @@ module _ {P M : Type 0} (store : P → Store) (number : P → ℕ) (meant : M �
 
       pub begun_machine : IsMachine (snapshot_of_db store v.db) gs slot
       begun_machine =
-          let cases = other_or_new v.flights gs slot f added_kept in record {
+          let cases = other_or_new v.flights gs slot f added in record {
             given = λ j h k. elim (cases j h k) [
               | inl s ↦ let z = s.0 in omega arith
               | inr o ↦ let z = im.given j h o.1 in omega arith
@@ -410,11 +414,21 @@ module _ {P M : Type 0} (store : P → Store) (number : P → ℕ) (meant : M �
 
 -- The same, where a method knows the machine and the slot by their fields
 module _ {P M : Type 0} (store : P → Store) (number : P → ℕ) (meant : M → Merge) (inside old : MachineValue P M) (e : inside ≡ old) (im : IsMachine (snapshot_of_db store inside.db) inside.flights inside.slots_given) (n slot : ℕ) (same : n ≡ slot) where
-  pub missing_step_as : kept_at inside.flights n ≡ None → MachineStepContract store number meant old (step.Step slot) outcome.NoSuchSlot old
-  missing_step_as k = subst (λ s. MachineStepContract store number meant old (step.Step s) outcome.NoSuchSlot old) same (subst (λ z. MachineStepContract store number meant z (step.Step n) outcome.NoSuchSlot z) e (missing_step store number meant inside im n k))
+  -- no call has the slot, and all stays as it was
+  module _ (db : DbValue P M) (gs : List (ℕ × InFlight)) (d : db ≡ inside.db) (g : gs ≡ inside.flights) where
+    pub rests_as : inside ≡ record inside { db = db; flights = gs }
+    rests_as = ap (λ z. record inside { db = z }) (sym d) ∙ ap (λ z. record inside { db = db; flights = z }) (sym g)
 
-  pub missing_abandon_as : kept_at inside.flights n ≡ None → MachineStepContract store number meant old (step.Abandon slot) outcome.NoSuchSlot old
-  missing_abandon_as k = subst (λ s. MachineStepContract store number meant old (step.Abandon s) outcome.NoSuchSlot old) same (subst (λ z. MachineStepContract store number meant z (step.Abandon n) outcome.NoSuchSlot z) e (missing_abandon store number meant inside im n k))
+    pub rests_machine : IsMachine (snapshot_of_db store db) gs inside.slots_given
+    rests_machine = subst (λ (m : MachineValue P M). IsMachine (snapshot_of_db store m.db) m.flights m.slots_given) rests_as im
+
+    pub missing_step_as : kept_at inside.flights n ≡ None → MachineStepContract store number meant old (step.Step slot) outcome.NoSuchSlot (record inside { db = db; flights = gs })
+    missing_step_as k = subst (λ z. MachineStepContract store number meant old (step.Step slot) outcome.NoSuchSlot z) (sym e ∙ rests_as)
+        (subst (λ s. MachineStepContract store number meant old (step.Step s) outcome.NoSuchSlot old) same (subst (λ z. MachineStepContract store number meant z (step.Step n) outcome.NoSuchSlot z) e (missing_step store number meant inside im n k)))
+
+    pub missing_abandon_as : kept_at inside.flights n ≡ None → MachineStepContract store number meant old (step.Abandon slot) outcome.NoSuchSlot (record inside { db = db; flights = gs })
+    missing_abandon_as k = subst (λ z. MachineStepContract store number meant old (step.Abandon slot) outcome.NoSuchSlot z) (sym e ∙ rests_as)
+        (subst (λ s. MachineStepContract store number meant old (step.Abandon s) outcome.NoSuchSlot old) same (subst (λ z. MachineStepContract store number meant z (step.Abandon n) outcome.NoSuchSlot z) e (missing_abandon store number meant inside im n k)))
 
   pub abandoned_as : (f : InFlight) → kept_at inside.flights n ≡ Some f → (gs : List (ℕ × InFlight)) → ((q : ℕ) → kept_at gs q ≡ put_at (kept_at inside.flights) n None q) → MachineStepContract store number meant old (step.Abandon slot) outcome.Abandoned (record inside { flights = gs })
   abandoned_as f there gs gone = subst (λ k. MachineStepContract store number meant old (step.Abandon k) outcome.Abandoned (record inside { flights = gs })) same (subst (λ z. MachineStepContract store number meant z (step.Abandon n) outcome.Abandoned (record inside { flights = gs })) e (abandoned store number meant inside im n f there gs gone))
@@ -448,12 +462,12 @@ module _ {P M : Type 0} (store : P → Store) (number : P → ℕ) (meant : M �
 
   -- .. where the list has room, and so may be another one
   pub begun_as : (tree copy : Tree) (call : Call) → copy ≡ tree → must_refuse (db_state store meant old.db) (ToBegin tree call) ≡ None → (f : InFlight) → f ≡ record { job = record { tree = copy; call = call }; aim = OwnKey; stage = Root; turns = 0 }
-      → (slot : ℕ) → slot ≡ inside.slots_given + 1 → (gs : List (ℕ × InFlight)) → gs ≡ inside.flights ++ (slot, f) ∷ [] → MachineStepContract store number meant old (step.Begin tree call) (outcome.Begun slot) (record inside { flights = gs; slots_given = slot })
+      → (slot : ℕ) → slot ≡ inside.slots_given + 1 → (gs : List (ℕ × InFlight)) → ((q : ℕ) → kept_at gs q ≡ put_at (kept_at inside.flights) slot (Some f) q) → MachineStepContract store number meant old (step.Begin tree call) (outcome.Begun slot) (record inside { flights = gs; slots_given = slot })
   begun_as tree copy call c must f is slot next gs g = subst (λ z. MachineStepContract store number meant z (step.Begin tree call) (outcome.Begun slot) (record inside { flights = gs; slots_given = slot })) e
       (begun_call store number meant inside im tree call (tested_inside tree call must) f (is ∙ ap (λ t. record { job = record { tree = t; call = call }; aim = OwnKey; stage = Root; turns = 0 }) c) slot next gs g)
 
   pub begun_machine_as : (tree copy : Tree) (call : Call) → copy ≡ tree → must_refuse (db_state store meant old.db) (ToBegin tree call) ≡ None → (f : InFlight) → f ≡ record { job = record { tree = copy; call = call }; aim = OwnKey; stage = Root; turns = 0 }
-      → (slot : ℕ) → slot ≡ inside.slots_given + 1 → (gs : List (ℕ × InFlight)) → gs ≡ inside.flights ++ (slot, f) ∷ [] → IsMachine (snapshot_of_db store inside.db) gs slot
+      → (slot : ℕ) → slot ≡ inside.slots_given + 1 → (gs : List (ℕ × InFlight)) → ((q : ℕ) → kept_at gs q ≡ put_at (kept_at inside.flights) slot (Some f) q) → IsMachine (snapshot_of_db store inside.db) gs slot
   begun_machine_as tree copy call c must f is slot next gs g = begun_machine store number meant inside im tree call (tested_inside tree call must) f (is ∙ ap (λ t. record { job = record { tree = t; call = call }; aim = OwnKey; stage = Root; turns = 0 }) c) slot next gs g
 
   pub flushed_as : (db : DbValue P M) (n : ℕ) → FlushesDb store number meant inside.db n db → MachineStepContract store number meant old (step.Whole Flush) (outcome.Decided (Number n)) (record inside { db = db })

@@ -1,5 +1,3 @@
-pub mod Slots
-pub mod Table
 pub mod Values
 pub mod CrashMaps
 pub mod StepsInSlot

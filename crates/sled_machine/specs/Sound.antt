@@ -3,7 +3,7 @@ use Rattle.std.specs.Prelude.{◌≡◌, ◌≢◌, ℕ, ◌≤◌, List, Some}
 use Rattle.tree_laws.specs.Snapshot.{Snapshot}
 use Rattle.sled_tree.specs.declared.flight.InFlight.{InFlight}
 use Rattle.sled_tree.specs.Known.{IsKnown, AreApart}
-use Rattle.sled_machine.specs.Slots.{kept_at}
+use Rattle.sled_machine.specs.Values.{kept_at}
 
 -- No slot is past the last that was given, what each call knows of the pages is true, and no page is two calls' own
 pub record IsMachine (m : Snapshot) (flights : List (ℕ × InFlight)) (slots_given : ℕ) : Type 0 where

@@ -41,8 +41,7 @@ use Rattle.sled.specs.Pops.{GivesUpPop, PopsBySteps, PopRefusedBySteps, ClearsBy
 use Rattle.sled.specs.Imports.{ImportsBySteps, ImportRefused}
 use Rattle.sled_machine.specs.CrashMaps.{AreCrashMaps, crash_maps_after}
 use Rattle.sled_machine.specs.StepsInSlot.{flight_after}
-use Rattle.sled_machine.specs.Slots.{kept_at}
-use Rattle.sled_machine.specs.Values.{MachineValue, configuration_of}
+use Rattle.sled_machine.specs.Values.{MachineValue, kept_at, configuration_of}
 
 -- One step of the machine is a step of the model, which adds these maps to those after each decided call; and whatever maps a crash
 -- might leave before it, after it they are those that the step makes of them

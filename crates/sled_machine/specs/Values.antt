@@ -1,5 +1,8 @@
 -- What contracts see of a machine, and the instant of the model that it stands for.
 use Rattle.std.specs.Prelude.{ℕ, List, Option, option_map}
+use Rattle.std.specs.Map.{lookup}
+use Rattle.std.specs.BTreeMap.{is_at}
+use Rattle.std.specs.Ordering.{nat_cmp}
 use Rattle.sled_store.specs.Store.{Store}
 use Rattle.sled_model.specs.Maps.{Merge}
 use Rattle.sled_model.specs.State.{CallInFlight}
@@ -7,13 +10,16 @@ use Rattle.sled_model.specs.Transition.{Configuration}
 use Rattle.sled_tree.specs.declared.flight.InFlight.{InFlight}
 use Rattle.sled.specs.Values.{DbValue, configuration_of as instant_of_db}
 use Rattle.sled.specs.Flights.{call_in_flight_of}
-use Rattle.sled_machine.specs.Slots.{kept_at}
 
 -- the database, the calls in flight by slot, and the last slot that was given
 pub record MachineValue (P M : Type 0) : Type 0 where
   pub db : DbValue P M
   pub flights : List (ℕ × InFlight)
   pub slots_given : ℕ
+
+-- the call in a slot
+abbrev pub kept_at : List (ℕ × InFlight) → ℕ → Option InFlight
+kept_at flights slot = lookup (is_at (nat_cmp slot)) flights
 
 abbrev pub slots_of : List (ℕ × InFlight) → ℕ → Option CallInFlight
 slots_of flights slot = option_map call_in_flight_of (kept_at flights slot)

@@ -1,19 +1,22 @@
-//! Steps of a call in the table.
-ghost use Rattle.std.specs.Prelude.{◌≡◌, slice_get, Some};
+//! The calls in flight, by slot.
+ghost use Rattle.std.specs.Prelude.{◌≡◌, false, ℕ, Some, None, is_some, IfSome, IfNone, OnOk, OnErr, IfErr};
 ghost use Rattle.std.specs.Option.{option_map};
+ghost use Rattle.std.specs.Ordering.{nat_cmp};
+ghost use Rattle.std.specs.BTreeMap.{get};
+ghost use Rattle.sled_nodes.specs.declared.error.Error.TheVariants.{NoMemory};
+ghost use Rattle.sled_store.specs.Update.{put_at};
 ghost use Rattle.sled.specs.Values.{snapshot_of_db};
 ghost use Rattle.sled_tree.specs.Known.{IsKnown};
 ghost use Rattle.sled.specs.Flights.{DbStepContract, DbRunsToEnd, outcome_of};
 ghost use Rattle.sled_tree.specs.declared.flight.InFlight.{InFlight};
-ghost use Rattle.sled_machine.specs.theory.Slots.{Rise};
-ghost use Rattle.sled_machine.specs.theory.Table.{HoldsAt};
-ghost use Rattle.sled_machine.specs.theory.StepsInSlot.{StepsInCell, StepsInSlot};
+ghost use Rattle.sled_machine.specs.theory.StepsInSlot.{FliesInSlot, StepsInSlot};
 
-use crate::table::Table;
 use sled::Db;
 use sled_model::{MergeOperator, Outcome};
+use sled_nodes::{Error, Result};
 use sled_store::Pages;
 use sled_tree::{InFlight, Went};
+use std::collections::BTreeMap;
 
 // How a step came out, as a machine tells it.
 pub(crate) fn outcome_of(went: Went) -> Outcome
@@ -26,84 +29,124 @@ pub(crate) fn outcome_of(went: Went) -> Outcome
     }
 }
 
-// How often the call in a cell went on so far, if there is one.
-pub(crate) fn turns_of(cell: &Option<InFlight>) -> Option<u64>
-    ensures { result ≡ option_map (λ flight. flight.turns) cell.now }
+// How often the call in a slot went on so far, if there is one.
+pub(crate) fn turns_in(flights: &BTreeMap<u64, InFlight>, slot: u64) -> Option<u64>
+    ensures { result ≡ option_map (λ flight. flight.turns) (get nat_cmp flights.now slot) }
 {
-    match cell {
+    match flights.get(&slot) {
         Some(flight) => Some(flight.turns),
         None => None,
     }
 }
 
-// One step of the call in a cell, on the database.
-fn advance_at<P: Pages, M: MergeOperator>(
-    db: &mut Db<P, M>,
-    table: &mut Table<InFlight>,
-    slot: u64,
-    i: usize,
-) -> Went
-    requires holds { HoldsAt table.old.cells.items slot i }
-    requires known { (f : InFlight) → slice_get table.old.cells.items i ≡ Some (slot, Some f) → IsKnown (snapshot_of_db P.store db.old) f }
-    ensures { StepsInCell (DbStepContract P.store M.meant) db.old table.old.cells.items slot i result db.new table.new.cells.items }
+// Puts a call into a slot. Refused with `NoMemory` alone.
+pub(crate) fn add(flights: &mut BTreeMap<u64, InFlight>, slot: u64, flight: InFlight) -> Result<()>
+    ensures ok { OnOk result ((n : ℕ) → get nat_cmp flights.new n ≡ put_at (get nat_cmp flights.old) slot (Some flight) n) }
+    ensures same { OnErr result (flights.new.entries ≡ flights.old.entries) }
+    ensures err { IfErr result (λ e. e ≡ NoMemory) }
 {
-    match &mut table.cells[i].1 {
-        Some(flight) => db.advance(flight),
-        None => unreachable!(),
-    }
-}
-
-// The same, and a call that has ended is let go.
-pub(crate) fn step_at<P: Pages, M: MergeOperator>(
-    db: &mut Db<P, M>,
-    table: &mut Table<InFlight>,
-    slot: u64,
-    i: usize,
-) -> Outcome
-    requires rise { Rise table.old.cells.items }
-    requires holds { HoldsAt table.old.cells.items slot i }
-    requires known { (f : InFlight) → slice_get table.old.cells.items i ≡ Some (slot, Some f) → IsKnown (snapshot_of_db P.store db.old) f }
-    ensures { StepsInSlot (DbStepContract P.store M.meant) db.old table.old.cells.items slot result db.new table.new.cells.items }
-{
-    match advance_at(db, table, slot, i) {
-        Went::Moved => Outcome::Moved,
-        went => {
-            table.remove(i);
-            outcome_of(went)
+    match flights.insert(slot, flight) {
+        Ok(none) => {
+            drop(none);
+            Ok(())
+        }
+        Err(failed) => {
+            drop(failed);
+            Err(Error::NoMemory)
         }
     }
 }
 
-// Steps of the call in a cell to its end, on the database.
-fn advance_to_end_at<P: Pages, M: MergeOperator>(
-    db: &mut Db<P, M>,
-    table: &mut Table<InFlight>,
-    slot: u64,
-    i: usize,
-) -> Went
-    requires holds { HoldsAt table.old.cells.items slot i }
-    requires known { (f : InFlight) → slice_get table.old.cells.items i ≡ Some (slot, Some f) → IsKnown (snapshot_of_db P.store db.old) f }
-    ensures { StepsInCell (DbRunsToEnd P.store M.meant) db.old table.old.cells.items slot i result db.new table.new.cells.items }
+// Lets the call in a slot go, and says whether there was one.
+pub(crate) fn remove(flights: &mut BTreeMap<u64, InFlight>, slot: u64) -> bool
+    ensures was { result ≡ is_some (get nat_cmp flights.old slot) }
+    ensures gone { (n : ℕ) → get nat_cmp flights.new n ≡ put_at (get nat_cmp flights.old) slot None n }
+    ensures same { result ≡ false → flights.new.entries ≡ flights.old.entries }
 {
-    match &mut table.cells[i].1 {
-        Some(flight) => db.advance_to_end(flight),
-        None => unreachable!(),
+    match flights.remove(&slot) {
+        Some(flight) => {
+            drop(flight);
+            true
+        }
+        None => false,
+    }
+}
+
+// One step of the call in a slot, on the database, if there is one.
+fn advance_in<P: Pages, M: MergeOperator>(
+    db: &mut Db<P, M>,
+    flights: &mut BTreeMap<u64, InFlight>,
+    slot: u64,
+) -> Option<Went>
+    requires { (f : InFlight) → get nat_cmp flights.old slot ≡ Some f → IsKnown (snapshot_of_db P.store db.old) f }
+    ensures flew { IfSome result (λ went. FliesInSlot (DbStepContract P.store M.meant) db.old (get nat_cmp flights.old) slot went db.new (get nat_cmp flights.new)) }
+    ensures none { IfNone result (get nat_cmp flights.old slot ≡ None) }
+    ensures same { IfNone result (flights.new.entries ≡ flights.old.entries) }
+    ensures rests { IfNone result (db.new ≡ db.old) }
+{
+    match flights.get_mut(&slot) {
+        Some(flight) => Some(db.advance(flight)),
+        None => None,
+    }
+}
+
+// The same, and a call that has ended is let go.
+pub(crate) fn step_in<P: Pages, M: MergeOperator>(
+    db: &mut Db<P, M>,
+    flights: &mut BTreeMap<u64, InFlight>,
+    slot: u64,
+) -> Option<Outcome>
+    requires { (f : InFlight) → get nat_cmp flights.old slot ≡ Some f → IsKnown (snapshot_of_db P.store db.old) f }
+    ensures steps { IfSome result (λ o. StepsInSlot (DbStepContract P.store M.meant) db.old (get nat_cmp flights.old) slot o db.new (get nat_cmp flights.new)) }
+    ensures none { IfNone result (get nat_cmp flights.old slot ≡ None) }
+    ensures same { IfNone result (flights.new.entries ≡ flights.old.entries) }
+    ensures rests { IfNone result (db.new ≡ db.old) }
+{
+    let Some(went) = advance_in(db, flights, slot) else {
+        return None;
+    };
+    match went {
+        Went::Moved => Some(Outcome::Moved),
+        went => {
+            remove(flights, slot);
+            Some(outcome_of(went))
+        }
+    }
+}
+
+// Steps of the call in a slot to its end, on the database, if there is one.
+fn advance_to_end_in<P: Pages, M: MergeOperator>(
+    db: &mut Db<P, M>,
+    flights: &mut BTreeMap<u64, InFlight>,
+    slot: u64,
+) -> Option<Went>
+    requires { (f : InFlight) → get nat_cmp flights.old slot ≡ Some f → IsKnown (snapshot_of_db P.store db.old) f }
+    ensures flew { IfSome result (λ went. FliesInSlot (DbRunsToEnd P.store M.meant) db.old (get nat_cmp flights.old) slot went db.new (get nat_cmp flights.new)) }
+    ensures none { IfNone result (get nat_cmp flights.old slot ≡ None) }
+    ensures same { IfNone result (flights.new.entries ≡ flights.old.entries) }
+    ensures rests { IfNone result (db.new ≡ db.old) }
+{
+    match flights.get_mut(&slot) {
+        Some(flight) => Some(db.advance_to_end(flight)),
+        None => None,
     }
 }
 
 // The same, and the call is let go.
-pub(crate) fn finish_at<P: Pages, M: MergeOperator>(
+pub(crate) fn finish_in<P: Pages, M: MergeOperator>(
     db: &mut Db<P, M>,
-    table: &mut Table<InFlight>,
+    flights: &mut BTreeMap<u64, InFlight>,
     slot: u64,
-    i: usize,
-) -> Outcome
-    requires rise { Rise table.old.cells.items }
-    requires holds { HoldsAt table.old.cells.items slot i }
-    requires known { (f : InFlight) → slice_get table.old.cells.items i ≡ Some (slot, Some f) → IsKnown (snapshot_of_db P.store db.old) f }
-    ensures { StepsInSlot (DbRunsToEnd P.store M.meant) db.old table.old.cells.items slot result db.new table.new.cells.items }
+) -> Option<Outcome>
+    requires { (f : InFlight) → get nat_cmp flights.old slot ≡ Some f → IsKnown (snapshot_of_db P.store db.old) f }
+    ensures steps { IfSome result (λ o. StepsInSlot (DbRunsToEnd P.store M.meant) db.old (get nat_cmp flights.old) slot o db.new (get nat_cmp flights.new)) }
+    ensures none { IfNone result (get nat_cmp flights.old slot ≡ None) }
+    ensures same { IfNone result (flights.new.entries ≡ flights.old.entries) }
+    ensures rests { IfNone result (db.new ≡ db.old) }
 {
-    let went = advance_to_end_at(db, table, slot, i);
-    table.remove(i);
-    outcome_of(went)
+    let Some(went) = advance_to_end_in(db, flights, slot) else {
+        return None;
+    };
+    remove(flights, slot);
+    Some(outcome_of(went))
 }

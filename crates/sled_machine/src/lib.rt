@@ -8,8 +8,6 @@
 mod flights;
 mod laws;
 mod machine;
-mod place;
-mod table;
 
 pub use laws::{law_extended, law_flushed, law_hears, law_steps};
 pub use machine::Machine;

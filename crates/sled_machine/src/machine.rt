@@ -9,8 +9,7 @@ ghost use Rattle.sled_model.specs.declared.call.Call.{Call};
 ghost use Rattle.sled_model.specs.declared.outcome.Outcome.TheVariants as outcome;
 ghost use Rattle.sled_model.specs.declared.outcome.Step.TheVariants as step;
 
-use crate::flights::{finish_at, outcome_of, step_at, turns_of};
-use crate::table::Table;
+use crate::flights::{add, finish_in, outcome_of, remove, step_in, turns_in};
 use sled::Db;
 use sled_model::{
     Call, Collection, MergeOperator, Outcome, Reply, Slot, Step, Subscriber, Tree, Whole,
@@ -20,6 +19,7 @@ use sled_nodes::{Error, IVec, Result};
 use sled_store::Pages;
 use sled_tree::InFlight;
 use std::alloc::AllocError;
+use std::collections::BTreeMap;
 use std::marker::Model;
 
 /// A database and the calls in flight on it.
@@ -27,7 +27,7 @@ use std::marker::Model;
 pub struct Machine<P: Pages, M = Box<dyn MergeOperator + Send>> {
     db: Db<P, M>,
     // the calls in flight, by slot
-    table: Table<InFlight>,
+    flights: BTreeMap<u64, InFlight>,
     slots_given: u64,
 }
 
@@ -37,12 +37,11 @@ impl<P: Pages, M> Model for Machine<P, M> {
     ghost Value = { MachineValue P M };
 
     ghost use Rattle.sled.specs.Values.{snapshot_of_db};
-    ghost use Rattle.sled_machine.specs.Table.{kept, IsTable};
     ghost use Rattle.sled_machine.specs.Sound.{IsMachine};
 
-    ghost view = { λ m. record { db = m.db; flights = kept m.table.cells.items; slots_given = m.slots_given } };
+    ghost view = { λ m. record { db = m.db; flights = m.flights.entries; slots_given = m.slots_given } };
 
-    ghost invariant = { λ m. IsMachine (snapshot_of_db P.store m.db) (kept m.table.cells.items) m.slots_given × IsTable m.table.cells.items m.slots_given };
+    ghost invariant = { λ m. IsMachine (snapshot_of_db P.store m.db) m.flights.entries m.slots_given };
 }
 
 impl<P: Pages, M: MergeOperator> Machine<P, M> {
@@ -67,10 +66,10 @@ impl<P: Pages, M: MergeOperator> Machine<P, M> {
         ensures flights { result.flights ≡ [] }
         ensures slots { result.slots_given ≡ 0 }
     {
-        let table = Table::new(db.allocator());
+        let flights = BTreeMap::new(db.allocator());
         Machine {
             db,
-            table,
+            flights,
             slots_given: 0,
         }
     }
@@ -194,7 +193,7 @@ impl<P: Pages, M: MergeOperator> Machine<P, M> {
             }
         };
         let slot = self.slots_given + 1;
-        if let Err(e) = self.table.push(slot, InFlight::new(tree, call)) {
+        if let Err(e) = add(&mut self.flights, slot, InFlight::new(tree, call)) {
             return Err(e);
         }
         self.slots_given = slot;
@@ -220,10 +219,10 @@ impl<P: Pages, M: MergeOperator> Machine<P, M> {
         ensures loses { MachineKeepsTreePages P.store self.old (step.Step slot) result self.new }
         ensures leaves { MachineLeaksNoPage P.store self.old (step.Step slot) result self.new }
     {
-        let Some(i) = self.table.find(slot.0) else {
+        let Some(outcome) = step_in(&mut self.db, &mut self.flights, slot.0) else {
             return Outcome::NoSuchSlot;
         };
-        step_at(&mut self.db, &mut self.table, slot.0, i)
+        outcome
     }
 
     /// Gives the call in the slot up. What it did to the pages stays, and no map changes.
@@ -234,11 +233,10 @@ impl<P: Pages, M: MergeOperator> Machine<P, M> {
     pub fn abandon(&mut self, slot: Slot) -> Outcome
         ensures { MachineStepContract P.store P.flush_number M.meant self.old (step.Abandon slot) result self.new }
     {
-        let Some(i) = self.table.find(slot.0) else {
-            return Outcome::NoSuchSlot;
-        };
-        self.table.remove(i);
-        Outcome::Abandoned
+        if remove(&mut self.flights, slot.0) {
+            return Outcome::Abandoned;
+        }
+        Outcome::NoSuchSlot
     }
 
     /// How often the call in the slot went on so far, if there is one.
@@ -249,10 +247,7 @@ impl<P: Pages, M: MergeOperator> Machine<P, M> {
     pub fn turns(&self, slot: Slot) -> Option<u64>
         ensures { result ≡ option_map (λ f. f.turns) (slots_of self.now.flights slot) }
     {
-        let Some(i) = self.table.find(slot.0) else {
-            return None;
-        };
-        turns_of(&self.table.cells[i].1)
+        turns_in(&self.flights, slot.0)
     }
 
     /// Does a whole call, in one step.
@@ -398,10 +393,10 @@ impl<P: Pages, M: MergeOperator> Machine<P, M> {
     pub fn finish(&mut self, slot: Slot) -> Outcome
         ensures { RunsToEnd P.store P.flush_number M.meant self.old slot result self.new }
     {
-        let Some(i) = self.table.find(slot.0) else {
+        let Some(outcome) = finish_in(&mut self.db, &mut self.flights, slot.0) else {
             return Outcome::NoSuchSlot;
         };
-        finish_at(&mut self.db, &mut self.table, slot.0, i)
+        outcome
     }
 
     /// Does a call from its begin to its end: what `begin` does, and then `finish` of the slot. The slot is given, but nothing

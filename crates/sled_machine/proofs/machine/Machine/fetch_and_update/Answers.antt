@@ -8,4 +8,4 @@ pub returns-clause-err : goal.returns-clause-err
 returns-clause-err g c = refused g.P.Pages.store g.M.MergeOperator.meant g.F.FnMut c.args.f _ _ c.self.view_is c.args.tree.now c.args.key.now c.fetch_and_update.new.self c.fetch_and_update.result c.fetch_and_update.ensures.err
 
 pub invariant_of-self : goal.invariant_of-self
-invariant_of-self g c = (after_fetch g.P.Pages.store g.M.MergeOperator.meant g.F.FnMut c.args.f _ _ c.self.view_is c.args.tree.now c.args.key.now c.fetch_and_update.new.self c.self.invariant.0 c.fetch_and_update.result c.fetch_and_update.ensures.ok c.fetch_and_update.ensures.err, c.self.invariant.1)
+invariant_of-self g c = after_fetch g.P.Pages.store g.M.MergeOperator.meant g.F.FnMut c.args.f _ _ c.self.view_is c.args.tree.now c.args.key.now c.fetch_and_update.new.self c.self.invariant c.fetch_and_update.result c.fetch_and_update.ensures.ok c.fetch_and_update.ensures.err

@@ -9,15 +9,15 @@ use Rattle.sled_machine.proofs.machine.Machine.watch.Goals as goal
 pub returns-in-Err : goal.returns-in-Err
 returns-in-Err g c =
     let r = subst (λ (p : Key). RefusesWatch g.P.Pages.store g.M.MergeOperator.meant c.self.inside.db c.args.tree.now p c.in-Err.e c.watch_prefix.new.self) c.as_ref.ensures c.in-Err.ensures.err in
-    whole_refused g.P.Pages.store g.P.Pages.flush_number g.M.MergeOperator.meant _ _ c.self.view_is c.self.invariant.0 (Watch c.args.tree.now c.args.prefix.now) tt _ _ (watch_refused g.P.Pages.store g.M.MergeOperator.meant _ _ _ _ _ r) tt tt
+    whole_refused g.P.Pages.store g.P.Pages.flush_number g.M.MergeOperator.meant _ _ c.self.view_is c.self.invariant (Watch c.args.tree.now c.args.prefix.now) tt _ _ (watch_refused g.P.Pages.store g.M.MergeOperator.meant _ _ _ _ _ r) tt tt
 
 pub returns : goal.returns
 returns g c =
     let w = subst (λ (p : Key). WatchesDb g.P.Pages.store g.M.MergeOperator.meant c.self.inside.db c.args.tree.now p c.in-Ok.subscriber c.watch_prefix.new.self) c.as_ref.ensures c.in-Ok.ensures.ok in
-    whole_decided g.P.Pages.store g.P.Pages.flush_number g.M.MergeOperator.meant _ _ c.self.view_is c.self.invariant.0 (Watch c.args.tree.now c.args.prefix.now) tt _ _ (watch_decided g.P.Pages.store g.M.MergeOperator.meant _ _ _ _ _ w) tt
+    whole_decided g.P.Pages.store g.P.Pages.flush_number g.M.MergeOperator.meant _ _ c.self.view_is c.self.invariant (Watch c.args.tree.now c.args.prefix.now) tt _ _ (watch_decided g.P.Pages.store g.M.MergeOperator.meant _ _ _ _ _ w) tt
 
 pub invariant_of-self : goal.invariant_of-self
-invariant_of-self g c = (refused_machine g.P.Pages.store g.P.Pages.flush_number g.M.MergeOperator.meant _ _ c.self.view_is c.self.invariant.0 (Watch c.args.tree.now c.as_ref.result.now) tt _ _ (watch_refused g.P.Pages.store g.M.MergeOperator.meant _ _ _ _ _ c.in-Err.ensures.err), c.self.invariant.1)
+invariant_of-self g c = refused_machine g.P.Pages.store g.P.Pages.flush_number g.M.MergeOperator.meant _ _ c.self.view_is c.self.invariant (Watch c.args.tree.now c.as_ref.result.now) tt _ _ (watch_refused g.P.Pages.store g.M.MergeOperator.meant _ _ _ _ _ c.in-Err.ensures.err)
 
 pub invariant_of-self-2 : goal.invariant_of-self-2
-invariant_of-self-2 g c = (decided_machine g.P.Pages.store g.P.Pages.flush_number g.M.MergeOperator.meant _ _ c.self.view_is c.self.invariant.0 (Watch c.args.tree.now c.as_ref.result.now) tt _ _ (watch_decided g.P.Pages.store g.M.MergeOperator.meant _ _ _ _ _ c.in-Ok.ensures.ok), c.self.invariant.1)
+invariant_of-self-2 g c = decided_machine g.P.Pages.store g.P.Pages.flush_number g.M.MergeOperator.meant _ _ c.self.view_is c.self.invariant (Watch c.args.tree.now c.as_ref.result.now) tt _ _ (watch_decided g.P.Pages.store g.M.MergeOperator.meant _ _ _ _ _ c.in-Ok.ensures.ok)
