@@ -14,4 +14,5 @@ pub mod Typing
 pub mod Walking
 pub mod Streams
 pub mod Turned
+pub mod Missing
 pub mod Following

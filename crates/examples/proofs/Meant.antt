@@ -14,13 +14,13 @@ use Rattle.sled_model.specs.declared.outcome.Outcome.{Outcome}
 use Rattle.sled_model.specs.declared.outcome.Outcome.TheVariants as outcome
 use Rattle.sled_model.specs.declared.tree.Tree.{Tree}
 use Rattle.tree_reads.specs.Walk.{once, for_each}
-use Rattle.sled.specs.Flights.{FindsRoom, call_in_flight_of}
+use Rattle.sled.specs.Flights.{call_in_flight_of}
 use Rattle.sled.specs.Values.{db_state}
 use Rattle.sled_machine.specs.CrashMaps.{AreCrashMaps, crash_maps_after}
 use Rattle.sled_machine.specs.Run.{RunsWithCrashMaps, KeepsAll, KeepsMore, MachineSteps, NoCalls, OneCall}
-use Rattle.sled_machine.specs.Step.{MachineStep, MachineStepContract, effect_of_machine_step, follows_stage_as, finds_room_as, advances_on_path_as, starts_as, leaks_no_page_at, gives_up_as, tested_as, pops_as, clears_as, opens_as, drops_tree_as, way_as, imports_as}
+use Rattle.sled_machine.specs.Step.{MachineStep, MachineStepContract, effect_of_machine_step, follows_stage_as, advances_on_path_as, starts_as, leaks_no_page_at, gives_up_as, tested_as, pops_as, clears_as, opens_as, drops_tree_as, way_as, imports_as}
 use Rattle.sled_machine.specs.Values.{MachineValue, configuration_of, slots_of}
-use Rattle.examples.proofs.Plain.{plain, same_configuration, same_db, same_tests, plain_sound, meant_sound, plain_room, plain_gives_up, plain_opens_by, plain_opens_not, plain_drops, plain_drops_not, plain_pops, plain_stops, plain_clears, plain_clear_stops, plain_imports, plain_imports_not}
+use Rattle.examples.proofs.Plain.{plain, same_configuration, same_db, same_tests, plain_sound, meant_sound, plain_gives_up, plain_opens_by, plain_opens_not, plain_drops, plain_drops_not, plain_pops, plain_stops, plain_clears, plain_clear_stops, plain_imports, plain_imports_not}
 
 module _ {P M : Type 0} (store : P → Store) (number : P → ℕ) (meant : M → Merge) where
   abbrev pub plain_machine : MachineValue P M → MachineValue P Merge
@@ -50,21 +50,15 @@ module _ {P M : Type 0} (store : P → Store) (number : P → ℕ) (meant : M �
 
   module _ (a b : MachineValue P M) where
     plain_follows : (s : Step) (o : Outcome) → follows_stage_as store meant a s o b → follows_stage_as store (λ m. m) (plain_machine a) s o (plain_machine b)
-    plain_follows (step.Step slot) o h = λ f there must fits finds other. let k = h f there (sym (same_tests store meant a.db (ToStep (call_in_flight_of f))) ∙ must) fits (subst (λ (s : State). FindsRoom s f) (same_db store meant a.db) finds) other in record { went = k.went; next = k.next; outcome = k.outcome; there = k.there; follows = k.follows }
+    plain_follows (step.Step slot) o h = λ f there must fits. let k = h f there (sym (same_tests store meant a.db (ToStep (call_in_flight_of f))) ∙ must) fits in record { went = k.went; next = k.next; outcome = k.outcome; there = k.there; follows = k.follows }
     plain_follows (step.Begin tree call) o h = h
     plain_follows (step.Abandon slot) o h = h
     plain_follows (step.Whole whole) o h = h
 
-    plain_finds : (s : Step) (o : Outcome) → finds_room_as store meant a s o b → finds_room_as store (λ m. m) (plain_machine a) s o (plain_machine b)
-    plain_finds (step.Step slot) o h = λ f there. let k = h f there in record { went = k.went; next = k.next; outcome = k.outcome; there = k.there; room = plain_room store meant a.db b.db f k.next k.went k.room }
-    plain_finds (step.Begin tree call) o h = h
-    plain_finds (step.Abandon slot) o h = h
-    plain_finds (step.Whole whole) o h = h
-
-    plain_passes : (s : Step) (o : Outcome) → advances_on_path_as store meant a s o b → advances_on_path_as store (λ m. m) (plain_machine a) s o (plain_machine b)
+    plain_passes : (s : Step) (o : Outcome) → advances_on_path_as store a s o b → advances_on_path_as store (plain_machine a) s o (plain_machine b)
     plain_passes (step.Step slot) outcome.Moved h = λ path ahead.
-        let k = h path (record { flight = ahead.flight; here = ahead.here; clean = ahead.clean; room = subst (λ (s : State). FindsRoom s ahead.flight) (same_db store meant a.db) ahead.room }) in
-        (k.0, k.1, record { flight = k.2.flight; here = k.2.here; clean = k.2.clean; room = subst (λ (s : State). FindsRoom s k.2.flight) (sym (same_db store meant b.db)) k.2.room })
+        let k = h path (record { flight = ahead.flight; here = ahead.here; clean = ahead.clean }) in
+        (k.0, k.1, record { flight = k.2.flight; here = k.2.here; clean = k.2.clean })
     plain_passes (step.Step slot) (outcome.Begun i) h = h
     plain_passes (step.Step slot) (outcome.Decided reply) h = h
     plain_passes (step.Step slot) (outcome.Refused e) h = h
@@ -204,7 +198,6 @@ module _ {P M : Type 0} (store : P → Store) (number : P → ℕ) (meant : M �
       does = record { is = subst (λ (z : State). effect_of_machine_step z s o (store a.db.pages) (store b.db.pages)) (sym (same_state a)) r.does.is };
       follows = record { is = plain_follows s o r.follows.is };
       passes = record { is = plain_passes s o r.passes.is };
-      room = record { is = plain_finds s o r.room.is };
       slots = record { starts = plain_starts s o r.slots.starts; others = r.slots.others };
       loses = record { none = r.loses.none };
       leaves = record { is = plain_leaves s o r.leaves.is };

@@ -10,7 +10,7 @@ use Rattle.sled_nodes.specs.declared.error.Error.{Error}
 use Rattle.sled_nodes.specs.declared.error.Error.TheVariants as error
 use Rattle.sled_model.specs.Maps.{Map, Maps, Merge, IsLeast}
 use Rattle.sled_model.specs.State.{State, CallInFlight, maps_of}
-use Rattle.sled_model.specs.Refusal.{MustRefuse, Asked, ToStep, ToPoint, must_refuse, must_refuse_of, MeetsFullQueue}
+use Rattle.sled_model.specs.Refusal.{MustRefuse, Asked, ToStep, ToPoint, must_refuse, must_refuse_of}
 use Rattle.sled_model.specs.Transition.{Configuration, Transition}
 use Rattle.sled_model.specs.Collections.{Content}
 use Rattle.sled_model.specs.Imports.{Part, OpensName, Puts, tree_at, IsAbsent, overwrites_as, refuses_import_as, StopsAtPart}
@@ -31,7 +31,7 @@ use Rattle.sled_tree.specs.declared.flight.Went.{Went}
 use Rattle.sled_tree.specs.declared.flight.Went.TheVariants.{Moved}
 use Rattle.sled.specs.Direct.{Conducts, PointDecided, PointRefused}
 use Rattle.sled.specs.Drops.{DropsNamed, DropsTree, MightDrop, refuses_drop_as, RefusesDrop}
-use Rattle.sled.specs.Flights.{call_in_flight_of, BringsEvent, DbStepContract, DbSteps, Ends, GoesOn, DbRunsToEnd, outcome_of, slot_after, maps_added, FindsRoom, DbFindsRoom}
+use Rattle.sled.specs.Flights.{call_in_flight_of, BringsEvent, DbStepContract, DbSteps, Ends, GoesOn, DbRunsToEnd, outcome_of, slot_after, maps_added}
 use Rattle.sled.specs.Opens.{Opens, OpensBySteps, OpenRefusedBySteps}
 use Rattle.sled.specs.Imports.{PartBySteps, PartRefusedBySteps, ImportsBySteps, ImportsNone, ImportsMore, ImportStops, ImportRefused}
 use Rattle.sled.specs.Reads.{RefusesReading, refuses_reading_as}
@@ -102,13 +102,6 @@ module _ {P M : Type 0} (store : P → Store) (meant : M → Merge) where
   plain_brings : (d : DbValue P M) (f : InFlight) (went : Went) (event : Option Event) → BringsEvent store (λ m. m) (plain d) f went event → BringsEvent store meant d f went event
   plain_brings d f went event b = record { reply = b.reply; decided = b.decided; tree = b.tree; there = sym (same_tree d f.job.tree.name) ∙ b.there; is = b.is }
 
-  pub plain_room : (old new : DbValue P M) (f g : InFlight) (went : Went) → DbFindsRoom store meant old f went new g → DbFindsRoom store (λ m. m) (plain old) f went (plain new) g
-  plain_room old new f g went r = record {
-    room = λ moved. subst (λ (s : State). FindsRoom s g) (sym (same_db old)) (r.room moved);
-    back = λ must fits view here met. r.back (sym (same_tests old (ToStep (call_in_flight_of f))) ∙ must) fits view here (subst (λ (s : State). MeetsFullQueue s f.job.tree f.job.call) (same_db old) met);
-    told = r.told;
-  }
-
   plain_step : (old new : DbValue P M) (f g : InFlight) (went : Went) → DbStepContract store meant old f went new g → DbStepContract store (λ m. m) (plain old) f went (plain new) g
   plain_step old new f g went r = record {
     step = record {
@@ -122,9 +115,8 @@ module _ {P M : Type 0} (store : P → Store) (meant : M → Merge) where
     };
     sound = record { keeps = λ d. plain_sound new (r.sound.keeps (meant_sound old d)) };
     does = record { does = r.does.does; quiet = λ b. r.does.quiet (plain_brings old f went None b); loud = λ event b. r.does.loud event (plain_brings old f went (Some event) b) };
-    follows = λ must fits finds. r.follows (sym (same_tests old (ToStep (call_in_flight_of f))) ∙ must) fits (subst (λ (s : State). FindsRoom s f) (same_db old) finds);
-    passes = λ finds. r.passes (subst (λ (s : State). FindsRoom s f) (same_db old) finds);
-    room = plain_room old new f g went r.room;
+    follows = λ must fits. r.follows (sym (same_tests old (ToStep (call_in_flight_of f))) ∙ must) fits;
+    passes = r.passes;
     loses = r.loses;
     leaves = r.leaves;
     knows = record { goes_on = r.knows.goes_on; others = r.knows.others };
@@ -135,7 +127,7 @@ module _ {P M : Type 0} (store : P → Store) (meant : M → Merge) where
   plain_steps (suc n) old new f g went (GoesOn {mid = mid} {h = h} flies db rest) = GoesOn (plain_step old mid f h Moved flies) (plain_sound mid db) (plain_steps n mid new h g went rest)
 
   plain_runs : (old new : DbValue P M) (f g : InFlight) (went : Went) → DbRunsToEnd store meant old f went new g → DbRunsToEnd store (λ m. m) (plain old) f went (plain new) g
-  plain_runs old new f g went r = record { moves = r.moves; flies = plain_steps r.moves old new f g went r.flies; passes = λ finds. r.passes (subst (λ (s : State). FindsRoom s f) (same_db old) finds) }
+  plain_runs old new f g went r = record { moves = r.moves; flies = plain_steps r.moves old new f g went r.flies; passes = r.passes }
 
   -- ---- calls that are made at once
 
@@ -233,7 +225,6 @@ module _ {P M : Type 0} (store : P → Store) (meant : M → Merge) where
     plain_refuses (error.CollectionNotFound text) q h = h
     plain_refuses (error.ReportableBug text) q h = h
     plain_refuses (error.Corruption fault) q h = h
-    plain_refuses error.FullQueue q h = h
 
     pub plain_drops_not : (e : Error) (new : DbValue P M) → RefusesDrop store meant old name e new → RefusesDrop store (λ m. m) (plain old) name e (plain new)
     plain_drops_not e new r = record {
@@ -259,7 +250,6 @@ module _ {P M : Type 0} (store : P → Store) (meant : M → Merge) where
       plain_cause None error.NoMemory k = k
       plain_cause None (error.Io fault) k = k
       plain_cause None (error.ReportableBug text) k = k
-      plain_cause None error.FullQueue k = k
       plain_cause None (error.CollectionNotFound name) k = k
       plain_cause None (error.Unsupported text) k = k
       plain_cause None (error.Corruption fault) k = k

@@ -73,7 +73,7 @@ one_given low high (told.Pair p) r h = omega arith
 one_given low high (told.Tree t) r h = omega arith
 one_given low high (told.Flag b) r h = omega arith
 one_given low high (told.Subscriber s) r h = omega arith
-one_given low high (told.Event e) r h = omega arith
+one_given low high (told.Next n) r h = omega arith
 
 whole_rises : (a b : Configuration) (w : Whole) (o : Outcome) (maps : List Maps) → transition_as a (step.Whole w) o b maps → RiseBetween a.state.greatest_id (id_of (step.Whole w) o) b.state.greatest_id
 whole_rises a b Flush (outcome.Decided reply) maps t = stays a.state b.state t.2

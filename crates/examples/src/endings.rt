@@ -1,26 +1,26 @@
-//! An index in memory of the entries of a tree by how their keys end, which follows the tree by its events. A tree finds keys by how
-//! they begin; this finds files by their extension, or hosts by their domain.
-ghost use Rattle.std.specs.Prelude.{◌≡◌, ◌≤◌, ◌++◌, ◌∷◌, [], reverse, length, IfOk, IfErr, OnOk, OnErr};
+//! An index in memory of the entries of a tree by how their keys end, which follows the tree by its events, and begins anew where it
+//! missed some. A tree finds keys by how they begin; this finds files by their extension, or hosts by their domain.
+ghost use Rattle.std.specs.Prelude.{◌≡◌, ◌++◌, ◌∷◌, [], false, reverse, IfOk, IfErr, OnOk, OnErr};
 ghost use Rattle.sled_nodes.specs.Order.{Key};
 ghost use Rattle.sled_nodes.specs.declared.error.Error.TheVariants.{NoMemory};
 ghost use Rattle.sled_model.specs.Maps.{Map};
 ghost use Rattle.sled_model.specs.declared.event.Event.TheVariants.{Insert, Remove};
 ghost use Rattle.sled_queues.specs.Copies.{IsCopy, after_event};
-ghost use Rattle.sled_model.specs.declared.tree.Tree.{Tree as ModelTree};
 ghost use Rattle.sled.specs.Reads.{ReadsMap};
 ghost use Rattle.sled.specs.Values.{db_state};
 ghost use Rattle.sled.specs.Watch.{WatchesDb, EndsSubscriber};
-ghost use Rattle.examples.specs.Endings.{turned, entries_ending, while_beginning, HasSame, to_come, FollowsTree, BeginsIndex, TakesOldest, CatchesUp, CatchesUpBy, FindsEnding, StillFollowsLaw, KeepsFollowing, FindsInTree};
+ghost use Rattle.examples.specs.Endings.{turned, entries_ending, while_beginning, HasSame, has_missed, IsIndex, IsUpToDate, BeginsIndex, TakesOldest, CatchesUp, CatchesUpBy, BeginsAnew, StaysIndex, FindsEnding, StillFollowsLaw, KeepsFollowing, FindsInTree};
 
 use crate::index::all_of;
 use sled::Db;
-use sled_model::{Event, MergeOperator, Subscriber, Tree};
+use sled_model::{Event, MergeOperator, Next, Subscriber, Tree};
 use sled_nodes::{Error, IVec, Result};
 use sled_store::Pages;
 use std::alloc::Global;
 use std::collections::BTreeMap;
 use std::collections::btree_map::Range;
 use std::marker::Model;
+use std::mem::replace;
 
 // A byte string read from its end.
 fn turn(alloc: Global, bytes: &[u8]) -> Result<IVec>
@@ -176,14 +176,29 @@ fn beginning_so(
     Ok(found)
 }
 
+/// How far an index came.
+#[derive(Clone, Copy, Debug, PartialEq, Eq)]
+pub enum Progress {
+    /// No event waits any more: it has the entries of its tree now.
+    UpToDate,
+    /// It took as many events as it might, and more may wait.
+    Partly,
+    /// It missed some events, and has to begin anew.
+    Lost,
+}
+
 /// An index of the entries of a tree whose keys begin with a prefix, by how their keys end.
 #[derive(Drop)]
 pub struct Endings {
+    tree: Tree,
+    prefix: IVec,
     subscriber: Subscriber,
     // The entries by their keys read backwards.
     entries: BTreeMap<IVec, IVec>,
     // An event that was taken, and that there was no memory for yet.
     late: Option<Event>,
+    // Whether it was told that it missed events.
+    is_lost: bool,
 }
 
 impl Model for Endings {
@@ -191,7 +206,7 @@ impl Model for Endings {
 
     ghost Value = { EndingsValue };
 
-    ghost view = { λ e. record { subscriber = e.subscriber; late = e.late; entries = turned e.entries.entries } };
+    ghost view = { λ e. record { tree = e.tree; prefix = e.prefix; subscriber = e.subscriber; late = e.late; is_lost = e.is_lost; entries = turned e.entries.entries } };
 }
 
 impl Endings {
@@ -211,43 +226,66 @@ impl Endings {
             Ok(entries) => entries,
             Err(e) => return Err(e),
         };
+        let copy = match tree.clone() {
+            Ok(copy) => copy,
+            Err(e) => {
+                drop(entries);
+                return Err(e);
+            }
+        };
+        let beginning = match IVec::from_slice(alloc, prefix) {
+            Ok(beginning) => beginning,
+            Err(e) => {
+                drop(entries);
+                drop(copy);
+                return Err(e);
+            }
+        };
         match db.watch_prefix(tree, prefix) {
             Ok(subscriber) => Ok(Endings {
+                tree: copy,
+                prefix: beginning,
                 subscriber,
                 entries,
                 late: None,
+                is_lost: false,
             }),
             Err(e) => {
                 drop(entries);
+                drop(copy);
+                drop(beginning);
                 Err(e)
             }
         }
     }
 
-    // Takes the oldest event that has not changed the entries, if there is one.
-    fn oldest<P: Pages, M: MergeOperator>(&mut self, db: &mut Db<P, M>) -> Option<Event>
+    /// Whether it was told that it missed events: its entries are not those of the tree until it begins anew.
+    pub fn is_lost(&self) -> bool
+        ensures { result ≡ self.now.is_lost }
+    {
+        self.is_lost
+    }
+
+    // Takes what is next: the oldest event that has not changed the entries, or that some were missed, if there is either.
+    fn oldest<P: Pages, M: MergeOperator>(&mut self, db: &mut Db<P, M>) -> Option<Next>
         ensures takes { TakesOldest (db_state P.store M.meant db.old) self.old result (db_state P.store M.meant db.new) self.new }
         ensures same { db.new ≡ record db.old { queues = db.new.queues } }
     {
         if let Some(event) = self.late.take() {
-            return Some(event);
+            return Some(Next::Event(event));
         }
         db.next(&self.subscriber)
     }
 
-    // Changes the entries by the oldest event that has not changed them, and answers whether there was none.
-    fn take_one<P: Pages, M: MergeOperator>(&mut self, db: &mut Db<P, M>) -> Result<bool>
-        ensures ok { IfOk result (λ is_done. CatchesUpBy 1 (db_state P.store M.meant db.old) self.old is_done (db_state P.store M.meant db.new) self.new) }
-        ensures err { IfErr result (λ e. (e ≡ NoMemory) × CatchesUp (db_state P.store M.meant db.old) self.old (db_state P.store M.meant db.new) self.new) }
-        ensures same { db.new ≡ record db.old { queues = db.new.queues } }
+    // Changes the entries by an event, which stays late where there is no memory for it.
+    fn take_in(&mut self, alloc: Global, event: Event) -> Result<()>
+        ensures ok { OnOk result (HasSame self.new.entries (after_event event self.old.entries) × (self.new ≡ record self.old { entries = self.new.entries })) }
+        ensures err { IfErr result (λ e. (e ≡ NoMemory) × (self.new ≡ record self.old { late = Some event })) }
     {
-        let Some(event) = self.oldest(db) else {
-            return Ok(true);
-        };
-        match change(db.allocator(), &mut self.entries, &event) {
+        match change(alloc, &mut self.entries, &event) {
             Ok(()) => {
                 drop(event);
-                Ok(false)
+                Ok(())
             }
             Err(e) => {
                 let none = self.late.replace(event);
@@ -257,26 +295,110 @@ impl Endings {
         }
     }
 
-    /// Takes the events that wait, so many at most, and changes the index by each, in order. It answers whether none waits any more:
-    /// then the index has the entries of the tree now. Refused with `NoMemory` alone; then it has changed by the first of them, and
-    /// the next call goes on from there.
+    // Changes the entries by the oldest event that has not changed them, if there is one and none was missed before it.
+    fn take_one<P: Pages, M: MergeOperator>(&mut self, db: &mut Db<P, M>) -> Result<Progress>
+        ensures ok { IfOk result (λ progress. CatchesUpBy 1 (db_state P.store M.meant db.old) self.old progress (db_state P.store M.meant db.new) self.new) }
+        ensures err { IfErr result (λ e. (e ≡ NoMemory) × CatchesUp (db_state P.store M.meant db.old) self.old (db_state P.store M.meant db.new) self.new) }
+        ensures same { db.new ≡ record db.old { queues = db.new.queues } }
+    {
+        if self.is_lost {
+            return Ok(Progress::Lost);
+        }
+        match self.oldest(db) {
+            None => Ok(Progress::UpToDate),
+            Some(Next::Missed(_)) => {
+                self.is_lost = true;
+                Ok(Progress::Lost)
+            }
+            Some(Next::Event(event)) => match self.take_in(db.allocator(), event) {
+                Ok(()) => Ok(Progress::Partly),
+                Err(e) => Err(e),
+            },
+        }
+    }
+
+    /// Takes the events that wait, so many at most, and changes the index by each, in order. It answers how far the index came: up
+    /// to date with its tree where none waits any more, or lost where it missed some. Refused with `NoMemory` alone; then it has
+    /// changed by the first of them, and the next call goes on from there.
     pub fn catch_up<P: Pages, M: MergeOperator>(
         &mut self,
         db: &mut Db<P, M>,
         at_most: usize,
-    ) -> Result<bool>
-        ensures ok { IfOk result (λ is_done. CatchesUpBy at_most (db_state P.store M.meant db.old) self.old is_done (db_state P.store M.meant db.new) self.new) }
+    ) -> Result<Progress>
+        ensures ok { IfOk result (λ progress. CatchesUpBy at_most (db_state P.store M.meant db.old) self.old progress (db_state P.store M.meant db.new) self.new) }
         ensures err { IfErr result (λ e. (e ≡ NoMemory) × CatchesUp (db_state P.store M.meant db.old) self.old (db_state P.store M.meant db.new) self.new) }
         ensures same { db.new ≡ record db.old { queues = db.new.queues } }
     {
         for _ in 0..at_most {
             match self.take_one(db) {
-                Ok(true) => return Ok(true),
-                Ok(false) => {}
+                Ok(Progress::Partly) => {}
+                Ok(Progress::UpToDate) => return Ok(Progress::UpToDate),
+                Ok(Progress::Lost) => return Ok(Progress::Lost),
                 Err(e) => return Err(e),
             }
         }
-        Ok(false)
+        Ok(Progress::Partly)
+    }
+
+    /// Begins anew, as an index that missed events has to: with the entries that its tree has now, and a new subscriber in place of its
+    /// own, which is ended. Refused, nothing changes.
+    pub fn begin_anew<P: Pages, M: MergeOperator>(&mut self, db: &mut Db<P, M>) -> Result<()>
+        ensures ok { OnOk result (BeginsAnew (db_state P.store M.meant db.old) self.old (db_state P.store M.meant db.new) self.new) }
+        ensures err { OnErr result ((db.new ≡ db.old) × (self.new ≡ self.old)) }
+        ensures same { db.new ≡ record db.old { queues = db.new.queues } }
+    {
+        match Endings::begin(db, &self.tree, self.prefix.as_ref()) {
+            Ok(index) => {
+                let lost = replace(self, index);
+                lost.end(db);
+                Ok(())
+            }
+            Err(e) => Err(e),
+        }
+    }
+
+    // Takes all events that wait, or begins anew where some were missed.
+    fn follow<P: Pages, M: MergeOperator>(&mut self, db: &mut Db<P, M>) -> Result<()>
+        ensures ok { OnOk result (IsIndex (db_state P.store M.meant db.old) self.old → IsUpToDate (db_state P.store M.meant db.new) self.new) }
+        ensures stays { StaysIndex (db_state P.store M.meant db.old) self.old (db_state P.store M.meant db.new) self.new }
+        ensures err { IfErr result (λ e. has_missed self.old (db_state P.store M.meant db.old) ≡ false → e ≡ NoMemory) }
+        ensures same { db.new ≡ record db.old { queues = db.new.queues } }
+    {
+        loop {
+            match self.catch_up(db, 1000) {
+                Ok(Progress::UpToDate) => return Ok(()),
+                Ok(Progress::Partly) => {}
+                Ok(Progress::Lost) => {
+                    return match self.begin_anew(db) {
+                        Ok(()) => Ok(()),
+                        Err(e) => Err(e),
+                    };
+                }
+                Err(e) => return Err(e),
+            }
+        }
+    }
+
+    /// The entries of the tree now whose keys end so, in the order of their keys read from the end. The index takes all events that wait,
+    /// and begins anew first where it missed some. Refused for want of memory alone where it missed none, and else as `begin` is; then it
+    /// is an index of its tree still, and the next call goes on from there.
+    pub fn find<P: Pages, M: MergeOperator>(
+        &mut self,
+        db: &mut Db<P, M>,
+        ending: &[u8],
+    ) -> Result<Vec<(IVec, IVec)>>
+        ensures ok { IfOk result (λ found. IsIndex (db_state P.store M.meant db.old) self.old → FindsInTree (db_state P.store M.meant db.new) self.old.tree self.old.prefix ending.now found.items) }
+        ensures stays { StaysIndex (db_state P.store M.meant db.old) self.old (db_state P.store M.meant db.new) self.new }
+        ensures err { IfErr result (λ e. has_missed self.old (db_state P.store M.meant db.old) ≡ false → e ≡ NoMemory) }
+        ensures same { db.new ≡ record db.old { queues = db.new.queues } }
+    {
+        match self.follow(db) {
+            Ok(()) => match self.ending_with(db.allocator(), ending) {
+                Ok(found) => Ok(found),
+                Err(e) => Err(e),
+            },
+            Err(e) => Err(e),
+        }
     }
 
     /// The entries whose keys end so, in the order of their keys read from the end. Refused with `NoMemory` alone.
@@ -314,8 +436,9 @@ impl Endings {
     }
 }
 
-/// Does nothing. An index follows its tree whatever happens elsewhere, as long as its subscriber is not ended and nobody else takes
-/// its events. What happens is told by turns: `law_turns` and `law_trees` of `sled_queues` have those of each step of a machine.
+/// Does nothing. An index stays one of its tree whatever happens elsewhere, as long as its subscriber is not ended and nobody else
+/// takes its events, and as long as there is room for those that come it misses none. What happens is told by turns: `law_turns` and
+/// `law_trees` of `sled_queues` have those of each step of a machine.
 pub fn law_still_follows()
     ensures { StillFollowsLaw }
 {}
@@ -343,28 +466,7 @@ fn write<P: Pages, M: MergeOperator>(
     }
 }
 
-// What an index that was up to date finds after a change of its tree that brought it two events at most.
-fn find_after<P: Pages, M: MergeOperator>(
-    db: &mut Db<P, M>,
-    index: &mut Endings,
-    ending: &[u8],
-) -> Result<Vec<(IVec, IVec)>>
-    requires { length (to_come index.old (db_state P.store M.meant db.old)) ≤ 2 }
-    ensures ok { IfOk result (λ found. (tree : ModelTree) (prefix : Key) → FollowsTree (db_state P.store M.meant db.old) tree prefix index.old → FindsInTree (db_state P.store M.meant db.new) tree prefix ending.now found.items) }
-    ensures subscriber { index.new.subscriber ≡ index.old.subscriber }
-{
-    match index.catch_up(db, 3) {
-        Ok(true) => match index.ending_with(db.allocator(), ending) {
-            Ok(found) => Ok(found),
-            Err(e) => Err(e),
-        },
-        Ok(false) => unreachable!(),
-        Err(e) => Err(e),
-    }
-}
-
-/// Begins an index of a tree, writes to the tree, and asks the index, which has caught up: the entries that it finds are those of the
-/// tree now.
+/// Begins an index of a tree, writes to the tree, and asks the index: the entries that it finds are those of the tree now.
 pub fn index_follows<P: Pages, M: MergeOperator>(
     db: &mut Db<P, M>,
     tree: &Tree,
@@ -384,7 +486,7 @@ pub fn index_follows<P: Pages, M: MergeOperator>(
         index.end(db);
         return Err(e);
     }
-    match find_after(db, &mut index, ending) {
+    match index.find(db, ending) {
         Ok(found) => {
             index.end(db);
             Ok(found)

@@ -2,7 +2,7 @@
 //! on. `callers` are examples of a machine, `index` of a scan, `recovery` of a crash, `ids` of runs with crashes between them,
 //! `queue` of a database that takes pairs out, `copy` of one that gets the trees of another, `typed` of keys and values of a user's own
 //! types, `events` of streams of events in trees that are opened by name, `counters` of a merge operator and of a closure, and
-//! `endings` of a subscriber that keeps an index.
+//! `endings` of a subscriber that keeps an index, and begins anew where it missed events.
 #![tactic(auto)]
 
 mod callers;
@@ -21,7 +21,7 @@ pub use callers::{
 };
 pub use copy::copy_all;
 pub use counters::{Adds, add_to_counter, count, next_ticket};
-pub use endings::{Endings, index_follows, law_still_follows};
+pub use endings::{Endings, Progress, index_follows, law_still_follows};
 pub use events::{append, open_stream, read_from};
 pub use ids::{law_ids, run_twice};
 pub use index::entries_under;

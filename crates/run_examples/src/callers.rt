@@ -1,8 +1,11 @@
 //! Callers in `examples` where there is memory: no contract says that they do not give up.
-use examples::{insert_then_get_in_new, survive};
+use crate::fresh::{Fresh, opened};
+use examples::{Adds, insert_then_get_in_new, survive};
 use sled::{DEFAULT_TREE, empty_pages};
-use sled_model::{Outcome, Reply};
+use sled_machine::Machine;
+use sled_model::{Call, Outcome, Reply, Tree};
 use sled_nodes::{IVec, Result as Told};
+use sled_pages::MemPages;
 use sled_store::Pages;
 use std::alloc::Global;
 
@@ -28,6 +31,34 @@ pub fn is_read(alloc: Global) -> Told<bool> {
     let got = got_at(alloc, &key);
     drop(key);
     let got = got?;
+    let is_found = finds(&got, b"1");
+    drop(got);
+    Ok(is_found)
+}
+
+// What a get that was made of a borrowed key comes to, after an insert there.
+fn got_after_insert(machine: &mut Machine<MemPages, Adds>, tree: &Tree) -> Told<Outcome> {
+    let alloc = machine.db().allocator();
+    let insert = Call::insert(alloc, b"a", b"1")?;
+    drop(machine.complete(tree, insert));
+    let get = Call::get(alloc, b"a")?;
+    Ok(machine.complete(tree, get))
+}
+
+/// Whether a get that is made of a borrowed key reads what was inserted there.
+pub fn is_got(alloc: Global) -> Told<bool> {
+    let db: Fresh = opened(alloc, b"db")?;
+    let mut machine = Machine::new(db);
+    let got = match machine.db().default_tree() {
+        Ok(tree) => {
+            let got = got_after_insert(&mut machine, &tree);
+            drop(tree);
+            got
+        }
+        Err(e) => Err(e),
+    };
+    drop(machine.into_db().into_pages());
+    let got = Some(got?);
     let is_found = finds(&got, b"1");
     drop(got);
     Ok(is_found)

@@ -12,10 +12,10 @@ mod index;
 mod stores;
 mod typed;
 
-use callers::{is_read, survives};
+use callers::{is_got, is_read, survives};
 use copies::copies_all;
 use counters::counts;
-use endings::follows;
+use endings::{begins_anew, follows};
 use events::reads_events;
 use index::finds_entries;
 use sled_nodes::Result;
@@ -43,6 +43,7 @@ fn tell(rt: &HostRuntime, what: &str, is: Result<bool>) -> io::Result<()> {
 fn run(rt: &HostRuntime) -> io::Result<()> {
     let alloc = rt.alloc();
     tell(rt, "what was inserted is read", is_read(alloc))?;
+    tell(rt, "a get of a borrowed key reads what was inserted", is_got(alloc))?;
     tell(rt, "a new database survives a crash", survives(alloc))?;
     let what = "the entries of an index under a number are found";
     tell(rt, what, finds_entries(alloc))?;
@@ -55,7 +56,9 @@ fn run(rt: &HostRuntime) -> io::Result<()> {
     tell(rt, what, copies_all(alloc))?;
     let what = "events of a stream are read from an id on";
     tell(rt, what, reads_events(alloc))?;
-    tell(rt, "an index by endings follows its tree", follows(alloc))
+    tell(rt, "an index by endings follows its tree", follows(alloc))?;
+    let what = "an index that missed events begins anew";
+    tell(rt, what, begins_anew(alloc))
 }
 
 fn main(rt: HostRuntime) -> ExitCode {
