@@ -6,9 +6,9 @@ mod batches;
 mod groups;
 mod streams;
 
+use sled_batch::Batch;
 use std::io;
 use std::process::ExitCode;
-use sled_batch::Batch;
 use streams::{CASES, served};
 
 fn run(rt: &HostRuntime) -> io::Result<()> {
@@ -17,18 +17,32 @@ fn run(rt: &HostRuntime) -> io::Result<()> {
         println!(rt; "{}: status {status} and {lines} lines", case.0)?;
     }
     let batch = Batch::default(rt.alloc());
-    println!(rt; "{:?} has {} writes, is empty: {}", batch, batch.len(), batch.is_empty())?;
+    println!(rt;
+        "{:?} has {} writes, is empty: {}",
+        batch,
+        batch.len(),
+        batch.is_empty()
+    )?;
     match batches::filled(rt.alloc()) {
-        Ok(batch) => println!(rt; "{:?} has {} writes, is empty: {}", batch, batch.len(), batch.is_empty())?,
+        Ok(batch) => println!(rt;
+            "{:?} has {} writes, is empty: {}",
+            batch,
+            batch.len(),
+            batch.is_empty()
+        )?,
         Err(e) => println!(rt; "{e}")?,
     }
     match batches::copies(rt.alloc()) {
-        Ok((is_same, is_still)) => println!(rt; "a copy is the same: {is_same}, and once it is written to: {is_still}")?,
+        Ok((is_same, is_still)) => println!(rt;
+            "a copy is the same: {is_same}, and once it is written to: {is_still}"
+        )?,
         Err(e) => println!(rt; "{e}")?,
     }
     for keep in [4, 5] {
         match groups::left(rt.alloc(), keep) {
-            Ok(keys) => println!(rt; "a crash that keeps {keep} of the five actions of a group leaves {keys} of its keys")?,
+            Ok(keys) => println!(rt;
+                "a crash that keeps {keep} of the five actions of a group leaves {keys} of its keys"
+            )?,
             Err(e) => println!(rt; "{e}")?,
         }
     }

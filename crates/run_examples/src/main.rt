@@ -43,7 +43,11 @@ fn tell(rt: &HostRuntime, what: &str, is: Result<bool>) -> io::Result<()> {
 fn run(rt: &HostRuntime) -> io::Result<()> {
     let alloc = rt.alloc();
     tell(rt, "what was inserted is read", is_read(alloc))?;
-    tell(rt, "a get of a borrowed key reads what was inserted", is_got(alloc))?;
+    tell(
+        rt,
+        "a get of a borrowed key reads what was inserted",
+        is_got(alloc),
+    )?;
     tell(rt, "a new database survives a crash", survives(alloc))?;
     let what = "the entries of an index under a number are found";
     tell(rt, what, finds_entries(alloc))?;
