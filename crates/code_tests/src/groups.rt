@@ -27,8 +27,10 @@ pub fn left(alloc: Global, keep: usize) -> Result<usize> {
         let insert = Call::insert(alloc, key.as_slice(), b"1")?;
         write(&mut pages, alloc, InFlight::new(tree.clone()?, insert))?;
     }
-    pages.seal_group()?;
     drop(tree);
+    if pages.in_group() {
+        pages.seal_group()?;
+    }
     keys(alloc, pages.crash(keep)?)
 }
 
