@@ -12,6 +12,13 @@ SEED = 7
 # After so many changes there is a flush.
 FLUSH = 1_000
 MASK = (1 << 64) - 1
+LIMITS = pathlib.Path(__file__).resolve().parent / "limits"
+
+
+def limits():
+    """The limits of `bench/limits`, by the names of their figures."""
+    rows = [line.rsplit(None, 1) for line in LIMITS.read_text().splitlines() if line.strip() and not line.startswith("#")]
+    return {name.strip(): int(limit.replace(",", "")) for name, limit in rows}
 
 
 def can_count():
