@@ -380,8 +380,8 @@ impl Endings {
     }
 
     /// The entries of the tree now whose keys end so, in the order of their keys read from the end. The index takes all events that wait,
-    /// and begins anew first where it missed some. Refused for want of memory alone where it missed none, and else as `begin` is; then it
-    /// is an index of its tree still, and the next call goes on from there.
+    /// and begins anew first where it missed some. Refused with `NoMemory` alone where it missed none; then it is an index of its
+    /// tree still, and the next call goes on from there.
     pub fn find<P: Pages, M: MergeOperator>(
         &mut self,
         db: &mut Db<P, M>,

@@ -40,7 +40,8 @@ impl<P: Pages, M: MergeOperator> Db<P, M> {
     /// waits, and for a subscriber that is not known. It is never refused, takes no memory, and serves a closed database too. The
     /// events that waited when their tree was dropped can still be taken.
     ///
-    /// A subscriber that keeps a copy of its part of the tree by the events has to copy that part anew once it is told `Missed`.
+    /// A subscriber that keeps a copy of its part of the tree by the events has to copy that part anew once it is told `Missed`. The
+    /// events that wait then are older than the new copy: it takes them first, or watches anew.
     ///
     /// ```
     /// // All that wait, in the order in which the changes were decided: at most a count, and then `QUEUE_LIMIT` events.
@@ -62,7 +63,7 @@ impl<P: Pages, M: MergeOperator> Db<P, M> {
         self.queues.next(subscriber)
     }
 
-    /// Gives the queue of a subscriber up, with the events that wait there. It is never refused, takes no memory, and serves a
+    /// Gives the queue of a subscriber up, with what waits there. It is never refused, takes no memory, and serves a
     /// closed database too. For a subscriber that is not known it does nothing.
     ///
     /// ```

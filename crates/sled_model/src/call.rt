@@ -52,9 +52,10 @@ pub enum Whole {
     Import(Vec<Collection>),
     /// Adds a subscriber to the keys of a tree that begin with a prefix, and replies with it.
     Watch(Tree, IVec),
-    /// Takes the oldest event that waits for a subscriber, and replies with it, if there is one. It is never refused.
+    /// Tells a subscriber how many events it missed, or else takes the oldest event that waits for it, and replies with that, if there
+    /// is either. It is never refused.
     Next(Subscriber),
-    /// Gives up the queue of a subscriber, with the events that wait there. It is never refused.
+    /// Gives up the queue of a subscriber, with what waits there. It is never refused.
     Unsubscribe(Subscriber),
 }
 

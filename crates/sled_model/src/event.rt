@@ -19,8 +19,8 @@ pub enum Event {
 pub enum Next {
     /// A change of a key.
     Event(Event),
-    /// So many changes were missed since the last answer: each came while `QUEUE_LIMIT` events waited, and the oldest one went to
-    /// make room. The number is never 0, and `u64::MAX` stands for as many or more.
+    /// So many changes were missed since the last answer: while `QUEUE_LIMIT` events waited, each went to make room for a newer one.
+    /// The number is never 0, and `u64::MAX` stands for as many or more.
     Missed(u64),
 }
 

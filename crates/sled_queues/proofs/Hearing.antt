@@ -11,7 +11,7 @@ use Rattle.sled_model.specs.declared.event.Event.{Event}
 use Rattle.sled_model.specs.declared.event.Next.{Next}
 use Rattle.sled_model.specs.declared.event.Next.TheVariants as told
 use Rattle.sled_queues.specs.Events.{Turn, Comes, Watches, Takes, Ends, after_turn, after_turns, taken_at, taken_by, brought_at, brought, begins_or_ends, Stays}
-use Rattle.sled_queues.specs.Hears.{Accounts, Holds, Hears, HearsLaw, HearsAllLaw}
+use Rattle.sled_queues.specs.Hears.{Accounts, Holds, Hears, CountsAll, HearsLaw, HearsAllLaw, CountsLaw}
 
 -- what one turn makes of a queue whose subscriber stays
 abbrev pub turned : ℕ → Turn → Queue → Queue
@@ -217,3 +217,37 @@ hears_all_law (t ∷ ts) after n tree prefix queues none before stays counts =
     subst (λ l. Hears (l ++ taken_by n (ts ++ Watches n tree prefix ∷ after) (after_turn t queues)) (brought (record { tree = tree; prefix = prefix; backlog = no_backlog }) after) (backlog_in (after_turns (ts ++ Watches n tree prefix ∷ after) (after_turn t queues) n)))
     (sym (taken_none t n queues none))
     (hears_all_law ts after n tree prefix (after_turn t queues) (after_none t n queues before.0 none) before.1 stays counts.1)
+
+few_turned : (t : Turn) (n : ℕ) (q : Queue) → (turned n t q).backlog.missed ≤ q.backlog.missed + length (brought_at q t)
+few_turned (Comes tree e) n q = go (matches tree e q)
+  where
+    come : (b : Bool) → (cond b (record { missed = min (q.backlog.missed + 1) most_missed; events = drop 1 q.backlog.events ++ e ∷ [] }) (record (q.backlog) { events = q.backlog.events ++ e ∷ [] })).missed ≤ q.backlog.missed + 1
+    come true = omega arith
+    come false = omega arith
+
+    go : (b : Bool) → (cond b (record q { backlog = comes e q.backlog }) q).backlog.missed ≤ q.backlog.missed + length (cond b (e ∷ []) [])
+    go true = come (nat_le queue_limit (length q.backlog.events))
+    go false = omega arith
+few_turned (Takes m) n q = go (nat_eq n m)
+  where
+    next : (b : Bool) → (cond b (record (q.backlog) { events = drop 1 q.backlog.events }) (record (q.backlog) { missed = 0 })).missed ≤ q.backlog.missed + 0
+    next true = omega arith
+    next false = omega arith
+
+    go : (b : Bool) → (cond b (without_next q) q).backlog.missed ≤ q.backlog.missed + 0
+    go true = next (nat_eq q.backlog.missed 0)
+    go false = omega arith
+few_turned (Watches m tree prefix) n q = omega arith
+few_turned (Ends m) n q = omega arith
+
+pub counts_law : CountsLaw
+counts_law [] n queues q h s few = tt
+counts_law (t ∷ ts) n queues q h s few =
+    let next : after_turn t queues n ≡ Some (turned n t q) = after_one t n queues q s.0 h in
+    let low = few_turned t n q in
+    let both : length (brought q (t ∷ ts)) ≡ length (brought_at q t) + length (brought q ts) = length-append (brought_at q t) (brought q ts) in
+    let same : length (brought (turned n t q) ts) ≡ length (brought q ts) = ap length (brought_all ts q (turned n t q) (turned_tree n t q) (turned_prefix n t q)) in
+    let here : (turned n t q).backlog.missed < most_missed = omega (arith, low, both, few) in (
+      subst (λ o. (backlog_in o).missed < most_missed) (sym next) here,
+      counts_law ts n (after_turn t queues) (turned n t q) next s.1 (omega (arith, low, both, same, few)),
+    )

@@ -1,6 +1,6 @@
 -- What a subscriber hears: the events under its prefix of its tree since it watched, each once and in order, but for those that it missed,
 -- of which it is told how many they were.
-use Rattle.std.specs.Prelude.{◌≡◌, ℕ, ◌<◌, ◌≤◌, length, drop, List, [], ◌∷◌, ◌++◌, Option, Some, None}
+use Rattle.std.specs.Prelude.{◌≡◌, ℕ, ◌+◌, ◌<◌, ◌≤◌, length, drop, List, [], ◌∷◌, ◌++◌, Option, Some, None}
 use Rattle.sled_nodes.specs.Order.{Key}
 use Rattle.sled_model.specs.Backlog.{Backlog, no_backlog, most_missed}
 use Rattle.sled_model.specs.State.{Queue}
@@ -39,6 +39,11 @@ abbrev pub HearsLaw : Type 0
 HearsLaw = (turns : List Turn) (n : ℕ) (queues : ℕ → Option Queue) (q : Queue) → queues n ≡ Some q → Stays n turns → CountsAll n turns queues
     → (all : List Event) → Holds q.backlog all
     → Hears (taken_by n turns queues) (all ++ brought q turns) (backlog_in (after_turns turns queues n))
+
+-- All that it missed was counted where what was counted before and the events that came are fewer than the greatest count
+abbrev pub CountsLaw : Type 0
+CountsLaw = (turns : List Turn) (n : ℕ) (queues : ℕ → Option Queue) (q : Queue) → queues n ≡ Some q → Stays n turns
+    → q.backlog.missed + length (brought q turns) < most_missed → CountsAll n turns queues
 
 -- Where it begins in the midst of these turns, they are all that came for it since
 abbrev pub HearsAllLaw : Type 0

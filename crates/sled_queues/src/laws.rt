@@ -1,6 +1,6 @@
 //! The laws of queues.
 ghost use Rattle.sled_queues.specs.Laws.{DeliversLaw, CancelsLaw, GroupLaw, CalmLaw, ServesLaw};
-ghost use Rattle.sled_queues.specs.Hears.{HearsLaw, HearsAllLaw};
+ghost use Rattle.sled_queues.specs.Hears.{HearsLaw, HearsAllLaw, CountsLaw};
 ghost use Rattle.sled_queues.specs.Copies.{ChangesLaw, CopyLaw, FollowsLaw};
 ghost use Rattle.sled_queues.specs.Turns.{TurnsLaw, HeardLaw};
 ghost use Rattle.sled_queues.specs.Trees.{TreesLaw};
@@ -39,6 +39,11 @@ pub fn law_hears()
 /// .. from the moment on at which it watched.
 pub fn law_hears_all()
     ensures { HearsAllLaw }
+{}
+
+/// All that a subscriber missed was counted, where fewer events came than can be counted.
+pub fn law_counts()
+    ensures { CountsLaw }
 {}
 
 /// The event of a call tells all that the call changes in the map of its tree.

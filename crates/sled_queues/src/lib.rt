@@ -18,7 +18,7 @@ mod queues;
 mod waiting;
 
 pub use laws::{
-    law_cancels, law_changes, law_copy, law_delivers, law_delivers_all, law_follows, law_heard,
-    law_hears, law_hears_all, law_serves, law_stays_calm, law_trees, law_turns,
+    law_cancels, law_changes, law_copy, law_counts, law_delivers, law_delivers_all, law_follows,
+    law_heard, law_hears, law_hears_all, law_serves, law_stays_calm, law_trees, law_turns,
 };
 pub use queues::Queues;
