@@ -26,13 +26,15 @@ pub enum Workload {
     Slots,
     /// New subscribers, each to a prefix of its own that begins no key of another workload.
     Watches,
+    /// A new subscriber to all keys.
+    Follows,
     /// All pairs, from the least key up, by an iterator.
     Scan,
     /// Ranges of a hundred pairs, each from a key that was loaded on.
     Ranges,
 }
 
-const WORKLOADS: [(&str, Workload); 9] = [
+const WORKLOADS: [(&str, Workload); 10] = [
     ("load", Workload::Load),
     ("gets", Workload::Gets),
     ("inserts", Workload::Inserts),
@@ -40,6 +42,7 @@ const WORKLOADS: [(&str, Workload); 9] = [
     ("removals", Workload::Removals),
     ("slots", Workload::Slots),
     ("watches", Workload::Watches),
+    ("follows", Workload::Follows),
     ("scan", Workload::Scan),
     ("ranges", Workload::Ranges),
 ];
@@ -210,6 +213,7 @@ impl<M: MergeOperator> Bench<M> {
         match workload {
             Workload::Slots => return Ok((calls, self.slots()?)),
             Workload::Scan => return self.scan(),
+            Workload::Follows => return Ok((1, self.follow()?)),
             _ => {}
         }
         let mut sum = 0u64;
@@ -230,7 +234,9 @@ impl<M: MergeOperator> Bench<M> {
             Workload::Mix => self.mixed(turn),
             Workload::Ranges => self.range(loaded),
             Workload::Watches => self.watch(turn),
-            Workload::Gets | Workload::Slots | Workload::Scan => self.get(loaded),
+            Workload::Gets | Workload::Slots | Workload::Scan | Workload::Follows => {
+                self.get(loaded)
+            }
         }
     }
 
@@ -282,6 +288,11 @@ impl<M: MergeOperator> Bench<M> {
         let len = BEGINNING + turn % BEGINNING;
         let prefix = self.pairs.beginning(WATCHED.wrapping_add(turn), len)?;
         self.client.watch(&self.tree, prefix)
+    }
+
+    fn follow(&mut self) -> Result<u64> {
+        let all = self.pairs.beginning(WATCHED, 0)?;
+        self.client.watch(&self.tree, all)
     }
 
     // The first pairs from a key on, by an iterator.
