@@ -30,8 +30,9 @@ use Rattle.sled_tree.specs.declared.flight.Went.TheVariants.{Moved, Decided, Ref
 use Rattle.sled.specs.Values.{DbValue, state_of, db_state, snapshot_of_db}
 use Rattle.sled.specs.Sound.{IsDb}
 use Rattle.sled.specs.Calls.{MustBeRefused, must_be_refused_as}
-use Rattle.sled.specs.Flights.{call_in_flight_of, maps_added, PagesLast, KeepsTreePages, effect_of_step, IsStepRefused, DbStepContract, DbSteps, Ends, GoesOn, DbRunsToEnd}
-use Rattle.sled.specs.Direct.{ActsOften, NoAction, OneAction, effects_until, StaysInChainOrWent, KeepsOrFreesTreePages, Conducts, begun_flight, PointDecided, PointRefused, LeavesAll}
+use Rattle.tree_groups.specs.Writes.{PagesLast, ActsOften, NoAction, OneAction}
+use Rattle.sled.specs.Flights.{call_in_flight_of, maps_added, KeepsTreePages, effect_of_step, IsStepRefused, DbStepContract, DbSteps, Ends, GoesOn, DbRunsToEnd}
+use Rattle.sled.specs.Direct.{effects_until, StaysInChainOrWent, KeepsOrFreesTreePages, Conducts, begun_flight, PointDecided, PointRefused, LeavesAll}
 use Rattle.sled.proofs.Operating.{fails_first, passes_plain}
 use Rattle.sled.proofs.Flying.{loses_nothing, quiet_untold, everywhere, moved_state}
 

@@ -32,7 +32,7 @@ use Rattle.sled_tree.specs.Stages.{Knows}
 use Rattle.sled_tree.specs.Known.{IsKnown}
 use Rattle.sled_tree.specs.declared.flight.InFlight.{InFlight}
 use Rattle.sled_tree.proofs.Known.{stage_kept}
-use Rattle.sled.specs.Flights.{PagesLast}
+use Rattle.tree_groups.specs.Writes.{PagesLast}
 use Rattle.sled.specs.Drops.{IsBeginning}
 use Rattle.sled.specs.theory.Drops.{first_pages_down, CountsFaults, FreesPage, FreesPages, FreesNone, FreesOne, Counts, KeepsOrFrees, AreFirsts, FreesLevel, FreesLevels, FreesFrom, DropsRoot}
 

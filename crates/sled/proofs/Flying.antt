@@ -56,7 +56,8 @@ use Rattle.sled_tree.specs.theory.StageAction.{StageActionBy, KeepsContents, Dec
 use Rattle.sled.specs.Values.{DbValue, numbers_of, given_to, named, state_of, db_state, snapshot_of_db}
 use Rattle.sled.specs.Sound.{IsDb}
 use Rattle.sled.specs.Calls.{MustBeRefused, must_be_refused_as}
-use Rattle.sled.specs.Flights.{call_in_flight_of, PagesLast, StaysInChain, KeepsTreePages, IsStepRefused, DbStepContract, DbSteps, Ends, GoesOn, has_turns, TakesAtMost, DbRunsToEnd}
+use Rattle.tree_groups.specs.Writes.{PagesLast}
+use Rattle.sled.specs.Flights.{call_in_flight_of, StaysInChain, KeepsTreePages, IsStepRefused, DbStepContract, DbSteps, Ends, GoesOn, has_turns, TakesAtMost, DbRunsToEnd}
 use Rattle.sled.specs.theory.Watched.{told, told_by, AdvancesOver}
 use Rattle.sled_tree.proofs.Known.{not_own, known_kept}
 use Rattle.sled_tree.proofs.Deciding.{IsReading, decided_law}

@@ -25,7 +25,8 @@ use Rattle.tree_reads.specs.Walk.{once}
 use Rattle.sled.specs.Values.{DbValue, state_of, db_state}
 use Rattle.sled.specs.Sound.{IsDb}
 use Rattle.sled.specs.Reads.{ReadsMap, RefusesReading, GivesUpGet, refuses_reading_as, stops_reading}
-use Rattle.sled.specs.Direct.{NoAction, LeavesAll, PointDecided, PointRefused, WholeDecided, WholeRefused}
+use Rattle.tree_groups.specs.Writes.{NoAction}
+use Rattle.sled.specs.Direct.{LeavesAll, PointDecided, PointRefused, WholeDecided, WholeRefused}
 use Rattle.sled.specs.Opens.{OpensBySteps, OpenRefusedBySteps}
 use Rattle.sled.specs.Imports.{grows_trees, ImportDecided, PartRefusedBySteps, ImportsBySteps, ImportsNone, ImportsMore, ImportStops, ImportRefused}
 use Rattle.sled.specs.theory.Imports.{IsTreeNow, PartsDone, PartsStopped}

@@ -50,7 +50,8 @@ use Rattle.sled.specs.Sound.{IsDb}
 use Rattle.sled.specs.Flights.{IsStepRefused}
 use Rattle.sled.specs.Opens.{empty_page, MakesLeaf, MakesTree, StopsMaking, planted, or_empty}
 use Rattle.sled.specs.theory.Opens.{HasTree}
-use Rattle.sled.specs.Direct.{NoAction, OneAction, KeepsOrFreesTreePages, WholeDecided, WholeRefused}
+use Rattle.tree_groups.specs.Writes.{NoAction, OneAction}
+use Rattle.sled.specs.Direct.{KeepsOrFreesTreePages, WholeDecided, WholeRefused}
 use Rattle.sled.proofs.Conducting.{loses_then, loses_once, leaves_none}
 use Rattle.sled.proofs.Flushing.{only, same_state}
 use Rattle.sled.proofs.Flying.{loses_acting, state_over}

@@ -44,8 +44,9 @@ use Rattle.sled.specs.Values.{DbValue, numbers_of, given_to, named, state_of, db
 use Rattle.sled_queues.specs.Values.{queue_at}
 use Rattle.sled_queues.specs.Queues.{queues_of}
 use Rattle.sled.specs.Sound.{IsDb}
-use Rattle.sled.specs.Flights.{PagesLast, StaysInChain, KeepsTreePages, IsStepRefused}
-use Rattle.sled.specs.Direct.{ActsOften, NoAction, OneAction, ActsAndCounts, WholeDecided, WholeRefused}
+use Rattle.tree_groups.specs.Writes.{PagesLast, ActsOften, NoAction, OneAction}
+use Rattle.sled.specs.Flights.{StaysInChain, KeepsTreePages, IsStepRefused}
+use Rattle.sled.specs.Direct.{ActsAndCounts, WholeDecided, WholeRefused}
 use Rattle.sled.specs.Drops.{IsBeginning, RemovesTree, DropsNamed, DropsTree, MightDrop, refuses_drop_as, RefusesDrop}
 use Rattle.sled.specs.theory.Drops.{FreesPages, FreesNone, FreesOne, Counts, FreesLevels, DropsRoot}
 use Rattle.sled.proofs.Dropping.{known_on, off_chains, lasts_goes, lasts_then, number_given, Leaves, leaves_all}

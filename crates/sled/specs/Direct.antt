@@ -3,19 +3,20 @@ use Rattle.std.specs.Prelude.{◌≡◌, ◌≢◌, ℕ, ◌≤◌, ◌⊎◌, t
 use Rattle.sled_store.specs.In.{In}
 use Rattle.std.specs.declared.ops.Bound.TheVariants.{Included}
 use Rattle.sled_nodes.specs.Order.{Key}
-use Rattle.sled_store.specs.Store.{Store, now, after_flush, only_faults}
+use Rattle.sled_store.specs.State.{GroupEnds}
+use Rattle.sled_store.specs.Store.{Store, now, after_action, after_flush, only_faults}
 use Rattle.sled_nodes.specs.declared.node.Node.{Node}
 use Rattle.sled_nodes.specs.declared.error.Error.{Error}
 use Rattle.sled_nodes.specs.declared.error.Error.TheVariants.{NoMemory}
 use Rattle.sled_model.specs.Maps.{Maps, Merge}
 use Rattle.sled_model.specs.Answer.{key_of}
 use Rattle.sled_model.specs.State.{CallInFlight, maps_of}
-use Rattle.sled_model.specs.Transition.{WholeDecides, WholeRefuses, Kind, Flushing, Telling, Changing, InParts, Dropping, Listening, kind_of}
+use Rattle.sled_model.specs.Transition.{WholeDecides, WholeRefuses, Kind, Flushing, Telling, Changing, Grouping, InParts, Dropping, Listening, kind_of}
 use Rattle.sled_model.specs.Whole.{DecidesPoint, RefusesPoint}
 use Rattle.sled_model.specs.Refusal.{ToPoint, ToCall, must_refuse, TellsTurns, turns_limit}
 use Rattle.sled_model.specs.declared.call.Call.{Call}
 use Rattle.sled_model.specs.declared.call.Whole.{Whole}
-use Rattle.sled_model.specs.declared.call.Whole.TheVariants.{Flush, PopMin, PopMax, Clear, OpenTree, DropTree, GenerateId, Import, Watch, Next, Unsubscribe}
+use Rattle.sled_model.specs.declared.call.Whole.TheVariants.{Flush, PopMin, PopMax, Clear, Group, OpenTree, DropTree, GenerateId, Import, Watch, Next, Unsubscribe}
 use Rattle.sled_model.specs.declared.outcome.Outcome.{Outcome}
 use Rattle.sled_model.specs.declared.outcome.Outcome.TheVariants as outcome
 use Rattle.sled_model.specs.declared.tree.Tree.{Tree}
@@ -27,18 +28,14 @@ use Rattle.tree_laws.specs.Paths.{IsClean}
 use Rattle.tree_laws.specs.Crashes.{AddsCrashStates}
 use Rattle.tree_laws.specs.declared.flight.Stage.TheVariants.{Root}
 use Rattle.sled_tree.specs.Known.{IsKnown}
-use Rattle.sled_tree.specs.StageAction.{ActsOnce}
 use Rattle.sled_tree.specs.declared.flight.Aim.TheVariants.{OwnKey}
 use Rattle.sled_tree.specs.declared.flight.InFlight.{InFlight}
 use Rattle.sled_tree.specs.declared.flight.Went.TheVariants.{Decided, Refused}
+use Rattle.tree_groups.specs.Writes.{ActsOften, PagesLast}
+use Rattle.tree_groups.specs.Groups.{ActsInside}
 use Rattle.sled.specs.Values.{DbValue, db_state, state_of, configuration_of, snapshot_of_db}
 use Rattle.sled.specs.Sound.{IsDb}
-use Rattle.sled.specs.Flights.{PagesLast, IsStepRefused, DbRunsToEnd}
-
--- any number of changing actions, one after the other
-pub data ActsOften : Store → Store → Type 0 where
-  NoAction : {s : Store} → ActsOften s s
-  OneAction : {a b c : Store} → ActsOnce a b → ActsOften b c → ActsOften a c
+use Rattle.sled.specs.Flights.{IsStepRefused, DbRunsToEnd}
 
 -- changing actions, one after the other, and faults that are counted between them
 pub record ActsAndCounts (old new : Store) : Type 0 where
@@ -75,6 +72,12 @@ pub record Conducts {P M : Type 0} (store : P → Store) (maps : List Maps) (ref
   pub leaves : LeavesAll store maps None old new
   pub same : new ≡ record old { pages = new.pages; queues = new.queues }
 
+-- What a group does to the store: nothing, or it is begun, its writes do changing actions, one after the other, and it is sealed. One
+-- that is refused does no more after what it was refused, and is not sealed
+abbrev pub effect_of_group : Option Error → Store → Store → Type 0
+effect_of_group None old new = (new ≡ old) ⊎ ((last : Store) × ActsInside old last × (new ≡ after_action GroupEnds last))
+effect_of_group (Some e) old new = IsStepRefused e old new ⊎ ((last : Store) × ActsInside old last × IsStepRefused e last new)
+
 -- What a whole call does to the store: a flush makes all durable, and a call that tells something does nothing, but that it may raise
 -- the mark; where one of these is refused, nothing but a fault is counted. One that drops a tree does changing actions, and faults may
 -- be counted between them, since a refusal after the root went is not told; where it is refused it does no action. One that learns of
@@ -90,6 +93,8 @@ effect_of_whole Dropping (outcome.Refused e) old new = IsStepRefused e old new
 effect_of_whole Listening o old new = new ≡ old
 effect_of_whole Changing (outcome.Decided reply) old new = effects_until None old new
 effect_of_whole Changing (outcome.Refused e) old new = effects_until (Some e) old new
+effect_of_whole Grouping (outcome.Decided reply) old new = effect_of_group None old new
+effect_of_whole Grouping (outcome.Refused e) old new = effect_of_group (Some e) old new
 effect_of_whole InParts (outcome.Decided reply) old new = effects_until None old new
 effect_of_whole InParts (outcome.Refused e) old new = effects_until (Some e) old new
 effect_of_whole kind o old new = ⊥
@@ -105,6 +110,7 @@ changes_only GenerateId old new = new ≡ record old { pages = new.pages; greate
 changes_only (PopMin tree) old new = new ≡ record old { pages = new.pages; queues = new.queues }
 changes_only (PopMax tree) old new = new ≡ record old { pages = new.pages; queues = new.queues }
 changes_only (Clear tree) old new = new ≡ record old { pages = new.pages; queues = new.queues }
+changes_only (Group batches) old new = new ≡ record old { pages = new.pages; queues = new.queues }
 changes_only (Import collections) old new = new ≡ record old { pages = new.pages; queues = new.queues; trees = new.trees; trees_given = new.trees_given }
 changes_only (Watch tree prefix) old new = new ≡ record old { queues = new.queues }
 changes_only (Next subscriber) old new = new ≡ record old { queues = new.queues }
@@ -119,6 +125,7 @@ changes_refused (Clear tree) old new = new ≡ record old { pages = new.pages; q
 changes_refused (OpenTree name) old new = new ≡ record old { pages = new.pages }
 changes_refused (DropTree name) old new = new ≡ record old { pages = new.pages }
 changes_refused GenerateId old new = new ≡ record old { pages = new.pages }
+changes_refused (Group batches) old new = new ≡ record old { pages = new.pages; queues = new.queues }
 changes_refused (Import collections) old new = new ≡ record old { pages = new.pages; queues = new.queues; trees = new.trees; trees_given = new.trees_given }
 changes_refused (Watch tree prefix) old new = new ≡ record old { pages = new.pages }
 changes_refused (Next subscriber) old new = new ≡ record old { pages = new.pages }
@@ -134,6 +141,7 @@ lost_of (OpenTree name) reply = None
 lost_of (DropTree name) (Flag true) = Some name
 lost_of (DropTree name) reply = None
 lost_of GenerateId reply = None
+lost_of (Group batches) reply = None
 lost_of (Import collections) reply = None
 lost_of (Watch tree prefix) reply = None
 lost_of (Next subscriber) reply = None

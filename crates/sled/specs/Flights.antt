@@ -32,6 +32,7 @@ use Rattle.sled_tree.specs.declared.flight.Next.{Next}
 use Rattle.sled_tree.specs.declared.flight.Next.TheVariants as next
 use Rattle.sled_tree.specs.declared.flight.Went.{Went}
 use Rattle.sled_tree.specs.declared.flight.Went.TheVariants.{Moved, Decided, Refused}
+use Rattle.tree_groups.specs.Writes.{PagesLast}
 use Rattle.sled.specs.Values.{DbValue, db_state, configuration_of, snapshot_of_db}
 use Rattle.sled.specs.Sound.{IsDb}
 
@@ -69,12 +70,6 @@ pub record BringsEvent {P M : Type 0} (store : P → Store) (meant : M → Merge
   pub tree : NamedTree
   pub there : (db_state store meant old).trees f.job.tree.name ≡ Some tree
   pub is : (answer_of tree.merge f.job.call tree.map).event ≡ event
-
--- a page number that was given stays given; a page that is merging stays as it is until it is freed; and one that was freed never comes back
-pub record PagesLast (old new : Snapshot) : Type 0 where
-  pub pids : (p : ℕ) → old.pids p ≡ true → new.pids p ≡ true
-  pub merges : (p : ℕ) (n : Node) → nodes_at old p ≡ Some n → n.merging ≡ true → (nodes_at new p ≡ Some n) ⊎ (nodes_at new p ≡ None)
-  pub gone : (p : ℕ) → old.pids p ≡ true → nodes_at old p ≡ None → nodes_at new p ≡ None
 
 -- each page that stood in a tree stands there still, or is merging; but for those of the tree that is lost, if one is
 pub record StaysInChain (lost : Option Tree) (old : Snapshot) (w : Forest) (new : Snapshot) (v : Forest) : Type 0 where

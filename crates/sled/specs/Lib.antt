@@ -10,6 +10,7 @@ pub mod Direct
 pub mod Pops
 pub mod Fetch
 pub mod Flush
+pub mod Groups
 pub mod Imports
 pub mod Ids
 pub mod Operators

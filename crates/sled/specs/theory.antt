@@ -5,3 +5,4 @@ pub mod Imports
 pub mod Operators
 pub mod Drops
 pub mod Watched
+pub mod Groups

@@ -13,6 +13,7 @@ mod direct;
 mod drop;
 mod export;
 mod fetch;
+mod group;
 mod ids;
 mod import;
 mod memory;
@@ -28,6 +29,7 @@ mod whole;
 pub use db::Db;
 pub use direct::CompareAndSwapResult;
 pub use memory::{crash_pages, empty_pages};
+pub use sled_batch::Batch;
 pub use sled_model::{
     Call, Collection, CompareAndSwapError, Decision, Effect, Event, MAX_LOOPS, MergeOperator, Next,
     Outcome, QUEUE_LIMIT, Reply, Slot, Step, Subscriber, Tree, Whole,

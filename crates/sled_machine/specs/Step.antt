@@ -11,7 +11,7 @@ use Rattle.sled_model.specs.Imports.{parts_of}
 use Rattle.sled_model.specs.Transition.{Transition, Kind, Flushing, kind_of}
 use Rattle.sled_nodes.specs.declared.error.Error.{Error}
 use Rattle.sled_model.specs.declared.call.Whole.{Whole}
-use Rattle.sled_model.specs.declared.call.Whole.TheVariants.{Flush, PopMin, PopMax, Clear, OpenTree, DropTree, GenerateId, Import, Watch, Next, Unsubscribe}
+use Rattle.sled_model.specs.declared.call.Whole.TheVariants.{Flush, PopMin, PopMax, Clear, Group, OpenTree, DropTree, GenerateId, Import, Watch, Next, Unsubscribe}
 use Rattle.sled_model.specs.declared.reply.Reply.TheVariants.{Pair, Flag}
 use Rattle.sled_model.specs.declared.tree.Tree.{Tree}
 use Rattle.sled_model.specs.declared.outcome.Step.{Step}
@@ -35,6 +35,7 @@ use Rattle.sled.specs.Sound.{IsDb}
 use Rattle.sled.specs.Values.{DbValue, db_state, snapshot_of_db}
 use Rattle.sled.specs.Flights.{IsStepRefused, KeepsTreePages, call_in_flight_of, outcome_of}
 use Rattle.sled.specs.Direct.{KeepsOrFreesTreePages, effect_of_whole, lost_of}
+use Rattle.sled.specs.Groups.{IsQuietGroup}
 use Rattle.sled.specs.Drops.{DropsTree, RefusesDrop}
 use Rattle.sled.specs.Opens.{OpensBySteps, OpenRefusedBySteps}
 use Rattle.sled.specs.Pops.{GivesUpPop, PopsBySteps, PopRefusedBySteps, ClearsBySteps, ClearRefusedBySteps}
@@ -171,6 +172,7 @@ whole_gives_up store meant old Flush e = Unit {0}
 whole_gives_up store meant old (PopMin tree) e = GivesUpPop store meant old tree IsLeast once e
 whole_gives_up store meant old (PopMax tree) e = GivesUpPop store meant old tree IsGreatest for_each e
 whole_gives_up store meant old (Clear tree) e = Unit {0}
+whole_gives_up store meant old (Group batches) e = Unit {0}
 whole_gives_up store meant old (OpenTree name) e = Unit {0}
 whole_gives_up store meant old (DropTree name) e = Unit {0}
 whole_gives_up store meant old GenerateId e = Unit {0}
@@ -232,6 +234,7 @@ way_of_whole store meant old Flush o new = Unit {0}
 way_of_whole store meant old (PopMin tree) o new = pops_as store meant old tree IsLeast once o new
 way_of_whole store meant old (PopMax tree) o new = pops_as store meant old tree IsGreatest for_each o new
 way_of_whole store meant old (Clear tree) o new = clears_as store meant old tree o new
+way_of_whole store meant old (Group batches) o new = IsQuietGroup store meant old batches.items new
 way_of_whole store meant old (OpenTree name) o new = opens_as store old name o new
 way_of_whole store meant old (DropTree name) o new = drops_tree_as store meant old name o new
 way_of_whole store meant old GenerateId o new = Unit {0}

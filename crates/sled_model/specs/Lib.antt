@@ -8,6 +8,7 @@ pub mod Collections
 pub mod Queues
 pub mod Refusal
 pub mod Whole
+pub mod Groups
 pub mod Imports
 pub mod Transition
 pub mod theory

@@ -1,7 +1,8 @@
 -- Which refusals there may be, and which there must be.
-use Rattle.std.specs.Prelude.{◌≡◌, ◌≢◌, ℕ, ◌<◌, ◌≤◌, ◌⊎◌, true, false, Bool, not, ◌&&◌, nat_eq, length, List, [], ◌∷◌, Option, Some, None, is_some, if◌then◌else◌}
+use Rattle.std.specs.Prelude.{◌≡◌, ◌≢◌, ℕ, ◌<◌, ◌≤◌, ◌⊎◌, true, false, Bool, not, ◌&&◌, nat_eq, length, map, List, [], ◌∷◌, Option, Some, None, is_some, if◌then◌else◌}
 use Rattle.std.specs.Str.{bytes_eq}
 use Rattle.sled_nodes.specs.Order.{Key}
+use Rattle.sled_batch.specs.Batch.{Writes}
 use Rattle.sled_store.specs.Store.{Store, HasUnreadable}
 use Rattle.sled_nodes.specs.declared.error.Error.{Error}
 use Rattle.sled_nodes.specs.declared.error.Error.TheVariants.{CollectionNotFound, Unsupported, ReportableBug, Io, NoMemory, Closed}
@@ -14,7 +15,7 @@ use Rattle.sled_model.specs.declared.call.Call.{Call}
 use Rattle.sled_model.specs.declared.call.Call.TheVariants.{Get, Insert, Remove, CompareAndSwap}
 use Rattle.sled_model.specs.declared.call.Call.TheVariants as call
 use Rattle.sled_model.specs.declared.call.Whole.{Whole}
-use Rattle.sled_model.specs.declared.call.Whole.TheVariants.{Flush, PopMin, PopMax, Clear, OpenTree, DropTree, GenerateId, Import, Watch, Next, Unsubscribe}
+use Rattle.sled_model.specs.declared.call.Whole.TheVariants.{Flush, PopMin, PopMax, Clear, Group, OpenTree, DropTree, GenerateId, Import, Watch, Next, Unsubscribe}
 use Rattle.sled_model.specs.declared.tree.Tree.{Tree}
 
 -- what was asked of the database: to begin a call, to go on with the call in a slot, to make a call at once, a whole call, or to set
@@ -26,6 +27,10 @@ pub data Asked : Type 0 where
   ToCall : (whole : Whole) → Asked
   ToSetOperator : (tree : Tree) → Asked
 
+-- the trees of a group, in the order of the list
+abbrev pub trees_of_batches : List (Tree × Writes) → List Tree
+trees_of_batches batches = map (λ b. b.0) batches
+
 -- the trees that it is asked of
 abbrev pub trees_asked : Asked → List Tree
 trees_asked (ToBegin tree call) = tree ∷ []
@@ -36,6 +41,7 @@ trees_asked (ToCall Flush) = []
 trees_asked (ToCall (PopMin tree)) = tree ∷ []
 trees_asked (ToCall (PopMax tree)) = tree ∷ []
 trees_asked (ToCall (Clear tree)) = tree ∷ []
+trees_asked (ToCall (Group batches)) = trees_of_batches batches.items
 trees_asked (ToCall (OpenTree name)) = []
 trees_asked (ToCall (DropTree name)) = []
 trees_asked (ToCall GenerateId) = []
@@ -178,6 +184,13 @@ cause_at_end is_end s a b tree (Io fault) = HasFault a b
 cause_at_end is_end s a b tree (ReportableBug text) = text.now ≡ WALK_PASSED_TURNS.now
 cause_at_end is_end s a b tree e = ⊥
 
+-- why a group is refused: there is no memory, the store counted a fault or some page is not readable, or the turns of a write are used up
+abbrev pub cause_of_group : Store → Store → Error → Type 0
+cause_of_group a b NoMemory = Unit {0}
+cause_of_group a b (Io fault) = HasFault a b
+cause_of_group a b (ReportableBug text) = text.now ≡ WALK_PASSED_TURNS.now
+cause_of_group a b e = ⊥
+
 -- why a name is not opened: there is no memory; or it is new, and a fault was counted or all numbers of trees were given
 abbrev pub cause_of_opening : State → Store → Store → Key → Error → Type 0
 cause_of_opening s a b name NoMemory = Unit {0}
@@ -191,6 +204,7 @@ cause_of_whole s a b Flush e = cause_of_flush a b e
 cause_of_whole s a b (PopMin tree) e = cause_at_end IsLeast s a b tree e
 cause_of_whole s a b (PopMax tree) e = cause_at_end IsGreatest s a b tree e
 cause_of_whole s a b (Clear tree) e = cause_at_end IsLeast s a b tree e
+cause_of_whole s a b (Group batches) e = cause_of_group a b e
 cause_of_whole s a b (OpenTree name) e = cause_of_opening s a b name e
 cause_of_whole s a b (DropTree name) e = cause_of_drop s a b name e
 cause_of_whole s a b GenerateId e = cause_of_id s a b e

@@ -9,10 +9,11 @@ use Rattle.sled_model.specs.State.{State, NamedTree, CallInFlight, maps_of, call
 use Rattle.sled_model.specs.Refusal.{ToBegin, ToStep, ToCall, must_refuse, MayRefuse, TellsTurns, turns_limit}
 use Rattle.sled_model.specs.declared.call.Call.{Call}
 use Rattle.sled_model.specs.declared.call.Whole.{Whole}
-use Rattle.sled_model.specs.declared.call.Whole.TheVariants.{Flush, PopMin, PopMax, Clear, OpenTree, DropTree, GenerateId, Import, Watch, Next, Unsubscribe}
+use Rattle.sled_model.specs.declared.call.Whole.TheVariants.{Flush, PopMin, PopMax, Clear, Group, OpenTree, DropTree, GenerateId, Import, Watch, Next, Unsubscribe}
 use Rattle.sled_model.specs.Whole.{Pops, Clears, StopsClearing, OpensTree, DropsTreeOf, GeneratesId, Watches, TakesNext, GivesUpQueue}
 use Rattle.sled_model.specs.Collections.{contents_of}
 use Rattle.sled_model.specs.Imports.{Imports, StopsImporting}
+use Rattle.sled_model.specs.Groups.{DecidesGroup, StopsGroup}
 use Rattle.sled_model.specs.declared.tree.Tree.{Tree}
 use Rattle.sled_model.specs.declared.reply.Reply.{Reply}
 use Rattle.sled_model.specs.declared.event.Next as event
@@ -75,11 +76,13 @@ pub record Abandon (old : State) (slot : ℕ) (new : State) : Type 0 where
   pub is : new ≡ record old { slots = put_at old.slots slot None }
 
 -- what a whole call is about: to make durable what was decided, to tell something and change no map, to change maps in one
--- step, to change them part by part, to drop a tree, or to learn of changes, which touches neither maps nor pages
+-- step, to change them by a group, to change them part by part, to drop a tree, or to learn of changes, which touches neither maps nor
+-- pages
 pub data Kind : Type 0 where
   Flushing : Kind
   Telling : Kind
   Changing : Kind
+  Grouping : Kind
   InParts : Kind
   Dropping : Kind
   Listening : Kind
@@ -89,6 +92,7 @@ kind_of Flush = Flushing
 kind_of (PopMin tree) = Changing
 kind_of (PopMax tree) = Changing
 kind_of (Clear tree) = InParts
+kind_of (Group batches) = Grouping
 kind_of (OpenTree name) = Changing
 kind_of (DropTree name) = Dropping
 kind_of GenerateId = Telling
@@ -104,6 +108,7 @@ WholeDecides old Flush reply new maps = (must_refuse old.state (ToCall Flush) �
 WholeDecides old (PopMin tree) reply new maps = Pops IsLeast old.state (PopMin tree) tree reply new maps
 WholeDecides old (PopMax tree) reply new maps = Pops IsGreatest old.state (PopMax tree) tree reply new maps
 WholeDecides old (Clear tree) reply new maps = (reply ≡ Done) × Clears old.state tree new maps
+WholeDecides old (Group batches) reply new maps = DecidesGroup old.state batches.items reply new maps
 WholeDecides old (OpenTree name) reply new maps = OpensTree old.state name reply new maps
 WholeDecides old (DropTree name) reply new maps = DropsTreeOf old.state name reply new maps
 WholeDecides old GenerateId reply new maps = GeneratesId old.state reply new maps
@@ -116,13 +121,14 @@ WholeDecides old (Unsubscribe subscriber) reply new maps = (reply ≡ Done) × G
 abbrev pub RefusesAtOnce : State → Store → Store → Whole → Error → State → List Maps → Type 0
 RefusesAtOnce old a b whole e new maps = MayRefuse old a b (ToCall whole) e × (new ≡ old) × (maps ≡ [])
 
--- A whole call is refused, and nothing changes, but for the parts that a call in parts has done. To take an event and to give up a
--- queue is never refused
+-- A whole call is refused, and nothing changes, but for the parts that a call in parts has done, and that a group refused midway closes
+-- the database. To take an event and to give up a queue is never refused
 abbrev pub WholeRefuses : State → Store → Store → Whole → Error → State → List Maps → Type 0
 WholeRefuses old a b Flush e new maps = RefusesAtOnce old a b Flush e new maps
 WholeRefuses old a b (PopMin tree) e new maps = RefusesAtOnce old a b (PopMin tree) e new maps
 WholeRefuses old a b (PopMax tree) e new maps = RefusesAtOnce old a b (PopMax tree) e new maps
 WholeRefuses old a b (Clear tree) e new maps = StopsClearing old a b tree e new maps
+WholeRefuses old a b (Group batches) e new maps = StopsGroup old a b batches.items e new maps
 WholeRefuses old a b (OpenTree name) e new maps = RefusesAtOnce old a b (OpenTree name) e new maps
 WholeRefuses old a b (DropTree name) e new maps = RefusesAtOnce old a b (DropTree name) e new maps
 WholeRefuses old a b GenerateId e new maps = RefusesAtOnce old a b GenerateId e new maps

@@ -14,7 +14,7 @@ use Rattle.sled_model.specs.Collections.{contents_of}
 use Rattle.sled_model.specs.declared.call.Call.{Call}
 use Rattle.sled_model.specs.declared.call.Call.TheVariants.{Remove}
 use Rattle.sled_model.specs.declared.call.Whole.{Whole}
-use Rattle.sled_model.specs.declared.call.Whole.TheVariants.{Flush, PopMin, PopMax, Clear, OpenTree, DropTree, GenerateId, Import, Watch, Next, Unsubscribe}
+use Rattle.sled_model.specs.declared.call.Whole.TheVariants.{Flush, PopMin, PopMax, Clear, Group, OpenTree, DropTree, GenerateId, Import, Watch, Next, Unsubscribe}
 use Rattle.sled_model.specs.declared.event.Next as event
 use Rattle.sled_model.specs.declared.tree.Tree.{Tree}
 use Rattle.sled_model.specs.declared.reply.Reply.{Reply}
@@ -149,10 +149,12 @@ pub record GeneratesId (old : State) (reply : Reply) (new : State) (maps : List 
   pub is : new ≡ record old { greatest_id = old.greatest_id + 1; mark = mark_above old.greatest_id old.mark }
   pub added : maps ≡ []
 
--- two whole calls are the same: imports hold the same collections, wherever their vectors lie
+-- two whole calls are the same: imports hold the same collections, and groups the same batches, wherever their vectors lie
 abbrev pub is_same_whole : Whole → Whole → Type 0
 is_same_whole (Import a) (Import b) = contents_of a.items ≡ contents_of b.items
 is_same_whole (Import a) b = ⊥
+is_same_whole (Group a) (Group b) = a.items ≡ b.items
+is_same_whole (Group a) b = ⊥
 is_same_whole Flush b = Flush ≡ b
 is_same_whole (PopMin tree) b = PopMin tree ≡ b
 is_same_whole (PopMax tree) b = PopMax tree ≡ b

@@ -8,10 +8,12 @@ ghost use Rattle.sled_model.specs.Whole.{IsSameWhole};
 ghost use Rattle.sled_model.specs.declared.call.Call.TheVariants.{Get, Insert, Remove, CompareAndSwap, Merge};
 ghost use Rattle.sled_model.specs.declared.call.Whole.TheVariants.{Watch};
 
+use crate::batches::copied_batches;
 use crate::collection::{Collection, copied_collections};
 use crate::reply::clone_value;
 use crate::subscriber::Subscriber;
 use crate::tree::Tree;
+use sled_batch::Batch;
 use sled_nodes::{IVec, Result};
 use std::alloc::Global;
 
@@ -41,6 +43,9 @@ pub enum Whole {
     PopMax(Tree),
     /// Takes all keys out of a tree, one after the other from the least up. Refused midway, those that are out stay out.
     Clear(Tree),
+    /// Makes the writes of each batch in its tree, all or none, in the order of the list and of each batch in the order of its keys.
+    /// Refused midway, it closes the database.
+    Group(Vec<(Tree, Batch)>),
     /// Opens the tree of a name, which is made where the name has none, and replies with it.
     OpenTree(IVec),
     /// Drops the tree of a name, and replies with whether there was one.
@@ -283,6 +288,7 @@ impl Whole {
             Whole::PopMin(tree) => Ok(Whole::PopMin(tree.clone()?)),
             Whole::PopMax(tree) => Ok(Whole::PopMax(tree.clone()?)),
             Whole::Clear(tree) => Ok(Whole::Clear(tree.clone()?)),
+            Whole::Group(batches) => Ok(Whole::Group(copied_batches(batches)?)),
             Whole::OpenTree(name) => Ok(Whole::OpenTree(name.clone()?)),
             Whole::DropTree(name) => Ok(Whole::DropTree(name.clone()?)),
             Whole::GenerateId => Ok(Whole::GenerateId),

@@ -4,6 +4,7 @@
 //! types here are the values that they speak of: trees, calls, replies, steps and their outcomes.
 #![tactic(auto)]
 
+mod batches;
 mod call;
 mod collection;
 mod decision;
@@ -22,6 +23,7 @@ pub use operator::MergeOperator;
 pub use outcome::{Outcome, Slot, Step};
 pub use reply::{CompareAndSwapError, Reply};
 pub use subscriber::Subscriber;
+pub use sled_batch::Batch;
 pub use tree::Tree;
 
 /// A call whose turns are this many is refused at its next step.

@@ -1,5 +1,5 @@
 -- What a step of the machine does to queues, by cases of what it was and how it came out.
-use Rattle.std.specs.Prelude.{◌≡◌, ◌⊎◌, ℕ, nat_eq, Bool, false, List, [], ◌∷◌, ◌++◌, Option, Some, None, if◌then◌else◌}
+use Rattle.std.specs.Prelude.{◌≡◌, ◌⊎◌, ℕ, nat_eq, Bool, false, List, [], ◌∷◌, ◌++◌, Option, Some, None, map, if◌then◌else◌}
 use mathlib.Core.Logic.{inl, inr}
 use Rattle.std.specs.Option.{option_to_list}
 use Rattle.sled_nodes.specs.Order.{Key}
@@ -10,12 +10,13 @@ use Rattle.sled_model.specs.Answer.{answer_of}
 use Rattle.sled_model.specs.State.{State, NamedTree, Queue}
 use Rattle.sled_model.specs.Imports.{Part, OpensName, Puts, does_part_as, DoesParts, NoPart, OnePart, refuses_import_as, Stop, StopsAtPart}
 use Rattle.sled_model.specs.Whole.{RemovesLeast, RemovesNone, RemovesOne}
+use Rattle.sled_model.specs.Groups.{writes_of, events_of_writes}
 use Rattle.sled_model.specs.Refusal.{must_refuse_of}
 use Rattle.sled_model.specs.Transition.{Configuration, transition_as, WholeDecides, WholeRefuses}
 use Rattle.sled_model.specs.declared.call.Call.{Call}
 use Rattle.sled_model.specs.declared.call.Call.TheVariants.{Insert, Remove}
 use Rattle.sled_model.specs.declared.call.Whole.{Whole}
-use Rattle.sled_model.specs.declared.call.Whole.TheVariants.{Flush, PopMin, PopMax, Clear, OpenTree, DropTree, GenerateId, Import, Watch, Next, Unsubscribe}
+use Rattle.sled_model.specs.declared.call.Whole.TheVariants.{Flush, PopMin, PopMax, Clear, Group, OpenTree, DropTree, GenerateId, Import, Watch, Next, Unsubscribe}
 use Rattle.sled_model.specs.declared.event.Event.{Event}
 use Rattle.sled_model.specs.declared.event.Next as event
 use Rattle.sled_model.specs.declared.tree.Tree.{Tree}
@@ -55,12 +56,17 @@ abbrev pub turns_of_parts : {a b : State} {parts : List Part} {maps : List Maps}
 turns_of_parts NoPart = []
 turns_of_parts (OnePart {a = a} {m = m} {part = part} {added = added} one more) = turns_of_part a part m added one.is ++ turns_of_parts more
 
+-- events come, each to the tree of its number, in order
+abbrev pub turns_of_events : List (ℕ × Event) → List Turn
+turns_of_events es = map (λ e. Comes e.0 e.1) es
+
 -- a whole call that is decided
 abbrev pub turns_of_whole : (old : Configuration) (whole : Whole) (reply : Reply) (new : State) (maps : List Maps) → WholeDecides old whole reply new maps → List Turn
 turns_of_whole old Flush reply new maps d = []
 turns_of_whole old (PopMin tree) reply new maps d = turns_of_pop d.named d.found
 turns_of_whole old (PopMax tree) reply new maps d = turns_of_pop d.named d.found
 turns_of_whole old (Clear tree) reply new maps d = turns_of_removals d.1.removes
+turns_of_whole old (Group batches) reply new maps d = turns_of_events (events_of_writes (writes_of batches.items) old.state)
 turns_of_whole old (OpenTree name) reply new maps d = []
 turns_of_whole old (DropTree name) reply new maps d = []
 turns_of_whole old GenerateId reply new maps d = []
@@ -81,6 +87,7 @@ turns_of_refusal old a b Flush e new maps d = []
 turns_of_refusal old a b (PopMin tree) e new maps d = []
 turns_of_refusal old a b (PopMax tree) e new maps d = []
 turns_of_refusal old a b (Clear tree) e new maps d = turns_of_removals d.removes
+turns_of_refusal old a b (Group batches) e new maps d = []
 turns_of_refusal old a b (OpenTree name) e new maps d = []
 turns_of_refusal old a b (DropTree name) e new maps d = []
 turns_of_refusal old a b GenerateId e new maps d = []

@@ -1,6 +1,8 @@
-//! One write of a group.
+//! Writes of a group.
 ghost use Rattle.std.specs.Prelude.{◌≡◌, false, OnOk, IfErr};
 ghost use Rattle.sled_model.specs.Refusal.{needs_operator};
+ghost use Rattle.sled_store.specs.Store.{now};
+ghost use Rattle.tree_groups.specs.Groups.{AreFresh, jobs_of, MakesGroup, LeavesGroup};
 ghost use Rattle.tree_groups.specs.Writes.{IsFresh, MakesWrite, StopsWriting, OpenGroupLaw, RefusedGroupLaw, SealedGroupLaw, GroupBoundsLaw};
 
 use sled_model::{MAX_LOOPS, MergeOperator};
@@ -42,6 +44,45 @@ pub fn write<P: Pages>(pages: &mut P, alloc: Global, flight: InFlight) -> Result
     }
     drop(flight);
     Err(Error::ReportableBug(WALK_PASSED_TURNS))
+}
+
+/// Makes a group of writes: begins it, makes the writes, one after the other, and seals it. Where there is none it does nothing. A group
+/// that is refused after it began stays open, and a crash leaves nothing of it.
+///
+/// ```
+/// let mut flights = Vec::new(alloc);
+/// flights.push(sled_tree::InFlight::new(tree, call))?;
+/// write_group(&mut pages, alloc, flights)?; // A crash leaves all of the writes, or none.
+/// ```
+pub fn write_group<P: Pages>(pages: &mut P, alloc: Global, flights: Vec<InFlight>) -> Result<()>
+    requires outside { (now (P.store pages.old)).in_group ≡ false }
+    requires fresh { AreFresh flights.items }
+    ensures ok { OnOk result (MakesGroup (jobs_of flights.items) (P.store pages.old) (P.store pages.new)) }
+    ensures err { IfErr result (LeavesGroup (jobs_of flights.items) (P.store pages.old) (P.store pages.new)) }
+{
+    if flights.is_empty() {
+        drop(flights);
+        return Ok(());
+    }
+    if let Err(e) = pages.begin_group() {
+        drop(flights);
+        return Err(e);
+    }
+    if let Err(e) = write_all(pages, alloc, flights) {
+        return Err(e);
+    }
+    pages.seal_group()
+}
+
+// Makes writes, one after the other, in an open group.
+fn write_all<P: Pages>(pages: &mut P, alloc: Global, flights: Vec<InFlight>) -> Result<()>
+{
+    for flight in flights {
+        if let Err(e) = write(pages, alloc, flight) {
+            return Err(e);
+        }
+    }
+    Ok(())
 }
 
 /// Does nothing. It tells what a group adds to what a crash may leave: its end the trees that it leaves, and nothing else of it

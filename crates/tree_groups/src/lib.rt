@@ -7,4 +7,4 @@
 
 mod group;
 
-pub use group::{law_group, write};
+pub use group::{law_group, write, write_group};

@@ -1,0 +1,36 @@
+-- What a group of writes comes to.
+use Rattle.std.specs.Prelude.{◌≡◌, ◌≢◌, ℕ, List, [], Option, Some, None}
+use Rattle.sled_nodes.specs.declared.error.Error.{Error}
+use Rattle.sled_batch.specs.Batch.{Writes}
+use Rattle.sled_store.specs.Store.{Store}
+use Rattle.sled_model.specs.Maps.{Maps, Merge}
+use Rattle.sled_model.specs.Groups.{writes_of, events_of_writes, DecidesGroup, StopsGroup}
+use Rattle.sled_model.specs.Refusal.{trees_of_batches, must_refuse_of}
+use Rattle.sled_model.specs.State.{CallInFlight}
+use Rattle.sled_model.specs.declared.reply.Reply.TheVariants.{Done}
+use Rattle.sled_model.specs.declared.tree.Tree.{Tree}
+use Rattle.sled.specs.Values.{DbValue, state_of, db_state}
+use Rattle.sled.specs.Direct.{LeavesAll, effect_of_group}
+
+module _ {P M : Type 0} (store : P → Store) (meant : M → Merge) (old : DbValue P M) (batches : List (Tree × Writes)) where
+  -- A group was decided, in whatever machine the database is
+  pub record GroupDecided (new : DbValue P M) : Type 0 where
+    pub maps : List Maps
+    pub decides : (slots : ℕ → Option CallInFlight) (slots_given : ℕ) → DecidesGroup (state_of store meant old slots slots_given) batches Done (state_of store meant new slots slots_given) maps
+    pub acts : effect_of_group None (store old.pages) (store new.pages)
+    pub leaves : LeavesAll store maps None old new
+    pub same : new ≡ record old { pages = new.pages; queues = new.queues }
+
+  -- .. or it was refused
+  pub record GroupRefused (e : Error) (new : DbValue P M) : Type 0 where
+    pub maps : List Maps
+    pub refuses : (slots : ℕ → Option CallInFlight) (slots_given : ℕ) → StopsGroup (state_of store meant old slots slots_given) (store old.pages) (store new.pages) batches e (state_of store meant new slots slots_given) maps
+    pub acts : effect_of_group (Some e) (store old.pages) (store new.pages)
+    pub leaves : LeavesAll store maps None old new
+    pub same : new ≡ record old { pages = new.pages; queues = new.queues }
+    -- by a test, and then it did nothing
+    pub tested : must_refuse_of (db_state store meant old) (trees_of_batches batches) ≢ None → new ≡ old
+
+  -- a group that brings no event does no changing action, and counts no fault
+  pub record IsQuietGroup (new : DbValue P M) : Type 0 where
+    pub is : events_of_writes (writes_of batches) (db_state store meant old) ≡ [] → store new.pages ≡ store old.pages

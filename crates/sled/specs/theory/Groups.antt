@@ -1,0 +1,89 @@
+-- Of Groups, for inner functions and proofs. How a group is made ready, and then made.
+use Rattle.std.specs.Prelude.{◌≡◌, ℕ, ◌⊎◌, List, [], ◌∷◌, ◌++◌, map, Bool, Option, Some, None}
+use Rattle.std.specs.FinMap.Entries.{find}
+use Rattle.std.specs.Option.{option_to_list}
+use Rattle.sled_nodes.specs.Order.{Key, key_cmp}
+use Rattle.sled_nodes.specs.declared.error.Error.{Error}
+use Rattle.sled_nodes.specs.declared.error.Error.TheVariants.{NoMemory, ReportableBug}
+use Rattle.sled_nodes.specs.declared.texts.TheConstants.{WALK_PASSED_TURNS}
+use Rattle.sled_store.specs.Store.{Store, refuses_read_as}
+use Rattle.sled_model.specs.Maps.{Merge}
+use Rattle.sled_model.specs.Answer.{same_value}
+use Rattle.sled_model.specs.Groups.{Write, call_of_write, answer_of_write, after_write}
+use Rattle.sled_model.specs.State.{State, NamedTree}
+use Rattle.sled_model.specs.declared.call.Call.{Call}
+use Rattle.sled_model.specs.declared.call.Call.TheVariants as call
+use Rattle.sled_model.specs.declared.event.Event.{Event}
+use Rattle.sled_model.specs.declared.event.Event.TheVariants as event
+use Rattle.sled_model.specs.declared.tree.Tree.{Tree}
+use Rattle.sled_queues.specs.Values.{QueuesValue, queue_at}
+use Rattle.sled_queues.specs.Queues.{Becomes, committed}
+use Rattle.sled_queues.specs.Laws.{prepared_all}
+use Rattle.tree_groups.specs.Groups.{MakesGroup, LeavesGroup}
+use Rattle.sled_tree.specs.declared.flight.InFlight.{InFlight}
+use Rattle.sled_tree.specs.declared.flight.Job.{Job}
+use Rattle.sled.specs.Direct.{begun_flight}
+
+-- ---- the writes that change something
+
+-- the call of a write that brings an event, if it brings one
+abbrev pub jobs_of_write : Option NamedTree → Write → List Job
+jobs_of_write None w = []
+jobs_of_write (Some t) w = map (λ e. record { tree = w.tree; call = call_of_write w }) (option_to_list (answer_of_write t w).event)
+
+-- the calls of those of these writes that bring an event, where all are made one after the other
+abbrev pub jobs_of_writes : List Write → State → List Job
+jobs_of_writes [] s = []
+jobs_of_writes (w ∷ ws) s = jobs_of_write (s.trees w.tree.name) w ++ jobs_of_writes ws (after_write w s)
+
+-- calls as they begin
+abbrev pub begun_flights : List Job → List InFlight
+begun_flights js = map (λ j. begun_flight j.tree j.call) js
+
+-- the value that the key of a tree has, or none
+abbrev pub value_in : Option NamedTree → Key → Option Key
+value_in None key = None
+value_in (Some t) key = find key_cmp key t.map
+
+-- whether the value that a key is to have stands there
+pub record Stands (s : State) (tree : Tree) (key : Key) (value : Option Key) (stands : Bool) : Type 0 where
+  pub is : stands ≡ same_value (value_in (s.trees tree.name) key) value
+
+-- a page could not be read
+abbrev pub unread : Store → Error → Type 0
+unread s (ReportableBug text) = text.now ≡ WALK_PASSED_TURNS.now
+unread s e = refuses_read_as s e
+
+-- ---- its events
+
+-- the event of an insert or of a removal that changes something, with its tree's number
+abbrev pub events_of_call : ℕ → Call → List (ℕ × Event)
+events_of_call tree (call.Insert key value) = (tree, event.Insert key value) ∷ []
+events_of_call tree (call.Remove key) = (tree, event.Remove key) ∷ []
+events_of_call tree c = []
+
+abbrev pub events_of_jobs : List Job → List (ℕ × Event)
+events_of_jobs [] = []
+events_of_jobs (j ∷ js) = events_of_call j.tree.number j.call ++ events_of_jobs js
+
+-- the events of these calls are prepared
+pub record Prepares (js : List Job) (old new : QueuesValue) : Type 0 where
+  pub is : Becomes (prepared_all (events_of_jobs js) (queue_at old)) old.given new
+
+-- some events are prepared, and then there is no memory
+pub record StopsPreparing (e : Error) (old new : QueuesValue) : Type 0 where
+  pub why : e ≡ NoMemory
+  pub events : List (ℕ × Event)
+  pub is : Becomes (prepared_all events (queue_at old)) old.given new
+
+-- ---- and all of it
+
+-- the group is made, and its events come
+pub record MakesAll (js : List Job) (a b : Store) (old new : QueuesValue) : Type 0 where
+  pub makes : MakesGroup js a b
+  pub tells : Becomes (committed (prepared_all (events_of_jobs js) (queue_at old))) old.given new
+
+-- it is refused, and no event comes
+pub record StopsAll (js : List Job) (a b : Store) (old new : QueuesValue) (e : Error) : Type 0 where
+  pub is : ((e ≡ NoMemory) × (b ≡ a)) ⊎ LeavesGroup js a b e
+  pub tells : Becomes (queue_at old) old.given new

@@ -1,0 +1,275 @@
+//! Groups of writes, which are made together or not at all.
+//!
+//! First comes all that can be refused without harm: the tests, the reads of the values that stand, and the memory of calls and events.
+//! Then the group is begun, the writes are made by the steps of calls in flight, repairs included, and the group is sealed. Once it is
+//! begun a refusal leaves it open, so that the database is closed: no crash leaves any of it.
+ghost use Rattle.std.specs.Prelude.{◌≡◌, false, IfOk, IfErr, OnOk, [], ◌∷◌, Some, None, ◌++◌};
+ghost use Rattle.std.specs.Option.{option_copied};
+ghost use Rattle.sled_store.specs.Store.{now};
+ghost use Rattle.sled_nodes.specs.declared.error.Error.TheVariants.{NoMemory};
+ghost use Rattle.sled_model.specs.Groups.{writes_of, writes_on, call_with, after_writes};
+ghost use Rattle.sled_model.specs.Refusal.{must_refuse_of, trees_of_batches};
+ghost use Rattle.sled_queues.specs.Values.{queue_at};
+ghost use Rattle.sled_queues.specs.Queues.{IsCalm};
+ghost use Rattle.tree_groups.specs.Groups.{AreFresh, jobs_of};
+ghost use Rattle.sled.specs.Calls.{MustBeRefused};
+ghost use Rattle.sled.specs.Direct.{begun_flight};
+ghost use Rattle.sled.specs.theory.Groups.{begun_flights, jobs_of_writes, Stands, unread, events_of_call, Prepares, StopsPreparing, MakesAll, StopsAll};
+
+use crate::db::Db;
+use crate::tree_list::number_of;
+use sled_batch::Batch;
+use sled_model::{Call, Event, MergeOperator, Tree};
+use sled_nodes::texts::HANDLE_OF_ANOTHER_DATABASE;
+use sled_nodes::{Error, IVec, Result};
+use sled_queues::Queues;
+use sled_store::Pages;
+use sled_tree::InFlight;
+use std::alloc::Global;
+use tree_groups::write_group;
+
+// The call that writes a key in a tree, as it begins.
+fn begun(tree: &Tree, key: &IVec, value: &Option<IVec>) -> Result<InFlight>
+    ensures ok { IfOk result (λ flight. flight ≡ begun_flight tree.now (call_with key.now value.now)) }
+    ensures err { IfErr result (λ e. e ≡ NoMemory) }
+{
+    let call = match write_call(key, value) {
+        Ok(call) => call,
+        Err(e) => return Err(e),
+    };
+    match tree.clone() {
+        Ok(tree) => Ok(InFlight::new(tree, call)),
+        Err(e) => {
+            drop(call);
+            Err(e)
+        }
+    }
+}
+
+// The call that sets the value at a key, or takes the key out.
+fn write_call(key: &IVec, value: &Option<IVec>) -> Result<Call>
+    ensures ok { IfOk result (λ call. call ≡ call_with key.now value.now) }
+    ensures err { IfErr result (λ e. e ≡ NoMemory) }
+{
+    let key = key.clone()?;
+    let Some(value) = value else {
+        return Ok(Call::Remove(key));
+    };
+    match value.clone() {
+        Ok(value) => Ok(Call::Insert(key, value)),
+        Err(e) => {
+            drop(key);
+            Err(e)
+        }
+    }
+}
+
+// Prepares the event of an insert or a removal that changes something.
+fn prepare_event(queues: &mut Queues, tree: u64, call: &Call) -> Result<()>
+{
+    if !queues.is_watched(tree, call.key().as_ref()) {
+        return Ok(());
+    }
+    let event = match call {
+        Call::Insert(key, value) => inserted(key, value)?,
+        Call::Remove(key) => Event::Remove { key: key.clone()? },
+        _ => return Ok(()),
+    };
+    let prepared = queues.prepare(tree, &event);
+    drop(event);
+    prepared
+}
+
+// The event of an insert.
+fn inserted(key: &IVec, value: &IVec) -> Result<Event>
+{
+    let key = key.clone()?;
+    match value.clone() {
+        Ok(value) => Ok(Event::Insert { key, value }),
+        Err(e) => {
+            drop(key);
+            Err(e)
+        }
+    }
+}
+
+// Prepares the events of calls that each change something. Refused, some of them may be prepared.
+fn prepare_events(queues: &mut Queues, flights: &[InFlight]) -> Result<()>
+    ensures ok { OnOk result (Prepares (jobs_of flights.now) queues.old queues.new) }
+    ensures err { IfErr result (λ e. StopsPreparing e queues.old queues.new) }
+{
+    for flight in flights {
+        prepare_event(queues, flight.job.tree.number, &flight.job.call)?;
+    }
+    Ok(())
+}
+
+// Makes a group of calls that each change something, with their events.
+fn make_group<P: Pages>(
+    pages: &mut P,
+    queues: &mut Queues,
+    alloc: Global,
+    flights: Vec<InFlight>,
+) -> Result<()>
+    requires outside { (now (P.store pages.old)).in_group ≡ false }
+    requires calm { IsCalm (queue_at queues.old) }
+    requires fresh { AreFresh flights.items }
+    ensures ok { OnOk result (MakesAll (jobs_of flights.items) (P.store pages.old) (P.store pages.new) queues.old queues.new) }
+    ensures err { IfErr result (StopsAll (jobs_of flights.items) (P.store pages.old) (P.store pages.new) queues.old queues.new) }
+{
+    if let Err(e) = prepare_events(queues, flights.as_slice()) {
+        queues.cancel();
+        drop(flights);
+        return Err(e);
+    }
+    if let Err(e) = write_group(pages, alloc, flights) {
+        queues.cancel();
+        return Err(e);
+    }
+    queues.commit();
+    Ok(())
+}
+
+impl<P: Pages, M: MergeOperator> Db<P, M> {
+    ghost use Rattle.sled.specs.Values.{db_state};
+    ghost use Rattle.sled.specs.Groups.{GroupDecided, GroupRefused, IsQuietGroup};
+
+    // The tests that come before a group, each of all its trees.
+    fn check_batches(&self, batches: &[(Tree, Batch)]) -> Result<()>
+        ensures ok { OnOk result (must_refuse_of (db_state P.store M.meant self.now) (trees_of_batches batches.now) ≡ None) }
+        ensures err { IfErr result (MustBeRefused (must_refuse_of (db_state P.store M.meant self.now) (trees_of_batches batches.now))) }
+    {
+        if self.pages.in_group() {
+            return Err(Error::Closed);
+        }
+        for (tree, _) in batches {
+            if tree.database != self.name {
+                return Err(Error::Unsupported(HANDLE_OF_ANOTHER_DATABASE));
+            }
+        }
+        for (tree, _) in batches {
+            if number_of(self.trees.as_slice(), tree.name.as_ref()) != Some(tree.number) {
+                return Err(Error::CollectionNotFound(tree.name.clone()?));
+            }
+        }
+        Ok(())
+    }
+
+    // Whether the value that a key is to have stands there, once these batches are made.
+    fn stands(&self, before: &[(Tree, Batch)], tree: &Tree, key: &IVec, value: &Option<IVec>) -> Result<bool>
+        requires tested { must_refuse_of (db_state P.store M.meant self.now) (trees_of_batches before.now ++ tree.now ∷ []) ≡ None }
+        ensures ok { IfOk result (Stands (after_writes (writes_of before.now) (db_state P.store M.meant self.now)) tree.now key.now value.now) }
+        ensures err { IfErr result (unread (P.store self.now.pages)) }
+    {
+        let mut stands = match self.get(tree, key.as_ref()) {
+            Ok(found) => {
+                let stands = found == *value;
+                drop(found);
+                stands
+            }
+            Err(e) => return Err(e),
+        };
+        for (other, batch) in before {
+            if other.number == tree.number {
+                if let Some(written) = batch.writes().get(key) {
+                    stands = *written == *value;
+                }
+            }
+        }
+        Ok(stands)
+    }
+
+    // Adds the writes of a batch that change something, as calls that have yet to begin, where these batches come before it.
+    fn add_changes(
+        &self,
+        before: &[(Tree, Batch)],
+        tree: &Tree,
+        batch: &Batch,
+        flights: &mut Vec<InFlight>,
+    ) -> Result<()>
+        requires tested { must_refuse_of (db_state P.store M.meant self.now) (trees_of_batches before.now ++ tree.now ∷ []) ≡ None }
+        ensures ok { OnOk result (flights.new.items ≡ flights.old.items ++ begun_flights (jobs_of_writes (writes_on tree.now batch.now) (after_writes (writes_of before.now) (db_state P.store M.meant self.now)))) }
+        ensures err { IfErr result (unread (P.store self.now.pages)) }
+    {
+        for (key, value) in batch.writes().iter() {
+            if !self.stands(before, tree, key, value)? {
+                flights.push(begun(tree, key, value)?)?;
+            }
+        }
+        Ok(())
+    }
+
+    // The writes of a group that change something, as calls that have yet to begin.
+    fn changes(&self, batches: &[(Tree, Batch)]) -> Result<Vec<InFlight>>
+        requires tested { must_refuse_of (db_state P.store M.meant self.now) (trees_of_batches batches.now) ≡ None }
+        ensures ok { IfOk result (λ flights. flights.items ≡ begun_flights (jobs_of_writes (writes_of batches.now) (db_state P.store M.meant self.now))) }
+        ensures err { IfErr result (unread (P.store self.now.pages)) }
+    {
+        let mut flights = Vec::new(self.alloc);
+        for index in 0..batches.len() {
+            let (tree, batch) = &batches[index];
+            if let Err(e) = self.add_changes(&batches[..index], tree, batch, &mut flights) {
+                drop(flights);
+                return Err(e);
+            }
+        }
+        Ok(flights)
+    }
+
+    /// Makes the writes of each batch in its tree, all or none, in the order of the list and of each batch in the order of its keys, and
+    /// then their events come. A write that changes nothing brings no event, and where no write changes anything nothing is done. A tree
+    /// may stand in the list more than once.
+    ///
+    /// Refused by the tests, each of all trees in turn, and then with `Io`, `NoMemory` or `ReportableBug`. Up to the begin of the group in
+    /// the store nothing changes. Where it is refused after that the database is closed: every call is refused with `Closed` from now on,
+    /// and none of the writes is there once its pages are recovered and opened again.
+    ///
+    /// ```
+    /// let group = [(orders, added), (stock, taken)];
+    /// db.apply_group(&group)?; // Both, or neither.
+    /// ```
+    pub fn apply_group(&mut self, batches: &[(Tree, Batch)]) -> Result<()>
+        ensures ok { OnOk result (GroupDecided P.store M.meant self.old batches.now self.new) }
+        ensures err { IfErr result (λ e. GroupRefused P.store M.meant self.old batches.now e self.new) }
+        ensures quiet { IsQuietGroup P.store M.meant self.old batches.now self.new }
+    {
+        if let Err(e) = self.check_batches(batches) {
+            return Err(e);
+        }
+        let flights = match self.changes(batches) {
+            Ok(flights) => flights,
+            Err(e) => return Err(e),
+        };
+        make_group(&mut self.pages, &mut self.queues, self.alloc, flights)
+    }
+
+    /// Makes the writes of a batch in a tree, all or none, in the order of the keys. Refused as a group of it alone (`apply_group`).
+    ///
+    /// ```
+    /// let mut batch = Batch::default(alloc);
+    /// batch.insert(alloc, b"ulm", b"21")?;
+    /// batch.remove(alloc, b"bern")?;
+    /// db.apply_batch(&tree, batch)?; // Both, or neither.
+    /// ```
+    pub fn apply_batch(&mut self, tree: &Tree, batch: Batch) -> Result<()>
+        ensures ok { OnOk result (GroupDecided P.store M.meant self.old ((tree.now, batch) ∷ []) self.new) }
+        ensures err { IfErr result (λ e. GroupRefused P.store M.meant self.old ((tree.now, batch) ∷ []) e self.new) }
+        ensures quiet { IsQuietGroup P.store M.meant self.old ((tree.now, batch) ∷ []) self.new }
+    {
+        if let Err(e) = self.check(tree) {
+            drop(batch);
+            return Err(e);
+        }
+        let tree = match tree.clone() {
+            Ok(tree) => tree,
+            Err(e) => {
+                drop(batch);
+                return Err(e);
+            }
+        };
+        let group = [(tree, batch)];
+        let made = self.apply_group(&group);
+        drop(group);
+        made
+    }
+}

@@ -1,0 +1,72 @@
+-- A group of writes, over the pages alone.
+use Rattle.std.specs.Prelude.{◌≡◌, ℕ, ◌⊎◌, Bool, true, false, List, [], ◌∷◌, map, Option, Some, if◌then◌else◌}
+use Rattle.std.specs.Str.{bytes_eq}
+use Rattle.sled_nodes.specs.declared.error.Error.{Error}
+use Rattle.sled_store.specs.State.{GroupBegins, GroupEnds}
+use Rattle.sled_store.specs.Store.{Store, now, after_action, is_refused_as}
+use Rattle.sled_model.specs.Maps.{Map, Merge}
+use Rattle.sled_model.specs.Answer.{answer_of}
+use Rattle.sled_model.specs.Refusal.{needs_operator}
+use Rattle.tree_laws.specs.Contents.{trees_of}
+use Rattle.tree_laws.specs.Crashes.{AddsCrashStates, IsValid}
+use Rattle.tree_laws.specs.Forest.{Tree, Forest, contents}
+use Rattle.tree_laws.specs.Snapshot.{Snapshot, snapshot_of, nodes_at, HasForest}
+use Rattle.sled_tree.specs.declared.flight.InFlight.{InFlight}
+use Rattle.sled_tree.specs.declared.flight.Job.{Job}
+use Rattle.tree_groups.specs.Writes.{IsFresh, ActsOften, is_write_refused_as, Keeps}
+
+-- each call has yet to begin, and needs no operator
+abbrev pub AreFresh : List InFlight → Type 0
+AreFresh [] = Unit {0}
+AreFresh (f ∷ fs) = (IsFresh f × (needs_operator f.job.call ≡ false)) × AreFresh fs
+
+abbrev pub jobs_of : List InFlight → List Job
+jobs_of flights = map (λ f. f.job) flights
+
+-- the tree of each call has its number
+abbrev pub AreNumbered : (Tree → Option ℕ) → List Job → Type 0
+AreNumbered numbers [] = Unit {0}
+AreNumbered numbers (j ∷ js) = (numbers j.tree.name ≡ Some j.tree.number) × AreNumbered numbers js
+
+-- the map of a tree once these calls have changed it, one after the other, by this operator
+abbrev pub map_after_jobs : Option Merge → List Job → Tree → Map → Map
+map_after_jobs operator [] t m = m
+map_after_jobs operator (j ∷ js) t m = map_after_jobs operator js t (if bytes_eq j.tree.name t then (answer_of operator j.call m).map else m)
+
+-- the trees change as the calls' answers on the contents before say, one after the other, by whatever operator
+pub record WrittenAll (js : List Job) (m : Snapshot) (w : Forest) (n : Snapshot) : Type 0 where
+  pub after : Forest
+  pub keeps : Keeps m w n after
+  pub is : (operator : Option Merge) (t : Tree) → contents (nodes_at n) after t ≡ map_after_jobs operator js t (contents (nodes_at m) w t)
+
+-- a group was begun, and these actions were done in it
+pub record ActsInside (old last : Store) : Type 0 where
+  pub begun : Store
+  pub is : begun ≡ after_action GroupBegins old
+  pub acts : ActsOften begun last
+
+-- without a write nothing is done, and no group begins
+abbrev pub seals_as : List Job → Store → Store → Type 0
+seals_as [] old new = new ≡ old
+seals_as (j ∷ js) old new = (last : Store) × ActsInside old last × (new ≡ after_action GroupEnds last)
+
+-- A group of writes is made: it is begun, the writes are made, one after the other, and it is sealed. A crash may leave what it leaves,
+-- and nothing else of it
+pub record MakesGroup (js : List Job) (old new : Store) : Type 0 where
+  pub acts : seals_as js old new
+  pub adds : IsValid (now new) → AddsCrashStates (trees_of (now new) ∷ []) old new
+  pub told : (numbers : Tree → Option ℕ) (given : ℕ → Bool) (w : Forest) → HasForest (snapshot_of old numbers given) w → AreNumbered numbers js
+      → WrittenAll js (snapshot_of old numbers given) w (snapshot_of new numbers given)
+
+-- the pages are well formed after any number of actions, whatever the contents are
+pub record KeepsForests (m : Snapshot) (w : Forest) (n : Snapshot) : Type 0 where
+  pub after : Forest
+  pub keeps : Keeps m w n after
+
+-- A group is refused: where it is to begin, and then nothing was done; or at a write or where it is to be sealed, and then it stays open
+-- and nothing more is done. A crash leaves nothing of it
+pub record LeavesGroup (js : List Job) (old new : Store) (e : Error) : Type 0 where
+  pub acts : is_refused_as e old new ⊎ ((last : Store) × ActsInside old last × is_write_refused_as e last new × ((now new).in_group ≡ true))
+  pub adds : AddsCrashStates [] old new
+  pub told : (numbers : Tree → Option ℕ) (given : ℕ → Bool) (w : Forest) → HasForest (snapshot_of old numbers given) w → AreNumbered numbers js
+      → KeepsForests (snapshot_of old numbers given) w (snapshot_of new numbers given)
