@@ -22,8 +22,8 @@ pub use event::{Event, Next};
 pub use operator::MergeOperator;
 pub use outcome::{Outcome, Slot, Step};
 pub use reply::{CompareAndSwapError, Reply};
-pub use subscriber::Subscriber;
 pub use sled_batch::Batch;
+pub use subscriber::Subscriber;
 pub use tree::Tree;
 
 /// A call whose turns are this many is refused at its next step.
