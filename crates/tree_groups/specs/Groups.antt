@@ -1,5 +1,5 @@
 -- A group of writes, over the pages alone.
-use Rattle.std.specs.Prelude.{◌≡◌, ℕ, ◌⊎◌, Bool, true, false, List, [], ◌∷◌, map, Option, Some, if◌then◌else◌}
+use Rattle.std.specs.Prelude.{◌≡◌, ◌≢◌, ℕ, ◌⊎◌, Bool, true, false, List, [], ◌∷◌, map, Option, Some, if◌then◌else◌}
 use Rattle.std.specs.Str.{bytes_eq}
 use Rattle.sled_nodes.specs.declared.error.Error.{Error}
 use Rattle.sled_store.specs.State.{GroupBegins, GroupEnds}
@@ -64,8 +64,9 @@ pub record KeepsForests (m : Snapshot) (w : Forest) (n : Snapshot) : Type 0 wher
   pub keeps : Keeps m w n after
 
 -- A group is refused: where it is to begin, and then nothing was done; or at a write or where it is to be sealed, and then it stays open
--- and nothing more is done. A crash leaves nothing of it
+-- and nothing more is done. A crash leaves nothing of it. A group without a write is not refused
 pub record LeavesGroup (js : List Job) (old new : Store) (e : Error) : Type 0 where
+  pub some : js ≢ []
   pub acts : is_refused_as e old new ⊎ ((last : Store) × ActsInside old last × is_write_refused_as e last new × ((now new).in_group ≡ true))
   pub adds : AddsCrashStates [] old new
   pub told : (numbers : Tree → Option ℕ) (given : ℕ → Bool) (w : Forest) → HasForest (snapshot_of old numbers given) w → AreNumbered numbers js
