@@ -18,5 +18,6 @@ pub mod Naming
 pub mod Numbering
 pub mod Planting
 pub mod Importing
+pub mod Grouping
 pub mod Dropping
 pub mod Removing

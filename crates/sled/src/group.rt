@@ -65,8 +65,7 @@ fn write_call(key: &IVec, value: &Option<IVec>) -> Result<Call>
 }
 
 // Prepares the event of an insert or a removal that changes something.
-fn prepare_event(queues: &mut Queues, tree: u64, call: &Call) -> Result<()>
-{
+fn prepare_event(queues: &mut Queues, tree: u64, call: &Call) -> Result<()> {
     if !queues.is_watched(tree, call.key().as_ref()) {
         return Ok(());
     }
@@ -81,8 +80,7 @@ fn prepare_event(queues: &mut Queues, tree: u64, call: &Call) -> Result<()>
 }
 
 // The event of an insert.
-fn inserted(key: &IVec, value: &IVec) -> Result<Event>
-{
+fn inserted(key: &IVec, value: &IVec) -> Result<Event> {
     let key = key.clone()?;
     match value.clone() {
         Ok(value) => Ok(Event::Insert { key, value }),
@@ -156,7 +154,13 @@ impl<P: Pages, M: MergeOperator> Db<P, M> {
     }
 
     // Whether the value that a key is to have stands there, once these batches are made.
-    fn stands(&self, before: &[(Tree, Batch)], tree: &Tree, key: &IVec, value: &Option<IVec>) -> Result<bool>
+    fn stands(
+        &self,
+        before: &[(Tree, Batch)],
+        tree: &Tree,
+        key: &IVec,
+        value: &Option<IVec>,
+    ) -> Result<bool>
         requires tested { must_refuse_of (db_state P.store M.meant self.now) (trees_of_batches before.now ++ tree.now ∷ []) ≡ None }
         ensures ok { IfOk result (Stands (after_writes (writes_of before.now) (db_state P.store M.meant self.now)) tree.now key.now value.now) }
         ensures err { IfErr result (unread (P.store self.now.pages)) }
