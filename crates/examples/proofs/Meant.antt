@@ -7,7 +7,7 @@ use Rattle.sled_model.specs.Collections.{Content, contents_of}
 use Rattle.sled_model.specs.State.{State, maps_of}
 use Rattle.sled_model.specs.Refusal.{Asked, ToCall, ToStep, must_refuse}
 use Rattle.sled_model.specs.Transition.{Configuration, Transition}
-use Rattle.sled_model.specs.declared.call.Whole.TheVariants.{Flush, PopMin, PopMax, Clear, OpenTree, DropTree, GenerateId, Import, Watch, Next, Unsubscribe}
+use Rattle.sled_model.specs.declared.call.Whole.TheVariants.{Flush, PopMin, PopMax, Clear, Group, OpenTree, DropTree, GenerateId, Import, Watch, Next, Unsubscribe}
 use Rattle.sled_model.specs.declared.outcome.Step.{Step}
 use Rattle.sled_model.specs.declared.outcome.Step.TheVariants as step
 use Rattle.sled_model.specs.declared.outcome.Outcome.{Outcome}
@@ -20,7 +20,7 @@ use Rattle.sled_machine.specs.CrashMaps.{AreCrashMaps, crash_maps_after}
 use Rattle.sled_machine.specs.Run.{RunsWithCrashMaps, KeepsAll, KeepsMore, MachineSteps, NoCalls, OneCall}
 use Rattle.sled_machine.specs.Step.{MachineStep, MachineStepContract, effect_of_machine_step, follows_stage_as, advances_on_path_as, starts_as, leaks_no_page_at, gives_up_as, tested_as, pops_as, clears_as, opens_as, drops_tree_as, way_as, imports_as}
 use Rattle.sled_machine.specs.Values.{MachineValue, configuration_of, slots_of}
-use Rattle.examples.proofs.Plain.{plain, same_configuration, same_db, same_tests, plain_sound, meant_sound, plain_gives_up, plain_opens_by, plain_opens_not, plain_drops, plain_drops_not, plain_pops, plain_stops, plain_clears, plain_clear_stops, plain_imports, plain_imports_not}
+use Rattle.examples.proofs.Plain.{plain, same_configuration, same_db, same_tests, plain_sound, meant_sound, plain_gives_up, plain_opens_by, plain_opens_not, plain_drops, plain_drops_not, plain_pops, plain_stops, plain_clears, plain_clear_stops, plain_quiet, plain_imports, plain_imports_not}
 
 module _ {P M : Type 0} (store : P → Store) (number : P → ℕ) (meant : M → Merge) where
   abbrev pub plain_machine : MachineValue P M → MachineValue P Merge
@@ -95,6 +95,7 @@ module _ {P M : Type 0} (store : P → Store) (number : P → ℕ) (meant : M �
     plain_turns (step.Whole (PopMax tree)) (outcome.Refused e) h = plain_gives_up store meant a.db tree IsGreatest for_each e h
     plain_turns (step.Whole Flush) (outcome.Refused e) h = h
     plain_turns (step.Whole (Clear tree)) (outcome.Refused e) h = h
+    plain_turns (step.Whole (Group batches)) (outcome.Refused e) h = h
     plain_turns (step.Whole (OpenTree name)) (outcome.Refused e) h = h
     plain_turns (step.Whole (DropTree name)) (outcome.Refused e) h = h
     plain_turns (step.Whole GenerateId) (outcome.Refused e) h = h
@@ -119,6 +120,7 @@ module _ {P M : Type 0} (store : P → Store) (number : P → ℕ) (meant : M �
     plain_tested (step.Whole (PopMin tree)) (outcome.Refused e) h = plain_untouched (ToCall (PopMin tree)) h
     plain_tested (step.Whole (PopMax tree)) (outcome.Refused e) h = plain_untouched (ToCall (PopMax tree)) h
     plain_tested (step.Whole (Clear tree)) (outcome.Refused e) h = plain_untouched (ToCall (Clear tree)) h
+    plain_tested (step.Whole (Group batches)) (outcome.Refused e) h = plain_untouched (ToCall (Group batches)) h
     plain_tested (step.Whole (OpenTree name)) (outcome.Refused e) h = plain_untouched (ToCall (OpenTree name)) h
     plain_tested (step.Whole (DropTree name)) (outcome.Refused e) h = plain_untouched (ToCall (DropTree name)) h
     plain_tested (step.Whole GenerateId) (outcome.Refused e) h = plain_untouched (ToCall GenerateId) h
@@ -180,6 +182,7 @@ module _ {P M : Type 0} (store : P → Store) (number : P → ℕ) (meant : M �
     plain_way (step.Whole (PopMin tree)) o h = plain_pops_as tree IsLeast once o h
     plain_way (step.Whole (PopMax tree)) o h = plain_pops_as tree IsGreatest for_each o h
     plain_way (step.Whole (Clear tree)) o h = plain_clears_as tree o h
+    plain_way (step.Whole (Group batches)) o h = plain_quiet store meant batches.items a.db b.db h
     plain_way (step.Whole (OpenTree name)) o h = plain_opens_as name o h
     plain_way (step.Whole (DropTree name)) o h = plain_drops_as name o h
     plain_way (step.Whole GenerateId) o h = h

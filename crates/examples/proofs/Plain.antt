@@ -3,6 +3,7 @@ use Rattle.std.proofs.Common.{◌≡◌, ◌≢◌, ◌⊎◌, ℕ, zero, suc, B
 use Rattle.std.specs.FinMap.Entries.{find}
 use Rattle.std.specs.Ordering.{nat_cmp, eq_by_cmp}
 use Rattle.sled_nodes.specs.Order.{Key}
+use Rattle.sled_batch.specs.Batch.{Writes}
 use Rattle.sled_store.specs.Store.{Store, now}
 use Rattle.sled_nodes.specs.Node.{without}
 use Rattle.sled_store.specs.Update.{put_at, put_name}
@@ -11,6 +12,7 @@ use Rattle.sled_nodes.specs.declared.error.Error.TheVariants as error
 use Rattle.sled_model.specs.Maps.{Map, Maps, Merge, IsLeast}
 use Rattle.sled_model.specs.State.{State, CallInFlight, maps_of}
 use Rattle.sled_model.specs.Refusal.{MustRefuse, Asked, ToStep, ToPoint, must_refuse, must_refuse_of}
+use Rattle.sled_model.specs.Groups.{writes_of, events_of_writes}
 use Rattle.sled_model.specs.Transition.{Configuration, Transition}
 use Rattle.sled_model.specs.Collections.{Content}
 use Rattle.sled_model.specs.Imports.{Part, OpensName, Puts, tree_at, IsAbsent, overwrites_as, refuses_import_as, StopsAtPart}
@@ -33,6 +35,7 @@ use Rattle.sled.specs.Direct.{Conducts, PointDecided, PointRefused}
 use Rattle.sled.specs.Drops.{DropsNamed, DropsTree, MightDrop, refuses_drop_as, RefusesDrop}
 use Rattle.sled.specs.Flights.{call_in_flight_of, BringsEvent, DbStepContract, DbSteps, Ends, GoesOn, DbRunsToEnd, outcome_of, slot_after, maps_added}
 use Rattle.sled.specs.Opens.{Opens, OpensBySteps, OpenRefusedBySteps}
+use Rattle.sled.specs.Groups.{IsQuietGroup}
 use Rattle.sled.specs.Imports.{PartBySteps, PartRefusedBySteps, ImportsBySteps, ImportsNone, ImportsMore, ImportStops, ImportRefused}
 use Rattle.sled.specs.Reads.{RefusesReading, refuses_reading_as}
 use Rattle.sled.specs.Pops.{TakesOut, RefusesToTake, IsAtEnd, PopsBySteps, PopRefusedBySteps, IsLongWay, GivesUpPop, ClearsBySteps, ClearsNone, ClearsMore, ClearRefusedBySteps}
@@ -300,6 +303,11 @@ module _ {P M : Type 0} (store : P → Store) (meant : M → Merge) where
     same = ap plain h.same;
     tested = λ must. ap plain (h.tested (subst (λ (s : State). must_refuse_of s [] ≢ None) (same_db old) must));
   }
+
+  -- ---- groups
+
+  pub plain_quiet : (batches : List (Tree × Writes)) (old new : DbValue P M) → IsQuietGroup store meant old batches new → IsQuietGroup store (λ m. m) (plain old) batches (plain new)
+  plain_quiet batches old new h = record { is = λ none. h.is (subst (λ (s : State). events_of_writes (writes_of batches) s ≡ []) (same_db old) none) }
 
   -- ---- pops and clears
 

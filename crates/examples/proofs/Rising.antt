@@ -5,13 +5,14 @@ use Rattle.sled_store.specs.Store.{Store}
 use Rattle.sled_store.specs.Crash.{Crashes}
 use Rattle.sled_model.specs.Maps.{Maps, Merge}
 use Rattle.sled_model.specs.Answer.{answer_of}
+use Rattle.sled_model.specs.Groups.{Write, writes_of, after_write_on, after_write, after_writes}
 use Rattle.sled_model.specs.Imports.{Part, OpensName, Puts, DoesPart, DoesParts, NoPart, OnePart}
 use Rattle.sled_model.specs.State.{State, NamedTree, after_decision_on}
 use Rattle.sled_model.specs.Transition.{Configuration, transition_as}
 use Rattle.sled_model.specs.Whole.{after_pop, RemovesLeast, RemovesNone, RemovesOne, state_opened, state_dropped}
 use Rattle.sled_model.specs.declared.call.Call.TheVariants.{Remove}
 use Rattle.sled_model.specs.declared.call.Whole.{Whole}
-use Rattle.sled_model.specs.declared.call.Whole.TheVariants.{Flush, PopMin, PopMax, Clear, OpenTree, DropTree, GenerateId, Import, Watch, Next, Unsubscribe}
+use Rattle.sled_model.specs.declared.call.Whole.TheVariants.{Flush, PopMin, PopMax, Clear, Group, OpenTree, DropTree, GenerateId, Import, Watch, Next, Unsubscribe}
 use Rattle.sled_model.specs.declared.outcome.Step.{Step}
 use Rattle.sled_model.specs.declared.outcome.Step.TheVariants as step
 use Rattle.sled_model.specs.declared.outcome.Outcome.{Outcome}
@@ -60,6 +61,15 @@ parts_done : {a b : State} {parts : List Part} {maps : List Maps} → DoesParts 
 parts_done NoPart = refl
 parts_done (OnePart {a = a} {m = m} {part = part} {added = added} one more) = parts_done more ∙ part_done a m part added one
 
+-- no write of a group gives an id
+written_on : (o : Option NamedTree) (w : Write) (s : State) → (after_write_on o w s).greatest_id ≡ s.greatest_id
+written_on None w s = refl
+written_on (Some t) w s = refl
+
+written : (ws : List Write) (s : State) → (after_writes ws s).greatest_id ≡ s.greatest_id
+written [] s = refl
+written (w ∷ ws) s = written ws (after_write w s) ∙ written_on (s.trees w.tree.name) w s
+
 -- an id was given
 one_given : (low high : ℕ) (reply : Reply) → reply ≡ told.Number (low + 1) → high ≡ low + 1 → RiseBetween low (id_of (step.Whole GenerateId) (outcome.Decided reply)) high
 one_given low high (told.Number id) r h = let e = number_is r in (omega arith, omega arith)
@@ -80,6 +90,7 @@ whole_rises a b Flush (outcome.Decided reply) maps t = stays a.state b.state t.2
 whole_rises a b (PopMin tree) (outcome.Decided reply) maps t = at_most _ _ (ap (λ (s : State). s.greatest_id) t.is ∙ popped a.state tree.name t.named t.found)
 whole_rises a b (PopMax tree) (outcome.Decided reply) maps t = at_most _ _ (ap (λ (s : State). s.greatest_id) t.is ∙ popped a.state tree.name t.named t.found)
 whole_rises a b (Clear tree) (outcome.Decided reply) maps t = at_most _ _ (removed tree a.state b.state t.1.parts maps t.1.removes)
+whole_rises a b (Group batches) (outcome.Decided reply) maps t = at_most _ _ (ap (λ (s : State). s.greatest_id) t.is ∙ written (writes_of batches.items) a.state)
 whole_rises a b (OpenTree name) (outcome.Decided reply) maps t = at_most _ _ (ap (λ (s : State). s.greatest_id) t.is ∙ opened (a.state.trees name) a.state name)
 whole_rises a b (DropTree name) (outcome.Decided reply) maps t = at_most _ _ (ap (λ (s : State). s.greatest_id) t.is ∙ dropped (a.state.trees name) a.state name)
 whole_rises a b GenerateId (outcome.Decided reply) maps t = one_given a.state.greatest_id b.state.greatest_id reply t.replies (ap (λ (s : State). s.greatest_id) t.is)
@@ -91,6 +102,10 @@ whole_rises a b Flush (outcome.Refused e) maps t = stays a.state b.state t.1
 whole_rises a b (PopMin tree) (outcome.Refused e) maps t = stays a.state b.state t.1
 whole_rises a b (PopMax tree) (outcome.Refused e) maps t = stays a.state b.state t.1
 whole_rises a b (Clear tree) (outcome.Refused e) maps t = at_most _ _ (removed tree a.state b.state t.parts maps t.removes)
+whole_rises a b (Group batches) (outcome.Refused e) maps t = elim t.is [
+  | inl same ↦ stays a.state b.state same
+  | inr closed ↦ at_most _ _ (ap (λ (s : State). s.greatest_id) closed.1.is)
+]
 whole_rises a b (OpenTree name) (outcome.Refused e) maps t = stays a.state b.state t.1
 whole_rises a b (DropTree name) (outcome.Refused e) maps t = stays a.state b.state t.1
 whole_rises a b GenerateId (outcome.Refused e) maps t = stays a.state b.state t.1

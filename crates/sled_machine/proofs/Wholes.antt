@@ -5,7 +5,7 @@ use Rattle.sled_store.specs.Store.{Store}
 use Rattle.sled_nodes.specs.declared.error.Error.{Error}
 use Rattle.sled_model.specs.Maps.{Maps, Merge}
 use Rattle.sled_model.specs.State.{maps_of}
-use Rattle.sled_model.specs.Transition.{Kind, Flushing, Telling, Changing, InParts, Dropping, Listening, kind_of}
+use Rattle.sled_model.specs.Transition.{Kind, Flushing, Telling, Changing, Grouping, InParts, Dropping, Listening, kind_of}
 use Rattle.sled_model.specs.declared.call.Whole.{Whole}
 use Rattle.sled_model.specs.declared.call.Whole.TheVariants.{Flush}
 use Rattle.sled_model.specs.declared.reply.Reply.{Reply}
@@ -25,6 +25,7 @@ abbrev pub IsOther : Kind → Type 0
 IsOther Flushing = ⊥
 IsOther Telling = Unit {0}
 IsOther Changing = Unit {0}
+IsOther Grouping = Unit {0}
 IsOther InParts = Unit {0}
 IsOther Dropping = Unit {0}
 IsOther Listening = Unit {0}
@@ -41,6 +42,7 @@ loses_other : (k : Kind) → IsOther k → (lost : Option Key) (a b : Snapshot) 
 loses_other Flushing off lost a b l = absurd off
 loses_other Telling off lost a b l = l
 loses_other Changing off lost a b l = l
+loses_other Grouping off lost a b l = l
 loses_other InParts off lost a b l = l
 loses_other Dropping off lost a b l = l
 loses_other Listening off lost a b l = l
@@ -49,6 +51,7 @@ tested_other : (k : Kind) → IsOther k → (T : Type 0) → T → whole_tested 
 tested_other Flushing off T t = absurd off
 tested_other Telling off T t = t
 tested_other Changing off T t = t
+tested_other Grouping off T t = t
 tested_other InParts off T t = t
 tested_other Dropping off T t = t
 tested_other Listening off T t = t

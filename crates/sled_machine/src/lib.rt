@@ -11,6 +11,7 @@ mod machine;
 
 pub use laws::{law_extended, law_flushed, law_hears, law_steps};
 pub use machine::Machine;
+pub use sled_batch::Batch;
 pub use sled_model::{
     Call, Collection, CompareAndSwapError, Event, MergeOperator, Outcome, Reply, Slot, Step,
     Subscriber, Tree, Whole,

@@ -4,13 +4,14 @@ ghost use Rattle.std.specs.Option.{option_map, option_copied};
 ghost use Rattle.sled_nodes.specs.Order.{Key};
 ghost use Rattle.sled_nodes.specs.declared.error.Error.TheVariants.{NoMemory};
 ghost use Rattle.sled_model.specs.Refusal.{must_refuse, ToBegin, must_refuse_of};
-ghost use Rattle.sled_model.specs.declared.call.Whole.TheVariants.{Flush, PopMin, PopMax, Clear, OpenTree, DropTree, GenerateId, Import, Watch, Next, Unsubscribe};
+ghost use Rattle.sled_model.specs.declared.call.Whole.TheVariants.{Flush, PopMin, PopMax, Clear, Group, OpenTree, DropTree, GenerateId, Import, Watch, Next, Unsubscribe};
 ghost use Rattle.sled_model.specs.declared.call.Call.{Call};
 ghost use Rattle.sled_model.specs.declared.outcome.Outcome.TheVariants as outcome;
 ghost use Rattle.sled_model.specs.declared.outcome.Step.TheVariants as step;
 
 use crate::flights::{add, finish_in, outcome_of, remove, step_in, turns_in};
 use sled::Db;
+use sled_batch::Batch;
 use sled_model::{
     Call, Collection, MergeOperator, Outcome, Reply, Slot, Step, Subscriber, Tree, Whole,
 };
@@ -271,6 +272,7 @@ impl<P: Pages, M: MergeOperator> Machine<P, M> {
             Whole::PopMin(tree) => self.pop_min(tree),
             Whole::PopMax(tree) => self.pop_max(tree),
             Whole::Clear(tree) => self.clear(tree),
+            Whole::Group(batches) => self.group(batches),
             Whole::OpenTree(name) => self.open_tree(name),
             Whole::DropTree(name) => self.drop_tree(name),
             Whole::GenerateId => self.generate_id(),
@@ -315,6 +317,15 @@ impl<P: Pages, M: MergeOperator> Machine<P, M> {
         ensures { MachineStepContract P.store P.flush_number M.meant self.old (step.Whole (Clear tree.now)) result self.new }
     {
         if let Err(e) = self.db.clear(tree) {
+            return Outcome::Refused(e);
+        }
+        Outcome::Decided(Reply::Done)
+    }
+
+    fn group(&mut self, batches: &Vec<(Tree, Batch)>) -> Outcome
+        ensures { MachineStepContract P.store P.flush_number M.meant self.old (step.Whole (Group batches.now)) result self.new }
+    {
+        if let Err(e) = self.db.apply_group(batches.as_slice()) {
             return Outcome::Refused(e);
         }
         Outcome::Decided(Reply::Done)
