@@ -25,6 +25,7 @@ module _ {P M : Type 0} (store : P → Store) (flush_number : P → ℕ) (meant 
   obeys_by old (command.Step n) show o new does tree = (show, o, does, tree, refl)
   obeys_by old (command.Finish n) show o new does tree = (show, o, does, tree, refl)
   obeys_by old (command.Abandon n) show o new does tree = (show, o, does, tree, refl)
+  obeys_by old (command.Batch writes) show o new does tree = (show, o, does, tree, refl)
   obeys_by old command.Flush show o new does tree = (show, o, does, tree, refl)
   obeys_by old (command.Crash keep) show o new does tree = absurd does
   obeys_by old command.Dump show o new does tree = absurd does

@@ -147,6 +147,7 @@ is_crash (command.Begin call) keep e = cc
 is_crash (command.Step n) keep e = cc
 is_crash (command.Finish n) keep e = cc
 is_crash (command.Abandon n) keep e = cc
+is_crash (command.Batch writes) keep e = cc
 is_crash command.Flush keep e = cc
 is_crash command.Dump keep e = cc
 is_crash (command.OpenTree name) keep e = cc

@@ -2,13 +2,15 @@
 use Rattle.std.specs.Prelude.{ℕ, List, [], ◌∷◌, Option, Some, None, is_some, option_map, codes, if◌then◌else◌}
 use Rattle.std.specs.Str.{bytes_eq}
 use Rattle.sled_nodes.specs.Order.{Key}
+use Rattle.sled_batch.specs.Batch.{Writes}
 use Rattle.sled_model.specs.declared.call.Call.{Call}
 use Rattle.sled_model.specs.declared.call.Call.TheVariants as call
 use Rattle.sled_lines.specs.Words.{words_of, read_word, read_value, read_number}
+use Rattle.sled_lines.specs.Batch.{batch_of}
 use Rattle.sled_lines.specs.declared.command.Name.{Name}
 use Rattle.sled_lines.specs.declared.command.Name.TheVariants as name
 use Rattle.sled_lines.specs.declared.command.Command.{Command}
-use Rattle.sled_lines.specs.declared.command.Command.TheVariants.{Point, Begin, Step, Finish, Abandon, Flush, Crash, Dump, OpenTree}
+use Rattle.sled_lines.specs.declared.command.Command.TheVariants.{Point, Begin, Step, Finish, Abandon, Batch, Flush, Crash, Dump, OpenTree}
 
 -- the name of a call
 abbrev pub call_name_of : List ℕ → Option Name
@@ -26,6 +28,7 @@ other_name_of word =
     else if bytes_eq word (codes "step") then Some name.Step
     else if bytes_eq word (codes "finish") then Some name.Finish
     else if bytes_eq word (codes "abandon") then Some name.Abandon
+    else if bytes_eq word (codes "batch") then Some name.Batch
     else if bytes_eq word (codes "flush") then Some name.Flush
     else if bytes_eq word (codes "crash") then Some name.Crash
     else if bytes_eq word (codes "dump") then Some name.Dump
@@ -112,6 +115,10 @@ abbrev pub opens : Option (List ℕ) → Option Command
 opens (Some word) = option_map (λ name. OpenTree name) (read_word word)
 opens None = None
 
+-- the command that makes these writes together
+abbrev pub batched : Option Writes → Option Command
+batched writes = option_map (λ w. Batch w) writes
+
 -- the command of a name and its arguments
 abbrev pub command_from : Option Name → List (List ℕ) → Option Command
 command_from None arguments = None
@@ -123,6 +130,7 @@ command_from (Some name.Begin) arguments = in_slot (call_of_words arguments)
 command_from (Some name.Step) arguments = numbered (λ n. Step n) (one_of arguments)
 command_from (Some name.Finish) arguments = numbered (λ n. Finish n) (one_of arguments)
 command_from (Some name.Abandon) arguments = numbered (λ n. Abandon n) (one_of arguments)
+command_from (Some name.Batch) arguments = batched (batch_of arguments)
 command_from (Some name.Flush) arguments = alone Flush arguments
 command_from (Some name.Crash) arguments = numbered (λ n. Crash n) (one_of arguments)
 command_from (Some name.Dump) arguments = alone Dump arguments

@@ -1,4 +1,5 @@
 pub mod Words
+pub mod Batch
 pub mod Command
 pub mod Print
 pub mod Serve

@@ -1,5 +1,7 @@
 -- A session: what a command does to its machine, and what is printed.
 use Rattle.std.specs.Prelude.{◌≡◌, ◌⊎◌, ℕ, zero, suc, false, List, [], ◌∷◌, ◌++◌, length, Option, Some, None, option_map, slice_get}
+use Rattle.std.specs.Global.{Vec}
+use Rattle.sled_batch.specs.Batch.{Writes}
 use Rattle.sled_store.specs.Store.{Store, now}
 use Rattle.sled_nodes.specs.declared.error.Error.{Error}
 use Rattle.sled_model.specs.Maps.{Merge}
@@ -20,6 +22,7 @@ use Rattle.sled_lines.specs.Print.{Prints, shown_of, shown_of_whole, outcome_lin
 use Rattle.sled_lines.specs.declared.command.Command.{Command}
 use Rattle.sled_lines.specs.declared.command.Command.TheVariants as command
 use Rattle.sled_lines.specs.declared.print.Shown.{Shown}
+use Rattle.sled_lines.specs.declared.print.Shown.TheVariants as shown
 use Rattle.sled_lines.specs.declared.session.Act.{Act}
 use Rattle.sled_lines.specs.declared.session.Act.TheVariants as act
 use Rattle.sled_lines.specs.declared.session.Session.{Session}
@@ -52,6 +55,12 @@ abbrev pub acts_at : {P M : Type 0} → (P → Store) → (P → ℕ) → (M →
 acts_at store flush_number meant old act None shown o new = (o ≡ NoSuchSlot) × (new ≡ old)
 acts_at store flush_number meant old act (Some at) shown o new = (shown ≡ at.1) × acts_on store flush_number meant old act at.0 o new
 
+-- the writes of a batch are made in a tree, as a group of it alone
+pub record AppliesBatch {P M : Type 0} (store : P → Store) (flush_number : P → ℕ) (meant : M → Merge) (old : MachineValue P M) (tree : Tree) (writes : Writes) (o : Outcome) (new : MachineValue P M) : Type 0 where
+  pub batches : Vec (Tree × Writes)
+  pub is : batches.items ≡ (tree, writes) ∷ []
+  pub reaches : MachineStepContract store flush_number meant old (step.Whole (whole.Group batches)) o new
+
 -- how a command came out that neither dumps nor crashes, and what is shown of the reply
 abbrev pub performs : {P M : Type 0} → (P → Store) → (P → ℕ) → (M → Merge) → Session P M → Command → Shown → Outcome → Session P M → Type 0
 performs store flush_number meant old (command.Point call) show o new = (show ≡ shown_of call) × Completes store flush_number meant old.machine old.tree call o new.machine × (new.slots ≡ old.slots)
@@ -59,6 +68,7 @@ performs store flush_number meant old (command.Begin call) show o new = (show �
 performs store flush_number meant old (command.Step n) show o new = acts_at store flush_number meant old.machine act.Step (slot_at old.slots.items n) show o new.machine × (new.slots ≡ old.slots)
 performs store flush_number meant old (command.Finish n) show o new = acts_at store flush_number meant old.machine act.Finish (slot_at old.slots.items n) show o new.machine × (new.slots ≡ old.slots)
 performs store flush_number meant old (command.Abandon n) show o new = acts_at store flush_number meant old.machine act.Abandon (slot_at old.slots.items n) show o new.machine × (new.slots ≡ old.slots)
+performs store flush_number meant old (command.Batch writes) show o new = (show ≡ shown.Value) × AppliesBatch store flush_number meant old.machine old.tree writes o new.machine × (new.slots ≡ old.slots)
 performs store flush_number meant old command.Flush show o new = (show ≡ shown_of_whole whole.Flush) × MachineStepContract store flush_number meant old.machine (step.Whole whole.Flush) o new.machine × (new.slots ≡ old.slots)
 performs store flush_number meant old (command.Crash keep) show o new = ⊥
 performs store flush_number meant old command.Dump show o new = ⊥

@@ -5,7 +5,9 @@ ghost use Rattle.sled_nodes.specs.declared.error.Error.TheVariants.{NoMemory};
 ghost use Rattle.sled_lines.specs.Words.{words_after, read_number};
 ghost use Rattle.sled_lines.specs.Command.{call_name_of, other_name_of, name_of, one_of, two_of, three_of, insert_of, get_of, remove_of, swap_of, call_of, call_of_words, in_slot, opens, alone, command_of};
 
+use crate::batch::read_batch;
 use crate::words::{first_word, read_number, read_value, read_word};
+use sled_batch::Batch;
 use sled_model::Call;
 use sled_nodes::{IVec, Result};
 use std::alloc::Global;
@@ -23,6 +25,8 @@ pub enum Command {
     Finish(u64),
     /// The end of the call of this number.
     Abandon(u64),
+    /// Writes on the current tree, made together.
+    Batch(Batch),
     /// Makes all durable.
     Flush,
     /// A crash that keeps this many actions since the last flush.
@@ -44,6 +48,7 @@ enum Name {
     Step,
     Finish,
     Abandon,
+    Batch,
     Flush,
     Crash,
     Dump,
@@ -77,6 +82,8 @@ fn other_name_of(word: &[u8]) -> Option<Name>
         Some(Name::Finish)
     } else if word == b"abandon".as_slice() {
         Some(Name::Abandon)
+    } else if word == b"batch".as_slice() {
+        Some(Name::Batch)
     } else if word == b"flush".as_slice() {
         Some(Name::Flush)
     } else if word == b"crash".as_slice() {
@@ -293,6 +300,7 @@ pub fn parse(alloc: Global, line: &[u8]) -> Result<Option<Command>>
         Name::Step => Ok(number_of(arguments).map(Command::Step)),
         Name::Finish => Ok(number_of(arguments).map(Command::Finish)),
         Name::Abandon => Ok(number_of(arguments).map(Command::Abandon)),
+        Name::Batch => Ok(read_batch(alloc, arguments)?.map(Command::Batch)),
         Name::Flush => Ok(alone(Command::Flush, arguments)),
         Name::Crash => Ok(number_of(arguments).map(Command::Crash)),
         Name::Dump => Ok(alone(Command::Dump, arguments)),

@@ -1,5 +1,5 @@
 //! A session: a database from its opening to a crash or the end.
-ghost use Rattle.std.specs.Prelude.{◌≡◌, ◌-◌, ◌^◌, ◌++◌, [], false, length, map, min, sum_by, Option, IfOk, IfErr, OnOk, OnErr};
+ghost use Rattle.std.specs.Prelude.{◌≡◌, ◌-◌, ◌^◌, ◌++◌, [], ◌∷◌, false, length, map, min, sum_by, Option, IfOk, IfErr, OnOk, OnErr};
 ghost use Rattle.std.specs.Option.{option_copied};
 ghost use Rattle.std.specs.List.{flat_map};
 ghost use Rattle.sled_nodes.specs.Order.{Key};
@@ -18,14 +18,16 @@ ghost use Rattle.sled_model.specs.State.{default_name};
 ghost use Rattle.sled_lines.specs.Print.{shown_of, shown_of_whole, outcome_line, pair_line, collection_lines, dump_text, Prints};
 ghost use Rattle.sled_lines.specs.declared.command.Command.TheVariants as command;
 ghost use Rattle.sled_lines.specs.declared.print.Shown.{Shown};
+ghost use Rattle.sled_lines.specs.declared.print.Shown.TheVariants as shown;
 ghost use Rattle.sled_lines.specs.declared.session.Act.TheVariants as act;
-ghost use Rattle.sled_lines.specs.Session.{slot_at, turns_at, begins_as, acts_at, opened_or, Obeys};
+ghost use Rattle.sled_lines.specs.Session.{slot_at, turns_at, begins_as, acts_at, AppliesBatch, opened_or, Obeys};
 ghost use Rattle.sled_lines.specs.theory.Session.{ActsAndShows, Shows};
 
 use crate::command::Command;
 use crate::input::Stopped;
 use crate::print::{Shown, push_end, push_outcome, push_pair};
 use sled::{Collection, Db};
+use sled_batch::Batch;
 use sled_machine::Machine;
 use sled_model::{Call, MergeOperator, Outcome, Reply, Slot, Step, Tree, Whole};
 use sled_nodes::{Error, IVec};
@@ -193,6 +195,18 @@ impl<P: Pages, M: MergeOperator> Session<P, M> {
         self.machine.whole(whole)
     }
 
+    /// Makes the writes of a batch in the current tree, all or none; and what the value in its reply is.
+    pub fn apply_batch(&mut self, batch: Batch) -> Result<(Shown, Outcome), Stopped>
+        ensures applies { IfOk result (λ told. AppliesBatch P.store P.flush_number M.meant self.old.machine self.old.tree batch told.1 self.new.machine) }
+        ensures shown { IfOk result (λ told. told.0 ≡ shown.Value) }
+        ensures err { OnErr result (self.new.machine ≡ self.old.machine) }
+        ensures tree { self.new.tree ≡ self.old.tree }
+        ensures slots { self.new.slots ≡ self.old.slots }
+    {
+        let group = group_of(*self.slots.allocator(), &self.tree, batch)?;
+        Ok(self.whole_shown(Whole::Group(group)))
+    }
+
     /// Gives the current tree a merge operator.
     pub fn set_merge_operator(&mut self, operator: M) -> sled_nodes::Result<()>
         ensures ok { OnOk result (OperatorSet P.store M.meant self.old.machine.db self.old.tree (M.meant operator) self.new.machine.db) }
@@ -353,6 +367,14 @@ impl<P: Pages, M: MergeOperator> Session<P, M> {
         show(out, told)
     }
 
+    // Makes the writes of a batch, and adds the line of how that came out.
+    fn apply_and_show(&mut self, batch: Batch, out: &mut Vec<u8>) -> Result<(), Stopped>
+        ensures { OnOk result (Shows P.store P.flush_number M.meant self.old (command.Batch batch) self.new out.old.items out.new.items) }
+    {
+        let told = self.apply_batch(batch)?;
+        show(out, told)
+    }
+
     // Prints all pairs.
     fn dump<W: Write>(&self, output: &mut W, out: &mut Vec<u8>) -> Result<(), Stopped>
         ensures { OnOk result (Obeys P.store P.flush_number M.meant self.now command.Dump self.now (W.contents output.old) out.old.items (W.contents output.new) out.new.items) }
@@ -379,12 +401,29 @@ impl<P: Pages, M: MergeOperator> Session<P, M> {
             Command::Step(number) => self.act_and_show(number, Act::Step, out),
             Command::Finish(number) => self.act_and_show(number, Act::Finish, out),
             Command::Abandon(number) => self.act_and_show(number, Act::Abandon, out),
+            Command::Batch(batch) => self.apply_and_show(batch, out),
             Command::Flush => show(out, self.whole_shown(Whole::Flush)),
             Command::Crash(_) => Ok(()),
             Command::Dump => self.dump(output, out),
             Command::OpenTree(name) => self.open_tree(name, out),
         }
     }
+}
+
+// The group of one batch on a tree.
+fn group_of(alloc: Global, tree: &Tree, batch: Batch) -> Result<Vec<(Tree, Batch)>, Stopped>
+    ensures { IfOk result (λ group. group.items ≡ (tree.now, batch) ∷ []) }
+{
+    let tree = match tree.clone() {
+        Ok(tree) => tree,
+        Err(e) => {
+            drop(batch);
+            return Err(Stopped::from(e));
+        }
+    };
+    let mut group = Vec::new(alloc);
+    group.push((tree, batch))?;
+    Ok(group)
 }
 
 // Adds the line of an outcome.

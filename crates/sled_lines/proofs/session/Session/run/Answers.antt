@@ -17,6 +17,9 @@ returns-in-Finish g c = obeyed_finish g.P.Pages.store g.P.Pages.flush_number g.M
 pub returns-in-Abandon : goal.returns-in-Abandon
 returns-in-Abandon g c = obeyed_abandon g.P.Pages.store g.P.Pages.flush_number g.M.MergeOperator.meant _ _ c.in-Abandon.number _ _ _ _ _ c.in-Abandon.is c.act_and_show-in-Abandon.ensures
 
+pub returns-in-Batch : goal.returns-in-Batch
+returns-in-Batch g c = obeyed_as g.P.Pages.store g.P.Pages.flush_number g.M.MergeOperator.meant _ _ (command.Batch c.in-Batch.batch) _ _ _ _ _ c.in-Batch.is c.apply_and_show.ensures
+
 pub returns-in-Flush : goal.returns-in-Flush
 returns-in-Flush g c = obeyed_shown g.P.Pages.store g.P.Pages.flush_number g.M.MergeOperator.meant _ _ command.Flush _ _ _ _ _ _ _ c.in-Flush.is (c.whole_shown.ensures.shown, c.whole_shown.ensures.reaches, c.whole_shown.ensures.slots) c.whole_shown.ensures.tree c.show.ensures
 
