@@ -1,5 +1,5 @@
 -- No step opens a closed database.
-use Rattle.std.proofs.Common.{◌≡◌, ℕ, true, List, [], Option, Some, None, refl, sym, ap, ◌∙◌, ◌⊎◌, inl, inr}
+use Rattle.std.proofs.Common.{◌≡◌, ℕ, true, false, List, [], ◌∷◌, Option, Some, None, refl, sym, ap, ◌∙◌, ◌⊎◌, inl, inr}
 use Rattle.sled_nodes.specs.Order.{Key}
 use Rattle.sled_store.specs.Store.{Store}
 use Rattle.sled_nodes.specs.declared.error.Error.{Error}
@@ -9,14 +9,18 @@ use Rattle.sled_model.specs.Collections.{Content}
 use Rattle.sled_model.specs.Imports.{Part, OpensName, Puts, does_part_as, DoesParts, NoPart, OnePart, refuses_import_as, Stop, StopsAtPart}
 use Rattle.sled_model.specs.Refusal.{must_refuse_of}
 use Rattle.sled_model.specs.Whole.{after_pop, RemovesLeast, RemovesNone, RemovesOne, state_opened, state_dropped}
+use Rattle.sled_model.specs.Groups.{Write, after_write_on, after_write, after_writes, writes_of, Closes}
 use Rattle.sled_model.specs.Transition.{Configuration, transition_as}
 use Rattle.sled_model.specs.declared.call.Whole.{Whole}
-use Rattle.sled_model.specs.declared.call.Whole.TheVariants.{Flush, PopMin, PopMax, Clear, OpenTree, DropTree, GenerateId, Import, Watch, Next, Unsubscribe}
+use Rattle.sled_model.specs.declared.call.Whole.TheVariants.{Flush, PopMin, PopMax, Clear, Group, OpenTree, DropTree, GenerateId, Import, Watch, Next, Unsubscribe}
 use Rattle.sled_model.specs.declared.tree.Tree.{Tree}
 use Rattle.sled_model.specs.declared.outcome.Step.{Step}
 use Rattle.sled_model.specs.declared.outcome.Step.TheVariants as step
 use Rattle.sled_model.specs.declared.outcome.Outcome.{Outcome}
 use Rattle.sled_model.specs.declared.outcome.Outcome.TheVariants as outcome
+
+differ : {P : Type 0} → true ≡ false → P
+differ e = cc
 
 -- the database is open after it exactly where it was before
 abbrev Stays : State → State → Type 0
@@ -57,54 +61,69 @@ stopped old a b all e new maps (inr s) = parts_done s.1.does
 same : (a b : State) → b ≡ a → Stays a b
 same a b e = ap (λ (s : State). s.is_open) e
 
-whole_done : (a : Configuration) (w : Whole) (o : Outcome) (b : Configuration) (maps : List Maps) → transition_as a (step.Whole w) o b maps → Stays a.state b.state
-whole_done a Flush (outcome.Decided reply) b maps t = same a.state b.state t.2
-whole_done a (PopMin tree) (outcome.Decided reply) b maps t = along a.state _ b.state t.is (popped a.state tree.name t.named t.found)
-whole_done a (PopMax tree) (outcome.Decided reply) b maps t = along a.state _ b.state t.is (popped a.state tree.name t.named t.found)
-whole_done a (Clear tree) (outcome.Decided reply) b maps t = removed t.1.removes
-whole_done a (OpenTree name) (outcome.Decided reply) b maps t = along a.state _ b.state t.is (opened (a.state.trees name) a.state name)
-whole_done a (DropTree name) (outcome.Decided reply) b maps t = along a.state _ b.state t.is (dropped (a.state.trees name) a.state name)
-whole_done a GenerateId (outcome.Decided reply) b maps t = ap (λ (s : State). s.is_open) t.is
-whole_done a (Import collections) (outcome.Decided reply) b maps t = parts_done t.1.does
-whole_done a (Watch tree prefix) (outcome.Decided reply) b maps t = ap (λ (s : State). s.is_open) t.2.is
-whole_done a (Next subscriber) (outcome.Decided reply) b maps t = ap (λ (s : State). s.is_open) t.2.is
-whole_done a (Unsubscribe subscriber) (outcome.Decided reply) b maps t = ap (λ (s : State). s.is_open) t.1.is
-whole_done a Flush (outcome.Refused e) b maps t = same a.state b.state t.1
-whole_done a (PopMin tree) (outcome.Refused e) b maps t = same a.state b.state t.1
-whole_done a (PopMax tree) (outcome.Refused e) b maps t = same a.state b.state t.1
-whole_done a (Clear tree) (outcome.Refused e) b maps t = removed t.removes
-whole_done a (OpenTree name) (outcome.Refused e) b maps t = same a.state b.state t.1
-whole_done a (DropTree name) (outcome.Refused e) b maps t = same a.state b.state t.1
-whole_done a GenerateId (outcome.Refused e) b maps t = same a.state b.state t.1
-whole_done a (Import collections) (outcome.Refused e) b maps t = stopped a.state a.store b.store _ e b.state maps t.is
-whole_done a (Watch tree prefix) (outcome.Refused e) b maps t = same a.state b.state t.1
-whole_done a (Next subscriber) (outcome.Refused e) b maps t = absurd t
-whole_done a (Unsubscribe subscriber) (outcome.Refused e) b maps t = absurd t
-whole_done a w (outcome.Begun slot) b maps t = absurd t
-whole_done a w outcome.Moved b maps t = absurd t
-whole_done a w outcome.Abandoned b maps t = absurd t
-whole_done a w outcome.NoSuchSlot b maps t = absurd t
+write_done : (o : Option NamedTree) (w : Write) (s : State) → Stays s (after_write_on o w s)
+write_done None w s = refl
+write_done (Some t) w s = refl
 
-step_done : (a : Configuration) (s : Step) (o : Outcome) (b : Configuration) (maps : List Maps) → transition_as a s o b maps → Stays a.state b.state
-step_done a (step.Whole w) o b maps t = whole_done a w o b maps t
-step_done a (step.Begin tree call) (outcome.Begun slot) b maps t = ap (λ (s : State). s.is_open) t.0.is
-step_done a (step.Begin tree call) (outcome.Refused e) b maps t = same a.state b.state t.1
-step_done a (step.Begin tree call) outcome.Moved b maps t = absurd t
-step_done a (step.Begin tree call) (outcome.Decided reply) b maps t = absurd t
-step_done a (step.Begin tree call) outcome.Abandoned b maps t = absurd t
-step_done a (step.Begin tree call) outcome.NoSuchSlot b maps t = absurd t
-step_done a (step.Step slot) outcome.NoSuchSlot b maps t = same a.state b.state t.0.is
-step_done a (step.Step slot) outcome.Moved b maps t = ap (λ (s : State). s.is_open) t.0.is
-step_done a (step.Step slot) (outcome.Decided reply) b maps t = ap (λ (s : State). s.is_open) t.0.is
-step_done a (step.Step slot) (outcome.Refused e) b maps t = ap (λ (s : State). s.is_open) t.0.is
-step_done a (step.Step slot) (outcome.Begun i) b maps t = absurd t
-step_done a (step.Step slot) outcome.Abandoned b maps t = absurd t
-step_done a (step.Abandon slot) outcome.NoSuchSlot b maps t = same a.state b.state t.0.is
-step_done a (step.Abandon slot) outcome.Abandoned b maps t = ap (λ (s : State). s.is_open) t.0.is
-step_done a (step.Abandon slot) (outcome.Begun i) b maps t = absurd t
-step_done a (step.Abandon slot) outcome.Moved b maps t = absurd t
-step_done a (step.Abandon slot) (outcome.Decided reply) b maps t = absurd t
-step_done a (step.Abandon slot) (outcome.Refused e) b maps t = absurd t
+writes_done : (ws : List Write) (s : State) → Stays s (after_writes ws s)
+writes_done [] s = refl
+writes_done (w ∷ ws) s = writes_done ws (after_write w s) ∙ write_done (s.trees w.tree.name) w s
+
+-- a refused group leaves all as it was, or closes the database
+group_stops : {P : Type 0} (a b : State) → (b ≡ a) ⊎ (P × Closes a b) → b.is_open ≡ true → Stays a b
+group_stops a b (inl e) h = same a b e
+group_stops a b (inr c) h = differ (sym h ∙ ap (λ (s : State). s.is_open) c.1.is)
+
+whole_done : (a : Configuration) (w : Whole) (o : Outcome) (b : Configuration) (maps : List Maps) → transition_as a (step.Whole w) o b maps → b.state.is_open ≡ true → Stays a.state b.state
+whole_done a Flush (outcome.Decided reply) b maps t h = same a.state b.state t.2
+whole_done a (PopMin tree) (outcome.Decided reply) b maps t h = along a.state _ b.state t.is (popped a.state tree.name t.named t.found)
+whole_done a (PopMax tree) (outcome.Decided reply) b maps t h = along a.state _ b.state t.is (popped a.state tree.name t.named t.found)
+whole_done a (Clear tree) (outcome.Decided reply) b maps t h = removed t.1.removes
+whole_done a (Group batches) (outcome.Decided reply) b maps t h = along a.state _ b.state t.is (writes_done (writes_of batches.items) a.state)
+whole_done a (OpenTree name) (outcome.Decided reply) b maps t h = along a.state _ b.state t.is (opened (a.state.trees name) a.state name)
+whole_done a (DropTree name) (outcome.Decided reply) b maps t h = along a.state _ b.state t.is (dropped (a.state.trees name) a.state name)
+whole_done a GenerateId (outcome.Decided reply) b maps t h = ap (λ (s : State). s.is_open) t.is
+whole_done a (Import collections) (outcome.Decided reply) b maps t h = parts_done t.1.does
+whole_done a (Watch tree prefix) (outcome.Decided reply) b maps t h = ap (λ (s : State). s.is_open) t.2.is
+whole_done a (Next subscriber) (outcome.Decided reply) b maps t h = ap (λ (s : State). s.is_open) t.2.is
+whole_done a (Unsubscribe subscriber) (outcome.Decided reply) b maps t h = ap (λ (s : State). s.is_open) t.1.is
+whole_done a Flush (outcome.Refused e) b maps t h = same a.state b.state t.1
+whole_done a (PopMin tree) (outcome.Refused e) b maps t h = same a.state b.state t.1
+whole_done a (PopMax tree) (outcome.Refused e) b maps t h = same a.state b.state t.1
+whole_done a (Clear tree) (outcome.Refused e) b maps t h = removed t.removes
+whole_done a (Group batches) (outcome.Refused e) b maps t h = group_stops a.state b.state t.is h
+whole_done a (OpenTree name) (outcome.Refused e) b maps t h = same a.state b.state t.1
+whole_done a (DropTree name) (outcome.Refused e) b maps t h = same a.state b.state t.1
+whole_done a GenerateId (outcome.Refused e) b maps t h = same a.state b.state t.1
+whole_done a (Import collections) (outcome.Refused e) b maps t h = stopped a.state a.store b.store _ e b.state maps t.is
+whole_done a (Watch tree prefix) (outcome.Refused e) b maps t h = same a.state b.state t.1
+whole_done a (Next subscriber) (outcome.Refused e) b maps t h = absurd t
+whole_done a (Unsubscribe subscriber) (outcome.Refused e) b maps t h = absurd t
+whole_done a w (outcome.Begun slot) b maps t h = absurd t
+whole_done a w outcome.Moved b maps t h = absurd t
+whole_done a w outcome.Abandoned b maps t h = absurd t
+whole_done a w outcome.NoSuchSlot b maps t h = absurd t
+
+step_done : (a : Configuration) (s : Step) (o : Outcome) (b : Configuration) (maps : List Maps) → transition_as a s o b maps → b.state.is_open ≡ true → Stays a.state b.state
+step_done a (step.Whole w) o b maps t h = whole_done a w o b maps t h
+step_done a (step.Begin tree call) (outcome.Begun slot) b maps t h = ap (λ (s : State). s.is_open) t.0.is
+step_done a (step.Begin tree call) (outcome.Refused e) b maps t h = same a.state b.state t.1
+step_done a (step.Begin tree call) outcome.Moved b maps t h = absurd t
+step_done a (step.Begin tree call) (outcome.Decided reply) b maps t h = absurd t
+step_done a (step.Begin tree call) outcome.Abandoned b maps t h = absurd t
+step_done a (step.Begin tree call) outcome.NoSuchSlot b maps t h = absurd t
+step_done a (step.Step slot) outcome.NoSuchSlot b maps t h = same a.state b.state t.0.is
+step_done a (step.Step slot) outcome.Moved b maps t h = ap (λ (s : State). s.is_open) t.0.is
+step_done a (step.Step slot) (outcome.Decided reply) b maps t h = ap (λ (s : State). s.is_open) t.0.is
+step_done a (step.Step slot) (outcome.Refused e) b maps t h = ap (λ (s : State). s.is_open) t.0.is
+step_done a (step.Step slot) (outcome.Begun i) b maps t h = absurd t
+step_done a (step.Step slot) outcome.Abandoned b maps t h = absurd t
+step_done a (step.Abandon slot) outcome.NoSuchSlot b maps t h = same a.state b.state t.0.is
+step_done a (step.Abandon slot) outcome.Abandoned b maps t h = ap (λ (s : State). s.is_open) t.0.is
+step_done a (step.Abandon slot) (outcome.Begun i) b maps t h = absurd t
+step_done a (step.Abandon slot) outcome.Moved b maps t h = absurd t
+step_done a (step.Abandon slot) (outcome.Decided reply) b maps t h = absurd t
+step_done a (step.Abandon slot) (outcome.Refused e) b maps t h = absurd t
 
 pub opens_none : (a : Configuration) (s : Step) (o : Outcome) (b : Configuration) (maps : List Maps) → transition_as a s o b maps → b.state.is_open ≡ true → a.state.is_open ≡ true
-opens_none a s o b maps t is_open = sym (step_done a s o b maps t) ∙ is_open
+opens_none a s o b maps t is_open = sym (step_done a s o b maps t is_open) ∙ is_open

@@ -1,12 +1,17 @@
--- Events of several trees that are prepared one after the other.
+-- Events of several trees that are prepared one after the other, and those that the writes of a group bring.
 use Rattle.std.proofs.Common.{◌≡◌, ℕ, Bool, true, false, cond, nat_eq, List, [], ◌∷◌, ◌++◌, append_assoc, append-nil, Option, Some, None, option_map, sym, refl, ap, ◌∙◌}
 use Rattle.std.proofs.Math.Path.{fun_ext}
+use Rattle.std.specs.Prelude.{map}
+use Rattle.std.specs.Option.{option_to_list}
 use Rattle.sled_nodes.specs.Order.{Key}
 use Rattle.sled_store.specs.Update.{put_at}
 use Rattle.sled_model.specs.Backlog.{Backlog, no_backlog, comes, come_all}
-use Rattle.sled_model.specs.State.{Queue, matches, queues_after}
+use Rattle.sled_model.specs.State.{State, NamedTree, Queue, matches, queues_after}
+use Rattle.sled_model.specs.Groups.{Write, answer_of_write, after_write_on, after_write, after_writes, events_of_write, events_of_writes}
 use Rattle.sled_model.specs.declared.event.Event.{Event}
 use Rattle.sled_queues.specs.Values.{WaitingValue, Waitings}
+use Rattle.sled_queues.specs.Events.{after_turns}
+use Rattle.sled_queues.specs.Turns.{turns_of_events}
 use Rattle.sled_queues.specs.Queues.{queue_of, queues_of, IsCalm, prepared_in, prepared, committed_in, committed, cancelled_in, taken_in}
 use Rattle.sled_queues.specs.Laws.{CalmLaw, prepared_all, delivered_all, GroupLaw}
 use Rattle.sled_queues.proofs.Lawful.{on_option, map_twice, map_same, calm_from}
@@ -111,3 +116,33 @@ calm_law queues calm = record {
   takes = λ n. calm_put queues calm n (option_map taken_in (queues n)) (λ w e. calm_from taken_in (queues n) w (λ v h. calm.none n v h) e);
   gives_up = λ n. calm_put queues calm n None (λ w e. none_some e);
 }
+
+abbrev Queues : Type 0
+Queues = ℕ → Option Queue
+
+delivered_both : (xs ys : List (ℕ × Event)) (queues : Queues) → delivered_all (xs ++ ys) queues ≡ delivered_all ys (delivered_all xs queues)
+delivered_both [] ys queues = refl
+delivered_both (x ∷ xs) ys queues = delivered_both xs ys (queues_after x.0 (Some x.1) queues)
+
+-- an event that there may be, to the tree of a number
+event_delivers : (tree : ℕ) (e : Option Event) (queues : Queues) → queues_after tree e queues ≡ delivered_all (map (λ e. (tree, e)) (option_to_list e)) queues
+event_delivers tree None queues = refl
+event_delivers tree (Some e) queues = refl
+
+write_delivers : (o : Option NamedTree) (w : Write) (s : State) → (after_write_on o w s).queues ≡ delivered_all (events_of_write o w) s.queues
+write_delivers None w s = refl
+write_delivers (Some t) w s = event_delivers t.number (answer_of_write t w).event s.queues
+
+-- the queues after writes are those that the writes' events are given to
+pub writes_deliver : (ws : List Write) (s : State) → (after_writes ws s).queues ≡ delivered_all (events_of_writes ws s) s.queues
+writes_deliver [] s = refl
+writes_deliver (w ∷ ws) s =
+    let first = events_of_write (s.trees w.tree.name) w in let rest = events_of_writes ws (after_write w s) in
+    writes_deliver ws (after_write w s)
+    ∙ ap (delivered_all rest) (write_delivers (s.trees w.tree.name) w s)
+    ∙ sym (delivered_both first rest s.queues)
+
+-- .. and events that come are given to the same
+pub turns_deliver : (es : List (ℕ × Event)) (queues : Queues) → after_turns (turns_of_events es) queues ≡ delivered_all es queues
+turns_deliver [] queues = refl
+turns_deliver (e ∷ es) queues = turns_deliver es (queues_after e.0 (Some e.1) queues)

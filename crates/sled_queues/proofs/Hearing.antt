@@ -11,7 +11,7 @@ use Rattle.sled_model.specs.declared.event.Event.{Event}
 use Rattle.sled_model.specs.declared.event.Next.{Next}
 use Rattle.sled_model.specs.declared.event.Next.TheVariants as told
 use Rattle.sled_queues.specs.Events.{Turn, Comes, Watches, Takes, Ends, after_turn, after_turns, taken_at, taken_by, brought_at, brought, begins_or_ends, Stays}
-use Rattle.sled_queues.specs.Hears.{Accounts, Holds, Hears, CountsAll, HearsLaw, HearsAllLaw, CountsLaw}
+use Rattle.sled_queues.specs.Hears.{Accounts, Holds, Hears, HearsLaw, HearsAllLaw, CountsLaw}
 
 -- what one turn makes of a queue whose subscriber stays
 abbrev pub turned : ℕ → Turn → Queue → Queue

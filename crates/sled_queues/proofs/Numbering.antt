@@ -1,6 +1,9 @@
 -- The map of a tree after a step is what the events that came to it made of it.
-use Rattle.std.proofs.Common.{◌≡◌, ℕ, ◌+◌, ◌≤◌, Bool, true, false, cond, nat_eq, List, [], ◌∷◌, ◌++◌, Option, Some, None, refl, sym, ap, subst, ◌∙◌, ◌⊎◌, inl, inr, arith}
+use Rattle.std.proofs.Common.{◌≡◌, ℕ, ◌+◌, ◌≤◌, Bool, true, false, cond, nat_eq, List, [], ◌∷◌, ◌++◌, Option, Some, None, option_map, refl, sym, ap, subst, ◌∙◌, ◌⊎◌, inl, inr, arith}
+use Rattle.std.specs.Prelude.{map}
+use Rattle.std.specs.Option.{option_to_list}
 use Rattle.std.specs.Str.{bytes_eq}
+use Rattle.std.proofs.lemmas.List.{map-append}
 use Rattle.std.proofs.lemmas.Bool.{eq-eqb, eqb-true}
 use Rattle.std.proofs.lemmas.Slice.Eq.{bytes_eq-Decides}
 use Rattle.sled_nodes.specs.Order.{Key}
@@ -9,26 +12,28 @@ use Rattle.sled_store.specs.Store.{Store}
 use Rattle.sled_nodes.specs.declared.error.Error.{Error}
 use Rattle.sled_model.specs.Collections.{Content}
 use Rattle.sled_model.specs.Refusal.{must_refuse_of}
-use Rattle.sled_model.specs.Maps.{Maps, Map}
+use Rattle.sled_model.specs.Maps.{Maps, Map, Merge}
 use Rattle.sled_model.specs.Answer.{answer_of, key_of}
 use Rattle.sled_model.specs.State.{State, NamedTree, after_decision_on, after_decision}
 use Rattle.sled_model.specs.Imports.{Part, OpensName, Puts, does_part_as, DoesParts, NoPart, OnePart, refuses_import_as, Stop, StopsAtPart}
 use Rattle.sled_model.specs.Whole.{new_tree, after_pop, RemovesLeast, RemovesNone, RemovesOne, state_opened, state_dropped}
+use Rattle.sled_model.specs.Groups.{Write, call_of_write, answer_of_write, after_write_on, after_write, after_writes, events_of_write, events_of_writes, writes_of, tag_of, Closes}
 use Rattle.sled_model.specs.Transition.{Configuration, transition_as}
 use Rattle.sled_model.specs.declared.call.Call.{Call}
 use Rattle.sled_model.specs.declared.call.Call.TheVariants.{Remove, Insert}
 use Rattle.sled_model.specs.declared.call.Whole.{Whole}
-use Rattle.sled_model.specs.declared.call.Whole.TheVariants.{Flush, PopMin, PopMax, Clear, OpenTree, DropTree, GenerateId, Import, Watch, Next, Unsubscribe}
+use Rattle.sled_model.specs.declared.call.Whole.TheVariants.{Flush, PopMin, PopMax, Clear, Group, OpenTree, DropTree, GenerateId, Import, Watch, Next, Unsubscribe}
 use Rattle.sled_model.specs.declared.event.Event.{Event}
 use Rattle.sled_model.specs.declared.tree.Tree.{Tree}
+use Rattle.sled_model.specs.declared.reply.Reply.{Reply}
 use Rattle.sled_model.specs.declared.outcome.Step.{Step}
 use Rattle.sled_model.specs.declared.outcome.Step.TheVariants as step
 use Rattle.sled_model.specs.declared.outcome.Outcome.{Outcome}
 use Rattle.sled_model.specs.declared.outcome.Outcome.TheVariants as outcome
 use Rattle.sled_queues.specs.Events.{Turn, Comes, Watches, Takes, Ends}
 use Rattle.sled_queues.specs.Copies.{after_event_of, after_events, came_to, came_to_at}
-use Rattle.sled_queues.specs.Turns.{turns_of_event, turns_of_call, turns_of_pop, turns_of_removals, turns_of_part, turns_of_parts, turns_of_stop, turns_of}
-use Rattle.sled_queues.specs.Trees.{AreNumbered, drops, IsTreeAfter, TreesLaw}
+use Rattle.sled_queues.specs.Turns.{turns_of_event, turns_of_call, turns_of_pop, turns_of_removals, turns_of_part, turns_of_parts, turns_of_events, turns_of_stop, turns_of}
+use Rattle.sled_queues.specs.Trees.{AreNumbered, drops, IsTreeAfter, TellsTrees, TreesLaw}
 use Rattle.sled_queues.proofs.Copied.{changes_law, after_both}
 
 differ : {P : Type 0} → true ≡ false → P
@@ -103,12 +108,20 @@ none_of_event : (n k : ℕ) (e : Option Event) (m : Map) → nat_eq n k ≡ fals
 none_of_event n k None m off = refl
 none_of_event n k (Some e) m off = ap (λ b. after_events (cond b (e ∷ []) [] ++ []) m) (sym off)
 
+-- each tree has the number that a tree of its name had
+numbered_as : (a b : State) → b.trees_given ≡ a.trees_given → ((name : Key) (u : NamedTree) → b.trees name ≡ Some u → (v : NamedTree) × (a.trees name ≡ Some v) × (u.number ≡ v.number))
+    → AreNumbered a → AreNumbered b
+numbered_as a b g was n = record {
+  given = λ name u there. let w = was name u there in low u.number w.0.number w.2 (n.given name w.0 w.1);
+  apart = λ x y u v p q same. let w = was x u p in let z = was y v q in n.apart x y w.0 z.0 w.1 z.1 (sym w.2 ∙ same ∙ z.2);
+}
+  where
+    low : (i j : ℕ) → i ≡ j → j ≤ a.trees_given → i ≤ b.trees_given
+    low i j e h = omega (arith, e, h, g)
+
 decided : (s : State) (at : Key) (t : NamedTree) (call : Call) → s.trees at ≡ Some t → AreNumbered s → Tells s keeps_all (turns_of_call t call) (after_decision_on s at t (answer_of t.merge call t.map))
 decided s at t call here n = record {
-  numbered = record {
-    given = λ name u there. let w = was name u there in subst (λ k. k ≤ s.trees_given) (sym w.2) (n.given name w.0 w.1);
-    apart = λ x y u v p q same. let w = was x u p in let z = was y v q in n.apart x y w.0 z.0 w.1 z.1 (sym w.2 ∙ same ∙ z.2);
-  };
+  numbered = numbered_as s (after_decision_on s at t (answer_of t.merge call t.map)) refl was n;
   maps = λ name u there kept. after name u there (bytes_eq name at) refl;
 }
   where
@@ -222,6 +235,25 @@ parts_told (OnePart {a = a} {m = m} {b = b} {part = part} {added = added} one mo
     let first = part_told a part m added one.is n in
     both a m b (turns_of_part a part m added one.is) (turns_of_parts more) first (parts_told more first.numbered)
 
+-- the event of a write comes as that of its call
+event_turns : (tree : ℕ) (e : Option Event) → turns_of_event tree e ≡ turns_of_events (map (λ e. (tree, e)) (option_to_list e))
+event_turns tree None = refl
+event_turns tree (Some e) = refl
+
+-- a write does what its call would, and writes one after the other
+write_told : (o : Option NamedTree) (w : Write) (s : State) → s.trees w.tree.name ≡ o → AreNumbered s → Tells s keeps_all (turns_of_events (events_of_write o w)) (after_write_on o w s)
+write_told None w s here n = same_trees s s refl refl n
+write_told (Some t) w s here n = subst (λ (turns : List Turn). Tells s keeps_all turns (after_write_on (Some t) w s)) (event_turns t.number (answer_of_write t w).event) (decided s w.tree.name t (call_of_write w) here n)
+
+writes_told : (ws : List Write) (s : State) → AreNumbered s → Tells s keeps_all (turns_of_events (events_of_writes ws s)) (after_writes ws s)
+writes_told [] s n = same_trees s s refl refl n
+writes_told (w ∷ ws) s n =
+    let m : State = after_write w s in
+    let first = events_of_write (s.trees w.tree.name) w in let rest = events_of_writes ws m in
+    let one = write_told (s.trees w.tree.name) w s refl n in
+    subst (λ (turns : List Turn). Tells s keeps_all turns (after_writes ws m)) (sym (map-append (λ e. Comes e.0 e.1) first rest))
+    (both s m (after_writes ws m) (turns_of_events first) (turns_of_events rest) one (writes_told ws m one.numbered))
+
 same_state : (a b : State) → b ≡ a → AreNumbered a → Tells a keeps_all [] b
 same_state a b e n = same_trees a b (ap (λ (s : State). s.trees) e) (ap (λ (s : State). s.trees_given) e) n
 
@@ -252,56 +284,93 @@ stop_told : {old : State} {a b : Store} {all : List Content} {e : Error} {new : 
 stop_told {old = old} {new = new} (inl none) n = same_state old new none.1 n
 stop_told (inr s) n = parts_told s.1.does n
 
+decided_told : (a : Configuration) (w : Whole) (reply : Reply) (b : Configuration) (maps : List Maps) (t : transition_as a (step.Whole w) (outcome.Decided reply) b maps)
+    → AreNumbered a.state → Tells a.state (λ name. drops name (step.Whole w) (outcome.Decided reply)) (turns_of a (step.Whole w) (outcome.Decided reply) b maps t) b.state
+decided_told a Flush reply b maps t n = same_state a.state b.state t.2 n
+decided_told a (PopMin tree) reply b maps t n = with_state a.state _ b.state keeps_all _ t.is (popped a.state tree.name t.named t.found t.there n)
+decided_told a (PopMax tree) reply b maps t n = with_state a.state _ b.state keeps_all _ t.is (popped a.state tree.name t.named t.found t.there n)
+decided_told a (Clear tree) reply b maps t n = removed t.1.removes n
+decided_told a (Group batches) reply b maps t n = with_state a.state _ b.state keeps_all _ t.is (writes_told (writes_of batches.items) a.state n)
+decided_told a (OpenTree name) reply b maps t n = with_state a.state _ b.state keeps_all [] t.is (opened (a.state.trees name) a.state name refl n)
+decided_told a (DropTree name) reply b maps t n = with_state a.state _ b.state (λ k. bytes_eq k name) [] t.is (dropped (a.state.trees name) a.state name n)
+decided_told a GenerateId reply b maps t n = same_trees a.state b.state (ap (λ (s : State). s.trees) t.is) (ap (λ (s : State). s.trees_given) t.is) n
+decided_told a (Import collections) reply b maps t n = parts_told t.1.does n
+decided_told a (Watch tree prefix) reply b maps t n = quiet (Watches t.0 tree.number prefix) a.state b.state (λ k. refl) (ap (λ (s : State). s.trees) t.2.is) (ap (λ (s : State). s.trees_given) t.2.is) n
+decided_told a (Next subscriber) reply b maps t n = quiet (Takes subscriber) a.state b.state (λ k. refl) (ap (λ (s : State). s.trees) t.2.is) (ap (λ (s : State). s.trees_given) t.2.is) n
+decided_told a (Unsubscribe subscriber) reply b maps t n = quiet (Ends subscriber) a.state b.state (λ k. refl) (ap (λ (s : State). s.trees) t.1.is) (ap (λ (s : State). s.trees_given) t.1.is) n
+
+-- maps are told of an open database alone
+where_open : (a : State) (s : Step) (o : Outcome) (turns : List Turn) (b : State) → Tells a (λ name. drops name s o) turns b → TellsTrees a s o turns b
+where_open a s o turns b h = record { numbered = h.numbered; maps = λ is_open. h.maps }
+
+-- a database that is closed has the numbers of its trees still
+closed_told : (a b : State) (s : Step) (o : Outcome) → Closes a b → AreNumbered a → TellsTrees a s o [] b
+closed_told a b s o c n = record {
+  numbered = numbered_as a b (ap (λ (z : State). z.trees_given) c.is) (λ name u there. was name u (a.trees name) refl (ap (λ (z : State). z.trees name) (sym c.is) ∙ there)) n;
+  maps = λ is_open. differ (sym is_open ∙ ap (λ (z : State). z.is_open) c.is);
+}
+  where
+    was : (name : Key) (u : NamedTree) (o : Option NamedTree) → a.trees name ≡ o → c.trees name ≡ Some u → (v : NamedTree) × (a.trees name ≡ Some v) × (u.number ≡ v.number)
+    was name u None e h = none_some (sym (c.tags name ∙ ap (option_map tag_of) e) ∙ ap (option_map tag_of) h)
+    was name u (Some v) e h = (v, e, ap (λ (z : ℕ × Option Merge). z.0) (some_is (sym (ap (option_map tag_of) h) ∙ c.tags name ∙ ap (option_map tag_of) e)))
+
+group_told : {P : Type 0} (a b : State) (w : Whole) (e : Error) → (b ≡ a) ⊎ (P × Closes a b) → AreNumbered a → TellsTrees a (step.Whole w) (outcome.Refused e) [] b
+group_told a b w e (inl is) n = let h = same_state a b is n in record { numbered = h.numbered; maps = λ is_open name t there kept. h.maps name t there refl }
+group_told a b w e (inr c) n = closed_told a b (step.Whole w) (outcome.Refused e) c.1 n
+
+refused_told : (a : Configuration) (w : Whole) (e : Error) (b : Configuration) (maps : List Maps) (t : transition_as a (step.Whole w) (outcome.Refused e) b maps)
+    → AreNumbered a.state → TellsTrees a.state (step.Whole w) (outcome.Refused e) (turns_of a (step.Whole w) (outcome.Refused e) b maps t) b.state
+refused_told a Flush e b maps t n = where_open a.state (step.Whole Flush) (outcome.Refused e) _ b.state (same_state a.state b.state t.1 n)
+refused_told a (PopMin tree) e b maps t n = where_open a.state (step.Whole (PopMin tree)) (outcome.Refused e) _ b.state (same_state a.state b.state t.1 n)
+refused_told a (PopMax tree) e b maps t n = where_open a.state (step.Whole (PopMax tree)) (outcome.Refused e) _ b.state (same_state a.state b.state t.1 n)
+refused_told a (Clear tree) e b maps t n = where_open a.state (step.Whole (Clear tree)) (outcome.Refused e) _ b.state (removed t.removes n)
+refused_told a (Group batches) e b maps t n = group_told a.state b.state (Group batches) e t.is n
+refused_told a (OpenTree name) e b maps t n = where_open a.state (step.Whole (OpenTree name)) (outcome.Refused e) _ b.state (same_state a.state b.state t.1 n)
+refused_told a (DropTree name) e b maps t n = where_open a.state (step.Whole (DropTree name)) (outcome.Refused e) _ b.state (same_state a.state b.state t.1 n)
+refused_told a GenerateId e b maps t n = where_open a.state (step.Whole GenerateId) (outcome.Refused e) _ b.state (same_state a.state b.state t.1 n)
+refused_told a (Import collections) e b maps t n = where_open a.state (step.Whole (Import collections)) (outcome.Refused e) _ b.state (stop_told t.is n)
+refused_told a (Watch tree prefix) e b maps t n = where_open a.state (step.Whole (Watch tree prefix)) (outcome.Refused e) _ b.state (same_state a.state b.state t.1 n)
+refused_told a (Next subscriber) e b maps t n = absurd t
+refused_told a (Unsubscribe subscriber) e b maps t n = absurd t
+
 whole_told : (a : Configuration) (w : Whole) (o : Outcome) (b : Configuration) (maps : List Maps) (t : transition_as a (step.Whole w) o b maps)
-    → AreNumbered a.state → Tells a.state (λ name. drops name (step.Whole w) o) (turns_of a (step.Whole w) o b maps t) b.state
-whole_told a Flush (outcome.Decided reply) b maps t n = same_state a.state b.state t.2 n
-whole_told a (PopMin tree) (outcome.Decided reply) b maps t n = with_state a.state _ b.state keeps_all _ t.is (popped a.state tree.name t.named t.found t.there n)
-whole_told a (PopMax tree) (outcome.Decided reply) b maps t n = with_state a.state _ b.state keeps_all _ t.is (popped a.state tree.name t.named t.found t.there n)
-whole_told a (Clear tree) (outcome.Decided reply) b maps t n = removed t.1.removes n
-whole_told a (OpenTree name) (outcome.Decided reply) b maps t n = with_state a.state _ b.state keeps_all [] t.is (opened (a.state.trees name) a.state name refl n)
-whole_told a (DropTree name) (outcome.Decided reply) b maps t n = with_state a.state _ b.state (λ k. bytes_eq k name) [] t.is (dropped (a.state.trees name) a.state name n)
-whole_told a GenerateId (outcome.Decided reply) b maps t n = same_trees a.state b.state (ap (λ (s : State). s.trees) t.is) (ap (λ (s : State). s.trees_given) t.is) n
-whole_told a (Import collections) (outcome.Decided reply) b maps t n = parts_told t.1.does n
-whole_told a (Watch tree prefix) (outcome.Decided reply) b maps t n = quiet (Watches t.0 tree.number prefix) a.state b.state (λ k. refl) (ap (λ (s : State). s.trees) t.2.is) (ap (λ (s : State). s.trees_given) t.2.is) n
-whole_told a (Next subscriber) (outcome.Decided reply) b maps t n = quiet (Takes subscriber) a.state b.state (λ k. refl) (ap (λ (s : State). s.trees) t.2.is) (ap (λ (s : State). s.trees_given) t.2.is) n
-whole_told a (Unsubscribe subscriber) (outcome.Decided reply) b maps t n = quiet (Ends subscriber) a.state b.state (λ k. refl) (ap (λ (s : State). s.trees) t.1.is) (ap (λ (s : State). s.trees_given) t.1.is) n
-whole_told a Flush (outcome.Refused e) b maps t n = same_state a.state b.state t.1 n
-whole_told a (PopMin tree) (outcome.Refused e) b maps t n = same_state a.state b.state t.1 n
-whole_told a (PopMax tree) (outcome.Refused e) b maps t n = same_state a.state b.state t.1 n
-whole_told a (Clear tree) (outcome.Refused e) b maps t n = removed t.removes n
-whole_told a (OpenTree name) (outcome.Refused e) b maps t n = same_state a.state b.state t.1 n
-whole_told a (DropTree name) (outcome.Refused e) b maps t n = same_state a.state b.state t.1 n
-whole_told a GenerateId (outcome.Refused e) b maps t n = same_state a.state b.state t.1 n
-whole_told a (Import collections) (outcome.Refused e) b maps t n = stop_told t.is n
-whole_told a (Watch tree prefix) (outcome.Refused e) b maps t n = same_state a.state b.state t.1 n
-whole_told a (Next subscriber) (outcome.Refused e) b maps t n = absurd t
-whole_told a (Unsubscribe subscriber) (outcome.Refused e) b maps t n = absurd t
+    → AreNumbered a.state → TellsTrees a.state (step.Whole w) o (turns_of a (step.Whole w) o b maps t) b.state
+whole_told a w (outcome.Decided reply) b maps t n = where_open a.state (step.Whole w) (outcome.Decided reply) _ b.state (decided_told a w reply b maps t n)
+whole_told a w (outcome.Refused e) b maps t n = refused_told a w e b maps t n
 whole_told a w (outcome.Begun slot) b maps t n = absurd t
 whole_told a w outcome.Moved b maps t n = absurd t
 whole_told a w outcome.Abandoned b maps t n = absurd t
 whole_told a w outcome.NoSuchSlot b maps t n = absurd t
 
-step_told : (a : Configuration) (s : Step) (o : Outcome) (b : Configuration) (maps : List Maps) (t : transition_as a s o b maps)
-    → AreNumbered a.state → Tells a.state (λ name. drops name s o) (turns_of a s o b maps t) b.state
-step_told a (step.Whole w) o b maps t n = whole_told a w o b maps t n
-step_told a (step.Begin tree call) (outcome.Begun slot) b maps t n = same_trees a.state b.state (ap (λ (s : State). s.trees) t.0.is) (ap (λ (s : State). s.trees_given) t.0.is) n
-step_told a (step.Begin tree call) (outcome.Refused e) b maps t n = same_state a.state b.state t.1 n
-step_told a (step.Begin tree call) outcome.Moved b maps t n = absurd t
-step_told a (step.Begin tree call) (outcome.Decided reply) b maps t n = absurd t
-step_told a (step.Begin tree call) outcome.Abandoned b maps t n = absurd t
-step_told a (step.Begin tree call) outcome.NoSuchSlot b maps t n = absurd t
-step_told a (step.Step slot) outcome.NoSuchSlot b maps t n = same_state a.state b.state t.0.is n
-step_told a (step.Step slot) outcome.Moved b maps t n = same_trees a.state b.state (ap (λ (s : State). s.trees) t.0.is) (ap (λ (s : State). s.trees_given) t.0.is) n
-step_told a (step.Step slot) (outcome.Decided reply) b maps t n = slot_decided a.state b.state slot t.0.flying.tree.name t.0.tree t.0.flying.call t.0.is t.0.there n
-step_told a (step.Step slot) (outcome.Refused e) b maps t n = same_trees a.state b.state (ap (λ (s : State). s.trees) t.0.is) (ap (λ (s : State). s.trees_given) t.0.is) n
-step_told a (step.Step slot) (outcome.Begun i) b maps t n = absurd t
-step_told a (step.Step slot) outcome.Abandoned b maps t n = absurd t
-step_told a (step.Abandon slot) outcome.NoSuchSlot b maps t n = same_state a.state b.state t.0.is n
-step_told a (step.Abandon slot) outcome.Abandoned b maps t n = same_trees a.state b.state (ap (λ (s : State). s.trees) t.0.is) (ap (λ (s : State). s.trees_given) t.0.is) n
-step_told a (step.Abandon slot) (outcome.Begun i) b maps t n = absurd t
-step_told a (step.Abandon slot) outcome.Moved b maps t n = absurd t
-step_told a (step.Abandon slot) (outcome.Decided reply) b maps t n = absurd t
-step_told a (step.Abandon slot) (outcome.Refused e) b maps t n = absurd t
+begin_told : (a : Configuration) (tree : Tree) (call : Call) (o : Outcome) (b : Configuration) (maps : List Maps) (t : transition_as a (step.Begin tree call) o b maps)
+    → AreNumbered a.state → Tells a.state keeps_all (turns_of a (step.Begin tree call) o b maps t) b.state
+begin_told a tree call (outcome.Begun slot) b maps t n = same_trees a.state b.state (ap (λ (s : State). s.trees) t.0.is) (ap (λ (s : State). s.trees_given) t.0.is) n
+begin_told a tree call (outcome.Refused e) b maps t n = same_state a.state b.state t.1 n
+begin_told a tree call outcome.Moved b maps t n = absurd t
+begin_told a tree call (outcome.Decided reply) b maps t n = absurd t
+begin_told a tree call outcome.Abandoned b maps t n = absurd t
+begin_told a tree call outcome.NoSuchSlot b maps t n = absurd t
+
+step_told : (a : Configuration) (slot : ℕ) (o : Outcome) (b : Configuration) (maps : List Maps) (t : transition_as a (step.Step slot) o b maps)
+    → AreNumbered a.state → Tells a.state keeps_all (turns_of a (step.Step slot) o b maps t) b.state
+step_told a slot outcome.NoSuchSlot b maps t n = same_state a.state b.state t.0.is n
+step_told a slot outcome.Moved b maps t n = same_trees a.state b.state (ap (λ (s : State). s.trees) t.0.is) (ap (λ (s : State). s.trees_given) t.0.is) n
+step_told a slot (outcome.Decided reply) b maps t n = slot_decided a.state b.state slot t.0.flying.tree.name t.0.tree t.0.flying.call t.0.is t.0.there n
+step_told a slot (outcome.Refused e) b maps t n = same_trees a.state b.state (ap (λ (s : State). s.trees) t.0.is) (ap (λ (s : State). s.trees_given) t.0.is) n
+step_told a slot (outcome.Begun i) b maps t n = absurd t
+step_told a slot outcome.Abandoned b maps t n = absurd t
+
+abandon_told : (a : Configuration) (slot : ℕ) (o : Outcome) (b : Configuration) (maps : List Maps) (t : transition_as a (step.Abandon slot) o b maps)
+    → AreNumbered a.state → Tells a.state keeps_all (turns_of a (step.Abandon slot) o b maps t) b.state
+abandon_told a slot outcome.NoSuchSlot b maps t n = same_state a.state b.state t.0.is n
+abandon_told a slot outcome.Abandoned b maps t n = same_trees a.state b.state (ap (λ (s : State). s.trees) t.0.is) (ap (λ (s : State). s.trees_given) t.0.is) n
+abandon_told a slot (outcome.Begun i) b maps t n = absurd t
+abandon_told a slot outcome.Moved b maps t n = absurd t
+abandon_told a slot (outcome.Decided reply) b maps t n = absurd t
+abandon_told a slot (outcome.Refused e) b maps t n = absurd t
 
 pub trees_law : TreesLaw
-trees_law a s o b maps t n = let h = step_told a s o b maps t n in record { numbered = h.numbered; maps = λ is_open. h.maps }
+trees_law a (step.Whole w) o b maps t n = whole_told a w o b maps t n
+trees_law a (step.Begin tree call) o b maps t n = where_open a.state (step.Begin tree call) o _ b.state (begin_told a tree call o b maps t n)
+trees_law a (step.Step slot) o b maps t n = where_open a.state (step.Step slot) o _ b.state (step_told a slot o b maps t n)
+trees_law a (step.Abandon slot) o b maps t n = where_open a.state (step.Abandon slot) o _ b.state (abandon_told a slot o b maps t n)

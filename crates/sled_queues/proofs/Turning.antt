@@ -11,10 +11,11 @@ use Rattle.sled_model.specs.Maps.{Maps}
 use Rattle.sled_model.specs.State.{State, NamedTree, Queue, queues_after}
 use Rattle.sled_model.specs.Imports.{Part, OpensName, Puts, does_part_as, DoesParts, NoPart, OnePart, refuses_import_as, Stop, StopsAtPart}
 use Rattle.sled_model.specs.Whole.{after_pop, RemovesLeast, RemovesNone, RemovesOne, state_opened, state_dropped}
+use Rattle.sled_model.specs.Groups.{Closes, writes_of, events_of_writes}
 use Rattle.sled_model.specs.Queues.{next_in}
 use Rattle.sled_model.specs.Transition.{Configuration, transition_as}
 use Rattle.sled_model.specs.declared.call.Whole.{Whole}
-use Rattle.sled_model.specs.declared.call.Whole.TheVariants.{Flush, PopMin, PopMax, Clear, OpenTree, DropTree, GenerateId, Import, Watch, Next, Unsubscribe}
+use Rattle.sled_model.specs.declared.call.Whole.TheVariants.{Flush, PopMin, PopMax, Clear, Group, OpenTree, DropTree, GenerateId, Import, Watch, Next, Unsubscribe}
 use Rattle.sled_model.specs.declared.event.Event.{Event}
 use Rattle.sled_model.specs.declared.event.Next as event
 use Rattle.sled_model.specs.declared.tree.Tree.{Tree}
@@ -25,7 +26,8 @@ use Rattle.sled_model.specs.declared.outcome.Step.TheVariants as step
 use Rattle.sled_model.specs.declared.outcome.Outcome.{Outcome}
 use Rattle.sled_model.specs.declared.outcome.Outcome.TheVariants as outcome
 use Rattle.sled_queues.specs.Events.{Turn, Takes, after_turn, after_turns, taken_at, taken_by, Stays}
-use Rattle.sled_queues.specs.Turns.{turns_of_event, turns_of_pop, turns_of_removals, turns_of_part, turns_of_parts, turns_of_stop, turns_of, told_at, gives_up, IsHeard, TurnsLaw, HeardLaw}
+use Rattle.sled_queues.specs.Turns.{turns_of_event, turns_of_pop, turns_of_removals, turns_of_part, turns_of_parts, turns_of_events, turns_of_stop, turns_of, told_at, gives_up, IsHeard, TurnsLaw, HeardLaw}
+use Rattle.sled_queues.proofs.Grouped.{writes_deliver, turns_deliver}
 
 abbrev Queues : Type 0
 Queues = ℕ → Option Queue
@@ -88,12 +90,21 @@ stop_turns : {old : State} {a b : Store} {all : List Content} {e : Error} {new :
 stop_turns {old = old} {new = new} (inl none) = same_queues old new none.1
 stop_turns (inr s) = parts_turns s.1.does
 
+-- a refused group changes no queue, even where it closes the database
+group_stops : {P : Type 0} (a b : State) → (b ≡ a) ⊎ (P × Closes a b) → b.queues ≡ a.queues
+group_stops a b (inl e) = same_queues a b e
+group_stops a b (inr c) = same_queues _ b c.1.is
+
 whole_turns : (a : Configuration) (w : Whole) (o : Outcome) (b : Configuration) (maps : List Maps) (t : transition_as a (step.Whole w) o b maps)
     → b.state.queues ≡ after_turns (turns_of a (step.Whole w) o b maps t) a.state.queues
 whole_turns a Flush (outcome.Decided reply) b maps t = same_queues a.state b.state t.2
 whole_turns a (PopMin tree) (outcome.Decided reply) b maps t = same_queues _ b.state t.is ∙ pop_turns a.state tree.name t.named t.found
 whole_turns a (PopMax tree) (outcome.Decided reply) b maps t = same_queues _ b.state t.is ∙ pop_turns a.state tree.name t.named t.found
 whole_turns a (Clear tree) (outcome.Decided reply) b maps t = removal_turns t.1.removes
+whole_turns a (Group batches) (outcome.Decided reply) b maps t =
+    same_queues _ b.state t.is
+    ∙ writes_deliver (writes_of batches.items) a.state
+    ∙ sym (turns_deliver (events_of_writes (writes_of batches.items) a.state) a.state.queues)
 whole_turns a (OpenTree name) (outcome.Decided reply) b maps t = same_queues _ b.state t.is ∙ opened (a.state.trees name) a.state name
 whole_turns a (DropTree name) (outcome.Decided reply) b maps t = same_queues _ b.state t.is ∙ dropped (a.state.trees name) a.state name
 whole_turns a GenerateId (outcome.Decided reply) b maps t = same_queues _ b.state t.is
@@ -105,6 +116,7 @@ whole_turns a Flush (outcome.Refused e) b maps t = same_queues a.state b.state t
 whole_turns a (PopMin tree) (outcome.Refused e) b maps t = same_queues a.state b.state t.1
 whole_turns a (PopMax tree) (outcome.Refused e) b maps t = same_queues a.state b.state t.1
 whole_turns a (Clear tree) (outcome.Refused e) b maps t = removal_turns t.removes
+whole_turns a (Group batches) (outcome.Refused e) b maps t = group_stops a.state b.state t.is
 whole_turns a (OpenTree name) (outcome.Refused e) b maps t = same_queues a.state b.state t.1
 whole_turns a (DropTree name) (outcome.Refused e) b maps t = same_queues a.state b.state t.1
 whole_turns a GenerateId (outcome.Refused e) b maps t = same_queues a.state b.state t.1
@@ -150,6 +162,10 @@ quiet_event : (n tree : ℕ) (e : Option Event) → IsQuiet n (turns_of_event tr
 quiet_event n tree None = quiet_none n
 quiet_event n tree (Some e) = record { stays = (refl, tt); none = λ queues. refl }
 
+quiet_events : (n : ℕ) (es : List (ℕ × Event)) → IsQuiet n (turns_of_events es)
+quiet_events n [] = quiet_none n
+quiet_events n (e ∷ es) = let more = quiet_events n es in record { stays = (refl, more.stays); none = λ queues. more.none (queues_after e.0 (Some e.1) queues) }
+
 quiet_both : (n : ℕ) (xs ys : List Turn) → IsQuiet n xs → IsQuiet n ys → IsQuiet n (xs ++ ys)
 quiet_both n xs ys x y = record { stays = stays_both n xs ys x.stays y.stays; none = λ queues. taken_both n xs ys queues ∙ ap (λ l. l ++ taken_by n ys (after_turns xs queues)) (x.none queues) ∙ y.none (after_turns xs queues) }
 
@@ -193,6 +209,8 @@ whole_heard n q a Flush (outcome.Decided reply) b maps t here kept = heard n _ _
 whole_heard n q a (PopMin tree) (outcome.Decided reply) b maps t here kept = heard n _ _ (turns_of_pop t.named t.found) _ refl (quiet_pop n t.named t.found)
 whole_heard n q a (PopMax tree) (outcome.Decided reply) b maps t here kept = heard n _ _ (turns_of_pop t.named t.found) _ refl (quiet_pop n t.named t.found)
 whole_heard n q a (Clear tree) (outcome.Decided reply) b maps t here kept = heard n _ _ (turns_of_removals t.1.removes) _ refl (quiet_removals n t.1.removes)
+whole_heard n q a (Group batches) (outcome.Decided reply) b maps t here kept =
+    let es = events_of_writes (writes_of batches.items) a.state in heard n _ _ (turns_of_events es) _ refl (quiet_events n es)
 whole_heard n q a (OpenTree name) (outcome.Decided reply) b maps t here kept = heard n _ _ [] _ refl (quiet_none n)
 whole_heard n q a (DropTree name) (outcome.Decided reply) b maps t here kept = heard n _ _ [] _ refl (quiet_none n)
 whole_heard n q a GenerateId (outcome.Decided reply) b maps t here kept = heard n _ _ [] _ refl (quiet_none n)
@@ -208,6 +226,7 @@ whole_heard n q a Flush (outcome.Refused e) b maps t here kept = heard n _ _ [] 
 whole_heard n q a (PopMin tree) (outcome.Refused e) b maps t here kept = heard n _ _ [] _ refl (quiet_none n)
 whole_heard n q a (PopMax tree) (outcome.Refused e) b maps t here kept = heard n _ _ [] _ refl (quiet_none n)
 whole_heard n q a (Clear tree) (outcome.Refused e) b maps t here kept = heard n _ _ (turns_of_removals t.removes) _ refl (quiet_removals n t.removes)
+whole_heard n q a (Group batches) (outcome.Refused e) b maps t here kept = heard n _ _ [] _ refl (quiet_none n)
 whole_heard n q a (OpenTree name) (outcome.Refused e) b maps t here kept = heard n _ _ [] _ refl (quiet_none n)
 whole_heard n q a (DropTree name) (outcome.Refused e) b maps t here kept = heard n _ _ [] _ refl (quiet_none n)
 whole_heard n q a GenerateId (outcome.Refused e) b maps t here kept = heard n _ _ [] _ refl (quiet_none n)

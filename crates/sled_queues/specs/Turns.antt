@@ -81,7 +81,8 @@ abbrev pub turns_of_stop : {old : State} {a b : Store} {all : List (Key × Key �
 turns_of_stop (inl none) = []
 turns_of_stop (inr s) = turns_of_parts s.1.does
 
--- a whole call that is refused: of a clear and an import, the parts that were done
+-- a whole call that is refused: of a clear and an import, the parts that were done. A refused group brings
+-- nothing, even where it closes the database
 abbrev pub turns_of_refusal : (old : State) (a b : Store) (whole : Whole) (e : Error) (new : State) (maps : List Maps) → WholeRefuses old a b whole e new maps → List Turn
 turns_of_refusal old a b Flush e new maps d = []
 turns_of_refusal old a b (PopMin tree) e new maps d = []
