@@ -7,3 +7,4 @@ mod Printing
 mod Obeying
 mod Living
 mod Serving
+mod Batching

@@ -21,14 +21,19 @@ call_name_of word =
     else if bytes_eq word (codes "cas") then Some name.Cas
     else None
 
--- the name of a command that is no call
-abbrev pub other_name_of : List ℕ → Option Name
-other_name_of word =
+-- the name of a command that is about a call in flight
+abbrev pub flight_name_of : List ℕ → Option Name
+flight_name_of word =
     if bytes_eq word (codes "begin") then Some name.Begin
     else if bytes_eq word (codes "step") then Some name.Step
     else if bytes_eq word (codes "finish") then Some name.Finish
     else if bytes_eq word (codes "abandon") then Some name.Abandon
-    else if bytes_eq word (codes "batch") then Some name.Batch
+    else None
+
+-- the name of another command
+abbrev pub other_name_of : List ℕ → Option Name
+other_name_of word =
+    if bytes_eq word (codes "batch") then Some name.Batch
     else if bytes_eq word (codes "flush") then Some name.Flush
     else if bytes_eq word (codes "crash") then Some name.Crash
     else if bytes_eq word (codes "dump") then Some name.Dump
@@ -37,7 +42,10 @@ other_name_of word =
 
 -- the name of a command
 abbrev pub name_of : List ℕ → Option Name
-name_of word = if is_some (call_name_of word) then call_name_of word else other_name_of word
+name_of word =
+    if is_some (call_name_of word) then call_name_of word
+    else if is_some (flight_name_of word) then flight_name_of word
+    else other_name_of word
 
 -- the only word of the arguments
 abbrev pub one_of : List (List ℕ) → Option (List ℕ)

@@ -4,7 +4,7 @@ ghost use Rattle.std.specs.FinMap.Entries.{put};
 ghost use Rattle.sled_nodes.specs.Order.{key_cmp};
 ghost use Rattle.sled_nodes.specs.declared.error.Error.TheVariants.{NoMemory};
 ghost use Rattle.sled_lines.specs.Words.{words_after, read_word, read_value};
-ghost use Rattle.sled_lines.specs.Batch.{write_after, batch_of};
+ghost use Rattle.sled_lines.specs.Batch.{write_after, writes_after, batch_of};
 
 use crate::words::{first_word, read_value, read_word};
 use sled_batch::Batch;

@@ -3,7 +3,7 @@ ghost use Rattle.std.specs.Prelude.{◌≡◌, IfOk, IfErr, option_map};
 ghost use Rattle.std.specs.Option.{option_and_then};
 ghost use Rattle.sled_nodes.specs.declared.error.Error.TheVariants.{NoMemory};
 ghost use Rattle.sled_lines.specs.Words.{words_after, read_number};
-ghost use Rattle.sled_lines.specs.Command.{call_name_of, other_name_of, name_of, one_of, two_of, three_of, insert_of, get_of, remove_of, swap_of, call_of, call_of_words, in_slot, opens, alone, command_of};
+ghost use Rattle.sled_lines.specs.Command.{call_name_of, flight_name_of, other_name_of, name_of, one_of, two_of, three_of, insert_of, get_of, remove_of, swap_of, call_of, call_of_words, in_slot, opens, alone, command_of};
 
 use crate::batch::read_batch;
 use crate::words::{first_word, read_number, read_value, read_word};
@@ -71,8 +71,8 @@ fn call_name_of(word: &[u8]) -> Option<Name>
     }
 }
 
-fn other_name_of(word: &[u8]) -> Option<Name>
-    ensures { result ≡ other_name_of word.now }
+fn flight_name_of(word: &[u8]) -> Option<Name>
+    ensures { result ≡ flight_name_of word.now }
 {
     if word == b"begin".as_slice() {
         Some(Name::Begin)
@@ -82,7 +82,15 @@ fn other_name_of(word: &[u8]) -> Option<Name>
         Some(Name::Finish)
     } else if word == b"abandon".as_slice() {
         Some(Name::Abandon)
-    } else if word == b"batch".as_slice() {
+    } else {
+        None
+    }
+}
+
+fn other_name_of(word: &[u8]) -> Option<Name>
+    ensures { result ≡ other_name_of word.now }
+{
+    if word == b"batch".as_slice() {
         Some(Name::Batch)
     } else if word == b"flush".as_slice() {
         Some(Name::Flush)
@@ -102,7 +110,10 @@ fn name_of(word: &[u8]) -> Option<Name>
 {
     match call_name_of(word) {
         Some(name) => Some(name),
-        None => other_name_of(word),
+        None => match flight_name_of(word) {
+            Some(name) => Some(name),
+            None => other_name_of(word),
+        },
     }
 }
 
