@@ -14,6 +14,7 @@ import cases_drops
 import cases_events
 import cases_fetch
 import cases_flights
+import cases_groups
 import cases_imports
 import cases_levels
 import cases_merges

@@ -52,7 +52,7 @@ def owned_calls_answer_as_those_of_a_machine(s):
 def slots_end_at_an_owned_call(s):
     """A call of the database itself ends every slot, and they are counted from 1 again; a line that cannot be read ends none."""
     for line, printed in (('owned insert b 1', 'old -'), ('owned set b 1', 'old 1'), ('owned remove b', 'old 1'), ('owned del b', 'old -'),
-                          ('owned cas b 1 2', 'conflict - 2'), ('owned pop-min', 'found -'), ('owned pop-max', 'found -'), ('owned clear', 'done'),
+                          ('owned cas b 1 2', 'conflict - 2'), ('owned pop-min', 'found -'), ('owned pop-max', 'found -'), ('owned clear', 'done'), ('owned batch b -', 'done'),
                           ('owned flush', 'flushed 2')):
         s.begin(1, 'insert a 1')
         s.begin(2, 'get a')
@@ -92,7 +92,7 @@ def an_owned_call_of_a_tree_that_is_not_there_is_refused(s):
     another, gone = 'refused E2', 'refused E1'
     for handle, refusal in (('other __sled__default 1', another), ('other __sled__default 2', another), ('sledsh t 1', gone), ('sledsh __sled__default 2', gone)):
         s.line(f'handle {handle}', 'done')
-        for line in ('insert a 2', 'set a 2', 'remove a', 'del a', 'cas a 1 2', 'pop-min', 'pop-max', 'clear'):
+        for line in ('insert a 2', 'set a 2', 'remove a', 'del a', 'cas a 1 2', 'pop-min', 'pop-max', 'clear', 'batch a 2'):
             s.line(f'owned {line}', refusal)
         s.line('get a', refusal)
     s.line('owned flush', 'flushed 1')
@@ -101,7 +101,7 @@ def an_owned_call_of_a_tree_that_is_not_there_is_refused(s):
     s.line('dump', pair('a', '2'), 'end 1')
     s.note('Without a database every call is refused.')
     s.line('new refuse 1', 'refused E4')
-    for line in ('insert a 1', 'set a 1', 'remove a', 'del a', 'cas a 1 2', 'pop-min', 'pop-max', 'clear', 'flush'):
+    for line in ('insert a 1', 'set a 1', 'remove a', 'del a', 'cas a 1 2', 'pop-min', 'pop-max', 'clear', 'batch a 1', 'flush'):
         s.line(f'owned {line}', 'refused E8')
     s.line('reopen', 'opened')
     s.line('owned insert a 1', 'old -')

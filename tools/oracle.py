@@ -25,7 +25,7 @@ ROOM = 1024
 
 
 class Refused(Exception):
-    """A call that is refused, by its number, and the text of E2."""
+    """A call that is refused, by its number, the text of E2, and the fault of E4."""
 
 
 ANOTHER = 'handle of another database'
@@ -34,7 +34,7 @@ DEFAULT_TREE = 'cannot remove the core structures'
 PRESENT = 'import is overwriting existing data'
 UNKNOWN_TYPE = 'unknown collection type'
 IDS = 'ids used up'
-TEXTS = {1: 'collection not found', 2: 'unsupported: ', 6: 'no memory', 8: 'closed'}
+TEXTS = {1: 'collection not found', 2: 'unsupported: ', 4: 'io fault ', 6: 'no memory', 8: 'closed'}
 
 
 class BadLine(Exception):
@@ -154,8 +154,8 @@ class Store:
     """Pages in memory: the state at the last flush, and the changing actions since."""
 
     def __init__(self):
-        self.pages, self.roots = {}, {}                 # now
-        self.base, self.recent = ({}, {}), []           # at the last flush; the actions since: (what, where, new)
+        self.pages, self.roots, self.group = {}, {}, {}     # now; in a group `group` has an entry
+        self.base, self.recent = ({}, {}, {}), []           # at the last flush; the actions since: (what, where, new)
         self.pids = self.versions = self.mark = 0
         self.recovered = False
         self.notes = Counter()
@@ -170,12 +170,12 @@ class Store:
         """A numbered call is made, which may be one to be refused."""
         self.calls += 1
         if self.calls in self.refused:
-            raise Refused(4)
+            raise Refused(4, '1')
 
     def do(self, what, where, new):
         """Does a changing action."""
         self.recent.append((what, where, new))
-        self.apply((self.pages, self.roots), self.recent[-1])
+        self.apply((self.pages, self.roots, self.group), self.recent[-1])
 
     @staticmethod
     def apply(state, action):
@@ -188,7 +188,7 @@ class Store:
     def read(self, pid):
         self.reads += 1
         if pid in self.unreadable:
-            raise Refused(4)
+            raise Refused(4, '2')
         return self.pages.get(pid)
 
     def allocate(self, node):
@@ -217,6 +217,14 @@ class Store:
         self.do(1, name, new)
         return True
 
+    def begin_group(self):
+        self.made()
+        self.do(2, 'open', True)
+
+    def seal_group(self):
+        self.made()
+        self.do(2, 'open', None)
+
     def flush(self):
         self.made()
         for action in self.recent:
@@ -229,11 +237,16 @@ class Store:
         self.mark = upto
 
     def crash(self, keep):
-        """Goes back to what a crash leaves that keeps so many of the actions since the last flush."""
-        for action in self.recent[:keep]:
+        """Goes back to what a crash leaves that keeps so many of the actions since the last flush, but of a group all or none."""
+        kept = self.recent[:keep]
+        bounds = [at for at, (what, _, _) in enumerate(kept) if what == 2]
+        if len(bounds) % 2:
+            self.notes['a crash within a group'] += len(kept) > bounds[-1] + 1
+            kept = kept[:bounds[-1]]
+        for action in kept:
             self.apply(self.base, action)
         self.recent = []
-        self.pages, self.roots = dict(self.base[0]), dict(self.base[1])
+        self.pages, self.roots, self.group = map(dict, self.base)
         self.recovered = True
         self.forget()
 
@@ -279,6 +292,16 @@ class Tree:
         for queue in self.queues:
             if key.startswith(queue.prefix):
                 queue.come(key, value)
+
+
+class InGroup:
+    """A tree as a write of a group finds it. What changes is told once the group is sealed."""
+
+    def __init__(self, tree, told):
+        self.name, self.tree, self.told = tree.name, tree, told
+
+    def tell(self, key, value):
+        self.told.append((self.tree, key, value))
 
 
 class Queue:
@@ -620,7 +643,7 @@ step N; finish N; abandon N; turns N; flush; crash N; dump; new; new refuse N ..
 reopen unreadable PID ..; reopen mark N; recover; recover refuse N ..; recovered; pages; draw; draw dot; handle DATABASE NAME N; why; help; quit; exit
 has K; read K; lt K; gt K; first; last; len; empty; range LO HI; range-back LO HI; range-ends LO HI; prefix P; prefix-back P
 keys LO HI; keys-back LO HI; values LO HI; values-back LO HI
-pop-min; pop-max; clear
+pop-min; pop-max; clear; batch K NEW ..; group TREE K NEW .. ; ..; owned batch K NEW ..
 owned insert K V; owned set K V; owned remove K; owned del K; owned cas K OLD NEW; owned merge K V; owned pop-min
 owned pop-max; owned clear; owned flush; owned id; owned drop NAME
 names; tree NAME; old-tree NAME; drop NAME; id; import NAME K V ..; import-type TYPE NAME K V ..; import-all TYPE NAME K V .. ; ..
@@ -629,7 +652,7 @@ watch P; next N; unwatch N; owned watch P; owned next N; owned unwatch N"""
 # What the program `crowd` knows beside the lines of `sledrun` and reads that take no slot: many calls at once.
 CROWD = """crowd SEED CALLS; run STEP, ..; reads; load N MOST ALL; find N PAGES; overtake N COUNT; pages; turns N; new; drop NAME; why
 insert K V; get K; remove K; cas K OLD NEW; begin insert K V; begin get K; begin remove K; begin cas K OLD NEW
-step N; finish N; abandon N; flush; crash N; dump; tree NAME
+step N; finish N; abandon N; batch K NEW ..; flush; crash N; dump; tree NAME
 has K; read K; lt K; gt K; first; last; len; empty; names; range LO HI; range-back LO HI; range-ends LO HI; prefix P; prefix-back P
 keys LO HI; keys-back LO HI; values LO HI; values-back LO HI"""
 
@@ -643,7 +666,7 @@ POINT = ('insert', 'get', 'remove', 'cas', 'merge')
 POPS = ('pop-min', 'pop-max', 'clear')
 ON_TREES = ('begin', 'operator', 'pages', 'draw', 'watch', 'update', 'fetch')
 LOOKS = ('has', 'read', 'lt', 'gt', 'first', 'last', 'len', 'empty', 'range', 'prefix', 'keys', 'values')
-READERS = {'K': value_of, 'V': value_of, 'P': value_of, 'DATABASE': value_of, 'NAME': value_of, 'TYPE': value_of, 'OLD': optional, 'NEW': optional, 'LO': bound_of, 'HI': bound_of, 'OPERATOR': operator_of}
+READERS = {'K': value_of, 'V': value_of, 'P': value_of, 'DATABASE': value_of, 'NAME': value_of, 'TYPE': value_of, 'OLD': optional, 'NEW': optional, 'TREE': optional, 'LO': bound_of, 'HI': bound_of, 'OPERATOR': operator_of}
 
 
 def fit(form, words):
@@ -685,9 +708,9 @@ def parts_of(words):
 def places_of(takes, count):
     """What each of so many words stands for in a form; none where the form takes another number of words. What is repeated is the
     pairs at the end, of which there may be none, or the only word, of which there is one."""
-    if takes[-3:] == ['K', 'V', '..']:
-        fixed = takes[:-3]
-        return fixed + ['K', 'V'] * ((count - len(fixed)) // 2) if count >= len(fixed) and (count - len(fixed)) % 2 == 0 else None
+    if takes[-3:-2] == ['K'] and takes[-1] == '..':
+        fixed, pair = takes[:-3], takes[-3:-1]
+        return fixed + pair * ((count - len(fixed)) // 2) if count >= len(fixed) and (count - len(fixed)) % 2 == 0 else None
     if takes[-1:] == ['..']:
         return takes[:1] * count or None
     return takes if len(takes) == count else None
@@ -696,9 +719,10 @@ def places_of(takes, count):
 def count_of(takes):
     """How many words a form takes."""
     counts = 'no words', 'one word', 'two words', 'three words'
-    if 'V ..' not in ' '.join(takes):
+    if '..' not in takes or 'K' not in takes:
         return 'one word or more' if '..' in takes else counts[len(takes)]
-    return counts[takes.index('K')] + ' and pairs' + ' in each part' * (';' in takes)
+    once = takes.index('K')
+    return (f'{counts[once]} and pairs' if once else 'pairs') + ' in each part' * (';' in takes)
 
 
 def read_step(text):
@@ -763,6 +787,13 @@ def collections_of(name, *words):
     return [(kind, name, list(zip(pairs[::2], pairs[1::2]))) for kind, name, *pairs in parts]
 
 
+def batches_of(name, *words):
+    """What a line that makes a group has: of each part what names its tree, none the current one, and its writes, of each key the
+    last one, in the order of the keys."""
+    parts = words[0] if name == 'group' else [(None,) + words]
+    return [(name, sorted(dict(zip(pairs[::2], pairs[1::2])).items())) for name, *pairs in parts]
+
+
 class Shell:
     """Runs lines, one after the other, over a store of its own."""
 
@@ -774,6 +805,8 @@ class Shell:
         """Opens the pages: where the default tree is missing it is made, and all is flushed. Slots end. Trees get numbers by the
         order of their names."""
         self.slots, self.begun, self.opened = {}, 0, False
+        if self.store.group:
+            raise Refused(8)
         if TREE not in self.store.roots:
             make_tree(self.store, TREE)
         self.store.flush()
@@ -783,6 +816,11 @@ class Shell:
         self.handle = self.value_of(TREE)
         # what the last line `tree NAME` got, and what it got before
         self.named = {TREE: (self.handle, self.handle)}
+
+    @property
+    def closed(self):
+        """Whether a group was refused midway."""
+        return self.store.group != {}
 
     def value_of(self, name):
         """What names the tree of this name that is there: the database, its name and its number."""
@@ -847,6 +885,13 @@ class Shell:
         if name == 'owned':
             self.slots, self.begun = {}, 0
             return self.do(*in_line(words))
+        if name == 'recovered':
+            return ['yes' if store.recovered else 'no']
+        if name in ('batch', 'group'):
+            self.write([(self.named_so(tree), writes) for tree, writes in batches_of(name, *words)])
+            return ['done']
+        if self.closed:
+            raise Refused(8)
         if name.partition('-')[0] in POINT + LOOKS + ON_TREES or name in POPS:
             return self.on_tree(self.there(self.handle), name, *words)
         if name == 'tree':
@@ -869,8 +914,6 @@ class Shell:
             return [f'name {word(name)}' for name in sorted(store.roots)] + [f'end {len(store.roots)}']
         if name == 'id':
             return [f'number {self.next_id()}']
-        if name == 'recovered':
-            return ['yes' if store.recovered else 'no']
         if name == 'dump':
             maps = self.maps()
             pairs = [f'pair {word(name)} {word(k)} {word(v)}' for name in sorted(maps) for k, v in maps[name]]
@@ -1007,6 +1050,38 @@ class Shell:
                     raise Refused(2, PRESENT)
                 self.advance(self.flight(tree, 'insert', key, value), True)
 
+    def named_so(self, name):
+        """What a word in a group names: the current tree, or what the last line `tree NAME` got."""
+        if name is not None and name not in self.named:
+            raise BadLine(f'`{word(name)}` names no tree: no line `tree` named it since the opening')
+        return self.handle if name is None else self.named[name][1]
+
+    def write(self, batches):
+        """Makes a group of writes. First come the tests of all its trees, one after the other, and the reads of all values that stand.
+        A write that changes nothing is left out. The others are made between two marks in the store, and then they are told; a
+        refusal there leaves the store in the group, so that the database is closed."""
+        if self.closed:
+            raise Refused(8)
+        if any(database != DATABASE for (database, _, _), _ in batches):
+            raise Refused(2, ANOTHER)
+        trees = [self.there(handle) for handle, _ in batches]
+        changes, writes, told = [], {}, []
+        for tree, (_, pairs) in zip(trees, batches):
+            for key, value in pairs:
+                old = look(self.store, tree, (True, key)).get(key)
+                if writes.get((tree, key), old) != value:
+                    changes.append((tree, ('remove', key) if value is None else ('insert', key, value)))
+                writes[tree, key] = value
+        if not changes:
+            return
+        self.store.begin_group()
+        for tree, call in changes:
+            for _ in fly(self.store, InGroup(tree, told), call):
+                pass
+        self.store.seal_group()
+        for tree, key, value in told:
+            tree.tell(key, value)
+
     def next_id(self):
         """One above the greatest id that was given. Where none is set aside, 4096 more are, or as many as are left."""
         if self.greatest_id == self.store.mark:
@@ -1118,6 +1193,8 @@ class Shell:
     def advance(self, flight, to_its_end):
         """Does a step of a call in flight, or all of them. A step of a call on a tree that was dropped is refused."""
         call, answer, tree = flight[0], 'moved', flight[2]
+        if self.closed:
+            raise Refused(8)
         if self.trees.get(tree.name) is not tree:
             raise Refused(1)
         try:

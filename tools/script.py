@@ -7,9 +7,11 @@ answers, what each dump has, and that a crash leaves the pairs of some moment si
 import os
 import re
 import sys
-from oracle import (CROWD, DATABASE, FORMS, GREATEST, HOWS, LOOKS, ON_TREES, OPERATORS, POINT, POPS, ROOM, TREE, Shell, Tree, collections_of, in_line, is_from, is_up_to, read_line,
+from oracle import (CROWD, DATABASE, FORMS, GREATEST, HOWS, LOOKS, ON_TREES, OPERATORS, POINT, POPS, ROOM, TREE, Shell, Tree, batches_of, collections_of, in_line, is_from, is_up_to, read_line,
                     some_keys, word)
 
+# What a closed database serves, and the shell by itself, or a line that opens one.
+SERVED = ('next', 'unwatch', 'abandon', 'turns', 'recovered', 'why', 'handle', 'old-tree', 'new', 'recover', 'crash')
 CRATES = os.path.join(os.path.dirname(os.path.abspath(__file__)), '..', 'crates')
 CASES = []
 
@@ -79,7 +81,7 @@ class Plain:
 
     def opened(self):
         """Slots, operators, and all names but the default one are gone."""
-        self.calls, self.current = {}, self.maps[TREE]
+        self.calls, self.current, self.is_closed = {}, self.maps[TREE], False
         self.named = {TREE: (self.current, self.current)}
         for map in self.maps.values():
             map.operator, map.queues = None, []
@@ -116,9 +118,38 @@ class Plain:
             words[0].set(*words[1:])
         elif what == 'open':
             del self.maps[words[0]]
+        elif what == 'group':
+            for map, key, value in words[0][::-1]:
+                map.set(key, value)
         else:
             self.maps[words[0]] = words[1]
             words[1].is_there = True
+
+    def write(self, batches):
+        """A group is one change: its writes are made, one after the other, and then those that changed something are told."""
+        changes, told = [], []
+        for name, pairs in batches:
+            map = self.current if name is None else self.named[name][1]
+            for key, value in pairs:
+                if map.pairs.get(key) != value:
+                    changes.append((map, key, map.pairs.get(key)))
+                    map.set(key, value)
+                    told.append((map, key, value))
+        if changes:
+            self.changes.append(('group', changes))
+        for map, key, value in told:
+            map.tell(key, value)
+
+    def groups(self, batches, printed, shell):
+        """A line that makes a group printed this. One that was refused changed nothing, or closed the database."""
+        if printed == 'refused E8':
+            return
+        are_there = all((self.current if name is None else self.named[name][1]).is_there for name, _ in batches)
+        expect(are_there != (printed in ('refused E1', 'refused E2')), 'whether the trees are there', printed)
+        self.is_closed = shell.closed
+        if printed == 'done':
+            self.write(batches)
+        expect(self.is_closed or self.has(shell.contents()), batches, printed)
 
     def answer(self, call, map):
         """What a call answers that is decided now."""
@@ -215,9 +246,16 @@ class Plain:
     def meets(self, words, printed, shell):
         """Compares what a line printed with what it must."""
         name, last = words[0], next((line for line in printed if line.startswith('refused') and words[0] != 'run'), printed[-1] if printed else '')
+        if self.is_closed and words[name == 'owned'] not in SERVED:
+            expect(last in ('refused E8', 'no slot', 'no subscriber'), 'the database is closed', words, printed)
+            if name == 'reopen':
+                self.calls, self.queues = {}, []
+            return
         if name == 'owned':
             self.calls = {}
             return self.meets(in_line(words[1:]), printed, shell)
+        if name in ('batch', 'group'):
+            return self.groups(batches_of(*words), last, shell)
         if name.partition('-')[0] in POINT + LOOKS + ON_TREES or name in POPS:
             if last != 'refused E8':
                 expect(self.current.is_there or last in ('refused E1', 'refused E2'), 'the tree is not there', words, last)

@@ -48,6 +48,10 @@ pub fn tell_known<P: Pages, M: MergeOperator, W: Write>(
         Command::Step(number) => show(out, session.act(number, Act::Step)),
         Command::Finish(number) => show(out, session.act(number, Act::Finish)),
         Command::Abandon(number) => show(out, session.act(number, Act::Abandon)),
+        Command::Batch(batch) => {
+            let applied = session.apply_batch(batch)?;
+            show(out, applied)
+        }
         Command::Flush => show(out, (Shown::Value, session.flush())),
         Command::Dump => dump(session, output, out),
         line => session.run(line, output, &mut out.text),

@@ -53,6 +53,8 @@ pub enum Verb {
     OldTree,
     /// An import of pairs into trees by name.
     Import(Import),
+    /// Batches on several trees, made together.
+    Group,
     /// A call that reads a value and writes what is made of it.
     Fetch(Fetch),
     /// A subscriber and its events.
@@ -66,9 +68,9 @@ pub enum Verb {
 // A command's own words, what it takes, and what it does.
 type Form = (&'static str, &'static str, Verb, &'static str);
 
-// What a command takes has words of its own: K, V, P, OLD, NEW, DATABASE, TYPE and NAME are byte strings, LO and HI bounds, OPERATOR a
-// merge operator, HOW what is made of a value, [WORD] two words at the most, and the others numbers; `..` stands for more of the word
-// before it, `K V ..` for pairs, and `; ..` for more of all that stands before it.
+// What a command takes has words of its own: K, V, P, OLD, NEW, DATABASE, TYPE, NAME and TREE are byte strings, of which OLD, NEW and TREE
+// may be `-`; LO and HI are bounds, OPERATOR a merge operator, HOW what is made of a value, [WORD] two words at the most, and the others
+// numbers. `..` stands for more of the word before it, `K V ..` and `K NEW ..` for pairs, and `; ..` for more of all that stands before it.
 
 // A key of the current tree.
 const KEYS: [Form; 8] = [
@@ -276,7 +278,7 @@ const RANGES: [Form; 9] = [
 ];
 
 // Many pairs by one call.
-const WHOLES: [Form; 6] = [
+const WHOLES: [Form; 8] = [
     (
         "pop-min",
         "",
@@ -294,6 +296,18 @@ const WHOLES: [Form; 6] = [
         "",
         Verb::Pop(Pop::All),
         "takes all keys out, from the least up",
+    ),
+    (
+        "batch",
+        "K NEW ..",
+        Verb::Line,
+        "writes several keys, all or none: sets each to NEW, or takes it out where that is -",
+    ),
+    (
+        "group",
+        "TREE K NEW .. ; ..",
+        Verb::Group,
+        "writes the batches of all parts, all or none; TREE is a name that a line `tree` had, or - for the current tree",
     ),
     (
         "import",
@@ -430,7 +444,7 @@ const ENDS: [Form; 8] = [
 ];
 
 // Calls of the database itself.
-const OWNED: [Form; 17] = [
+const OWNED: [Form; 18] = [
     (
         "owned insert",
         "K V",
@@ -496,6 +510,12 @@ const OWNED: [Form; 17] = [
         "",
         Verb::Owned(Owned::Clear),
         "takes all keys out, from the least up",
+    ),
+    (
+        "owned batch",
+        "K NEW ..",
+        Verb::Owned(Owned::Batch),
+        "writes several keys, all or none",
     ),
     (
         "owned flush",

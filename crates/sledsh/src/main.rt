@@ -5,6 +5,7 @@
 mod calls;
 mod fetch;
 mod forms;
+mod groups;
 mod imports;
 mod names;
 mod operators;

@@ -50,18 +50,18 @@ impl Names {
         self.push(default)
     }
 
-    /// What a name was before the last line `tree` with it.
-    pub fn older(&self, name: &[u8]) -> Option<&Tree> {
-        let mut is_last = true;
+    /// What a name was before so many of the last lines `tree` with it.
+    pub fn before(&self, name: &[u8], lines: u64) -> Option<&Tree> {
+        let mut left = lines;
         for place in 0..self.trees.len() {
             let tree = &self.trees[self.trees.len() - 1 - place];
             if tree.name.as_ref() != name {
                 continue;
             }
-            if !is_last {
+            if left == 0 {
                 return Some(tree);
             }
-            is_last = false;
+            left -= 1;
         }
         None
     }

@@ -1,6 +1,7 @@
 //! Calls of the database itself, with no machine round it.
 
 use crate::fetch::{Fetch, tell_owned_fetch};
+use crate::groups::tell_owned_batch;
 use crate::operators::Operator;
 use crate::subscribers::{Listen, Subscribers, tell_owned_listen};
 use shell_parts::look::{tell_found, tell_is, tell_value};
@@ -31,6 +32,7 @@ pub enum Owned {
     PopMin,
     PopMax,
     Clear,
+    Batch,
     Flush,
     Drop,
     Id,
@@ -88,7 +90,8 @@ fn drop_tree(
     tell_is(out, dropped)
 }
 
-fn tell_done(out: &mut Told, done: Answer<()>) -> Result<()> {
+/// Adds that a call is done.
+pub fn tell_done(out: &mut Told, done: Answer<()>) -> Result<()> {
     match done {
         Ok(()) => tell(out, &[Text(b"done\n")]),
         Err(e) => tell_refused(out, e),
@@ -234,6 +237,7 @@ fn make(
         Owned::PopMin => tell_found(out, db.pop_min(tree)),
         Owned::PopMax => tell_found(out, db.pop_max(tree)),
         Owned::Clear => tell_done(out, db.clear(tree)),
+        Owned::Batch => tell_owned_batch(alloc, db, tree, words, out),
         Owned::Flush => tell_flushed(out, db.flush()),
         Owned::Drop => drop_tree(alloc, db, words, out),
         Owned::Id => tell_id(out, db.generate_id()),

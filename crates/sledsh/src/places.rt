@@ -44,10 +44,10 @@ enum Tail {
     Nothing,
     // Numbers, of which there is one.
     Numbers,
-    // A key and a value in turn.
-    Pairs,
+    // A key and a value in turn; the word is what stands for the value.
+    Pairs(&'static str),
     // The same, and then more of all, behind a `;`.
-    Parts,
+    Parts(&'static str),
     // What is made of a value, and the bytes that this takes.
     How,
     // Two words at the most.
@@ -57,9 +57,13 @@ enum Tail {
 // Which it is, and the number of words that say it.
 fn tail_of(takes: &[u8]) -> (Tail, usize) {
     if takes.ends_with(b"K V .. ; ..") {
-        (Tail::Parts, 5)
+        (Tail::Parts("V"), 5)
+    } else if takes.ends_with(b"K NEW .. ; ..") {
+        (Tail::Parts("NEW"), 5)
     } else if takes.ends_with(b"K V ..") {
-        (Tail::Pairs, 3)
+        (Tail::Pairs("V"), 3)
+    } else if takes.ends_with(b"K NEW ..") {
+        (Tail::Pairs("NEW"), 3)
     } else if takes.ends_with(b"..") {
         (Tail::Numbers, 2)
     } else if takes.ends_with(b"HOW") {
@@ -87,7 +91,7 @@ fn fits(takes: Takes<'_>, count: usize) -> bool {
         (Tail::Numbers, Some(more)) => more > 0,
         (Tail::How, Some(more)) => more == 1 || more == 2,
         (Tail::Maybe, Some(more)) => more <= 2,
-        (Tail::Pairs | Tail::Parts, Some(more)) => more % 2 == 0,
+        (Tail::Pairs(_) | Tail::Parts(_), Some(more)) => more % 2 == 0,
     }
 }
 
@@ -99,8 +103,8 @@ fn place_of<'a>(takes: Takes<'a>, place: usize) -> &'a [u8] {
         (None, Tail::How) if place == takes.once.len() => b"HOW",
         (None, Tail::How) => b"V",
         (None, Tail::Maybe) => b"[WORD]",
-        (None, Tail::Pairs | Tail::Parts) if (place - takes.once.len()) % 2 == 0 => b"K",
-        (None, Tail::Pairs | Tail::Parts) => b"V",
+        (None, Tail::Pairs(_) | Tail::Parts(_)) if (place - takes.once.len()) % 2 == 0 => b"K",
+        (None, Tail::Pairs(value) | Tail::Parts(value)) => value.as_bytes(),
     }
 }
 
@@ -117,8 +121,9 @@ fn count_of(takes: Takes<'_>) -> (&'static str, &'static str) {
         Tail::Numbers => (", one word or more", ""),
         Tail::How => (", two words or three", ""),
         Tail::Maybe => (", two words at the most", ""),
-        Tail::Pairs => (count, " and pairs"),
-        Tail::Parts => (count, " and pairs in each part"),
+        Tail::Pairs(_) if takes.once.is_empty() => (", pairs", ""),
+        Tail::Pairs(_) => (count, " and pairs"),
+        Tail::Parts(_) => (count, " and pairs in each part"),
     }
 }
 
@@ -135,7 +140,7 @@ enum Kind {
     Any,
 }
 
-const KINDS: [(&str, Kind); 13] = [
+const KINDS: [(&str, Kind); 14] = [
     ("K", Kind::Bytes),
     ("V", Kind::Bytes),
     ("P", Kind::Bytes),
@@ -144,6 +149,7 @@ const KINDS: [(&str, Kind); 13] = [
     ("NAME", Kind::Bytes),
     ("OLD", Kind::Value),
     ("NEW", Kind::Value),
+    ("TREE", Kind::Value),
     ("LO", Kind::Bound),
     ("HI", Kind::Bound),
     ("OPERATOR", Kind::Operator),
@@ -244,7 +250,7 @@ fn all_fit(takes: Takes<'_>, words: &[&[u8]]) -> bool {
     if matches!(takes.tail, Tail::How) {
         return fits(takes, words.len()) && has_bytes(words);
     }
-    if !matches!(takes.tail, Tail::Parts) {
+    if !matches!(takes.tail, Tail::Parts(_)) {
         return fits(takes, words.len());
     }
     for part in words.split(is_semicolon) {
@@ -262,7 +268,7 @@ fn compare_parts(
     words: &[&[u8]],
     why: &mut Vec<u8>,
 ) -> Result<()> {
-    if !matches!(takes.tail, Tail::Parts) {
+    if !matches!(takes.tail, Tail::Parts(_)) {
         return compare_words(alloc, takes, words, why);
     }
     for part in words.split(is_semicolon) {

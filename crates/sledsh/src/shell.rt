@@ -3,6 +3,7 @@
 use crate::calls::{set_operator, take_handle};
 use crate::fetch::{Fetch, tell_fetch};
 use crate::forms::{Command, Verb, push_groups, push_help, quote, read};
+use crate::groups::tell_group;
 use crate::imports::{Import, tell_import};
 use crate::names::{Named, Names, take_tree, tell_named};
 use crate::operators::Operator;
@@ -253,6 +254,19 @@ impl Shell {
         )
     }
 
+    // Makes the group of writes that the line says, if its trees can be read.
+    fn group(&mut self, session: &mut Session<MemPages, Operator>) -> Result<(), Stopped> {
+        tell_group(
+            self.alloc,
+            session,
+            &self.names,
+            self.line.as_slice(),
+            &mut self.out,
+            &mut self.why,
+        )?;
+        self.tell_bad()
+    }
+
     // Reads a value and writes what is made of it, which the line says.
     fn fetch(
         &mut self,
@@ -309,7 +323,7 @@ impl Shell {
     // Makes current what a name was before.
     fn take_old(&mut self, state: &mut State) -> Result<(), Stopped> {
         let name = bytes_of(self.alloc, self.words())?;
-        let told = match (state, self.names.older(name.as_ref())) {
+        let told = match (state, self.names.before(name.as_ref(), 1)) {
             (State::Open(session), Some(tree)) => take_tree(session, tree, &mut self.out),
             _ => tell_none(&mut self.why, name.as_ref()),
         };
@@ -374,6 +388,7 @@ impl Shell {
         match verb {
             Verb::Named(named) => self.name(session, named),
             Verb::Import(import) => self.import(session, import),
+            Verb::Group => self.group(session),
             Verb::Fetch(call) => self.fetch(session, call),
             Verb::Listen(listen) => self.listen(session, listen),
             Verb::Pop(pop) => tell_pop(session, pop, &mut self.out),
@@ -425,6 +440,7 @@ impl Shell {
             | Verb::Fetch(_)
             | Verb::Listen(_)
             | Verb::Import(_)
+            | Verb::Group
             | Verb::Pop(_) => self.ask(state, verb, numbers),
             Verb::OldTree => self.take_old(state),
             Verb::Owned(owned) => self.owned(state, owned),
