@@ -1,9 +1,8 @@
-//! What only code can test: readers and writers that fail, a reader that waits for each answer, batches, and groups. It prints what came of
-//! each case; `stdout` has what should have come.
+//! What only code can test: readers and writers that fail, a reader that waits for each answer, and batches. It prints what came of each
+//! case; `stdout` has what should have come.
 #![tactic(auto)]
 
 mod batches;
-mod groups;
 mod streams;
 
 use sled_batch::Batch;
@@ -37,14 +36,6 @@ fn run(rt: &HostRuntime) -> io::Result<()> {
             "a copy is the same: {is_same}, and once it is written to: {is_still}"
         )?,
         Err(e) => println!(rt; "{e}")?,
-    }
-    for keep in [4, 5] {
-        match groups::left(rt.alloc(), keep) {
-            Ok(keys) => println!(rt;
-                "a crash that keeps {keep} of the five actions of a group leaves {keys} of its keys"
-            )?,
-            Err(e) => println!(rt; "{e}")?,
-        }
     }
     Ok(())
 }
