@@ -40,7 +40,7 @@ use Rattle.sled_tree.proofs.Facts.{rests}
 use Rattle.sled_tree.proofs.Known.{known_kept, not_own}
 use Rattle.tree_groups.specs.Writes.{IsFresh, ActsOften, NoAction, OneAction, is_write_refused_as, Keeps, MakesWrite, KeepsMapsAt, StopsWriting, IsInside, OpenGroupLaw, RefusedGroupLaw, SealedGroupLaw, GroupBoundsLaw}
 
-none_some : {P X : Type 0} {x : X} → None ≡ Some x → P
+pub none_some : {P X : Type 0} {x : X} → None ≡ Some x → P
 none_some e = cc
 
 -- ---- the store's actions
@@ -93,14 +93,14 @@ page_gone s p e = go (s.pages p) e
     go (Some g) e = none_some (sym e)
 
 -- a page that is there has a number that was given
-number_given : (m : Snapshot) (w : Forest) → HasForest m w → (p : ℕ) (n : Node) → nodes_at m p ≡ Some n → m.pids p ≡ true
+pub number_given : (m : Snapshot) (w : Forest) → HasForest m w → (p : ℕ) (n : Node) → nodes_at m p ≡ Some n → m.pids p ≡ true
 number_given m w is p n live = go (m.state.pages p) refl live
   where
     go : (o : Option Page) → m.state.pages p ≡ o → option_map (λ (g : Page). g.node) o ≡ Some n → m.pids p ≡ true
     go None at e = none_some e
     go (Some g) at e = is.pids p g at
 
-keeps_first : (m : Snapshot) (w : Forest) → HasForest m w → Keeps m w m w
+pub keeps_first : (m : Snapshot) (w : Forest) → HasForest m w → Keeps m w m w
 keeps_first m w is = record {
   is = is;
   sized = λ s. s;

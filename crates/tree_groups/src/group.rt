@@ -3,6 +3,7 @@ ghost use Rattle.std.specs.Prelude.{◌≡◌, false, OnOk, IfErr};
 ghost use Rattle.sled_model.specs.Refusal.{needs_operator};
 ghost use Rattle.sled_store.specs.Store.{now};
 ghost use Rattle.tree_groups.specs.Groups.{AreFresh, jobs_of, MakesGroup, LeavesGroup};
+ghost use Rattle.tree_groups.specs.theory.Groups.{WritesAll, StopsWritingAll};
 ghost use Rattle.tree_groups.specs.Writes.{IsFresh, MakesWrite, StopsWriting, OpenGroupLaw, RefusedGroupLaw, SealedGroupLaw, GroupBoundsLaw};
 
 use sled_model::{MAX_LOOPS, MergeOperator};
@@ -76,6 +77,9 @@ pub fn write_group<P: Pages>(pages: &mut P, alloc: Global, flights: Vec<InFlight
 
 // Makes writes, one after the other, in an open group.
 fn write_all<P: Pages>(pages: &mut P, alloc: Global, flights: Vec<InFlight>) -> Result<()>
+    requires fresh { AreFresh flights.items }
+    ensures ok { OnOk result (WritesAll (jobs_of flights.items) (P.store pages.old) (P.store pages.new)) }
+    ensures err { IfErr result (StopsWritingAll (jobs_of flights.items) (P.store pages.old) (P.store pages.new)) }
 {
     for flight in flights {
         if let Err(e) = write(pages, alloc, flight) {
