@@ -4,7 +4,7 @@ from cases_events import fill, sees, watch
 from cases_flights import below, eight_and_three, seventeen
 from cases_levels import short
 from cases_names import DEFAULT, tree
-from script import case, expect, key, pair
+from script import case, crowd_case, expect, key, pair
 
 
 def written(keys, value=None):
@@ -718,3 +718,29 @@ def groups_come_among_other_calls_at_random(s):
         if not s.shell.subscribers:
             opened()
     s.ask('dump')
+
+
+@crowd_case
+def a_batch_reads_the_way_to_each_key(s):
+    """A batch reads the pages on the way to each of its keys, and once more as it writes those that it changes."""
+    s.insert(*below(18))
+    s.line('get %00', 'value %00')
+    s.ask('reads')
+    s.line('batch', 'done')
+    s.line('reads', 'reads 0')
+    s.line('batch %00 %00 %11 %11 %ff -', 'done')
+    s.line('reads', 'reads 6')
+    s.line('batch %00 x %11 %11 %05 -', 'done')
+    s.line('reads', 'reads 10')
+    s.line('flush', 'flushed 26')
+    s.line('batch %00 x %05 -', 'done')
+    s.line('flush', 'flushed 0')
+    s.line('begin insert %00 y', 'slot 1')
+    s.moves(1, 2)
+    s.ask('reads')
+    s.line('batch %00 z', 'done')
+    s.line('reads', 'reads 4')
+    s.line('finish 1', 'old z')
+    s.line('crash 2', 'recovered')
+    s.line('get %00', 'value x')
+    s.line('get %05', 'value -')
