@@ -322,7 +322,7 @@ untold_turns o (error.Unsupported text) t tells = tells
 untold_turns o (error.Corruption fault) t tells = tells
 untold_turns o error.Closed t tells = tells
 
-untold_fault : (o : Option MustRefuse) (e : Error) → must_be_refused_as o e → (fault : Rattle.sled_nodes.specs.declared.error.Fault.Fault) → e ≡ error.Io fault → ⊥
+pub untold_fault : (o : Option MustRefuse) (e : Error) → must_be_refused_as o e → (fault : Rattle.sled_nodes.specs.declared.error.Fault.Fault) → e ≡ error.Io fault → ⊥
 untold_fault o e t fault is = go o (subst (must_be_refused_as o) is t)
   where
     go : (o : Option MustRefuse) → must_be_refused_as o (error.Io fault) → ⊥

@@ -3,14 +3,16 @@
 //! First comes all that can be refused without harm: the tests, the reads of the values that stand, and the memory of calls and events.
 //! Then the group is begun, the writes are made by the steps of calls in flight, repairs included, and the group is sealed. Once it is
 //! begun a refusal leaves it open, so that the database is closed: no crash leaves any of it.
-ghost use Rattle.std.specs.Prelude.{◌≡◌, false, IfOk, IfErr, OnOk, [], ◌∷◌, Some, None, ◌++◌};
+ghost use Rattle.std.specs.Prelude.{◌≡◌, false, IfOk, IfErr, OnOk, OnErr, [], ◌∷◌, Some, None, ◌++◌};
 ghost use Rattle.std.specs.Option.{option_copied};
 ghost use Rattle.sled_store.specs.Store.{now};
 ghost use Rattle.sled_nodes.specs.declared.error.Error.TheVariants.{NoMemory};
 ghost use Rattle.sled_model.specs.Groups.{writes_of, writes_on, call_with, after_writes};
 ghost use Rattle.sled_model.specs.Refusal.{must_refuse_of, trees_of_batches};
 ghost use Rattle.sled_queues.specs.Values.{queue_at};
-ghost use Rattle.sled_queues.specs.Queues.{IsCalm};
+ghost use Rattle.sled_model.specs.declared.event.Event.TheVariants as event;
+ghost use Rattle.sled_queues.specs.Queues.{IsCalm, Becomes};
+ghost use Rattle.sled_queues.specs.Laws.{prepared_all};
 ghost use Rattle.tree_groups.specs.Groups.{AreFresh, jobs_of};
 ghost use Rattle.sled.specs.Calls.{MustBeRefused};
 ghost use Rattle.sled.specs.Direct.{begun_flight};
@@ -65,7 +67,11 @@ fn write_call(key: &IVec, value: &Option<IVec>) -> Result<Call>
 }
 
 // Prepares the event of an insert or a removal that changes something.
-fn prepare_event(queues: &mut Queues, tree: u64, call: &Call) -> Result<()> {
+fn prepare_event(queues: &mut Queues, tree: u64, call: &Call) -> Result<()>
+    ensures ok { OnOk result (Becomes (prepared_all (events_of_call tree call.now) (queue_at queues.old)) queues.old.given queues.new) }
+    ensures err { OnErr result (queues.new ≡ queues.old) }
+    ensures cause { IfErr result (λ e. e ≡ NoMemory) }
+{
     if !queues.is_watched(tree, call.key().as_ref()) {
         return Ok(());
     }
@@ -80,7 +86,10 @@ fn prepare_event(queues: &mut Queues, tree: u64, call: &Call) -> Result<()> {
 }
 
 // The event of an insert.
-fn inserted(key: &IVec, value: &IVec) -> Result<Event> {
+fn inserted(key: &IVec, value: &IVec) -> Result<Event>
+    ensures ok { IfOk result (λ made. made ≡ event.Insert key.now value.now) }
+    ensures err { IfErr result (λ e. e ≡ NoMemory) }
+{
     let key = key.clone()?;
     match value.clone() {
         Ok(value) => Ok(Event::Insert { key, value }),
