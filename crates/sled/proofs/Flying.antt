@@ -81,7 +81,7 @@ page_gone s p e = go (s.pages p) e
     go (Some g) e = none_some (sym e)
 
 -- what an action leaves of the trees, at the forests that fit
-lasts_same : (m : Snapshot) → PagesLast m m
+pub lasts_same : (m : Snapshot) → PagesLast m m
 lasts_same m = record { pids = λ p e. e; merges = λ p n live on. inl live; gone = λ p e none. none }
 
 lasts_acting : {mine own : List ℕ} (m n : Snapshot) (w v : Forest) → KeepsForest mine own m w n v → PagesLast m n

@@ -18,6 +18,8 @@ pub mod Naming
 pub mod Numbering
 pub mod Planting
 pub mod Importing
+pub mod Grouped
+pub mod Telling
 pub mod Grouping
 pub mod Dropping
 pub mod Removing
