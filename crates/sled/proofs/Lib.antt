@@ -23,3 +23,6 @@ pub mod Telling
 pub mod Grouping
 pub mod Dropping
 pub mod Removing
+pub mod Written
+pub mod Batching
+pub mod Changes

@@ -4,7 +4,9 @@
 //! Then the group is begun, the writes are made by the steps of calls in flight, repairs included, and the group is sealed. Once it is
 //! begun a refusal leaves it open, so that the database is closed: no crash leaves any of it.
 ghost use Rattle.std.specs.Prelude.{◌≡◌, false, IfOk, IfErr, OnOk, OnErr, [], ◌∷◌, Some, None, ◌++◌};
-ghost use Rattle.std.specs.Option.{option_copied};
+ghost use Rattle.std.specs.FinMap.Entries.{find};
+ghost use Rattle.sled_nodes.specs.Order.{key_cmp};
+ghost use Rattle.sled_batch.specs.Batch.{Rises};
 ghost use Rattle.sled_store.specs.Store.{now};
 ghost use Rattle.sled_nodes.specs.declared.error.Error.TheVariants.{NoMemory};
 ghost use Rattle.sled_model.specs.Groups.{writes_of, writes_on, call_with, after_writes};
@@ -16,7 +18,7 @@ ghost use Rattle.sled_queues.specs.Laws.{prepared_all};
 ghost use Rattle.tree_groups.specs.Groups.{AreFresh, jobs_of};
 ghost use Rattle.sled.specs.Calls.{MustBeRefused};
 ghost use Rattle.sled.specs.Direct.{begun_flight};
-ghost use Rattle.sled.specs.theory.Groups.{begun_flights, jobs_of_writes, Stands, unread, events_of_call, Prepares, StopsPreparing, MakesAll, StopsAll};
+ghost use Rattle.sled.specs.theory.Groups.{begun_flights, jobs_of_writes, Stands, stands_over, unread, events_of_call, Prepares, StopsPreparing, MakesAll, StopsAll};
 
 use crate::db::Db;
 use crate::tree_list::number_of;
@@ -63,6 +65,31 @@ fn write_call(key: &IVec, value: &Option<IVec>) -> Result<Call>
             drop(key);
             Err(e)
         }
+    }
+}
+
+// Adds the call that writes a key in a tree.
+fn add_call(
+    flights: &mut Vec<InFlight>,
+    tree: &Tree,
+    key: &IVec,
+    value: &Option<IVec>,
+) -> Result<()>
+    ensures ok { OnOk result (flights.new.items ≡ flights.old.items ++ begun_flight tree.now (call_with key.now value.now) ∷ []) }
+    ensures err { IfErr result (λ e. e ≡ NoMemory) }
+{
+    flights.push(begun(tree, key, value)?)?;
+    Ok(())
+}
+
+// Whether the value that a key is to have stands there, once a batch is made on its tree too.
+fn stands_over(batch: &Batch, key: &IVec, value: &Option<IVec>, stands: bool) -> bool
+    ensures value { result ≡ stands_over (find key_cmp key.now batch.now) value.now stands }
+    ensures rise { Rises batch.now }
+{
+    match batch.writes().get(key) {
+        Some(written) => *written == *value,
+        None => stands,
     }
 }
 
@@ -174,6 +201,7 @@ impl<P: Pages, M: MergeOperator> Db<P, M> {
         ensures ok { IfOk result (Stands (after_writes (writes_of before.now) (db_state P.store M.meant self.now)) tree.now key.now value.now) }
         ensures err { IfErr result (unread (P.store self.now.pages)) }
     {
+        self.audit();
         let mut stands = match self.get(tree, key.as_ref()) {
             Ok(found) => {
                 let stands = found == *value;
@@ -184,9 +212,7 @@ impl<P: Pages, M: MergeOperator> Db<P, M> {
         };
         for (other, batch) in before {
             if other.number == tree.number {
-                if let Some(written) = batch.writes().get(key) {
-                    stands = *written == *value;
-                }
+                stands = stands_over(batch, key, value, stands);
             }
         }
         Ok(stands)
@@ -206,7 +232,7 @@ impl<P: Pages, M: MergeOperator> Db<P, M> {
     {
         for (key, value) in batch.writes().iter() {
             if !self.stands(before, tree, key, value)? {
-                flights.push(begun(tree, key, value)?)?;
+                add_call(flights, tree, key, value)?;
             }
         }
         Ok(())

@@ -7,7 +7,6 @@ use Rattle.sled_nodes.specs.declared.error.Error.{Error}
 use Rattle.sled_nodes.specs.declared.error.Error.TheVariants.{NoMemory, ReportableBug}
 use Rattle.sled_nodes.specs.declared.texts.TheConstants.{WALK_PASSED_TURNS}
 use Rattle.sled_store.specs.Store.{Store, refuses_read_as}
-use Rattle.sled_model.specs.Maps.{Merge}
 use Rattle.sled_model.specs.Answer.{same_value}
 use Rattle.sled_model.specs.Groups.{Write, call_of_write, answer_of_write, after_write}
 use Rattle.sled_model.specs.State.{State, NamedTree}
@@ -48,6 +47,11 @@ value_in (Some t) key = find key_cmp key t.map
 -- whether the value that a key is to have stands there
 pub record Stands (s : State) (tree : Tree) (key : Key) (value : Option Key) (stands : Bool) : Type 0 where
   pub is : stands ≡ same_value (value_in (s.trees tree.name) key) value
+
+-- .. once writes are made that have this for the key, where it is among them
+abbrev pub stands_over : Option (Option Key) → Option Key → Bool → Bool
+stands_over None value stands = stands
+stands_over (Some written) value stands = same_value written value
 
 -- a page could not be read
 abbrev pub unread : Store → Error → Type 0

@@ -1,0 +1,12 @@
+use Rattle.std.proofs.Common.{◌≡◌, drop}
+use Rattle.sled_model.specs.Refusal.{foreign_test, dropped_test, trees_of_batches}
+use Rattle.sled.specs.Values.{db_state}
+use Rattle.sled.proofs.db.Db.check_batches.Given as goal
+
+-- the trees so far are this database's
+abbrev pub invariant-loop-tree : goal.invariant-loop-tree
+invariant-loop-tree g l = foreign_test l.self.name (trees_of_batches l.batches) ≡ foreign_test l.self.name (trees_of_batches (drop l.tree-index l.batches))
+
+-- .. and none of them was dropped
+abbrev pub invariant-loop-tree-2 : goal.invariant-loop-tree-2
+invariant-loop-tree-2 g l = dropped_test (db_state g.P.Pages.store g.M.MergeOperator.meant l.self) (trees_of_batches l.batches) ≡ dropped_test (db_state g.P.Pages.store g.M.MergeOperator.meant l.self) (trees_of_batches (drop l.tree-index l.batches))
