@@ -16,3 +16,9 @@ pub mod Streams
 pub mod Turned
 pub mod Missing
 pub mod Following
+pub mod Written
+pub mod Leaving
+pub mod Entering
+pub mod Stocking
+pub mod Loading
+pub mod Batched

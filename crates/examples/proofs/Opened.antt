@@ -42,14 +42,14 @@ present store d is =
     with_present (trees_of (now s)) (pairs_under (nodes_of (now s)) root.0) (ap (option_map (pairs_under (nodes_of (now s)))) root.1)
 
 -- a tree that has a number and a map has that map
-map_of_named : (n : Option ℕ) (m : Option Map) (merge : ℕ → Option Merge) → is_some n ≡ is_some m → option_map (λ (t : NamedTree). t.map) (named n m merge) ≡ m
+pub map_of_named : (n : Option ℕ) (m : Option Map) (merge : ℕ → Option Merge) → is_some n ≡ is_some m → option_map (λ (t : NamedTree). t.map) (named n m merge) ≡ m
 map_of_named None None merge e = refl
 map_of_named None (Some m) merge e = false_true e
 map_of_named (Some n) None merge e = false_true (sym e)
 map_of_named (Some n) (Some m) merge e = refl
 
 -- a name has a number where it has a map
-numbered : {P M : Type 0} (store : P → Store) (d : DbValue P M) → IsDb store d → (t : Key) → is_some (numbers_of d.trees t) ≡ is_some (trees_of (now (store d.pages)) t)
+pub numbered : {P M : Type 0} (store : P → Store) (d : DbValue P M) → IsDb store d → (t : Key) → is_some (numbers_of d.trees t) ≡ is_some (trees_of (now (store d.pages)) t)
 numbered store d is t = go (numbers_of d.trees t) ((now (store d.pages)).roots t) refl refl
   where
     go : (n r : Option ℕ) → numbers_of d.trees t ≡ n → (now (store d.pages)).roots t ≡ r → is_some n ≡ is_some (option_map (pairs_under (nodes_of (now (store d.pages)))) r)

@@ -41,10 +41,10 @@ has_once (a ∷ once) (x ∷ xs) y (e, inr r) (inl q) = inl (q ∙ e)
 has_once (a ∷ once) (x ∷ xs) y (e, inr r) (inr i) = inr (has_once (a ∷ once) xs y r (inr i))
 
 -- lists that are the same once repetitions are taken out have the same elements
-matches_has : {X : Type 0} (xs ys : List X) (y : X) → StutterEquivalent xs ys → In y xs → In y ys
+pub matches_has : {X : Type 0} (xs ys : List X) (y : X) → StutterEquivalent xs ys → In y xs → In y ys
 matches_has xs ys y m i = has_once m.once ys y m.right (once_has m.once xs y m.left i)
 
-map_has : {X Y : Type 0} (f : X → Y) (xs : List X) (x : X) → In x xs → In (f x) (map f xs)
+pub map_has : {X Y : Type 0} (f : X → Y) (xs : List X) (x : X) → In x xs → In (f x) (map f xs)
 map_has f [] x i = i
 map_has f (z ∷ xs) x (inl e) = inl (ap f e)
 map_has f (z ∷ xs) x (inr i) = inr (map_has f xs x i)

@@ -8,4 +8,6 @@ pub mod Typed
 pub mod Events
 pub mod Counters
 pub mod Endings
+pub mod Stock
+pub mod Batches
 pub mod theory

@@ -2,6 +2,7 @@
 //! they do not give up. It prints what came of each; `stdout` has what should have come.
 #![tactic(auto)]
 
+mod batches;
 mod callers;
 mod copies;
 mod counters;
@@ -9,9 +10,11 @@ mod endings;
 mod events;
 mod fresh;
 mod index;
+mod stock;
 mod stores;
 mod typed;
 
+use batches::loads;
 use callers::{is_got, is_read, survives};
 use copies::copies_all;
 use counters::counts;
@@ -21,6 +24,7 @@ use index::finds_entries;
 use sled_nodes::Result;
 use std::io;
 use std::process::ExitCode;
+use stock::{agrees, moves};
 use stores::small_store_works;
 use typed::reads_readings;
 
@@ -62,7 +66,11 @@ fn run(rt: &HostRuntime) -> io::Result<()> {
     tell(rt, what, reads_events(alloc))?;
     tell(rt, "an index by endings follows its tree", follows(alloc))?;
     let what = "an index that missed events begins anew";
-    tell(rt, what, begins_anew(alloc))
+    tell(rt, what, begins_anew(alloc))?;
+    tell(rt, "items lie where they were put last", moves(alloc))?;
+    let what = "an index agrees with its table after each crash and each refusal";
+    tell(rt, what, agrees(alloc))?;
+    tell(rt, "a crash leaves whole batches of a load", loads(alloc))
 }
 
 fn main(rt: HostRuntime) -> ExitCode {

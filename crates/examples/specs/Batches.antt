@@ -1,0 +1,28 @@
+-- A load of many pairs into a tree, in batches.
+use Rattle.std.specs.Prelude.{◌≡◌, ◌⊎◌, ℕ, ◌*◌, take, [], ◌∷◌, option_map, if◌then◌else◌}
+use Rattle.std.specs.FinMap.Entries.{put}
+use Rattle.std.specs.Str.{bytes_eq}
+use Rattle.sled_nodes.specs.Order.{Key, key_cmp}
+use Rattle.sled_store.specs.State.{State}
+use Rattle.sled_store.specs.Store.{Store}
+use Rattle.sled_store.specs.Crash.{IsCrashState}
+use Rattle.sled_model.specs.Maps.{Map, Maps}
+use Rattle.tree_laws.specs.Contents.{trees_of}
+
+-- the map once these pairs were put into it, one after the other
+abbrev pub put_all : Map → Map → Map
+put_all [] map = map
+put_all (p ∷ ps) map = put_all ps (put key_cmp p.0 p.1 map)
+
+-- the maps, with these pairs put into one of them
+abbrev pub with_pairs : Key → Map → Maps → Maps
+with_pairs tree pairs maps name = if bytes_eq name tree then option_map (put_all pairs) (maps name) else maps name
+
+-- how many pairs a batch has at most
+abbrev pub batch_size : ℕ
+batch_size = 100
+
+-- A crash may leave what it might have left before, or the maps with a beginning of the batches, each with all its pairs
+pub record LeavesBatches (old : Store) (before : Maps) (tree : Key) (pairs : Map) (new : Store) : Type 0 where
+  pub is : (state : State) → IsCrashState new state
+      → ((earlier : State) × IsCrashState old earlier × (trees_of state ≡ trees_of earlier)) ⊎ ((batches : ℕ) × (trees_of state ≡ with_pairs tree (take (batches * batch_size) pairs) before))
