@@ -12,6 +12,7 @@ use std::ops::Bound;
 const STARTS: u64 = 256;
 const CHOICES: u64 = 1 << 63;
 const RANGE: usize = 100;
+const BATCH: u64 = 100;
 
 type Bytes = Box<[u8]>;
 
@@ -78,6 +79,21 @@ impl Bench {
         digest(self.map.insert(key, value).as_deref())
     }
 
+    // The inserts from this turn on, in one batch: how many there are.
+    fn batch(&mut self, from: u64) -> u64 {
+        let end = self.calls.min(from + BATCH);
+        for turn in from..end {
+            self.insert(self.pairs.wrapping_add(turn), !turn);
+        }
+        end - from
+    }
+
+    fn batches(&mut self) -> u64 {
+        (0..self.calls.div_ceil(BATCH)).fold(0u64, |sum, batch| {
+            sum.rotate_left(1) ^ self.batch(batch * BATCH)
+        })
+    }
+
     fn remove(&mut self, place: u64) -> u64 {
         digest(self.map.remove(&self.key(place)[..]).as_deref())
     }
@@ -110,6 +126,9 @@ impl Bench {
     fn run(&mut self, workload: &str) -> Option<(u64, u64)> {
         if workload == "scan" {
             return Some(self.taken(b"", usize::MAX));
+        }
+        if workload == "batches" {
+            return Some((self.calls, self.batches()));
         }
         let calls = if workload == "load" {
             self.pairs

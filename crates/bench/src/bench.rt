@@ -1,6 +1,6 @@
 //! The workloads.
 use crate::pairs::{Pairs, digest};
-use sled::{Db, Iter};
+use sled::{Batch, Db, Iter};
 use sled_lines::input::Stopped;
 use sled_machine::Machine;
 use sled_model::{Call, MergeOperator, Outcome, Reply, Slot, Tree, Whole};
@@ -18,6 +18,8 @@ pub enum Workload {
     Gets,
     /// Inserts of new keys.
     Inserts,
+    /// Inserts of the same keys with other values, a hundred in a batch.
+    Batches,
     /// Of a hundred calls 95 are gets, and 5 inserts, of which half are of new keys at first.
     Mix,
     /// Removes pairs in the order in which they were loaded.
@@ -34,10 +36,11 @@ pub enum Workload {
     Ranges,
 }
 
-const WORKLOADS: [(&str, Workload); 10] = [
+const WORKLOADS: [(&str, Workload); 11] = [
     ("load", Workload::Load),
     ("gets", Workload::Gets),
     ("inserts", Workload::Inserts),
+    ("batches", Workload::Batches),
     ("mix", Workload::Mix),
     ("removals", Workload::Removals),
     ("slots", Workload::Slots),
@@ -49,6 +52,9 @@ const WORKLOADS: [(&str, Workload); 10] = [
 
 // How many pairs a range has at most.
 const RANGE: usize = 100;
+
+// How many inserts a batch has.
+const BATCH: u64 = 100;
 
 // The keys whose beginnings are watched stand from this place on, behind those of all pairs. A prefix has so many of their bytes at
 // least.
@@ -97,6 +103,17 @@ impl<M: MergeOperator> Client<M> {
                 drop(call);
                 digest
             }
+        }
+    }
+
+    // Makes the writes of a batch.
+    fn apply(&mut self, tree: &Tree, batch: Batch) -> Result<()> {
+        match self {
+            Client::Stepped(machine) => group_step(machine, tree, batch),
+            Client::Direct(db) => match db.apply_batch(tree, batch) {
+                Ok(()) => Ok(()),
+                Err(error) => Err(Stopped::from(error)),
+            },
         }
     }
 
@@ -213,6 +230,7 @@ impl<M: MergeOperator> Bench<M> {
         match workload {
             Workload::Slots => return Ok((calls, self.slots()?)),
             Workload::Scan => return self.scan(),
+            Workload::Batches => return Ok((calls, self.batches()?)),
             Workload::Follows => return Ok((1, self.follow()?)),
             _ => {}
         }
@@ -234,9 +252,11 @@ impl<M: MergeOperator> Bench<M> {
             Workload::Mix => self.mixed(turn),
             Workload::Ranges => self.range(loaded),
             Workload::Watches => self.watch(turn),
-            Workload::Gets | Workload::Slots | Workload::Scan | Workload::Follows => {
-                self.get(loaded)
-            }
+            Workload::Gets
+            | Workload::Slots
+            | Workload::Scan
+            | Workload::Batches
+            | Workload::Follows => self.get(loaded),
         }
     }
 
@@ -275,6 +295,40 @@ impl<M: MergeOperator> Bench<M> {
         let digest = self.call(Call::Insert(key, value))?;
         self.changed()?;
         Ok(digest)
+    }
+
+    // All inserts, batch after batch: a checksum of how many keys each had.
+    fn batches(&mut self) -> Result<u64> {
+        let mut sum = 0u64;
+        for batch in 0..self.calls.div_ceil(BATCH) {
+            sum = sum.rotate_left(1) ^ self.batch(batch.wrapping_mul(BATCH))?;
+        }
+        Ok(sum)
+    }
+
+    // The inserts from this turn on, in one batch: how many keys it has.
+    fn batch(&mut self, from: u64) -> Result<u64> {
+        let mut batch = Batch::default(self.pairs.alloc());
+        let end = self.calls.min(from.saturating_add(BATCH));
+        if let Err(stopped) = self.fill(&mut batch, from, end) {
+            drop(batch);
+            return Err(stopped);
+        }
+        let count = batch.len() as u64;
+        self.client.apply(&self.tree, batch)?;
+        for _ in from..end {
+            self.changed()?;
+        }
+        Ok(count)
+    }
+
+    fn fill(&self, batch: &mut Batch, from: u64, end: u64) -> Result<()> {
+        for turn in from..end {
+            let key = self.pairs.key(self.pairs.count().wrapping_add(turn))?;
+            let value = self.pairs.value(!turn)?;
+            batch.insert(self.pairs.alloc(), key.as_ref(), value.as_ref())?;
+        }
+        Ok(())
     }
 
     fn remove(&mut self, place: u64) -> Result<u64> {
@@ -399,6 +453,27 @@ fn watch_direct<M: MergeOperator>(
     }
 }
 
+// Makes the writes of a batch by a step of a machine.
+fn group_step<M: MergeOperator>(
+    machine: &mut Machine<MemPages, M>,
+    tree: &Tree,
+    batch: Batch,
+) -> Result<()> {
+    let tree = match tree.clone() {
+        Ok(tree) => tree,
+        Err(error) => {
+            drop(batch);
+            return Err(Stopped::from(error));
+        }
+    };
+    let mut group = Vec::new(machine.db().allocator());
+    group.push((tree, batch))?;
+    let outcome = machine.whole(Whole::Group(group));
+    let made = digest_of(&outcome);
+    drop(outcome);
+    made.map(|_| ())
+}
+
 // What stands for a pair in a checksum.
 fn digest_of_pair(pair: (IVec, IVec)) -> u64 {
     let (key, value) = pair;
@@ -439,7 +514,7 @@ fn taken(pairs: Iter<'_, MemPages>, most: usize) -> Result<(u64, u64)> {
 fn digest_of(outcome: &Outcome) -> Result<u64> {
     match outcome {
         Outcome::Decided(Reply::Value(value)) => Ok(digest(value)),
-        Outcome::Decided(Reply::Number(_)) => Ok(0),
+        Outcome::Decided(Reply::Number(_) | Reply::Done) => Ok(0),
         Outcome::Decided(Reply::Subscriber(subscriber)) => Ok(subscriber.0),
         _ => Err(Stopped),
     }
