@@ -117,8 +117,8 @@ module _ {P M : Type 0} (store : P → Store) (meant : M → Merge) where
   maps_are d is = fun_ext (λ t. map_of_named (numbers_of d.trees t) (trees_of (now (store d.pages)) t) _ (numbered store d is t))
 
   -- where the tests pass no group is open
-  open_now : (d : DbValue P M) {trees : List Tree} → must_refuse_of (db_state store meant d) trees ≡ None → (now (store d.pages)).in_group ≡ false
-  open_now d {trees} free = not_true (now (store d.pages)).in_group (was_open (db_state store meant d) trees free)
+  open_now : (d : DbValue P M) (trees : List Tree) → must_refuse_of (db_state store meant d) trees ≡ None → (now (store d.pages)).in_group ≡ false
+  open_now d trees free = not_true (now (store d.pages)).in_group (was_open (db_state store meant d) trees free)
 
   module _ (old new : DbValue P M) (sound : IsDb store old) where
     open_before : (db_state store meant new).is_open ≡ (db_state store meant old).is_open → (now (store new.pages)).in_group ≡ false → (now (store old.pages)).in_group ≡ false
@@ -159,7 +159,7 @@ module _ {P M : Type 0} (store : P → Store) (meant : M → Merge) where
         part_opened tree w =
             let o = w.decides (λ n. None) 0 0 in
             let same : maps_now store meant new ≡ with_tree name (maps_now store meant old) = (opens store meant old new name tree w).maps in
-            let is : (now (store old.pages)).in_group ≡ false = open_now old (first_free (must_refuse_of (db_state store meant old) []) _ o.free) in
+            let is : (now (store old.pages)).in_group ≡ false = open_now old [] (first_free (must_refuse_of (db_state store meant old) []) _ o.free) in
             let after : AgreeIn (maps_now store meant new) table index =
             subst (λ m. AgreeIn m table index) (sym same) (agree_alike (maps_now store meant old) (with_tree name (maps_now store meant old)) table index (with_tree_alike name (maps_now store meant old)) (agreed is)) in
             call_agrees w.maps w.leaves (opened_added ((db_state store meant old).trees name) w.maps o.added after) (λ still. after)
@@ -247,14 +247,14 @@ module _ {P M : Type 0} (store : P → Store) (meant : M → Merge) where
       index_of x = found_in (maps_now store meant x u.name)
 
       agree_now : AgreeIn (maps_now store meant new) t.name u.name
-      agree_now = still_agree law (table_of old) (index_of old) (table_of new) (index_of new) item from to (agreed old new sound t.name u.name agrees (open_now old made.free)) stood table_now index_now
+      agree_now = still_agree law (table_of old) (index_of old) (table_of new) (index_of new) item from to (agreed old new sound t.name u.name agrees (open_now old (t ∷ u ∷ []) made.free)) stood table_now index_now
 
       pub moved : Moves store meant old t.name u.name item from to new
       moved = record {
         agrees = call_agrees old new sound t.name u.name agrees d.maps d.leaves (one_map old new sound t.name u.name agrees d.maps made.added agree_now) (λ still. agree_now);
         was = stood;
-        is = lies law (table_of old) (index_of old) (table_of new) (index_of new) item from to (agreed old new sound t.name u.name agrees (open_now old made.free)) stood table_now index_now;
-        others = others law (table_of old) (index_of old) (table_of new) (index_of new) item from to (agreed old new sound t.name u.name agrees (open_now old made.free)) stood table_now index_now;
+        is = lies law (table_of old) (index_of old) (table_of new) (index_of new) item from to (agreed old new sound t.name u.name agrees (open_now old (t ∷ u ∷ []) made.free)) stood table_now index_now;
+        others = others law (table_of old) (index_of old) (table_of new) (index_of new) item from to (agreed old new sound t.name u.name agrees (open_now old (t ∷ u ∷ []) made.free)) stood table_now index_now;
       }
 
 -- ---- pages are opened, after a crash or not
