@@ -16,9 +16,8 @@ use Rattle.tree_laws.proofs.Crashing.{extends_same}
 use Rattle.sled.specs.Groups.{GroupDecided, GroupRefused}
 use Rattle.sled.specs.Sound.{MapsAscend}
 use Rattle.sled.specs.Values.{DbValue, db_state}
-use Rattle.examples.specs.Batches.{batch_size, with_pairs, LeavesBatches}
+use Rattle.examples.specs.Batches.{batch_size, with_pairs, LeavesBatches, written, LoadsBatch, StopsBatch}
 use Rattle.examples.specs.Reads.{maps_now}
-use Rattle.examples.specs.theory.Batches.{written, LoadsBatch, StopsBatch}
 use Rattle.examples.proofs.Leaving.{left_by}
 use Rattle.examples.proofs.Loading.{with_none, with_more, batch_puts, next_taken, next_left}
 use Rattle.examples.proofs.Stocking.{first_there}

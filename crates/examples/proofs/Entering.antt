@@ -9,8 +9,7 @@ use Rattle.ordered_keys.specs.declared.part.Part.{Part}
 use Rattle.ordered_keys.specs.declared.part.Part.TheVariants.{Text}
 use Rattle.sled_nodes.specs.Order.{Key, key_cmp}
 use Rattle.sled_batch.specs.Batch.{Writes}
-use Rattle.examples.specs.Stock.{entry_key, Agree}
-use Rattle.examples.specs.theory.Stock.{item_taken, entry_taken, item_put, entry_put}
+use Rattle.examples.specs.Stock.{entry_key, Agree, item_taken, entry_taken, item_put, entry_put}
 use Rattle.examples.proofs.Keys.{key_total, key_same}
 
 none_some : {P X : Type 0} {x : X} → None ≡ Some x → P

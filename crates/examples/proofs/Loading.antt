@@ -13,8 +13,7 @@ use Rattle.sled_model.specs.Maps.{Map, Maps}
 use Rattle.sled_model.specs.Groups.{writes_on, after_writes}
 use Rattle.sled_model.specs.State.{State, NamedTree, maps_of}
 use Rattle.sled_model.specs.declared.tree.Tree.{Tree}
-use Rattle.examples.specs.Batches.{put_all, with_pairs}
-use Rattle.examples.specs.theory.Batches.{written}
+use Rattle.examples.specs.Batches.{put_all, with_pairs, written}
 use Rattle.examples.proofs.Keys.{key_total, key_same}
 use Rattle.examples.proofs.Written.{Holds, batch_there, batch_elsewhere}
 

@@ -28,8 +28,7 @@ use Rattle.sled.specs.Reads.{ReadsMap}
 use Rattle.sled.specs.Sound.{IsDb}
 use Rattle.sled.specs.Values.{DbValue, db_state, numbers_of}
 use Rattle.examples.specs.Reads.{found_in, maps_now}
-use Rattle.examples.specs.Stock.{entry_key, Agree, AgreeIn, Agrees, Moves, Stays}
-use Rattle.examples.specs.theory.Stock.{item_taken, entry_taken, item_put, entry_put}
+use Rattle.examples.specs.Stock.{entry_key, Agree, AgreeIn, Agrees, Moves, Stays, item_taken, entry_taken, item_put, entry_put}
 use Rattle.examples.proofs.Entering.{items_rise, entries_rise, lies, others, still_agree}
 use Rattle.examples.proofs.Leaving.{left_by}
 use Rattle.examples.proofs.Opened.{map_of_named, numbered}

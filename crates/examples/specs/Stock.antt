@@ -1,8 +1,10 @@
 -- A stock in two trees: a table of the place of each item, and an index of the items of each place.
-use Rattle.std.specs.Prelude.{◌≡◌, ◌≢◌, false, [], ◌∷◌, Option, Some}
+use Rattle.std.specs.Prelude.{◌≡◌, ◌≢◌, false, [], ◌∷◌, Option, Some, None}
+use Rattle.std.specs.FinMap.Entries.{put}
 use Rattle.ordered_keys.specs.Keys.{spelled}
 use Rattle.ordered_keys.specs.declared.part.Part.TheVariants.{Text}
-use Rattle.sled_nodes.specs.Order.{Key}
+use Rattle.sled_nodes.specs.Order.{Key, key_cmp}
+use Rattle.sled_batch.specs.Batch.{Writes}
 use Rattle.sled_store.specs.State.{State}
 use Rattle.sled_store.specs.Store.{Store, now}
 use Rattle.sled_store.specs.Crash.{IsCrashState}
@@ -42,3 +44,21 @@ module _ {P M : Type 0} (store : P → Store) (meant : M → Merge) (old : DbVal
   pub record Stays (new : DbValue P M) : Type 0 where
     pub agrees : Agrees (store new.pages) table index
     pub same : (now (store new.pages)).in_group ≡ false → maps_now store meant new ≡ maps_now store meant old
+
+-- What is written in the table and in the index where the item lay at this place, if at one
+abbrev pub item_taken : Key → Option Key → Writes → Writes
+item_taken item None writes = writes
+item_taken item (Some place) writes = put key_cmp item None writes
+
+abbrev pub entry_taken : Key → Option Key → Writes → Writes
+entry_taken item None writes = writes
+entry_taken item (Some place) writes = put key_cmp (entry_key place item) None writes
+
+-- .. and where it is to lie at this one, if at one
+abbrev pub item_put : Key → Option Key → Writes → Writes
+item_put item None writes = writes
+item_put item (Some place) writes = put key_cmp item (Some place) writes
+
+abbrev pub entry_put : Key → Option Key → Writes → Writes
+entry_put item None writes = writes
+entry_put item (Some place) writes = put key_cmp (entry_key place item) (Some item) writes

@@ -7,8 +7,7 @@ ghost use Rattle.sled_store.specs.Store.{now};
 ghost use Rattle.sled_pages.specs.Memory.{store_of};
 ghost use Rattle.tree_laws.specs.Contents.{trees_of};
 ghost use Rattle.tree_laws.specs.Crashes.{IsValid};
-ghost use Rattle.examples.specs.Stock.{entry_key, AgreeIn, Agrees, Moves, Stays};
-ghost use Rattle.examples.specs.theory.Stock.{item_taken, entry_taken, item_put, entry_put};
+ghost use Rattle.examples.specs.Stock.{entry_key, AgreeIn, Agrees, Moves, Stays, item_taken, entry_taken, item_put, entry_put};
 
 use ordered_keys::{law_one_to_one, push_text};
 use sled::{Batch, Db, crash_pages, empty_pages};
