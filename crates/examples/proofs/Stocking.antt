@@ -21,6 +21,8 @@ use Rattle.sled_model.specs.declared.call.Whole.TheVariants.{OpenTree}
 use Rattle.sled_model.specs.declared.reply.Reply.TheVariants as told
 use Rattle.sled_model.specs.declared.tree.Tree.{Tree}
 use Rattle.tree_laws.specs.Contents.{trees_of}
+use Rattle.tree_laws.specs.Crashes.{AddsCrashStates}
+use Rattle.tree_laws.proofs.Crashing.{extends_same}
 use Rattle.sled.specs.Direct.{LeavesAll, WholeDecided, WholeRefused}
 use Rattle.sled.specs.Groups.{GroupDecided, GroupRefused}
 use Rattle.sled.specs.Opens.{or_empty, with_tree, with_default, Opens}
@@ -30,7 +32,7 @@ use Rattle.sled.specs.Values.{DbValue, db_state, numbers_of}
 use Rattle.examples.specs.Reads.{found_in, maps_now}
 use Rattle.examples.specs.Stock.{entry_key, Agree, AgreeIn, Agrees, Moves, Stays, item_taken, entry_taken, item_put, entry_put}
 use Rattle.examples.proofs.Entering.{items_rise, entries_rise, lies, others, still_agree}
-use Rattle.examples.proofs.Leaving.{left_by}
+use Rattle.examples.proofs.Leaving.{left_by, kept_all}
 use Rattle.examples.proofs.Opened.{map_of_named, numbered}
 use Rattle.examples.proofs.Streams.{opens, keeps_unopened}
 use Rattle.examples.proofs.Written.{Holds, batch_there, batch_elsewhere, writes_then}
@@ -172,7 +174,11 @@ module _ {P M : Type 0} (store : P → Store) (meant : M → Merge) where
 
       -- nothing is done
       pub nothing_moved : new ≡ old → Stays store meant old table index new
-      nothing_moved same = record { agrees = subst (λ (d : DbValue P M). Agrees (store d.pages) table index) (sym same) agrees; same = λ is. ap (maps_now store meant) same }
+      nothing_moved same = record {
+        agrees = subst (λ (d : DbValue P M). Agrees (store d.pages) table index) (sym same) agrees;
+        same = λ is. ap (maps_now store meant) same;
+        back = λ keep left. kept_all keep (store old.pages) (store new.pages) left (subst (λ (d : DbValue P M). AddsCrashStates [] (store old.pages) (store d.pages)) (sym same) (extends_same (store old.pages)));
+      }
 
       -- a group is refused
       pub not_moved : (batches : List (Tree × Writes)) (e : Error) → GroupRefused store meant old batches e new → Stays store meant old table index new
@@ -185,6 +191,7 @@ module _ {P M : Type 0} (store : P → Store) (meant : M → Merge) where
           record {
             agrees = call_agrees r.maps r.leaves (no_maps r.maps s.added) (λ is. subst (λ m. AgreeIn m table index) (sym (ap maps_of (same is))) (agreed (open_before (ap (λ (x : State). x.is_open) (same is)) is)));
             same = λ is. ap maps_of (same is);
+            back = λ keep left. kept_all keep (store old.pages) (store new.pages) left (subst (λ l. AddsCrashStates l (store old.pages) (store new.pages)) s.added r.leaves.extends);
           }
         where
           shut : false ≡ true → ⊥

@@ -1,5 +1,5 @@
 -- A stock in two trees: a table of the place of each item, and an index of the items of each place.
-use Rattle.std.specs.Prelude.{◌≡◌, ◌≢◌, false, [], ◌∷◌, Option, Some, None}
+use Rattle.std.specs.Prelude.{◌≡◌, ◌≢◌, ℕ, ◌≤◌, length, false, [], ◌∷◌, Option, Some, None}
 use Rattle.std.specs.FinMap.Entries.{put}
 use Rattle.ordered_keys.specs.Keys.{spelled}
 use Rattle.ordered_keys.specs.declared.part.Part.TheVariants.{Text}
@@ -7,9 +7,10 @@ use Rattle.sled_nodes.specs.Order.{Key, key_cmp}
 use Rattle.sled_batch.specs.Batch.{Writes}
 use Rattle.sled_store.specs.State.{State}
 use Rattle.sled_store.specs.Store.{Store, now}
-use Rattle.sled_store.specs.Crash.{IsCrashState}
+use Rattle.sled_store.specs.Crash.{IsCrashState, Crashes}
 use Rattle.sled_model.specs.Maps.{Maps, Merge}
 use Rattle.tree_laws.specs.Contents.{trees_of}
+use Rattle.sled.specs.Opens.{with_default}
 use Rattle.sled.specs.Values.{DbValue}
 use Rattle.examples.specs.Reads.{found_in, maps_now}
 
@@ -40,10 +41,18 @@ module _ {P M : Type 0} (store : P → Store) (meant : M → Merge) (old : DbVal
     pub is : found_in (maps_now store meant new table) item ≡ to
     pub others : (other : Key) → other ≢ item → found_in (maps_now store meant new table) other ≡ found_in (maps_now store meant old table) other
 
-  -- .. or it did not: every map is as it was, unless the database is closed now, and the two trees agree still
+  -- .. or it did not: every map is as it was, unless the database is closed now, and the two trees agree still. A crash that keeps all
+  -- actions leaves every tree as it was, in a closed database too
   pub record Stays (new : DbValue P M) : Type 0 where
     pub agrees : Agrees (store new.pages) table index
     pub same : (now (store new.pages)).in_group ≡ false → maps_now store meant new ≡ maps_now store meant old
+    pub back : (keep : ℕ) (left : Store) → (now (store old.pages)).in_group ≡ false → Crashes keep (store new.pages) left → length (store new.pages).recent ≤ keep → trees_of (now left) ≡ trees_of (now (store old.pages))
+
+-- The pages crashed, of whose last actions so many were kept, and what was left of them was opened again
+pub record Recovers (keep : ℕ) (old new : Store) : Type 0 where
+  pub left : Store
+  pub crashes : Crashes keep old left
+  pub maps : trees_of (now new) ≡ with_default (trees_of (now left))
 
 -- What is written in the table and in the index where the item lay at this place, if at one
 abbrev pub item_taken : Key → Option Key → Writes → Writes

@@ -7,7 +7,8 @@ ghost use Rattle.sled_store.specs.Store.{now};
 ghost use Rattle.sled_pages.specs.Memory.{store_of};
 ghost use Rattle.tree_laws.specs.Contents.{trees_of};
 ghost use Rattle.tree_laws.specs.Crashes.{IsValid};
-ghost use Rattle.examples.specs.Stock.{entry_key, AgreeIn, Agrees, Moves, Stays, item_taken, entry_taken, item_put, entry_put};
+ghost use Rattle.sled.specs.Opens.{with_default};
+ghost use Rattle.examples.specs.Stock.{entry_key, AgreeIn, Agrees, Moves, Stays, Recovers, item_taken, entry_taken, item_put, entry_put};
 
 use ordered_keys::{law_one_to_one, push_text};
 use sled::{Batch, Db, crash_pages, empty_pages};
@@ -25,7 +26,8 @@ pub fn open_stock<M: MergeOperator>(
 ) -> Result<Db<MemPages, M>>
     requires well { IsValid (now (store_of pages)) }
     requires no_group { (now (store_of pages)).in_group ≡ false }
-    ensures { IfOk result (λ db. (table index : Key) → table ≢ index → AgreeIn (trees_of (now (store_of pages))) table index → Agrees (store_of db.pages) table index) }
+    ensures agrees { IfOk result (λ db. (table index : Key) → table ≢ index → AgreeIn (trees_of (now (store_of pages))) table index → Agrees (store_of db.pages) table index) }
+    ensures maps { IfOk result (λ db. trees_of (now (store_of db.pages)) ≡ with_default (trees_of (now (store_of pages)))) }
 {
     match Db::open(alloc, pages, name) {
         Ok(db) => Ok(db.with_operators()),
@@ -53,8 +55,8 @@ pub fn open_part<P: Pages, M: MergeOperator>(db: &mut Db<P, M>, name: &[u8]) -> 
     }
 }
 
-/// Puts an item at a place, and answers where it lay. Refused, it lies where it lay, or the database is closed: then `recover_stock`
-/// finds it there.
+/// Puts an item at a place, and answers where it lay. Refused, it lies where it lay, or the database is closed: then it lies there again
+/// in what `recover_stock` makes of it, where all actions are kept.
 pub fn put_item<P: Pages, M: MergeOperator>(
     db: &mut Db<P, M>,
     table: &Tree,
@@ -89,7 +91,8 @@ pub fn recover_stock<M: MergeOperator>(
     name: &[u8],
     keep: usize,
 ) -> Result<Db<MemPages, M>>
-    ensures { IfOk result (λ left. (table index : Key) → Agrees (store_of db.pages) table index → Agrees (store_of left.pages) table index) }
+    ensures agrees { IfOk result (λ left. (table index : Key) → Agrees (store_of db.pages) table index → Agrees (store_of left.pages) table index) }
+    ensures recovers { IfOk result (λ left. Recovers keep (store_of db.pages) (store_of left.pages)) }
 {
     let left = crash_pages(db.into_pages(), keep)?;
     open_stock(alloc, left, name)
