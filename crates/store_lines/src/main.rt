@@ -79,7 +79,8 @@ Values, separated by a comma and a space. Each of them prints a line: its text o
 it equals a copy of that one, < or > where there is an order, and else /. OLD and NEW are byte strings or -. An error is a
 number from 1 to 8, of which 1 has a name K behind it. TREE is the database's name, the tree's own and its number, `K K N`. CALL
 is `get K`, `insert K V`, `remove K`, `cas K OLD NEW` or `merge K V`. WHOLE is `flush`, `pop-min TREE`, `pop-max TREE`,
-`clear TREE`, `tree K`, `drop K`, `id`, `import TYPE NAME K V`, `watch TREE K`, `next N` or `unwatch N`.
+`clear TREE`, `group TREE K NEW ..`, `tree K`, `drop K`, `id`, `import TYPE NAME K V`, `watch TREE K`, `next N` or
+`unwatch N`.
 strings K, ..
 events K NEW, ..                      an insert, or a removal where NEW is -
 conflicts OLD NEW, ..                 why a value was not swapped

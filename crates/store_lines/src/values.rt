@@ -1,7 +1,9 @@
 //! What values are: their equality, their order, their copies and their texts.
 use crate::line::{Line, Word, named};
 use crate::text::Text;
-use sled_model::{Call, Collection, CompareAndSwapError, Event, Next, Subscriber, Tree, Whole};
+use sled_model::{
+    Batch, Call, Collection, CompareAndSwapError, Event, Next, Subscriber, Tree, Whole,
+};
 use sled_nodes::{Error, Fault, IVec, Result, texts};
 
 /// What the values of a line are.
@@ -267,6 +269,7 @@ enum Kept {
     PopMin,
     PopMax,
     Clear,
+    Group,
     Open,
     Drop,
     Id,
@@ -276,11 +279,12 @@ enum Kept {
     Unsubscribe,
 }
 
-const WHOLES: [(&str, Kept); 11] = [
+const WHOLES: [(&str, Kept); 12] = [
     ("flush", Kept::Flush),
     ("pop-min", Kept::PopMin),
     ("pop-max", Kept::PopMax),
     ("clear", Kept::Clear),
+    ("group", Kept::Group),
     ("tree", Kept::Open),
     ("drop", Kept::Drop),
     ("id", Kept::Id),
@@ -315,6 +319,30 @@ fn read_watch(line: &mut Line) -> Option<Whole> {
     Some(Whole::Watch(tree, prefix))
 }
 
+// The batch of words up to the end.
+fn read_batch(line: &mut Line) -> Batch {
+    let mut batch = Batch::default(line.alloc());
+    let writes: Vec<(IVec, Option<IVec>)> = line.list();
+    for (key, value) in &writes {
+        let written = match value {
+            Some(value) => batch.insert(line.alloc(), key.as_ref(), value.as_ref()),
+            None => batch.remove(line.alloc(), key.as_ref()),
+        };
+        line.out.kept(written);
+    }
+    drop(writes);
+    batch
+}
+
+// A group of one batch.
+fn read_group(line: &mut Line) -> Option<Whole> {
+    let tree = Tree::sample(line)?;
+    let batch = read_batch(line);
+    let mut group = Vec::new(line.alloc());
+    line.out.keep(&mut group, (tree, batch));
+    Some(Whole::Group(group))
+}
+
 impl Sample for Whole {
     fn sample(line: &mut Line) -> Option<Whole> {
         match line.named(&WHOLES)? {
@@ -322,6 +350,7 @@ impl Sample for Whole {
             Kept::PopMin => Tree::sample(line).map(Whole::PopMin),
             Kept::PopMax => Tree::sample(line).map(Whole::PopMax),
             Kept::Clear => Tree::sample(line).map(Whole::Clear),
+            Kept::Group => read_group(line),
             Kept::Open => line.read().map(Whole::OpenTree),
             Kept::Drop => line.read().map(Whole::DropTree),
             Kept::Id => Some(Whole::GenerateId),
@@ -342,6 +371,7 @@ impl Sample for Whole {
             Whole::PopMin(_) => "pop-min",
             Whole::PopMax(_) => "pop-max",
             Whole::Clear(_) => "clear",
+            Whole::Group(_) => "group",
             Whole::OpenTree(_) => "tree",
             Whole::DropTree(_) => "drop",
             Whole::GenerateId => "id",
