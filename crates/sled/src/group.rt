@@ -82,7 +82,7 @@ fn add_call(
     Ok(())
 }
 
-// Whether the value that a key is to have stands there, once a batch is made on its tree too.
+// Whether the value that a key is to have stands there once a batch is made too: its write of the key decides, or else what stood.
 fn stands_over(batch: &Batch, key: &IVec, value: &Option<IVec>, stands: bool) -> bool
     ensures value { result ≡ stands_over (find key_cmp key.now batch.now) value.now stands }
     ensures rise { Rises batch.now }
@@ -260,8 +260,8 @@ impl<P: Pages, M: MergeOperator> Db<P, M> {
     /// may stand in the list more than once.
     ///
     /// Refused by the tests, each of all trees in turn, and then with `Io`, `NoMemory` or `ReportableBug`. Up to the begin of the group in
-    /// the store nothing changes. Where it is refused after that the database is closed: every call is refused with `Closed` from now on,
-    /// and none of the writes is there once its pages are recovered and opened again.
+    /// the store nothing changes. Where it is refused after that the database is closed: calls are refused with `Closed` from now on, and
+    /// none of the writes is there once its pages are recovered and opened again.
     ///
     /// ```
     /// let group = [(orders, added), (stock, taken)];

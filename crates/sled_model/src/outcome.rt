@@ -39,7 +39,8 @@ pub enum Outcome {
     Moved,
     /// The call took effect at this step.
     Decided(Reply),
-    /// The call was refused, and changed no map, but for the parts that a clear or an import did.
+    /// The call was refused, and changed no map, but for the parts that a clear or an import did; or a group was refused midway, and the
+    /// database is closed.
     Refused(Error),
     /// The call was given up, and changed no map.
     Abandoned,
