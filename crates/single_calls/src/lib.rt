@@ -2,6 +2,7 @@
 //! each turns an argument or the answer, makes another call, or makes none.
 #![tactic(auto)]
 
+mod closed;
 mod database;
 mod direct;
 mod fetch;
@@ -11,6 +12,7 @@ mod pops;
 mod reads;
 mod watch;
 
+pub use closed::get_closed;
 pub use database::{
     advance, advance_to_end, check, close, default_tree, drop_tree, export, flush, new_tree,
     set_merge_operator,
