@@ -1,2 +1,2 @@
 pub mod Dropped
-pub mod Closed
+pub mod Refusing

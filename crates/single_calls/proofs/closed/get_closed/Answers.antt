@@ -1,4 +1,4 @@
-use Rattle.single_calls.proofs.Closed.{reads_closed}
+use Rattle.single_calls.proofs.Refusing.{reads_closed}
 use Rattle.single_calls.proofs.closed.get_closed.Goals as goal
 
 pub returns : goal.returns

@@ -1,12 +1,11 @@
 -- What comes of a closed database.
-use Rattle.std.proofs.Common.{◌≡◌, ℕ, not, true, false, [], ◌∷◌, List, Option, Some, None, Result, Ok, Err, IfOk, IfErr, if◌then◌else◌, sym, ap, ◌∙◌, subst}
-use Rattle.sled_nodes.specs.Order.{Key}
+use Rattle.std.proofs.Common.{◌≡◌, ℕ, not, true, false, [], ◌∷◌, List, Some, None, Result, Ok, Err, IfOk, IfErr, if◌then◌else◌, sym, ap, ◌∙◌, subst}
 use Rattle.sled_nodes.specs.declared.error.Error.{Error}
 use Rattle.sled_nodes.specs.declared.error.Error.TheVariants as error
 use Rattle.sled_store.specs.Store.{Store, now}
 use Rattle.sled_model.specs.Maps.{Map, Merge}
 use Rattle.sled_model.specs.State.{State}
-use Rattle.sled_model.specs.Refusal.{MustRefuse, IsClosed, first_of, foreign_test, dropped_test, must_refuse_of}
+use Rattle.sled_model.specs.Refusal.{IsClosed, first_of, foreign_test, dropped_test, must_refuse_of}
 use Rattle.sled_model.specs.declared.tree.Tree.{Tree}
 use Rattle.sled.specs.Values.{DbValue, db_state}
 use Rattle.sled.specs.Reads.{ReadsMap, RefusesReading, refuses_reading_as}
