@@ -264,8 +264,8 @@ impl<P: Pages, M: MergeOperator> Db<P, M> {
     /// none of the writes is there once its pages are recovered and opened again.
     ///
     /// ```
-    /// let group = [(orders, added), (stock, taken)];
-    /// db.apply_group(&group)?; // Both, or neither.
+    /// let group = [(db.default_tree()?, Batch::default(alloc)), (tree, Batch::default(alloc))];
+    /// db.apply_group(&group)?; // The writes of both, or none.
     /// ```
     pub fn apply_group(&mut self, batches: &[(Tree, Batch)]) -> Result<()>
         ensures ok { OnOk result (GroupDecided P.store M.meant self.old batches.now self.new) }
