@@ -283,3 +283,7 @@ pub left_agrees : (keep : ℕ) (old left : Store) (table index : Key) → Crashe
 left_agrees keep old left table index c agrees =
     let base : now left ≡ left.base = ap now c.is ∙ sym (ap (λ (s : Store). s.base) c.is) in
     subst (λ (x : PageState). AgreeIn (trees_of x) table index) (sym base) (agrees.left left.base (may_leave_crashed keep old left c))
+
+pub ok_then : {A E : Type 0} (p q : A → Type 0) → ((a : A) → p a → q a) → (r : Result A E) → IfOk r p → IfOk r q
+ok_then p q h (Ok a) k = h a k
+ok_then p q h (Err e) k = tt

@@ -47,7 +47,10 @@ fn load_batch<P: Pages, M: MergeOperator>(
         return Err(e);
     }
     match db.apply_batch(tree, batch) {
-        Ok(()) => Ok(()),
+        Ok(()) => {
+            db.audit();
+            Ok(())
+        }
         Err(e) => Err(e),
     }
 }

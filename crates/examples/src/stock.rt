@@ -49,6 +49,7 @@ pub fn new_stock<M: MergeOperator>(alloc: Global, name: &[u8]) -> Result<Db<MemP
 pub fn open_part<P: Pages, M: MergeOperator>(db: &mut Db<P, M>, name: &[u8]) -> Result<Tree>
     ensures { (table index : Key) → Agrees (P.store db.old.pages) table index → Agrees (P.store db.new.pages) table index }
 {
+    db.audit();
     match db.open_tree(name) {
         Ok(tree) => Ok(tree),
         Err(e) => Err(e),
