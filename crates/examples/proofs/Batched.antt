@@ -23,6 +23,10 @@ use Rattle.examples.proofs.Loading.{with_none, with_more, batch_puts, next_taken
 use Rattle.examples.proofs.Stocking.{first_there}
 use Rattle.examples.proofs.Written.{writes_then}
 
+pub none_left : (rest : Map) → length rest ≡ 0 → rest ≡ []
+none_left [] e = refl
+none_left (p ∷ ps) e = absurd (omega (arith, e))
+
 module _ {P M : Type 0} (store : P → Store) (meant : M → Merge) where
   -- ---- one batch
 
