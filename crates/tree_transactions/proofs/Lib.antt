@@ -1,0 +1,2 @@
+pub mod Overlaying
+pub mod Attempting
