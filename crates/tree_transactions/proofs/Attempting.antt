@@ -44,11 +44,12 @@ aside_only greatest old new true e (inr h) = refused_only h.0 old new h.1.is
 pub sets_only : (greatest : ℕ) (old new : Store) → SetsAside greatest old new → OnlyRaises old new
 sets_only greatest old new h = aside_only greatest old new (is_short greatest old.mark) refl h.is
 
-module _ {F T R A E W : Type 0} (says : Closure F T R) (result_of : R → Answer A E) (f : F) (begins : Store → ℕ → T → Type 0) (left_of : T → Left W) where
+module _ {F T R A E W : Type 0} (says : Closure F T R) (result_of : R → Answer A E) (f : F) (raises : ℕ → Store → Store → Type 0)
+    (raises_only : (greatest : ℕ) (old new : Store) → raises greatest old new → OnlyRaises old new) (begins : Store → ℕ → T → Type 0) (left_of : T → Left W) where
   -- one call, with the ids that were set aside before it and those that go on after it, is an attempt
-  pub attempted : (old new : Store) (greatest mark left next : ℕ) (told answer : Answer A E) (writes : W) (flushes : Bool) → SetsAside greatest old new
+  pub attempted : (old new : Store) (greatest mark left next : ℕ) (told answer : Answer A E) (writes : W) (flushes : Bool) → raises greatest old new
       → CalledOnce says result_of f begins left_of new greatest told writes flushes left → told ≡ answer → mark ≡ new.mark → GoesOn greatest mark left next
-      → Attempt says result_of f begins left_of old greatest answer writes flushes new next
+      → Attempt says result_of f raises begins left_of old greatest answer writes flushes new next
   attempted old new greatest mark left next told answer writes flushes aside called answer_is mark_is ids = record {
     aside = aside;
     given = called.given;
@@ -62,7 +63,7 @@ module _ {F T R A E W : Type 0} (says : Closure F T R) (result_of : R → Answer
 
   -- so many attempts met a conflict, and what that leaves of the pages and the ids
   pub record OnWay (old : Store) (greatest count : ℕ) (new : Store) (next : ℕ) : Type 0 where
-    pub so_far : Conflicts says result_of f begins left_of old greatest count new next
+    pub so_far : Conflicts says result_of f raises begins left_of old greatest count new next
     pub only : OnlyRaises old new
     pub rises : greatest ≤ next
     pub aside : greatest ≤ old.mark → next ≤ new.mark
@@ -70,15 +71,15 @@ module _ {F T R A E W : Type 0} (says : Closure F T R) (result_of : R → Answer
   pub on_way_first : (old : Store) (greatest : ℕ) → OnWay old greatest 0 old greatest
   on_way_first old greatest = record { so_far = NoConflict; only = only_same old; rises = omega arith; aside = λ h. h }
 
-  attempt_only : (mid new : Store) (here next : ℕ) (answer : Answer A E) (writes : W) (flushes : Bool) → Attempt says result_of f begins left_of mid here answer writes flushes new next → OnlyRaises mid new
-  attempt_only mid new here next answer writes flushes a = sets_only here mid new a.aside
+  attempt_only : (mid new : Store) (here next : ℕ) (answer : Answer A E) (writes : W) (flushes : Bool) → Attempt says result_of f raises begins left_of mid here answer writes flushes new next → OnlyRaises mid new
+  attempt_only mid new here next answer writes flushes a = raises_only here mid new a.aside
 
-  attempt_aside : (mid new : Store) (here next : ℕ) (answer : Answer A E) (writes : W) (flushes : Bool) → Attempt says result_of f begins left_of mid here answer writes flushes new next → here ≤ mid.mark → next ≤ new.mark
-  attempt_aside mid new here next answer writes flushes a h = grind (arith, a.ids.rises, a.ids.aside, (sets_only here mid new a.aside).mark)
+  attempt_aside : (mid new : Store) (here next : ℕ) (answer : Answer A E) (writes : W) (flushes : Bool) → Attempt says result_of f raises begins left_of mid here answer writes flushes new next → here ≤ mid.mark → next ≤ new.mark
+  attempt_aside mid new here next answer writes flushes a h = grind (arith, a.ids.rises, a.ids.aside, (raises_only here mid new a.aside).mark)
 
   pub on_way_more : (old mid new : Store) (greatest count here next : ℕ) (told : Result (Commit A W) (ConflictableTransactionError E)) → OnWay old greatest count mid here
-      → Attempts says result_of f begins left_of mid here told new next → told ≡ Err closure.Conflict → OnWay old greatest (count + 1) new next
-  on_way_more old mid new greatest count here next told w h is = let a = (subst (λ t. Attempts says result_of f begins left_of mid here t new next) is h).is in rw add-one (record {
+      → Attempts says result_of f raises begins left_of mid here told new next → told ≡ Err closure.Conflict → OnWay old greatest (count + 1) new next
+  on_way_more old mid new greatest count here next told w h is = let a = (subst (λ t. Attempts says result_of f raises begins left_of mid here t new next) is h).is in rw add-one (record {
     so_far = OneConflict a.0 a.1 w.so_far a.2;
     only = only_both old mid new w.only (attempt_only mid new here next _ a.0 a.1 a.2);
     rises = omega (arith, w.rises, a.2.ids.rises);

@@ -6,7 +6,7 @@ use Rattle.sled_nodes.specs.declared.error.Error.{Error}
 use Rattle.sled_nodes.specs.declared.error.Error.TheVariants.{ReportableBug}
 use Rattle.sled_nodes.specs.declared.texts.TheConstants.{TRANSACTION_PASSED_ATTEMPTS}
 use Rattle.sled_store.specs.Store.{Store}
-use Rattle.tree_transactions.specs.Ids.{SetsAside, GoesOn, OnlyRaises}
+use Rattle.tree_transactions.specs.Ids.{GoesOn, OnlyRaises}
 use Rattle.tree_transactions.specs.declared.TheConstants.{MOST_ATTEMPTS}
 use Rattle.tree_transactions.specs.declared.attempts.Commit.{Commit}
 use Rattle.tree_transactions.specs.declared.errors.ConflictableTransactionError.{ConflictableTransactionError}
@@ -42,12 +42,12 @@ abbrev pub tells_attempts : Error → Type 0
 tells_attempts (ReportableBug text) = text.now ≡ TRANSACTION_PASSED_ATTEMPTS.now
 tells_attempts e = ⊥
 
--- How the closure's calls and its answers are spoken of; what it is given, over pages of this meaning and with this greatest id; and
--- what it leaves
-module _ {F T R A E W : Type 0} (says : Closure F T R) (result_of : R → Answer A E) (f : F) (begins : Store → ℕ → T → Type 0) (left_of : T → Left W) where
+-- How the closure's calls and its answers are spoken of; how ids are set aside above the greatest that was given; what the closure is
+-- given, over pages of this meaning and with this greatest id; and what it leaves
+module _ {F T R A E W : Type 0} (says : Closure F T R) (result_of : R → Answer A E) (f : F) (raises : ℕ → Store → Store → Type 0) (begins : Store → ℕ → T → Type 0) (left_of : T → Left W) where
   -- One attempt. Ids are set aside, the closure is called once with nothing written so far, and ids go on from where it leaves them
   pub record Attempt (old : Store) (greatest : ℕ) (answer : Answer A E) (writes : W) (flushes : Bool) (new : Store) (next : ℕ) : Type 0 where
-    pub aside : SetsAside greatest old new
+    pub aside : raises greatest old new
     pub given : T
     pub fresh : begins new greatest given
     pub after : T

@@ -4,4 +4,6 @@ pub mod Overlays
 pub mod Trees
 pub mod Attempts
 pub mod Transactions
+pub mod Changes
+pub mod Positions
 pub mod theory

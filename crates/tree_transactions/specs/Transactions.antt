@@ -3,7 +3,7 @@ use Rattle.std.specs.Prelude.{◌≡◌, ◌≤◌, ℕ, false, [], Result}
 use denote.Ref.{MutBor}
 use Rattle.sled_batch.specs.Batch.{Writes}
 use Rattle.sled_store.specs.Store.{Store}
-use Rattle.tree_transactions.specs.Ids.{OnlyRaises}
+use Rattle.tree_transactions.specs.Ids.{SetsAside, OnlyRaises}
 use Rattle.tree_transactions.specs.Attempts.{Answer, Closure, Left, Runs}
 use Rattle.tree_transactions.specs.declared.attempts.Commit.{Commit}
 use Rattle.tree_transactions.specs.declared.errors.TransactionError.{TransactionError}
@@ -29,4 +29,4 @@ CanBegin {P} store requires_of root pages greatest =
 
 -- the closure is run as a transaction of the tree with this root
 abbrev pub Transacts : {P F R A E : Type 0} → (P → Store) → Closure F (TransactionalTree P) R → (R → Answer A E) → F → ℕ → Store → ℕ → Result (Commit A Writes) (TransactionError E) → Store → ℕ → Type 0
-Transacts store says result_of f root = Runs says result_of f (Begins store root) left_of_tree
+Transacts store says result_of f root = Runs says result_of f SetsAside (Begins store root) left_of_tree

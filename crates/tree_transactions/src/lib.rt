@@ -8,7 +8,9 @@ mod answer;
 mod attempts;
 mod errors;
 mod overlay;
+mod overlays;
 mod tree;
+mod trees;
 
 pub use answer::TransactionAnswer;
 pub use attempts::{Commit, transact};
@@ -16,7 +18,9 @@ pub use errors::{
     ConflictableTransactionError, ConflictableTransactionResult, TransactionError,
     TransactionResult, UnabortableTransactionError, UnabortableTransactionResult, abort,
 };
+pub use overlays::Overlays;
 pub use tree::TransactionalTree;
+pub use trees::TransactionalTrees;
 
 /// A closure is run so often at most.
 pub const MOST_ATTEMPTS: u64 = 1_000_000;

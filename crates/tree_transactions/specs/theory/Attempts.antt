@@ -3,6 +3,7 @@ use Rattle.std.specs.Prelude.{◌≡◌, ℕ, Bool, Result, Ok, Err}
 use denote.Ref.{MutBor}
 use Rattle.sled_batch.specs.Batch.{Writes}
 use Rattle.sled_store.specs.Store.{Store}
+use Rattle.tree_transactions.specs.Ids.{SetsAside}
 use Rattle.tree_transactions.specs.Attempts.{Answer, Closure, Calls, Left, Attempt}
 use Rattle.tree_transactions.specs.Transactions.{Begins, left_of_tree}
 use Rattle.tree_transactions.specs.declared.attempts.Commit.{Commit}
@@ -28,9 +29,10 @@ module _ {F T R A E W : Type 0} (says : Closure F T R) (result_of : R → Answer
     pub flushes_is : flushes ≡ (left_of after).flushes
     pub left_is : left ≡ (left_of after).greatest_id
 
+module _ {F T R A E W : Type 0} (says : Closure F T R) (result_of : R → Answer A E) (f : F) (raises : ℕ → Store → Store → Type 0) (begins : Store → ℕ → T → Type 0) (left_of : T → Left W) where
   abbrev pub attempts_as : Store → ℕ → Result (Commit A W) (ConflictableTransactionError E) → Store → ℕ → Type 0
-  attempts_as old greatest (Ok commit) new next = Attempt says result_of f begins left_of old greatest (Ok commit.answer) commit.writes commit.flushes new next
-  attempts_as old greatest (Err e) new next = (writes : W) × (flushes : Bool) × Attempt says result_of f begins left_of old greatest (Err e) writes flushes new next
+  attempts_as old greatest (Ok commit) new next = Attempt says result_of f raises begins left_of old greatest (Ok commit.answer) commit.writes commit.flushes new next
+  attempts_as old greatest (Err e) new next = (writes : W) × (flushes : Bool) × Attempt says result_of f raises begins left_of old greatest (Err e) writes flushes new next
 
   -- one attempt, with what is to be made of it
   pub record Attempts (old : Store) (greatest : ℕ) (answer : Result (Commit A W) (ConflictableTransactionError E)) (new : Store) (next : ℕ) : Type 0 where
@@ -40,4 +42,4 @@ abbrev pub CalledAtTree : {P F R A E : Type 0} → (P → Store) → Closure F (
 CalledAtTree store says result_of f root = CalledOnce says result_of f (Begins store root) left_of_tree
 
 abbrev pub AttemptsTree : {P F R A E : Type 0} → (P → Store) → Closure F (TransactionalTree P) R → (R → Answer A E) → F → ℕ → Store → ℕ → Result (Commit A Writes) (ConflictableTransactionError E) → Store → ℕ → Type 0
-AttemptsTree store says result_of f root = Attempts says result_of f (Begins store root) left_of_tree
+AttemptsTree store says result_of f root = Attempts says result_of f SetsAside (Begins store root) left_of_tree

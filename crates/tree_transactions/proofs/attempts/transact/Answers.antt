@@ -1,10 +1,11 @@
 use Rattle.std.proofs.Common.{Err, ap, ◌∙◌, arith}
+use Rattle.tree_transactions.specs.Ids.{SetsAside}
 use Rattle.tree_transactions.specs.Transactions.{Begins, left_of_tree}
-use Rattle.tree_transactions.proofs.Attempting.{only_both, on_way_first, on_way_more}
+use Rattle.tree_transactions.proofs.Attempting.{sets_only, only_both, on_way_first, on_way_more}
 use Rattle.tree_transactions.proofs.attempts.transact.Goals as goal
 
 pub loop-init : goal.loop-init
-loop-init g c = on_way_first g.F.Fn g.R.TransactionAnswer.result_of c.args.f (Begins g.P.Pages.store c.args.root) left_of_tree (g.P.Pages.store c.args.pages.now) c.args.greatest_id.now
+loop-init g c = on_way_first g.F.Fn g.R.TransactionAnswer.result_of c.args.f SetsAside sets_only (Begins g.P.Pages.store c.args.root) left_of_tree (g.P.Pages.store c.args.pages.now) c.args.greatest_id.now
 
 pub attempt-requires-after_bounds : goal.attempt-requires-after_bounds
 attempt-requires-after_bounds g c κs within =
@@ -15,6 +16,6 @@ attempt-requires-after_bounds g c κs within =
 pub loop-preserved : goal.loop-preserved
 loop-preserved g c =
     let store = g.P.Pages.store in
-    on_way_more g.F.Fn g.R.TransactionAnswer.result_of c.args.f (Begins store c.args.root) left_of_tree
+    on_way_more g.F.Fn g.R.TransactionAnswer.result_of c.args.f SetsAside sets_only (Begins store c.args.root) left_of_tree
     (store c.args.pages.now) (store c.loop.pages) (store c.attempt.new.pages) c.args.greatest_id.now c.loop.counter c.loop.greatest_id c.attempt.new.greatest_id
     c.attempt.result c.loop.invariant c.attempt.ensures (c.in-Err-Conflict.is ∙ ap Err c.in-Err-Conflict.field-0-is)
