@@ -26,6 +26,7 @@ pub struct Change {
 }
 
 // The link that has an effect at a key; without an effect there is none.
+#[inline(always)]
 fn link_for(key: &IVec, effect: Effect) -> Result<Option<Link>>
     ensures ok { IfOk result (λ link. link_of effect key.now ≡ link) }
     ensures err { IfErr result (λ e. e ≡ NoMemory) }
@@ -44,6 +45,7 @@ fn link_for(key: &IVec, effect: Effect) -> Result<Option<Link>>
 }
 
 // The change by a decision at a key.
+#[inline(always)]
 fn change_by(key: &IVec, decision: Decision) -> Result<Option<Change>>
     ensures ok { IfOk result (IsChangeBy decision key.now) }
     ensures err { IfErr result (λ e. e ≡ NoMemory) }

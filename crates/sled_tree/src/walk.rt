@@ -2,6 +2,9 @@
 //!
 //! Each step of it reads one page. At most pages nothing is to be repaired: there the walk goes on in place, so that a stage is neither
 //! moved nor made anew.
+//!
+//! Every call takes most of its time here. So what a step does at such a page is inlined wherever a step is made; left to itself LLVM
+//! does that only where there is one such place.
 ghost use Rattle.std.specs.Prelude.{◌≡◌, ◌<◌, ◌↔◌, false, MatchOption, IsTrue, IfOk, IfErr};
 ghost use Rattle.std.specs.declared.ops.Bound.TheVariants.{Included};
 ghost use Rattle.sled_nodes.specs.Among.{IsPointerFor, bound_of};
@@ -42,6 +45,7 @@ pub(crate) enum Descent {
 }
 
 // How a walk comes to where a pointer of an index leads, the first or a later one.
+#[inline(always)]
 fn by_pointer(parent: View, first: bool) -> Reached
     ensures { result ≡ reached_by parent first }
 {
@@ -73,6 +77,7 @@ pub(crate) fn lies_under(node: &Node, target: Bound<&[u8]>) -> bool
 }
 
 // Reads the page of a stage of a walk. There is none where the tree has no root.
+#[inline(always)]
 fn meet<P: Pages>(
     pages: &P,
     alloc: Global,
@@ -106,6 +111,7 @@ fn take_way(stage: &mut Stage) -> Reached
 }
 
 // Whether the parent of an open page is to change for it: the page has no pointer there, or it merges.
+#[inline(always)]
 fn repairs_parent(stage: &Stage, node: &Node) -> bool
     ensures { IsOpen node.now → (IsTrue result ↔ RepairsParent (way_of stage.now) (count node.now.content)) }
 {
@@ -121,6 +127,7 @@ fn repairs_parent(stage: &Stage, node: &Node) -> bool
 }
 
 // Whether a key lies within a node's bounds.
+#[inline(always)]
 #[tactic(auto, unfolding(sled_nodes::specs::Order::key_cmp))]
 fn covers(node: &Node, key: &[u8]) -> bool
     ensures { IsTrue result ↔ LiesUnder (Included key.now) node.now }
@@ -129,6 +136,7 @@ fn covers(node: &Node, key: &[u8]) -> bool
 }
 
 // Whether a node lies under what a walk aims at. A key, as most walks have it, is compared by itself, which is quicker.
+#[inline(always)]
 fn is_under(job: &Job, aim: &Aim, node: &Node) -> bool
     ensures { IsTrue result ↔ LiesUnder (aim_of job.now aim.now) node.now }
 {
@@ -139,6 +147,7 @@ fn is_under(job: &Job, aim: &Aim, node: &Node) -> bool
 }
 
 // The pointer of an index that a walk goes down by, and whether it is the first.
+#[inline(always)]
 fn pointer_under(job: &Job, aim: &Aim, node: &Node) -> Option<(Pid, bool)>
     ensures { IsPointerFor (aim_of job.now aim.now) (pointers node.now.content) result }
 {
@@ -149,6 +158,7 @@ fn pointer_under(job: &Job, aim: &Aim, node: &Node) -> Option<(Pid, bool)>
 }
 
 // Whether nothing is to be repaired at a page, and it lies under the aim.
+#[inline(always)]
 fn is_clean(job: &Job, aim: &Aim, stage: &Stage, view: &View) -> bool
     ensures clean { IsTrue result → IsClean (course job.now aim.now) (way_of stage.now) view.now }
     ensures unclean { result ≡ false → NeedsRepair (course job.now aim.now) (way_of stage.now) view.now }
@@ -162,6 +172,7 @@ fn is_clean(job: &Job, aim: &Aim, stage: &Stage, view: &View) -> bool
 }
 
 // The reply of a call at its leaf that changes nothing there.
+#[inline(always)]
 fn reply_at(job: &Job, node: &Node) -> Result<Option<Reply>>
     ensures ok { IfOk result (λ reply. reply ≡ reply_at job.now.call node.now.content) }
     ensures err { IfErr result (λ e. e ≡ NoMemory) }
@@ -178,6 +189,7 @@ fn set(stage: &mut Stage, new: Stage)
 }
 
 // The walk goes on below an index. One that is under way is changed in place.
+#[inline(always)]
 fn walk_on(stage: &mut Stage, cursor: Pid, parent: View, first: bool)
     ensures { stage.new ≡ variant.Walk (record { cursor = cursor; reached = reached_by parent first }) }
 {
@@ -193,6 +205,7 @@ fn walk_on(stage: &mut Stage, cursor: Pid, parent: View, first: bool)
 }
 
 // At an index.
+#[inline(always)]
 fn at_index(job: &Job, aim: &Aim, view: View, stage: &mut Stage) -> Descent
     requires index { IsIndex view.node.content }
     requires clean { IsClean (course job.now aim.now) (way_of stage.old) view }
@@ -208,6 +221,7 @@ fn at_index(job: &Job, aim: &Aim, view: View, stage: &mut Stage) -> Descent
 }
 
 // At the page of a stage of a walk.
+#[inline(always)]
 fn arrive(job: &Job, aim: &Aim, view: View, stage: &mut Stage) -> Descent
     ensures { (s : Store) → Meets s (course job.now aim.now) stage.old view → Descends s (course job.now aim.now) stage.old result stage.new }
 {
@@ -222,6 +236,7 @@ fn arrive(job: &Job, aim: &Aim, view: View, stage: &mut Stage) -> Descent
 }
 
 // Does the step of a stage of a walk. It reads one page at most.
+#[inline(always)]
 pub(crate) fn descend<P: Pages>(
     pages: &P,
     alloc: Global,
@@ -240,6 +255,7 @@ pub(crate) fn descend<P: Pages>(
 }
 
 // The call goes on from a stage, or ends.
+#[inline(always)]
 pub(crate) fn settle(flight: &mut InFlight, next: Next) -> Went
     requires { flight.old.turns < MAX_LOOPS }
     ensures { (s : Store) (a : Stage) → Leads s (course_of flight.old) a next → Settles s (record { job = flight.old.job; aim = flight.old.aim; stage = a; turns = flight.old.turns }) result flight.new }
@@ -256,6 +272,7 @@ pub(crate) fn settle(flight: &mut InFlight, next: Next) -> Went
 }
 
 // The rest of the step at the leaf. A call that changes nothing is decided.
+#[inline(always)]
 pub(crate) fn at_leaf(flight: &mut InFlight, view: View) -> Went
     requires room { flight.old.turns < MAX_LOOPS }
     requires leaf { IsLeaf view.node.content }
