@@ -8,6 +8,7 @@ ghost use Rattle.sled_nodes.specs.declared.error.Error.TheVariants.{NoMemory};
 use sled_nodes::{IVec, Result};
 
 // Where the tree of a name stands, or would go.
+#[inline(always)]
 #[tactic(auto, unfolding(sled_nodes::specs::Order::key_cmp))]
 fn place_of(trees: &[(IVec, u64)], name: &[u8]) -> std::result::Result<usize, usize>
     requires { is_sorted key_cmp trees.now ≡ true }

@@ -6,7 +6,7 @@ ghost use Rattle.sled_model.specs.Answer.{key_of};
 ghost use Rattle.sled_model.specs.Refusal.{needs_operator};
 ghost use Rattle.sled_model.specs.Whole.{IsSameWhole};
 ghost use Rattle.sled_model.specs.declared.call.Call.TheVariants.{Get, Insert, Remove, CompareAndSwap, Merge};
-ghost use Rattle.sled_model.specs.declared.call.Whole.TheVariants.{Watch};
+ghost use Rattle.sled_model.specs.declared.call.Whole.TheVariants.{Group, Import, Watch};
 
 use crate::batches::copied_batches;
 use crate::collection::{Collection, copied_collections};
@@ -288,16 +288,32 @@ impl Whole {
             Whole::PopMin(tree) => Ok(Whole::PopMin(tree.clone()?)),
             Whole::PopMax(tree) => Ok(Whole::PopMax(tree.clone()?)),
             Whole::Clear(tree) => Ok(Whole::Clear(tree.clone()?)),
-            Whole::Group(batches) => Ok(Whole::Group(copied_batches(batches)?)),
+            Whole::Group(batches) => copied_group(batches),
             Whole::OpenTree(name) => Ok(Whole::OpenTree(name.clone()?)),
             Whole::DropTree(name) => Ok(Whole::DropTree(name.clone()?)),
             Whole::GenerateId => Ok(Whole::GenerateId),
-            Whole::Import(collections) => Ok(Whole::Import(copied_collections(collections)?)),
+            Whole::Import(collections) => copied_import(collections),
             Whole::Watch(tree, prefix) => copied_watch(tree, prefix),
             Whole::Next(subscriber) => Ok(Whole::Next(Subscriber(subscriber.0))),
             Whole::Unsubscribe(subscriber) => Ok(Whole::Unsubscribe(Subscriber(subscriber.0))),
         }
     }
+}
+
+// The group of copies of batches.
+fn copied_group(batches: &Vec<(Tree, Batch)>) -> Result<Whole>
+    ensures ok { IfOk result (λ whole. IsSameWhole whole (Group batches.now)) }
+    ensures err { IfErr result (λ e. e ≡ NoMemory) }
+{
+    Ok(Whole::Group(copied_batches(batches)?))
+}
+
+// The import of copies of collections.
+fn copied_import(collections: &Vec<Collection>) -> Result<Whole>
+    ensures ok { IfOk result (λ whole. IsSameWhole whole (Import collections.now)) }
+    ensures err { IfErr result (λ e. e ≡ NoMemory) }
+{
+    Ok(Whole::Import(copied_collections(collections)?))
 }
 
 // The call that watches a copy of a prefix in a copy of a tree.

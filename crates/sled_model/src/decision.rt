@@ -35,6 +35,7 @@ impl Call {
     /// // A get replies with the value; an insert of another one has to link it.
     /// let reply = call.at_read(Some(value))?;
     /// ```
+    #[inline(always)]
     pub fn at_read(&self, value: Option<IVec>) -> Result<Option<Reply>>
         ensures ok { IfOk result (ReadDecides self.now value) }
         ensures err { IfErr result (λ e. e ≡ NoMemory) }
@@ -113,6 +114,7 @@ fn conflict(value: Option<IVec>, old: &Option<IVec>, new: &Option<IVec>) -> Resu
 }
 
 // A value is swapped where it is the one that was expected.
+#[inline(always)]
 fn swap(value: Option<IVec>, old: &Option<IVec>, new: &Option<IVec>) -> Result<Decision>
     ensures ok { IfOk result (λ decision. decision ≡ decision_of_swap value old.now new.now) }
     ensures err { IfErr result (λ e. e ≡ NoMemory) }

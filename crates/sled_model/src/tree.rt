@@ -33,6 +33,7 @@ impl Tree {
     /// ```
     /// let handle = tree.clone()?; // Names the same tree.
     /// ```
+    #[inline(always)]
     pub fn clone(&self) -> Result<Tree>
         ensures ok { IfOk result (λ copy. copy ≡ self.now) }
         ensures err { IfErr result (λ e. e ≡ NoMemory) }

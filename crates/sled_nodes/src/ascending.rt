@@ -25,6 +25,7 @@ pub fn ascends<V>(pairs: &[(IVec, V)]) -> bool
 }
 
 /// Where a key stands, or would go.
+#[inline(always)]
 pub fn search<V>(pairs: &[(IVec, V)], key: &[u8]) -> std::result::Result<usize, usize>
     requires { is_sorted (slice_cmp nat_cmp) pairs.now ≡ true }
     ensures ok { IfOk result (IsHit (slice_cmp nat_cmp) key.now pairs.now) }
@@ -34,6 +35,7 @@ pub fn search<V>(pairs: &[(IVec, V)], key: &[u8]) -> std::result::Result<usize, 
 }
 
 /// The place of the last pair whose key is within an upper bound.
+#[inline(always)]
 pub fn last_place<V>(pairs: &[(IVec, V)], bound: Bound<&[u8]>) -> Option<usize>
     requires { is_sorted (slice_cmp nat_cmp) pairs.now ≡ true }
     ensures { MatchOption result (list_any (λ e. within_upper (bound_of bound.entry) e.0) pairs.now ≡ false) (IsLastAt (λ e. within_upper (bound_of bound.entry) e.0) pairs.now) }

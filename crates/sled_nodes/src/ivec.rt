@@ -83,6 +83,7 @@ impl IVec {
     /// ```
     /// let is_ulm = key.as_ref() == b"ulm".as_slice();
     /// ```
+    #[inline(always)]
     pub fn as_ref(&self) -> &[u8]
         ensures { result.now ≡ self.now }
     {
@@ -98,6 +99,7 @@ impl IVec {
     /// ```
     /// let length = key.len(); // Of `ulm` it is 3.
     /// ```
+    #[inline(always)]
     pub fn len(&self) -> usize
         ensures { result ≡ length self.now }
     {

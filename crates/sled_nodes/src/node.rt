@@ -629,6 +629,7 @@ impl Node {
     ///     None => (), // There is none in this leaf, or the node is an index.
     /// }
     /// ```
+    #[inline(always)]
     pub fn get(&self, key: &[u8]) -> Result<Option<IVec>>
         ensures ok { IfOk result (λ value. value ≡ value_in self.now.content key.now) }
         ensures err { IfErr result (λ e. e ≡ NoMemory) }
@@ -958,6 +959,7 @@ impl Node {
     /// ```
     /// let is_small = node.should_merge(); // Of a leaf of 3 pairs `true`, while it is open.
     /// ```
+    #[inline(always)]
     pub fn should_merge(&self) -> bool
         ensures { IsTrue result ↔ (count self.now.content ≤ 3 × IsOpen self.now) }
     {
@@ -989,6 +991,7 @@ impl Node {
     ///     None => (), // The index begins above `ulm`, or the node is a leaf.
     /// }
     /// ```
+    #[inline(always)]
     pub fn pointer(&self, bound: Bound<&[u8]>) -> Option<(Pid, bool)>
         ensures { IsPointerFor (bound_of bound.entry) (pointers self.now.content) result }
     {

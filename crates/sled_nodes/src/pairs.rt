@@ -195,6 +195,7 @@ pub fn remove_key<V: Drop>(pairs: &mut Vec<(IVec, V)>, key: &IVec)
 /// let pairs = leaf.pairs(alloc)?;
 /// let value = value_at(pairs.as_slice(), b"ulm", false); // `None` where no pair has the key.
 /// ```
+#[inline(always)]
 pub fn value_at<'a, V>(pairs: &'a [(IVec, V)], key: &[u8], ascends: bool) -> Option<&'a V>
     requires { ascends ≡ true → is_sorted (slice_cmp nat_cmp) pairs.now ≡ true }
     ensures { option_copied result ≡ find (slice_cmp nat_cmp) key.now pairs.now }

@@ -364,6 +364,7 @@ impl Pages for MemPages {
 
     ghost flush_number = { flush_number_of };
 
+    #[inline(always)]
     fn read(&self, _alloc: Global, pid: Pid) -> Result<Option<View>> {
         if self.unreadable.contains(&pid.0) {
             return Err(Error::Io(Fault(UNREADABLE)));

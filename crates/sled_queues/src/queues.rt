@@ -101,6 +101,7 @@ impl Queues {
     ///     // An event of the key has to be prepared.
     /// }
     /// ```
+    #[inline(always)]
     pub fn is_watched(&self, tree: u64, key: &[u8]) -> bool
         ensures { is_watched_as tree key.now (queue_at self.now) result }
     {
@@ -114,6 +115,7 @@ impl Queues {
     /// queues.prepare(tree.number, &event)?;
     /// queues.commit(); // The change is made, and the event waits.
     /// ```
+    #[inline(always)]
     pub fn prepare(&mut self, tree: u64, event: &Event) -> Result<()>
         ensures ok { OnOk result (Becomes (prepared tree event.now (queue_at self.old)) self.old.given self.new) }
         ensures err { OnErr result (self.new ≡ self.old) }
@@ -137,6 +139,7 @@ impl Queues {
     /// ```
     /// queues.commit(); // Now `next` gives it.
     /// ```
+    #[inline(always)]
     pub fn commit(&mut self)
         ensures { Becomes (committed (queue_at self.old)) self.old.given self.new }
     {

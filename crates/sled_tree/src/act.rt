@@ -66,6 +66,7 @@ fn change_by(key: &IVec, decision: Decision) -> Result<Option<Change>>
 
 // Prepares the call's change of its leaf, by the operator of its tree: all that wants memory comes before the link, after which
 // nothing is refused.
+#[inline(always)]
 fn prepare<M: MergeOperator>(
     alloc: Global,
     job: &Job,
@@ -82,6 +83,7 @@ fn prepare<M: MergeOperator>(
 }
 
 // Links the call's change at the version of the leaf that it has read.
+#[inline(always)]
 pub(crate) fn act<P: Pages, M: MergeOperator>(
     pages: &mut P,
     alloc: Global,

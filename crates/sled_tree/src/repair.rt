@@ -44,6 +44,7 @@ fn ends_within(node: &Node, target: Bound<&[u8]>) -> bool
 }
 
 // What comes after a page was read where something is to be repaired, or which does not lie under the aim.
+#[inline(always)]
 pub(crate) fn repair(job: &Job, aim: &Aim, view: View, reached: Reached) -> Next
     requires { NeedsRepair (course job.now aim.now) reached view }
     ensures arrives { AfterPage (course job.now aim.now) view reached result }

@@ -98,6 +98,7 @@ fn meet<P: Pages>(
 }
 
 // How a stage comes to its page. The stage is taken.
+#[inline(always)]
 fn take_way(stage: &mut Stage) -> Reached
     ensures { result ≡ way_of stage.old }
 {
@@ -181,6 +182,7 @@ fn reply_at(job: &Job, node: &Node) -> Result<Option<Reply>>
 }
 
 // Puts another stage in the place of one.
+#[inline(always)]
 fn set(stage: &mut Stage, new: Stage)
     ensures { stage.new ≡ new }
 {

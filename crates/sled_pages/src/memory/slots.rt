@@ -106,6 +106,7 @@ impl Slots {
     }
 
     /// The slot of a number.
+    #[inline(always)]
     pub fn get(&self, pid: Pid) -> Option<&Slot>
         ensures { option_copied result ≡ slots_of self.now pid }
     {
