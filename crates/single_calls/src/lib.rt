@@ -10,6 +10,7 @@ mod imports;
 mod machine;
 mod pops;
 mod reads;
+mod transactions;
 mod watch;
 
 pub use closed::get_closed;
@@ -25,4 +26,5 @@ pub use machine::{
 };
 pub use pops::{clear, pop_max, pop_min};
 pub use reads::{contains_key, get_lt, len, range};
+pub use transactions::{transaction, transaction_all};
 pub use watch::{next, unsubscribe, watch_prefix};

@@ -46,7 +46,7 @@ found_by key es batch found e same = e ∙ go es ∙ ap (find key_cmp key) same
 upto_next : {A : Type 0} (xs : List A) (i : ℕ) (x : A) → i < length xs → x ≡ get_or xs i x → take (i + 1) xs ≡ take i xs ++ x ∷ []
 upto_next xs i x h e = rw add-one (take-suc xs i x h ∙ ap (λ z. take i xs ++ z ∷ []) (sym e))
 
-parted : {A : Type 0} (xs : List A) (i : ℕ) (x : A) → i < length xs → x ≡ get_or xs i x → xs ≡ take i xs ++ x ∷ drop (i + 1) xs
+pub parted : {A : Type 0} (xs : List A) (i : ℕ) (x : A) → i < length xs → x ≡ get_or xs i x → xs ≡ take i xs ++ x ∷ drop (i + 1) xs
 parted xs i x h e = rw add-one (sym (take-append-drop i xs) ∙ ap (λ l. take i xs ++ l) (drop-cons xs i x h ∙ ap (λ z. z ∷ drop (suc i) xs) (sym e)))
 
 -- ---- whether a value stands

@@ -26,3 +26,4 @@ pub mod Removing
 pub mod Written
 pub mod Batching
 pub mod Changes
+pub mod Transacting

@@ -41,8 +41,8 @@ rests_raised (error.Corruption fault) a b t = absurd t.1
 rests_raised error.Closed a b t = absurd t.1
 
 module _ {P M : Type 0} (store : P → Store) (meant : M → Merge) (old : DbValue P M) where
-  -- over pages that differ in the mark alone
-  module _ (q : P) (m id : ℕ) (e : store q ≡ record (store old.pages) { mark = m }) where
+  -- over pages that differ in the mark, and in the faults that were counted, alone
+  module _ (q : P) (m n id : ℕ) (e : store q ≡ record (store old.pages) { mark = m; faults = n }) where
     abbrev taken : DbValue P M
     taken = record old { pages = q; greatest_id = id }
 
@@ -62,7 +62,7 @@ module _ {P M : Type 0} (store : P → Store) (meant : M → Merge) (old : DbVal
       ids = subst (λ (s : Store). id ≤ s.mark) (sym e) aside;
     }
 
-    state_taken : (slots : ℕ → Option CallInFlight) (given : ℕ) → state_of store meant taken slots given ≡ record (state_of store meant old slots given) { greatest_id = id; mark = m }
+    pub state_taken : (slots : ℕ → Option CallInFlight) (given : ℕ) → state_of store meant taken slots given ≡ record (state_of store meant old slots given) { greatest_id = id; mark = m }
     state_taken slots given i = record {
       name = old.name;
       trees = λ t. named (numbers_of old.trees t) (trees_of (now (e i)) t) (λ n. option_map meant (find nat_cmp n old.operators));
@@ -76,15 +76,15 @@ module _ {P M : Type 0} (store : P → Store) (meant : M → Merge) (old : DbVal
       subscribers_given = old.queues.given;
     }
 
-    left_taken : crash_states (store q) ≡ crash_states (store old.pages)
+    pub left_taken : crash_states (store q) ≡ crash_states (store old.pages)
     left_taken = same_left (store old.pages) (store q) (ap (λ (s : Store). s.base) e) (ap (λ (s : Store). s.recent) e)
 
-    leaves_taken : id ≤ m → LeavesAll store [] None old taken
+    pub leaves_taken : (IsDb store old → id ≤ m) → LeavesAll store [] None old taken
     leaves_taken aside = record {
       extends = extends_nothing (store old.pages) (store q) (ap (λ (s : Store). s.base) e) (ap (λ (s : Store). s.recent) e) (ap (λ (s : Store). s.actions) e);
       others = λ h known. subst (λ (z : Snapshot). IsKnown z h) (sym moment_taken) known;
       loses = subst (λ (z : Snapshot). KeepsOrFreesTreePages None (snapshot_of_db store old) z) (sym moment_taken) (loses_same (snapshot_of_db store old));
-      sound = db_taken aside;
+      sound = λ db. db_taken (aside db) db;
     }
 
   pub gives : (q : P) → (now (store old.pages)).in_group ≡ false → store q ≡ record (store old.pages) { mark = mark_above old.greatest_id (store old.pages).mark } → old.greatest_id < (store q).mark
@@ -95,9 +95,9 @@ module _ {P M : Type 0} (store : P → Store) (meant : M → Merge) (old : DbVal
     aside = at_most _ _ above;
     is = e;
     same = refl;
-    state = state_taken q _ (old.greatest_id + 1) e;
-    left = left_taken q _ (old.greatest_id + 1) e;
-    leaves = leaves_taken q _ (old.greatest_id + 1) e (subst (λ (s : Store). old.greatest_id + 1 ≤ s.mark) e (at_most _ _ above));
+    state = state_taken q _ (store old.pages).faults (old.greatest_id + 1) e;
+    left = left_taken q _ (store old.pages).faults (old.greatest_id + 1) e;
+    leaves = leaves_taken q _ (store old.pages).faults (old.greatest_id + 1) e (λ db. subst (λ (s : Store). old.greatest_id + 1 ≤ s.mark) e (at_most _ _ above));
   }
     where
       at_most : (x y : ℕ) → x < y → x + 1 ≤ y

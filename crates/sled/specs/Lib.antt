@@ -13,6 +13,7 @@ pub mod Flush
 pub mod Groups
 pub mod Imports
 pub mod Ids
+pub mod Transactions
 pub mod Operators
 pub mod Watch
 pub mod Drops

@@ -6,3 +6,4 @@ pub mod Operators
 pub mod Drops
 pub mod Watched
 pub mod Groups
+pub mod Transactions

@@ -1,7 +1,7 @@
 //! Ids, which rise strictly.
 ghost use Rattle.std.specs.Prelude.{◌≡◌, ◌≤◌, ◌<◌, ◌⊎◌, IfOk, IfErr, OnOk, OnErr, true};
 ghost use Rattle.sled_store.specs.Store.{now};
-ghost use Rattle.sled_model.specs.Ids.{greatest_of_all, raised, mark_above};
+ghost use Rattle.sled_model.specs.Ids.{greatest_of_all, mark_above};
 ghost use Rattle.sled.specs.Ids.{RefusesToRaise};
 
 use crate::db::Db;
@@ -9,21 +9,7 @@ use sled_model::MergeOperator;
 use sled_nodes::texts::IDS_USED_UP;
 use sled_nodes::{Error, Result};
 use sled_store::Pages;
-
-// So many ids are set aside at a time.
-const IDS_AT_A_TIME: u64 = 4096;
-
-// The mark that comes after this one.
-fn raised_mark(mark: u64) -> u64
-    ensures is { result ≡ raised mark }
-    ensures above { mark ≤ result }
-{
-    if mark > u64::MAX - IDS_AT_A_TIME {
-        u64::MAX
-    } else {
-        mark + IDS_AT_A_TIME
-    }
-}
+use tree_transactions::raised_mark;
 
 // Sets ids aside, where none above the greatest that was given is.
 fn set_aside_above<P: Pages>(pages: &mut P, greatest: u64) -> Result<()>

@@ -5,7 +5,7 @@
 //! a call in flight is a step of the model, adds the map after the call to what a crash may leave if it was decided, and
 //! keeps true what every other call in flight knows (`specs/Flights`). Opening, flushing and exporting are stated in
 //! `specs/Opens`, `specs/Flush` and `specs/Export`, reads that take no slot in `specs/Reads`, writes that take none in
-//! `specs/Direct`, and subscribers in `specs/Watch`.
+//! `specs/Direct`, transactions in `specs/Transactions`, and subscribers in `specs/Watch`.
 #![tactic(auto)]
 
 mod db;
@@ -22,6 +22,7 @@ mod open;
 mod operators;
 mod read;
 mod step;
+mod transaction;
 mod tree_list;
 mod watch;
 mod whole;
@@ -40,7 +41,13 @@ pub use sled_nodes::{
 pub use sled_pages::MemPages;
 pub use sled_store::{Page, Pages, View, law_given, law_sealed};
 pub use sled_tree::{InFlight, Job, Stage, Went};
+pub use transaction::law_shows;
 pub use tree_reads::{Iter, Keys, Reads, Values, law_bytes, law_prefix};
+pub use tree_transactions::{
+    Commit, ConflictableTransactionError, ConflictableTransactionResult, MOST_ATTEMPTS,
+    TransactionAnswer, TransactionError, TransactionResult, TransactionalTree, TransactionalTrees,
+    UnabortableTransactionError, UnabortableTransactionResult, abort,
+};
 
 /// The name of the default tree, which every database has.
 pub const DEFAULT_TREE: &str = "__sled__default";

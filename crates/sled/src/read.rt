@@ -36,7 +36,7 @@ impl<P: Pages, M: MergeOperator> Db<P, M> {
     ghost use Rattle.sled.specs.Values.{db_state};
 
     // The root of a tree that passes the tests.
-    fn root_of(&self, tree: &Tree) -> Result<Pid>
+    pub(crate) fn root_of(&self, tree: &Tree) -> Result<Pid>
         ensures tested { OnOk result (must_refuse_of (db_state P.store M.meant self.now) (tree.now ∷ []) ≡ None) }
         ensures is { IfOk result (λ root. (now (P.store self.now.pages)).roots tree.now.name ≡ Some root) }
         ensures root { IfOk result (IsRoot (now (P.store self.now.pages))) }

@@ -10,6 +10,7 @@ ghost use Rattle.sled_model.specs.declared.outcome.Outcome.TheVariants.{Decided}
 ghost use Rattle.tree_laws.specs.Crashes.{IsValid, IsCrashConsistent};
 ghost use Rattle.sled.specs.Operators.{OperatorSet, OperatorNotSet};
 ghost use Rattle.sled.specs.Fetch.{Stands, FetchDecided, FetchRefused};
+ghost use Rattle.sled.specs.Transactions.{CanTransact, TransactionMade, TransactionNotMade, CanTransactAll, ListMade, ListNotMade, trees_of_list};
 ghost use Rattle.sled_machine.specs.Step.{MachineStepContract};
 ghost use Rattle.sled_machine.specs.Run.{MachineRun, MachineSteps};
 ghost use Rattle.sled_machine.specs.Finish.{Completes};
@@ -26,7 +27,9 @@ ghost use Rattle.sled_lines.specs.theory.Session.{ActsAndShows, Shows};
 use crate::command::Command;
 use crate::input::Stopped;
 use crate::print::{Shown, push_end, push_outcome, push_pair};
-use sled::{Collection, Db};
+use sled::{
+    Collection, Db, TransactionAnswer, TransactionResult, TransactionalTree, TransactionalTrees,
+};
 use sled_batch::Batch;
 use sled_machine::Machine;
 use sled_model::{Call, MergeOperator, Outcome, Reply, Slot, Step, Tree, Whole};
@@ -243,6 +246,41 @@ impl<P: Pages, M: MergeOperator> Session<P, M> {
         ensures slots { self.new.slots ≡ self.old.slots }
     {
         self.machine.fetch_and_update(&self.tree, key, f)
+    }
+
+    /// Runs a closure as a transaction of the current tree.
+    pub fn transaction<A: Drop, E, R: TransactionAnswer<A, E>, F>(
+        &mut self,
+        f: F,
+    ) -> TransactionResult<A, E>
+    where
+        F: Fn(&mut TransactionalTree<'_, P>) -> R,
+        requires { CanTransact P.store M.meant (F.pre f) self.old.machine.db self.old.tree }
+        ensures ok { IfOk result (λ answer. TransactionMade P.store P.flush_number M.meant F.Fn R.result_of f self.old.machine.db self.old.tree answer self.new.machine.db) }
+        ensures err { IfErr result (λ e. TransactionNotMade P.store P.flush_number M.meant F.Fn R.result_of f self.old.machine.db self.old.tree e self.new.machine.db) }
+        ensures same { self.new.machine ≡ record (self.old.machine) { db = self.new.machine.db } }
+        ensures tree { self.new.tree ≡ self.old.tree }
+        ensures slots { self.new.slots ≡ self.old.slots }
+    {
+        self.machine.transaction(&self.tree, f)
+    }
+
+    /// Runs a closure as a transaction of several trees.
+    pub fn transaction_all<A: Drop, E, R: TransactionAnswer<A, E>, F>(
+        &mut self,
+        trees: &[&Tree],
+        f: F,
+    ) -> TransactionResult<A, E>
+    where
+        F: Fn(&mut TransactionalTrees<'_, P>) -> R,
+        requires { CanTransactAll P.store M.meant (F.pre f) self.old.machine.db (trees_of_list trees.now) }
+        ensures ok { IfOk result (λ answer. ListMade P.store P.flush_number M.meant F.Fn R.result_of f self.old.machine.db (trees_of_list trees.now) answer self.new.machine.db) }
+        ensures err { IfErr result (λ e. ListNotMade P.store P.flush_number M.meant F.Fn R.result_of f self.old.machine.db (trees_of_list trees.now) e self.new.machine.db) }
+        ensures same { self.new.machine ≡ record (self.old.machine) { db = self.new.machine.db } }
+        ensures tree { self.new.tree ≡ self.old.tree }
+        ensures slots { self.new.slots ≡ self.old.slots }
+    {
+        self.machine.transaction_all(trees, f)
     }
 
     /// Does a list of steps. They name slots by the machine's numbers.

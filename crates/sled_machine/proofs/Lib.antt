@@ -5,3 +5,4 @@ pub mod Wholes
 pub mod Fetched
 pub mod Finishing
 pub mod Hearing
+pub mod Transacted

@@ -10,7 +10,7 @@ ghost use Rattle.sled_model.specs.declared.outcome.Outcome.TheVariants as outcom
 ghost use Rattle.sled_model.specs.declared.outcome.Step.TheVariants as step;
 
 use crate::flights::{add, finish_in, outcome_of, remove, step_in, turns_in};
-use sled::Db;
+use sled::{Db, TransactionAnswer, TransactionResult, TransactionalTree, TransactionalTrees};
 use sled_batch::Batch;
 use sled_model::{
     Call, Collection, MergeOperator, Outcome, Reply, Slot, Step, Subscriber, Tree, Whole,
@@ -52,6 +52,7 @@ impl<P: Pages, M: MergeOperator> Machine<P, M> {
     ghost use Rattle.sled.specs.Values.{db_state};
     ghost use Rattle.sled.specs.Operators.{OperatorSet, OperatorNotSet};
     ghost use Rattle.sled.specs.Fetch.{Stands, FetchDecided, FetchRefused};
+    ghost use Rattle.sled.specs.Transactions.{CanTransact, TransactionMade, TransactionNotMade, CanTransactAll, ListMade, ListNotMade, trees_of_list};
     ghost use Rattle.sled_machine.specs.Step.{MachineStep, MachineSound, MachineActs, MachineFollows, MachinePasses, MachineSlots, MachineKeepsTreePages, MachineLeaksNoPage, MachineStepContract};
     ghost use Rattle.sled_machine.specs.Run.{MachineRun, MachineSteps};
     ghost use Rattle.sled_machine.specs.Finish.{RunsToEnd, Completes};
@@ -158,6 +159,58 @@ impl<P: Pages, M: MergeOperator> Machine<P, M> {
         ensures same { self.new ≡ record (self.old) { db = self.new.db } }
     {
         self.db.fetch_and_update(tree, key, f)
+    }
+
+    /// Runs a closure as a transaction of a tree, as `transaction` of the database does. The calls in flight stay as they are.
+    ///
+    /// ```
+    /// // The value of one key becomes that of another too.
+    /// let copied: TransactionResult<(), ()> = machine.transaction(&tree, |weather| {
+    ///     if let Some(value) = weather.get(b"ulm")? {
+    ///         weather.insert(b"bern", value.as_ref())?;
+    ///     }
+    ///     Ok(())
+    /// });
+    /// ```
+    pub fn transaction<A: Drop, E, R: TransactionAnswer<A, E>, F>(
+        &mut self,
+        tree: &Tree,
+        f: F,
+    ) -> TransactionResult<A, E>
+    where
+        F: Fn(&mut TransactionalTree<'_, P>) -> R,
+        requires { CanTransact P.store M.meant (F.pre f) self.old.db tree.now }
+        ensures ok { IfOk result (λ answer. TransactionMade P.store P.flush_number M.meant F.Fn R.result_of f self.old.db tree.now answer self.new.db) }
+        ensures err { IfErr result (λ e. TransactionNotMade P.store P.flush_number M.meant F.Fn R.result_of f self.old.db tree.now e self.new.db) }
+        ensures same { self.new ≡ record (self.old) { db = self.new.db } }
+    {
+        self.db.transaction(tree, f)
+    }
+
+    /// Runs a closure as a transaction of several trees, as `transaction_all` of the database does. The calls in flight stay as they are.
+    ///
+    /// ```
+    /// // Moves a job from one tree to the other.
+    /// let moved: TransactionResult<(), ()> = machine.transaction_all(&[&ready, &done], |both| {
+    ///     if let Some(job) = both.remove(0, b"ulm")? {
+    ///         both.insert(1, b"ulm", job.as_ref())?;
+    ///     }
+    ///     Ok(())
+    /// });
+    /// ```
+    pub fn transaction_all<A: Drop, E, R: TransactionAnswer<A, E>, F>(
+        &mut self,
+        trees: &[&Tree],
+        f: F,
+    ) -> TransactionResult<A, E>
+    where
+        F: Fn(&mut TransactionalTrees<'_, P>) -> R,
+        requires { CanTransactAll P.store M.meant (F.pre f) self.old.db (trees_of_list trees.now) }
+        ensures ok { IfOk result (λ answer. ListMade P.store P.flush_number M.meant F.Fn R.result_of f self.old.db (trees_of_list trees.now) answer self.new.db) }
+        ensures err { IfErr result (λ e. ListNotMade P.store P.flush_number M.meant F.Fn R.result_of f self.old.db (trees_of_list trees.now) e self.new.db) }
+        ensures same { self.new ≡ record (self.old) { db = self.new.db } }
+    {
+        self.db.transaction_all(trees, f)
     }
 
     // The tests that come before a call on a tree begins, and a copy of the tree.

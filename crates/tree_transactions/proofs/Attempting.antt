@@ -1,10 +1,10 @@
 -- Attempts, one after the other.
-use Rattle.std.proofs.Common.{◌≡◌, ℕ, ◌+◌, ◌≤◌, nat_lt, Bool, true, false, ◌&&◌, inl, inr, Err, Result, add-one, refl, sym, ap, subst, ◌∙◌, arith}
+use Rattle.std.proofs.Common.{◌≡◌, ℕ, ◌+◌, ◌≤◌, nat_lt, Bool, true, false, ◌&&◌, List, [], ◌∷◌, inl, inr, Err, Result, add-one, refl, sym, ap, subst, ◌∙◌, arith}
 use Rattle.sled_nodes.specs.declared.error.Error.{Error}
 use Rattle.sled_nodes.specs.declared.error.Error.TheVariants.{CollectionNotFound, Unsupported, ReportableBug, Io, Corruption, NoMemory, Closed}
 use Rattle.sled_store.specs.Store.{Store, is_refused_as}
 use Rattle.sled_model.specs.Ids.{greatest_of_all, raised}
-use Rattle.tree_transactions.specs.Ids.{is_short, sets_aside_as, SetsAside, GoesOn, OnlyRaises}
+use Rattle.tree_transactions.specs.Ids.{is_short, sets_aside_as, SetsAside, sets_aside_for, GoesOn, OnlyRaises}
 use Rattle.tree_transactions.specs.Attempts.{Answer, Closure, Calls, Left, Attempt, Conflicts, NoConflict, OneConflict}
 use Rattle.tree_transactions.specs.theory.Attempts.{CalledOnce, Attempts}
 use Rattle.tree_transactions.specs.declared.attempts.Commit.{Commit}
@@ -12,17 +12,18 @@ use Rattle.tree_transactions.specs.declared.errors.ConflictableTransactionError.
 use Rattle.tree_transactions.specs.declared.errors.ConflictableTransactionError.TheVariants as closure
 
 pub only_same : (s : Store) → OnlyRaises s s
-only_same s = record { is = refl; mark = omega arith }
+only_same s = record { is = refl; mark = omega arith; faults = omega arith }
 
 pub only_both : (a b c : Store) → OnlyRaises a b → OnlyRaises b c → OnlyRaises a c
 only_both a b c p q = record {
   is = q.is ∙ ap (λ (s : Store). record s { mark = c.mark; faults = c.faults }) p.is;
   mark = omega (arith, p.mark, q.mark);
+  faults = omega (arith, p.faults, q.faults);
 }
 
 refused_only : (e : Error) (old new : Store) → is_refused_as e old new → OnlyRaises old new
 refused_only NoMemory old new h = subst (OnlyRaises old) (sym h) (only_same old)
-refused_only (Io fault) old new h = subst (OnlyRaises old) (sym h) (record { is = refl; mark = omega arith })
+refused_only (Io fault) old new h = subst (OnlyRaises old) (sym h) (record { is = refl; mark = omega arith; faults = omega arith })
 refused_only (CollectionNotFound name) old new h = absurd h
 refused_only (Unsupported text) old new h = absurd h
 refused_only (ReportableBug text) old new h = absurd h
@@ -38,11 +39,15 @@ second_of false b e = cc
 
 aside_only : (greatest : ℕ) (old new : Store) (b : Bool) → is_short greatest old.mark ≡ b → sets_aside_as b old new → OnlyRaises old new
 aside_only greatest old new false e h = subst (OnlyRaises old) (sym h) (only_same old)
-aside_only greatest old new true e (inl h) = subst (OnlyRaises old) (sym h) (record { is = refl; mark = raised_above old.mark (second_of _ _ e) })
+aside_only greatest old new true e (inl h) = subst (OnlyRaises old) (sym h) (record { is = refl; mark = raised_above old.mark (second_of _ _ e); faults = omega arith })
 aside_only greatest old new true e (inr h) = refused_only h.0 old new h.1.is
 
 pub sets_only : (greatest : ℕ) (old new : Store) → SetsAside greatest old new → OnlyRaises old new
 sets_only greatest old new h = aside_only greatest old new (is_short greatest old.mark) refl h.is
+
+pub sets_only_for : (roots : List ℕ) (greatest : ℕ) (old new : Store) → sets_aside_for roots greatest old new → OnlyRaises old new
+sets_only_for [] greatest old new h = subst (OnlyRaises old) (sym h) (only_same old)
+sets_only_for (root ∷ roots) greatest old new h = sets_only greatest old new h
 
 module _ {F T R A E W : Type 0} (says : Closure F T R) (result_of : R → Answer A E) (f : F) (raises : ℕ → Store → Store → Type 0)
     (raises_only : (greatest : ℕ) (old new : Store) → raises greatest old new → OnlyRaises old new) (begins : Store → ℕ → T → Type 0) (left_of : T → Left W) where

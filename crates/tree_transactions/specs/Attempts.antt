@@ -38,6 +38,12 @@ pub record Left (W : Type 0) : Type 0 where
   pub flushes : Bool
   pub greatest_id : ℕ
 
+-- A call of the closure at what an attempt is given, over pages that mean the same, has what it requires. Of what an attempt is given it is
+-- said what it begins as, over pages of this meaning and with this greatest id
+abbrev pub CanBegin : {T : Type 0} → (Store → ℕ → T → Type 0) → (MutBor T → Type 0) → Store → ℕ → Type 0
+CanBegin {T} begins requires_of pages greatest =
+    (s : Store) (here : ℕ) → OnlyRaises pages s → greatest ≤ here → (given : MutBor T) → begins s here given.now → requires_of given
+
 abbrev pub tells_attempts : Error → Type 0
 tells_attempts (ReportableBug text) = text.now ≡ TRANSACTION_PASSED_ATTEMPTS.now
 tells_attempts e = ⊥
@@ -76,6 +82,15 @@ module _ {F T R A E W : Type 0} (says : Closure F T R) (result_of : R → Answer
   pub record Passes (old : Store) (greatest : ℕ) (e : Error) (new : Store) (next : ℕ) : Type 0 where
     pub all : Conflicts old greatest MOST_ATTEMPTS new next
     pub told : tells_attempts e
+
+  -- fewer attempts than there may be met a conflict, and the one after them was not begun
+  pub record Stops (old : Store) (greatest : ℕ) (new : Store) (next : ℕ) : Type 0 where
+    pub count : ℕ
+    pub few : count < MOST_ATTEMPTS
+    pub before : Conflicts old greatest count new next
+    pub only : OnlyRaises old new
+    pub rises : greatest ≤ next
+    pub aside : greatest ≤ old.mark → next ≤ new.mark
 
   abbrev pub runs_as : Store → ℕ → Result (Commit A W) (TransactionError E) → Store → ℕ → Type 0
   runs_as old greatest (Ok commit) new next = Ends old greatest (Ok commit.answer) commit.writes commit.flushes new next

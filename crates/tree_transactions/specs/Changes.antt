@@ -3,7 +3,7 @@ use Rattle.std.specs.Prelude.{◌≡◌, ℕ, List, ◌++◌, Some, slice_get, s
 use Rattle.sled_batch.specs.Batch.{Writes}
 use Rattle.tree_transactions.specs.Overlays.{put_all}
 
--- the writes at this position become these, and those of each other position are as they were
+-- the writes at this position become what this makes of them, and those of each other position are as they were
 pub record ChangesAt (old : List Writes) (position : ℕ) (writes : Writes → Writes) (new : List Writes) : Type 0 where
   pub overlay : Writes
   pub was : slice_get old position ≡ Some overlay

@@ -1,5 +1,5 @@
 -- Ids inside a transaction.
-use Rattle.std.specs.Prelude.{◌≡◌, ℕ, ◌+◌, ◌-◌, ◌<◌, ◌≤◌, ◌⊎◌, nat_lt, Bool, true, false, ◌&&◌}
+use Rattle.std.specs.Prelude.{◌≡◌, ℕ, ◌+◌, ◌-◌, ◌<◌, ◌≤◌, ◌⊎◌, nat_lt, Bool, true, false, ◌&&◌, List, [], ◌∷◌}
 use Rattle.sled_nodes.specs.declared.error.Error.{Error}
 use Rattle.sled_nodes.specs.declared.error.Error.TheVariants.{Unsupported}
 use Rattle.sled_nodes.specs.declared.texts.TheConstants.{NO_ID_SET_ASIDE}
@@ -33,6 +33,11 @@ sets_aside_as true old new = (new ≡ record old { mark = raised old.mark }) ⊎
 pub record SetsAside (greatest : ℕ) (old new : Store) : Type 0 where
   pub is : sets_aside_as (is_short greatest old.mark) old new
 
+-- .. and where a list has no trees nothing is done
+abbrev pub sets_aside_for : List ℕ → ℕ → Store → Store → Type 0
+sets_aside_for [] greatest old new = new ≡ old
+sets_aside_for (root ∷ roots) greatest old new = SetsAside greatest old new
+
 -- The greatest id that was given, before a closure ran and after it, which left this one. It takes no id back, and none that is not
 -- set aside
 pub record GoesOn (before mark left after : ℕ) : Type 0 where
@@ -44,3 +49,4 @@ pub record GoesOn (before mark left after : ℕ) : Type 0 where
 pub record OnlyRaises (old new : Store) : Type 0 where
   pub is : new ≡ record old { mark = new.mark; faults = new.faults }
   pub mark : old.mark ≤ new.mark
+  pub faults : old.faults ≤ new.faults

@@ -43,7 +43,7 @@ module _ {P : Type 0} (store : P → Store) (trees : TransactionalTrees P) (posi
   pub record RefusesToShowAt (e : UnabortableTransactionError) : Type 0 where
     pub is : RefusesAt trees position (λ root overlay. RefusesThrough (store trees.pages.now) root overlay key) e
 
--- the writes of the tree at this position become these, and all else is as it was: those of each other position too
+-- the writes of the tree at this position become what this makes of them, and all else is as it was: those of each other position too
 pub record WritesAt {P : Type 0} (old : TransactionalTrees P) (position : ℕ) (writes : Writes → Writes) (new : TransactionalTrees P) : Type 0 where
   pub changes : ChangesAt old.overlays position writes new.overlays
   pub rest : new ≡ record old { overlays = new.overlays }

@@ -26,6 +26,6 @@ module _ {P : Type 0} (store : P → Store) (tree : TransactionalTree P) (key : 
   pub record RefusesToShow (e : UnabortableTransactionError) : Type 0 where
     pub is : RefusedFor (RefusesThrough (store tree.pages.now) tree.root tree.overlay key) e
 
--- one write of a key more, and all else as it was
+-- one write of a key, in the place of an earlier one if there is one, and all else as it was
 pub record Records {P : Type 0} (old : TransactionalTree P) (key : Key) (value : Option Key) (new : TransactionalTree P) : Type 0 where
   pub is : new ≡ record old { overlay = put key_cmp key value old.overlay }

@@ -1,8 +1,7 @@
 //! Transactions of one tree: a closure is run until it meets no conflict.
-ghost use Rattle.std.specs.Prelude.{◌≡◌, ◌≤◌};
-ghost use Rattle.sled_model.specs.Ids.{raised};
-ghost use Rattle.tree_transactions.specs.Ids.{is_short, SetsAside, GoesOn};
-ghost use Rattle.tree_transactions.specs.Transactions.{Begins, CanBegin, Transacts};
+ghost use Rattle.std.specs.Prelude.{◌≡◌};
+ghost use Rattle.tree_transactions.specs.Attempts.{CanBegin};
+ghost use Rattle.tree_transactions.specs.Transactions.{Begins, Transacts};
 ghost use Rattle.tree_transactions.specs.theory.Attempts.{Told, CalledAtTree, AttemptsTree};
 
 use crate::MOST_ATTEMPTS;
@@ -11,6 +10,7 @@ use crate::errors::{
     ConflictableTransactionError, ConflictableTransactionResult, TransactionError,
     TransactionResult,
 };
+use crate::ids::{ids_after, set_ids_aside};
 use crate::tree::TransactionalTree;
 use sled_batch::Batch;
 use sled_nodes::texts::TRANSACTION_PASSED_ATTEMPTS;
@@ -27,54 +27,6 @@ pub struct Commit<A, W> {
     pub writes: W,
     /// Whether a flush is to follow.
     pub flushes: bool,
-}
-
-// So many ids are set aside at a time.
-const IDS_AT_A_TIME: u64 = 4096;
-
-// Where fewer are set aside, an attempt sets more aside.
-const IDS_FOR_ATTEMPT: u64 = 1024;
-
-// The mark that comes after this one.
-fn raised_mark(mark: u64) -> u64
-    ensures is { result ≡ raised mark }
-    ensures above { mark ≤ result }
-{
-    if mark > u64::MAX - IDS_AT_A_TIME {
-        u64::MAX
-    } else {
-        mark + IDS_AT_A_TIME
-    }
-}
-
-// Whether few ids are set aside.
-fn few_ids(greatest: u64, mark: u64) -> bool
-    ensures { result ≡ is_short greatest mark }
-{
-    mark.saturating_sub(greatest) < IDS_FOR_ATTEMPT && mark < u64::MAX
-}
-
-// Sets ids aside for an attempt, where few are. A refusal is passed over: the closure may need none.
-pub(crate) fn set_ids_aside<P: Pages>(pages: &mut P, greatest: u64)
-    ensures { SetsAside greatest (P.store pages.old) (P.store pages.new) }
-{
-    let mark = pages.mark();
-    if few_ids(greatest, mark) {
-        let refused = pages.set_aside(raised_mark(mark));
-        drop(refused);
-    }
-}
-
-// The greatest id that was given, before a closure ran and after it. What a closure leaves lies between this one and the mark, since
-// no call does otherwise; that is not taken from what it says of itself, but looked at.
-pub(crate) fn ids_after(before: u64, mark: u64, left: u64) -> u64
-    ensures { GoesOn before mark left result }
-{
-    if before < left && left <= mark {
-        left
-    } else {
-        before
-    }
 }
 
 // What the closure answers at a tree.
@@ -132,7 +84,7 @@ fn attempt<P: Pages, A, E, R: TransactionAnswer<A, E>, F>(
 ) -> ConflictableTransactionResult<Commit<A, Batch>, E>
 where
     F: Fn(&mut TransactionalTree<'_, P>) -> R,
-    requires { CanBegin P.store (F.pre f.now) root (P.store pages.old) greatest_id.old }
+    requires { CanBegin (Begins P.store root) (F.pre f.now) (P.store pages.old) greatest_id.old }
     ensures { AttemptsTree P.store F.Fn R.result_of f.now root (P.store pages.old) greatest_id.old result (P.store pages.new) greatest_id.new }
 {
     set_ids_aside(pages, *greatest_id);
@@ -176,7 +128,7 @@ pub fn transact<P: Pages, A, E, R: TransactionAnswer<A, E>, F>(
 ) -> TransactionResult<Commit<A, Batch>, E>
 where
     F: Fn(&mut TransactionalTree<'_, P>) -> R,
-    requires { CanBegin P.store (F.pre f) root (P.store pages.old) greatest_id.old }
+    requires { CanBegin (Begins P.store root) (F.pre f) (P.store pages.old) greatest_id.old }
     ensures { Transacts P.store F.Fn R.result_of f root (P.store pages.old) greatest_id.old result (P.store pages.new) greatest_id.new }
 {
     for _ in 0..MOST_ATTEMPTS {

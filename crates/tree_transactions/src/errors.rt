@@ -1,5 +1,6 @@
-//! How a closure may end a transaction, and why a transaction writes nothing.
-ghost use Rattle.std.specs.Prelude.{◌≡◌, Err};
+//! How a closure may end a transaction, and why a transaction does not answer `Ok`.
+ghost use Rattle.std.specs.Prelude.{◌≡◌, Err, IfOk, IfErr};
+ghost use Rattle.sled_nodes.specs.declared.error.Error.TheVariants.{NoMemory};
 ghost use Rattle.tree_transactions.specs.declared.errors.ConflictableTransactionError.TheVariants as closure;
 
 use sled_nodes::Error;
@@ -10,7 +11,7 @@ use std::fmt::{self, Display, Formatter, Write};
 pub enum UnabortableTransactionError {
     /// The closure is to be run again. No call answers it.
     Conflict,
-    /// A read was refused, or there was no memory for a write, or no id is set aside, or there is no such tree.
+    /// A read was refused, or there was no memory for a write, or there is no such tree.
     Storage(Error),
 }
 
@@ -21,16 +22,16 @@ pub enum ConflictableTransactionError<T> {
     Abort(T),
     /// The closure is to be run again.
     Conflict,
-    /// A call inside was refused, and the transaction is refused with the same.
+    /// A call inside was refused, or the closure says so, and the transaction is refused with the same.
     Storage(Error),
 }
 
-/// Why a transaction was not made.
+/// Why a transaction did not answer `Ok`.
 #[derive(Debug, PartialEq, Eq, Drop)]
 pub enum TransactionError<T> {
     /// The closure gave it up.
     Abort(T),
-    /// It was refused.
+    /// It was refused. Where its flush was, what it wrote stands; where its commit was refused midway, the database is closed.
     Storage(Error),
 }
 
@@ -57,6 +58,81 @@ pub fn abort<A, T>(t: T) -> ConflictableTransactionResult<A, T>
     ensures { result ≡ Err (closure.Abort t) }
 {
     Err(ConflictableTransactionError::Abort(t))
+}
+
+impl UnabortableTransactionError {
+    /// The same error. Refused with `NoMemory` alone.
+    ///
+    /// ```
+    /// let again = UnabortableTransactionError::Storage(error).clone()?;
+    /// ```
+    pub fn clone(&self) -> sled_nodes::Result<UnabortableTransactionError>
+        ensures ok { IfOk result (λ copy. copy ≡ self.now) }
+        ensures err { IfErr result (λ e. e ≡ NoMemory) }
+    {
+        match self {
+            UnabortableTransactionError::Conflict => Ok(UnabortableTransactionError::Conflict),
+            UnabortableTransactionError::Storage(e) => {
+                Ok(UnabortableTransactionError::Storage(e.clone()?))
+            }
+        }
+    }
+}
+
+// A clone of what a closure gave up with. Refused with `NoMemory` alone.
+fn clone_given<T: Clone>(t: &T) -> sled_nodes::Result<T>
+    ensures ok { IfOk result (T.is_clone t.now) }
+    ensures err { IfErr result (λ e. e ≡ NoMemory) }
+{
+    match t.clone() {
+        Ok(copy) => Ok(copy),
+        Err(_) => Err(Error::NoMemory),
+    }
+}
+
+impl<T: Clone> ConflictableTransactionError<T> {
+    ghost use Rattle.tree_transactions.specs.Errors.{is_same_ending};
+
+    /// The same, with a clone of what the closure gave up with. Refused with `NoMemory` alone.
+    ///
+    /// ```
+    /// let ending: ConflictableTransactionError<u64> = ConflictableTransactionError::Abort(7);
+    /// let again = ending.clone()?;
+    /// ```
+    pub fn clone(&self) -> sled_nodes::Result<ConflictableTransactionError<T>>
+        ensures ok { IfOk result (is_same_ending T.is_clone self.now) }
+        ensures err { IfErr result (λ e. e ≡ NoMemory) }
+    {
+        match self {
+            ConflictableTransactionError::Abort(t) => {
+                Ok(ConflictableTransactionError::Abort(clone_given(t)?))
+            }
+            ConflictableTransactionError::Conflict => Ok(ConflictableTransactionError::Conflict),
+            ConflictableTransactionError::Storage(e) => {
+                Ok(ConflictableTransactionError::Storage(e.clone()?))
+            }
+        }
+    }
+}
+
+impl<T: Clone> TransactionError<T> {
+    ghost use Rattle.tree_transactions.specs.Errors.{is_same_refusal};
+
+    /// The same, with a clone of what the closure gave up with. Refused with `NoMemory` alone.
+    ///
+    /// ```
+    /// let refusal: TransactionError<u64> = TransactionError::Abort(7);
+    /// let again = refusal.clone()?;
+    /// ```
+    pub fn clone(&self) -> sled_nodes::Result<TransactionError<T>>
+        ensures ok { IfOk result (is_same_refusal T.is_clone self.now) }
+        ensures err { IfErr result (λ e. e ≡ NoMemory) }
+    {
+        match self {
+            TransactionError::Abort(t) => Ok(TransactionError::Abort(clone_given(t)?)),
+            TransactionError::Storage(e) => Ok(TransactionError::Storage(e.clone()?)),
+        }
+    }
 }
 
 impl From<Error> for UnabortableTransactionError {

@@ -7,6 +7,8 @@
 mod answer;
 mod attempts;
 mod errors;
+mod ids;
+mod list_attempts;
 mod overlay;
 mod overlays;
 mod tree;
@@ -18,6 +20,8 @@ pub use errors::{
     ConflictableTransactionError, ConflictableTransactionResult, TransactionError,
     TransactionResult, UnabortableTransactionError, UnabortableTransactionResult, abort,
 };
+pub use ids::raised_mark;
+pub use list_attempts::transact_all;
 pub use overlays::Overlays;
 pub use tree::TransactionalTree;
 pub use trees::TransactionalTrees;

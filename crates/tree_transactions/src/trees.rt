@@ -149,7 +149,7 @@ impl<'a, P: Pages> TransactionalTrees<'a, P> {
         }
     }
 
-    /// Asks for a flush, which follows once the transaction is made.
+    /// Asks for a flush, which follows once the transaction is made; of a list without trees it is passed over.
     ///
     /// ```
     /// trees.flush();

@@ -1,14 +1,15 @@
 -- One attempt of a transaction, as its functions tell it.
-use Rattle.std.specs.Prelude.{◌≡◌, ℕ, Bool, Result, Ok, Err}
+use Rattle.std.specs.Prelude.{◌≡◌, ℕ, Bool, List, Result, Ok, Err}
 use denote.Ref.{MutBor}
 use Rattle.sled_batch.specs.Batch.{Writes}
 use Rattle.sled_store.specs.Store.{Store}
-use Rattle.tree_transactions.specs.Ids.{SetsAside}
+use Rattle.tree_transactions.specs.Ids.{SetsAside, sets_aside_for}
 use Rattle.tree_transactions.specs.Attempts.{Answer, Closure, Calls, Left, Attempt}
-use Rattle.tree_transactions.specs.Transactions.{Begins, left_of_tree}
+use Rattle.tree_transactions.specs.Transactions.{Begins, left_of_tree, BeginsAll, left_of_trees}
 use Rattle.tree_transactions.specs.declared.attempts.Commit.{Commit}
 use Rattle.tree_transactions.specs.declared.errors.ConflictableTransactionError.{ConflictableTransactionError}
 use Rattle.tree_transactions.specs.declared.tree.TransactionalTree.{TransactionalTree}
+use Rattle.tree_transactions.specs.declared.trees.TransactionalTrees.{TransactionalTrees}
 
 -- a call of the closure at this may answer so, and leave that
 pub record Told {F T R : Type 0} (says : Closure F T R) (f : F) (given : T) (answer : R) (after : T) : Type 0 where
@@ -43,3 +44,9 @@ CalledAtTree store says result_of f root = CalledOnce says result_of f (Begins s
 
 abbrev pub AttemptsTree : {P F R A E : Type 0} → (P → Store) → Closure F (TransactionalTree P) R → (R → Answer A E) → F → ℕ → Store → ℕ → Result (Commit A Writes) (ConflictableTransactionError E) → Store → ℕ → Type 0
 AttemptsTree store says result_of f root = Attempts says result_of f SetsAside (Begins store root) left_of_tree
+
+abbrev pub CalledAtTrees : {P F R A E : Type 0} → (P → Store) → Closure F (TransactionalTrees P) R → (R → Answer A E) → F → List ℕ → Store → ℕ → Answer A E → List Writes → Bool → ℕ → Type 0
+CalledAtTrees store says result_of f roots = CalledOnce says result_of f (BeginsAll store roots) left_of_trees
+
+abbrev pub AttemptsTrees : {P F R A E : Type 0} → (P → Store) → Closure F (TransactionalTrees P) R → (R → Answer A E) → F → List ℕ → Store → ℕ → Result (Commit A (List Writes)) (ConflictableTransactionError E) → Store → ℕ → Type 0
+AttemptsTrees store says result_of f roots = Attempts says result_of f (sets_aside_for roots) (BeginsAll store roots) left_of_trees

@@ -1,0 +1,9 @@
+use Rattle.std.proofs.Common.{◌≡◌, map, take, Some}
+use Rattle.sled_store.specs.Store.{now}
+use Rattle.sled_model.specs.declared.tree.Tree.{Tree}
+use Rattle.sled.specs.Transactions.{trees_of_list}
+use Rattle.sled.proofs.db.Db.roots_of.Given as goal
+
+-- the roots of the trees so far are found
+abbrev pub invariant-loop-tree : goal.invariant-loop-tree
+invariant-loop-tree g l = map (λ (t : Tree). (now (g.P.Pages.store l.self.pages)).roots t.name) (trees_of_list (take l.tree-index l.trees)) ≡ map Some l.roots.items

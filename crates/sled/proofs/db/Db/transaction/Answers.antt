@@ -1,0 +1,25 @@
+use Rattle.std.proofs.Common.{true, refl}
+use Rattle.sled.specs.Transactions.{RunsOnTree, tests_tree, batch_of}
+use Rattle.sled.proofs.Transacting.{made_of, not_made_of, ended_of}
+use Rattle.sled.proofs.db.Db.transaction.Goals as goal
+
+pub run_on-requires-after_bounds : goal.run_on-requires-after_bounds
+run_on-requires-after_bounds g c κs within = λ s here only le given begins. c.requires c.in-Ok.ensures.tested c.in-Ok.root c.in-Ok.ensures.is s here only le given begins
+
+pub returns-in-Ok-commit-clause-ok : goal.returns-in-Ok-commit-clause-ok
+returns-in-Ok-commit-clause-ok g c =
+    let store = g.P.Pages.store in
+    made_of store g.P.Pages.flush_number g.M.MergeOperator.meant _ (RunsOnTree store g.M.MergeOperator.meant g.F.Fn g.R.TransactionAnswer.result_of c.args.f c.args.self.now c.args.tree.now) _ true c.args.self.now c.in-Ok-run_on.field-0 c.run_on.new.self c.commit.new.self _ refl
+    (record { tested = c.in-Ok.ensures.tested; root = c.in-Ok.root; root_is = c.in-Ok.ensures.is; runs = c.in-Ok-run_on.ensures.runs }) c.in-Ok-run_on.ensures.takes c.in-Ok-commit.ensures.ok
+
+pub returns-in-Err-commit-clause-err : goal.returns-in-Err-commit-clause-err
+returns-in-Err-commit-clause-err g c =
+    let store = g.P.Pages.store in
+    not_made_of store g.P.Pages.flush_number g.M.MergeOperator.meant _ (RunsOnTree store g.M.MergeOperator.meant g.F.Fn g.R.TransactionAnswer.result_of c.args.f c.args.self.now c.args.tree.now) _ true c.args.self.now c.in-Ok-run_on.field-0 c.run_on.new.self c.commit.new.self c.in-Err-commit.e _ refl
+    (record { tested = c.in-Ok.ensures.tested; root = c.in-Ok.root; root_is = c.in-Ok.ensures.is; runs = c.in-Ok-run_on.ensures.runs }) c.in-Ok-run_on.ensures.takes c.in-Err-commit.ensures.err
+
+pub returns-in-Err-run_on-clause-err : goal.returns-in-Err-run_on-clause-err
+returns-in-Err-run_on-clause-err g c =
+    let store = g.P.Pages.store in
+    ended_of store g.P.Pages.flush_number g.M.MergeOperator.meant _ (RunsOnTree store g.M.MergeOperator.meant g.F.Fn g.R.TransactionAnswer.result_of c.args.f c.args.self.now c.args.tree.now) _ true c.args.self.now c.in-Err-run_on.e c.run_on.new.self
+    (record { tested = c.in-Ok.ensures.tested; root = c.in-Ok.root; root_is = c.in-Ok.ensures.is; runs = c.in-Err-run_on.ensures.runs }) c.in-Err-run_on.ensures.takes

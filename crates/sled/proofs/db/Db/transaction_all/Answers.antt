@@ -1,0 +1,28 @@
+use Rattle.std.specs.List.{zip}
+use Rattle.std.proofs.Common.{map, Some, ap, ◌∙◌, sym, subst}
+use Rattle.sled.specs.Transactions.{RunsOnList, trees_of_list, has_trees}
+use Rattle.sled.specs.theory.Transactions.{CommitsGroup, StopsCommit}
+use Rattle.sled.proofs.Transacting.{made_of, not_made_of, still_tested}
+use Rattle.sled.proofs.db.Db.transaction_all.Goals as goal
+
+pub run_on_list-ended-requires-after_bounds : goal.run_on_list-ended-requires-after_bounds
+run_on_list-ended-requires-after_bounds g c κs within = λ s here only le given begins. c.requires c.in-Ok.ensures.tested c.as_slice.result.now (c.in-Ok.ensures.are ∙ ap (map Some) (sym c.as_slice.ensures.value)) s here only le given begins
+
+pub returns-in-Ok-commit_list-clause-ok : goal.returns-in-Ok-commit_list-clause-ok
+returns-in-Ok-commit_list-clause-ok g c =
+    let store = g.P.Pages.store in
+    let trees = trees_of_list c.args.trees.now in
+    made_of store g.P.Pages.flush_number g.M.MergeOperator.meant _ (RunsOnList store g.M.MergeOperator.meant g.F.Fn g.R.TransactionAnswer.result_of c.args.f c.args.self.now trees) (zip trees) (has_trees trees) c.args.self.now c.in-Ok-ended.field-0 c.run_on_list-ended.new.self c.commit_list.new.self _ c.flush_follows-flushes.ensures
+    (record { tested = c.in-Ok.ensures.tested; roots = c.as_slice.result.now; roots_are = c.in-Ok.ensures.are ∙ ap (map Some) (sym c.as_slice.ensures.value); runs = c.in-Ok-ended.ensures.runs }) c.in-Ok-ended.ensures.takes
+    (subst (λ w. CommitsGroup store g.P.Pages.flush_number g.M.MergeOperator.meant c.run_on_list-ended.new.self (zip trees w) c.flush_follows-flushes.result c.commit_list.new.self) c.into_batches.ensures c.in-Ok-commit_list.ensures.ok)
+
+pub returns-in-Err-commit_list-clause-err : goal.returns-in-Err-commit_list-clause-err
+returns-in-Err-commit_list-clause-err g c =
+    let store = g.P.Pages.store in
+    let trees = trees_of_list c.args.trees.now in
+    not_made_of store g.P.Pages.flush_number g.M.MergeOperator.meant _ (RunsOnList store g.M.MergeOperator.meant g.F.Fn g.R.TransactionAnswer.result_of c.args.f c.args.self.now trees) (zip trees) (has_trees trees) c.args.self.now c.in-Ok-ended.field-0 c.run_on_list-ended.new.self c.commit_list.new.self c.in-Err-commit_list.e _ c.flush_follows-flushes.ensures
+    (record { tested = c.in-Ok.ensures.tested; roots = c.as_slice.result.now; roots_are = c.in-Ok.ensures.are ∙ ap (map Some) (sym c.as_slice.ensures.value); runs = c.in-Ok-ended.ensures.runs }) c.in-Ok-ended.ensures.takes
+    (subst (λ w. StopsCommit store g.P.Pages.flush_number g.M.MergeOperator.meant c.run_on_list-ended.new.self (zip trees w) c.flush_follows-flushes.result c.in-Err-commit_list.e c.commit_list.new.self) c.into_batches.ensures c.in-Err-commit_list.ensures.err)
+
+pub commit_list-requires-after_bounds : goal.commit_list-requires-after_bounds
+commit_list-requires-after_bounds g c κs within = still_tested g.P.Pages.store g.M.MergeOperator.meant c.args.self.now c.run_on_list-ended.new.self (trees_of_list c.args.trees.now) c.in-Ok-ended.ensures.takes c.in-Ok.ensures.tested

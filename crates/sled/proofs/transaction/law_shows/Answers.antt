@@ -1,0 +1,8 @@
+use Rattle.sled.proofs.Transacting.{shows, shows_at}
+use Rattle.sled.proofs.transaction.law_shows.Goals as goal
+
+pub returns-clause-tree : goal.returns-clause-tree
+returns-clause-tree g c = shows g.P.Pages.store g.M.MergeOperator.meant
+
+pub returns-clause-list : goal.returns-clause-list
+returns-clause-list g c = shows_at g.P.Pages.store g.M.MergeOperator.meant

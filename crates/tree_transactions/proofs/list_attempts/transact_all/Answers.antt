@@ -1,0 +1,21 @@
+use Rattle.std.proofs.Common.{Err, ap, ◌∙◌, arith}
+use Rattle.tree_transactions.specs.Ids.{sets_aside_for}
+use Rattle.tree_transactions.specs.Transactions.{BeginsAll, left_of_trees}
+use Rattle.tree_transactions.proofs.Attempting.{sets_only_for, only_both, on_way_first, on_way_more}
+use Rattle.tree_transactions.proofs.list_attempts.transact_all.Goals as goal
+
+pub loop-init : goal.loop-init
+loop-init g c = on_way_first g.F.Fn g.R.TransactionAnswer.result_of c.args.f (sets_aside_for c.args.roots.now) (sets_only_for c.args.roots.now) (BeginsAll g.P.Pages.store c.args.roots.now) left_of_trees (g.P.Pages.store c.args.pages.now) c.args.greatest_id.now
+
+pub attempt-requires-clause-closure : goal.attempt-requires-clause-closure
+attempt-requires-clause-closure g c κs within =
+    let store = g.P.Pages.store in
+    λ s here only le given begins. c.requires s here
+    (only_both (store c.args.pages.now) (store c.loop.pages) s c.loop.invariant.only only) (omega (arith, c.loop.invariant.rises, le)) given begins
+
+pub loop-preserved : goal.loop-preserved
+loop-preserved g c =
+    let store = g.P.Pages.store in
+    on_way_more g.F.Fn g.R.TransactionAnswer.result_of c.args.f (sets_aside_for c.args.roots.now) (sets_only_for c.args.roots.now) (BeginsAll store c.args.roots.now) left_of_trees
+    (store c.args.pages.now) (store c.loop.pages) (store c.attempt.new.pages) c.args.greatest_id.now c.loop.counter c.loop.greatest_id c.attempt.new.greatest_id
+    c.attempt.result c.loop.invariant c.attempt.ensures (c.in-Err-Conflict.is ∙ ap Err c.in-Err-Conflict.field-0-is)
