@@ -18,6 +18,7 @@ use sled_lines::words::{first_word, read_number, read_word};
 use sled_model::Call;
 use sled_nodes::Result;
 use std::alloc::Global;
+use transaction_lines::words::quote;
 
 /// Which command it is.
 #[derive(Clone, Copy)]
@@ -55,6 +56,10 @@ pub enum Verb {
     Import(Import),
     /// Batches on several trees, made together.
     Group,
+    /// A transaction of the current tree.
+    Transaction,
+    /// A transaction of several trees.
+    TransactionAll,
     /// A call that reads a value and writes what is made of it.
     Fetch(Fetch),
     /// A subscriber and its events.
@@ -71,6 +76,7 @@ type Form = (&'static str, &'static str, Verb, &'static str);
 // What a command takes has words of its own: K, V, P, OLD, NEW, DATABASE, TYPE, NAME and TREE are byte strings, of which OLD, NEW and TREE
 // may be `-`; LO and HI are bounds, OPERATOR a merge operator, HOW what is made of a value, [WORD] two words at the most, and the others
 // numbers. `..` stands for more of the word before it, `K V ..` and `K NEW ..` for pairs, and `; ..` for more of all that stands before it.
+// PART is a part of a transaction and END how it ends; in front of a PART, P is the position of a tree.
 
 // A key of the current tree.
 const KEYS: [Form; 8] = [
@@ -278,7 +284,7 @@ const RANGES: [Form; 9] = [
 ];
 
 // Many pairs by one call.
-const WHOLES: [Form; 8] = [
+const WHOLES: [Form; 10] = [
     (
         "pop-min",
         "",
@@ -308,6 +314,18 @@ const WHOLES: [Form; 8] = [
         "TREE K NEW .. ; ..",
         Verb::Group,
         "writes the batches of all parts, all or none; TREE is a name that a line `tree` had, or - for the current tree",
+    ),
+    (
+        "tx",
+        "PART ; .. ; END",
+        Verb::Transaction,
+        "does all parts in a transaction: insert K V, get K, remove K, batch K NEW .., flush, id; END is commit, abort, conflict or conflict-below N",
+    ),
+    (
+        "tx-all",
+        "TREE .. ; P PART ; .. ; END",
+        Verb::TransactionAll,
+        "does the same on several trees; P is the position of a tree in the list, from 0, and none stands before flush and id",
     ),
     (
         "import",
@@ -444,7 +462,7 @@ const ENDS: [Form; 8] = [
 ];
 
 // Calls of the database itself.
-const OWNED: [Form; 18] = [
+const OWNED: [Form; 19] = [
     (
         "owned insert",
         "K V",
@@ -516,6 +534,12 @@ const OWNED: [Form; 18] = [
         "K NEW ..",
         Verb::Owned(Owned::Batch),
         "writes several keys, all or none",
+    ),
+    (
+        "owned tx",
+        "PART ; .. ; END",
+        Verb::Owned(Owned::Transaction),
+        "does all parts in a transaction",
     ),
     (
         "owned flush",
@@ -762,14 +786,6 @@ fn is_spaced(line: &[u8]) -> bool {
         }
     }
     true
-}
-
-/// Adds a word in quotes, and what is said of it.
-pub fn quote<'a>(why: &mut Vec<u8>, word: &'a [u8], said: &'a str) -> Result<()> {
-    push_pieces(
-        why,
-        &[Text(b"`"), Text(word), Text(b"` "), Text(said.as_bytes())],
-    )
 }
 
 // Adds why a line has the words of no command.

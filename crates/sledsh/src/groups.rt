@@ -3,18 +3,17 @@
 use crate::names::Names;
 use crate::operators::Operator;
 use crate::owned::tell_done;
-use shell_parts::tell::{Result, Told, answered, bytes_of, tell_outcome};
+use shell_parts::tell::{Result, Told, answered, tell_outcome};
 use sled::Db;
 use sled_batch::Batch;
 use sled_lines::batch::read_batch;
 use sled_lines::input::{Stopped, without_end};
-use sled_lines::print::Piece::Text;
-use sled_lines::print::push_pieces;
 use sled_lines::session::Session;
 use sled_lines::words::first_word;
 use sled_model::{Tree, Whole};
 use sled_pages::MemPages;
 use std::alloc::Global;
+use transaction_lines::names::{named, tell_unnamed};
 
 // The batch that words spell.
 fn batch_of(alloc: Global, words: Option<&[u8]>) -> Result<Batch> {
@@ -22,34 +21,6 @@ fn batch_of(alloc: Global, words: Option<&[u8]>) -> Result<Batch> {
         Some(batch) => Ok(batch),
         None => Err(Stopped),
     }
-}
-
-// The tree that a word names, if it names one: the current tree, or what the last line `tree` with the word got.
-fn named<'a>(
-    alloc: Global,
-    current: &'a Tree,
-    names: &'a Names,
-    word: &[u8],
-) -> Result<Option<&'a Tree>> {
-    if word == b"-".as_slice() {
-        return Ok(Some(current));
-    }
-    let name = bytes_of(alloc, word)?;
-    let tree = names.before(name.as_ref(), 0);
-    drop(name);
-    Ok(tree)
-}
-
-// Adds that a word names no tree.
-fn tell_unnamed(why: &mut Vec<u8>, word: &[u8]) -> Result<()> {
-    answered(push_pieces(
-        why,
-        &[
-            Text(b"`"),
-            Text(word),
-            Text(b"` names no tree: no line `tree` named it since the opening"),
-        ],
-    ))
 }
 
 // Adds the batch that a part of a line spells, behind what names its tree; or why that names none.

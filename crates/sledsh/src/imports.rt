@@ -1,7 +1,6 @@
 //! Imports of pairs into trees by name.
 
 use crate::operators::Operator;
-use crate::places::{is_semicolon, words_of};
 use shell_parts::tell::{Result, Told, bytes_of, tell_outcome};
 use sled_lines::input::{Stopped, without_end};
 use sled_lines::session::Session;
@@ -10,6 +9,7 @@ use sled_model::{Collection, Whole};
 use sled_nodes::IVec;
 use sled_pages::MemPages;
 use std::alloc::Global;
+use transaction_lines::words::{is_semicolon, words_of};
 
 /// What a line has of what it imports.
 #[derive(Clone, Copy)]

@@ -9,6 +9,7 @@ use sled_lines::words::first_word;
 use sled_model::{Outcome, Reply, Tree, Whole};
 use sled_pages::MemPages;
 use std::alloc::Global;
+use transaction_lines::names::TreeNames;
 
 /// Which call it is.
 #[derive(Clone, Copy)]
@@ -64,6 +65,12 @@ impl Names {
             left -= 1;
         }
         None
+    }
+}
+
+impl TreeNames for Names {
+    fn tree(&self, name: &[u8]) -> Option<&Tree> {
+        self.before(name, 0)
     }
 }
 

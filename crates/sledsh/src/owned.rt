@@ -15,6 +15,7 @@ use sled_model::{Outcome, Reply, Tree};
 use sled_nodes::IVec;
 use sled_pages::MemPages;
 use std::alloc::Global;
+use transaction_lines::run::tell_owned_transaction;
 
 // What a call of a database answers.
 type Answer<T> = sled_nodes::Result<T>;
@@ -33,6 +34,7 @@ pub enum Owned {
     PopMax,
     Clear,
     Batch,
+    Transaction,
     Flush,
     Drop,
     Id,
@@ -238,6 +240,7 @@ fn make(
         Owned::PopMax => tell_found(out, db.pop_max(tree)),
         Owned::Clear => tell_done(out, db.clear(tree)),
         Owned::Batch => tell_owned_batch(alloc, db, tree, words, out),
+        Owned::Transaction => tell_owned_transaction(alloc, db, tree, words, out),
         Owned::Flush => tell_flushed(out, db.flush()),
         Owned::Drop => drop_tree(alloc, db, words, out),
         Owned::Id => tell_id(out, db.generate_id()),

@@ -1,19 +1,15 @@
 //! How many words a command takes, and what each of them stands for.
 
 use crate::fetch::takes_bytes;
-use crate::forms::quote;
 use crate::operators::operator_of;
 use shell_parts::look::read_bound;
 use sled_lines::print::Piece::Text;
 use sled_lines::print::{push_pieces, push_text};
-use sled_lines::words::{first_word, read_number, read_value, read_word};
+use sled_lines::words::{read_number, read_value, read_word};
 use sled_nodes::Result;
 use std::alloc::Global;
-
-const NO_NUMBER: &str = "is no number: decimal digits without leading zeros";
-
-const NO_BYTES: &str =
-    "is no byte string: % and two lower-case hexadecimal digits stand for a byte";
+use transaction_lines::script::{Reach, check_script};
+use transaction_lines::words::{NO_BYTES, NO_NUMBER, is_semicolon, quote, words_of};
 
 const NO_BOUND: &str = "is no bound: [ or ( and a byte string, or ..";
 
@@ -22,21 +18,6 @@ const NO_BRACKET: &str = "is no bound: write [";
 const NO_CHANGE: &str = "does not change a value: count, append V, set V, delete and short do";
 
 const NO_OPERATOR: &str = "is no operator: concat, add, max, before, keep, gone and short are";
-
-/// The words of a text; none where there is no text.
-pub fn words_of<'a>(alloc: Global, text: Option<&'a [u8]>) -> Result<Vec<&'a [u8]>> {
-    let mut words = Vec::new(alloc);
-    let mut rest = text;
-    for _ in 0..u64::MAX {
-        let Some(text) = rest else {
-            break;
-        };
-        let (word, others) = first_word(text);
-        words.push(word)?;
-        rest = others;
-    }
-    Ok(words)
-}
 
 // What any number of words stand for behind those that come once.
 #[derive(Clone, Copy)]
@@ -52,6 +33,8 @@ enum Tail {
     How,
     // Two words at the most.
     Maybe,
+    // A transaction, with the words of the list in front where it is of several trees.
+    Script(Reach),
 }
 
 // Which it is, and the number of words that say it.
@@ -68,6 +51,10 @@ fn tail_of(takes: &[u8]) -> (Tail, usize) {
         (Tail::Numbers, 2)
     } else if takes.ends_with(b"HOW") {
         (Tail::How, 1)
+    } else if takes == b"PART ; .. ; END".as_slice() {
+        (Tail::Script(Reach::One), 5)
+    } else if takes == b"TREE .. ; P PART ; .. ; END".as_slice() {
+        (Tail::Script(Reach::List), 9)
     } else if takes.ends_with(b"[WORD]") {
         (Tail::Maybe, 1)
     } else {
@@ -88,7 +75,7 @@ fn fits(takes: Takes<'_>, count: usize) -> bool {
     match (takes.tail, more) {
         (_, None) => false,
         (Tail::Nothing, Some(more)) => more == 0,
-        (Tail::Numbers, Some(more)) => more > 0,
+        (Tail::Numbers | Tail::Script(_), Some(more)) => more > 0,
         (Tail::How, Some(more)) => more == 1 || more == 2,
         (Tail::Maybe, Some(more)) => more <= 2,
         (Tail::Pairs(_) | Tail::Parts(_), Some(more)) => more % 2 == 0,
@@ -102,7 +89,7 @@ fn place_of<'a>(takes: Takes<'a>, place: usize) -> &'a [u8] {
         (None, Tail::Nothing | Tail::Numbers) => b"N",
         (None, Tail::How) if place == takes.once.len() => b"HOW",
         (None, Tail::How) => b"V",
-        (None, Tail::Maybe) => b"[WORD]",
+        (None, Tail::Maybe | Tail::Script(_)) => b"[WORD]",
         (None, Tail::Pairs(_) | Tail::Parts(_)) if (place - takes.once.len()) % 2 == 0 => b"K",
         (None, Tail::Pairs(value) | Tail::Parts(value)) => value.as_bytes(),
     }
@@ -118,7 +105,7 @@ fn count_of(takes: Takes<'_>) -> (&'static str, &'static str) {
     };
     match takes.tail {
         Tail::Nothing => (count, ""),
-        Tail::Numbers => (", one word or more", ""),
+        Tail::Numbers | Tail::Script(_) => (", one word or more", ""),
         Tail::How => (", two words or three", ""),
         Tail::Maybe => (", two words at the most", ""),
         Tail::Pairs(_) if takes.once.is_empty() => (", pairs", ""),
@@ -228,11 +215,6 @@ fn compare_words(
     Ok(())
 }
 
-/// Whether a word stands between two parts of a line.
-pub fn is_semicolon(word: &&[u8]) -> bool {
-    *word == b";".as_slice()
-}
-
 // Whether what is made of a value has bytes if it takes some, and has none if not.
 fn has_bytes(words: &[&[u8]]) -> bool {
     let takes = match words.get(1) {
@@ -268,6 +250,9 @@ fn compare_parts(
     words: &[&[u8]],
     why: &mut Vec<u8>,
 ) -> Result<()> {
+    if let Tail::Script(reach) = takes.tail {
+        return check_script(alloc, words, reach, why);
+    }
     if !matches!(takes.tail, Tail::Parts(_)) {
         return compare_words(alloc, takes, words, why);
     }

@@ -2,7 +2,7 @@
 
 use crate::calls::{set_operator, take_handle};
 use crate::fetch::{Fetch, tell_fetch};
-use crate::forms::{Command, Verb, push_groups, push_help, quote, read};
+use crate::forms::{Command, Verb, push_groups, push_help, read};
 use crate::groups::tell_group;
 use crate::imports::{Import, tell_import};
 use crate::names::{Named, Names, take_tree, tell_named};
@@ -31,6 +31,8 @@ use sled_pages::MemPages;
 use sled_store::Pages;
 use std::alloc::Global;
 use std::io::{BufRead, Write};
+use transaction_lines::run::{tell_transaction, tell_transaction_all};
+use transaction_lines::words::quote;
 
 // The name that databases are opened under.
 const DATABASE: &[u8] = b"sledsh";
@@ -267,6 +269,22 @@ impl Shell {
         self.tell_bad()
     }
 
+    // Runs the transaction that the line says, if its trees can be read.
+    fn transaction_all(
+        &mut self,
+        session: &mut Session<MemPages, Operator>,
+    ) -> Result<(), Stopped> {
+        tell_transaction_all(
+            self.alloc,
+            session,
+            &self.names,
+            self.line.as_slice(),
+            &mut self.out,
+            &mut self.why,
+        )?;
+        self.tell_bad()
+    }
+
     // Reads a value and writes what is made of it, which the line says.
     fn fetch(
         &mut self,
@@ -389,6 +407,10 @@ impl Shell {
             Verb::Named(named) => self.name(session, named),
             Verb::Import(import) => self.import(session, import),
             Verb::Group => self.group(session),
+            Verb::Transaction => {
+                tell_transaction(self.alloc, session, self.line.as_slice(), &mut self.out)
+            }
+            Verb::TransactionAll => self.transaction_all(session),
             Verb::Fetch(call) => self.fetch(session, call),
             Verb::Listen(listen) => self.listen(session, listen),
             Verb::Pop(pop) => tell_pop(session, pop, &mut self.out),
@@ -441,6 +463,8 @@ impl Shell {
             | Verb::Listen(_)
             | Verb::Import(_)
             | Verb::Group
+            | Verb::Transaction
+            | Verb::TransactionAll
             | Verb::Pop(_) => self.ask(state, verb, numbers),
             Verb::OldTree => self.take_old(state),
             Verb::Owned(owned) => self.owned(state, owned),

@@ -1,0 +1,90 @@
+//! Trees, by the words that name them.
+
+use crate::words::{NO_BYTES, quote};
+use shell_parts::tell::{Result, answered, bytes_of};
+use sled_lines::print::Piece::Text;
+use sled_lines::print::push_pieces;
+use sled_lines::words::read_value;
+use sled_model::Tree;
+use std::alloc::Global;
+
+/// What names stand for.
+pub trait TreeNames {
+    /// The tree that a name stands for, if it stands for one.
+    fn tree(&self, name: &[u8]) -> Option<&Tree>;
+}
+
+/// The tree that a word names, if it names one: `-` is the current tree.
+pub fn named<'a, N: TreeNames>(
+    alloc: Global,
+    current: &'a Tree,
+    names: &'a N,
+    word: &[u8],
+) -> Result<Option<&'a Tree>> {
+    if word == b"-".as_slice() {
+        return Ok(Some(current));
+    }
+    let name = bytes_of(alloc, word)?;
+    let tree = names.tree(name.as_ref());
+    drop(name);
+    Ok(tree)
+}
+
+/// Adds that a word names no tree.
+pub fn tell_unnamed(why: &mut Vec<u8>, word: &[u8]) -> Result<()> {
+    answered(push_pieces(
+        why,
+        &[
+            Text(b"`"),
+            Text(word),
+            Text(b"` names no tree: no line `tree` named it since the opening"),
+        ],
+    ))
+}
+
+// Adds the tree that a word names; or why it names none.
+fn add_tree<N: TreeNames>(
+    alloc: Global,
+    trees: &mut Vec<Tree>,
+    current: &Tree,
+    names: &N,
+    word: &[u8],
+    why: &mut Vec<u8>,
+) -> Result<()> {
+    match named(alloc, current, names, word)? {
+        Some(tree) => Ok(trees.push(answered(tree.clone())?)?),
+        None => tell_unnamed(why, word),
+    }
+}
+
+/// The trees that words name, up to the first that names none; of it is added why.
+pub fn trees_of<N: TreeNames>(
+    alloc: Global,
+    current: &Tree,
+    names: &N,
+    words: &[&[u8]],
+    why: &mut Vec<u8>,
+) -> Result<Vec<Tree>> {
+    let mut trees = Vec::new(alloc);
+    for word in words {
+        if let Err(stopped) = add_tree(alloc, &mut trees, current, names, *word, why) {
+            drop(trees);
+            return Err(stopped);
+        }
+        if !why.is_empty() {
+            break;
+        }
+    }
+    Ok(trees)
+}
+
+/// Adds why words can name no trees, if one of them is no byte string.
+pub fn check_names(alloc: Global, words: &[&[u8]], why: &mut Vec<u8>) -> sled_nodes::Result<()> {
+    for word in words {
+        match read_value(alloc, *word)? {
+            Some(name) => drop(name),
+            None => return quote(why, *word, NO_BYTES),
+        }
+    }
+    Ok(())
+}
