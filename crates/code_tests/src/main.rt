@@ -1,9 +1,11 @@
-//! What only code can test: readers and writers that fail, a reader that waits for each answer, and batches. It prints what came of each
+//! What only code can test: readers and writers that fail, a reader that waits for each answer, batches, and the
+//! errors of transactions. It prints what came of each
 //! case; `stdout` has what should have come.
 #![tactic(auto)]
 
 mod batches;
 mod streams;
+mod transactions;
 
 use sled_batch::Batch;
 use std::io;
@@ -36,6 +38,27 @@ fn run(rt: &HostRuntime) -> io::Result<()> {
             "a copy is the same: {is_same}, and once it is written to: {is_still}"
         )?,
         Err(e) => println!(rt; "{e}")?,
+    }
+    tell_errors(rt)?;
+    match transactions::runs(rt.alloc()) {
+        Ok(count) => println!(rt; "after three conflicts a closure was run {count} times"),
+        Err(e) => println!(rt; "{e}"),
+    }
+}
+
+// Prints the errors of transactions, and whether their clones are the same.
+fn tell_errors(rt: &HostRuntime) -> io::Result<()> {
+    for e in &transactions::refusals() {
+        let is_same = transactions::is_refused_alike(e).unwrap_or(false);
+        println!(rt; "{e}; {:?}; its clone is the same: {is_same}", e)?;
+    }
+    for e in &transactions::endings() {
+        let is_same = transactions::is_ended_alike(e).unwrap_or(false);
+        println!(rt; "{e}; {:?}; its clone is the same: {is_same}", e)?;
+    }
+    for e in &transactions::answers() {
+        let is_same = transactions::is_answered_alike(e).unwrap_or(false);
+        println!(rt; "{e}; {:?}; its clone is the same: {is_same}", e)?;
     }
     Ok(())
 }
