@@ -649,15 +649,6 @@ def a_refusal_says_why(s):
 
 
 @case
-def words_without_a_call_yet(s):
-    """Words whose calls are not there yet. Whoever brings a call takes its line out of here."""
-    s.line('insert a 1', 'old -')
-    for line in ['tx', 'tx-all']:
-        s.line(line, f'bad line {len(s.text) + 1}: `{line.split()[0]}` is no command; `help` lists them')
-        s.line('get a', 'value 1')
-
-
-@case
 def a_session_ends_at_quit(s):
     """Lines behind `quit` are not read."""
     s.line('insert a 1', 'old -')
