@@ -1,0 +1,213 @@
+//! Pages one by one: how they are read, and what is asked of each by itself.
+ghost use Rattle.std.specs.Prelude.{ℕ, ◌≡◌, ◌<◌, ◌≤◌, true, false, Some, None, IfOk, IfErr, OnOk, length};
+ghost use Rattle.std.specs.FinMap.{is_sorted};
+ghost use Rattle.std.specs.List.{All};
+ghost use Rattle.std.specs.Cmp.Lexicographic.{slice_cmp};
+ghost use Rattle.std.specs.Ordering.{nat_cmp};
+ghost use Rattle.sled_nodes.specs.Order.{Key};
+ghost use Rattle.sled_nodes.specs.Node.{count as count_of, Within, pointers as pointers_in};
+ghost use Rattle.sled_nodes.specs.declared.error.Error.TheVariants.{NoMemory};
+ghost use Rattle.sled_store.specs.In.{In};
+ghost use Rattle.sled_store.specs.Store.{now};
+ghost use Rattle.tree_laws.specs.Forest.{IsNodeAt, later, first_child as child_of_first, first_key};
+ghost use Rattle.tree_check.specs.Check.{RefusesCheck, IsFinding};
+ghost use Rattle.tree_check.specs.theory.Tree.{IsPage};
+ghost use Rattle.tree_check.specs.theory.Walk.{RefusesPage, IsRead};
+
+use crate::findings::{
+    MIXED_PAGES, TOO_MANY_ENTRIES, WRONG_ENTRIES, WRONG_MERGE, WRONG_POINTER_KEY, corruption,
+};
+use sled_nodes::{Data, Fault, IVec, Node, Pid, Result};
+use sled_store::{Pages, View};
+use std::alloc::Global;
+
+// A page has at most so many entries, and a merging child so many.
+const MOST: usize = 33;
+
+const MOST_OF_A_CHILD: usize = 17;
+
+/// The page of this number. Where there is none the fault says so.
+pub fn page_at<P: Pages>(alloc: Global, pages: &P, pid: Pid, fault: Fault) -> Result<View>
+    requires { IsFinding fault }
+    ensures ok { IfOk result (IsRead (now (P.store pages.now)) pid) }
+    ensures err { IfErr result (RefusesCheck (P.store pages.now)) }
+{
+    match pages.read(alloc, pid) {
+        Ok(Some(view)) => Ok(view),
+        Ok(None) => Err(corruption(fault)),
+        Err(e) => Err(e),
+    }
+}
+
+// Whether a key lies within the bounds.
+#[tactic(auto, unfolding(sled_nodes::specs::Order::key_cmp))]
+fn is_within(key: &IVec, lo: &IVec, hi: &IVec) -> bool
+    ensures { result ≡ true → Within lo.now hi.now key.now }
+{
+    *lo <= *key && (hi.len() == 0 || *key < *hi)
+}
+
+// Whether the keys ascend.
+fn ascends<V>(entries: &[(IVec, V)]) -> bool
+    ensures { result ≡ true → is_sorted (slice_cmp nat_cmp) entries.now ≡ true }
+{
+    for i in 1..entries.len() {
+        if !entries[i - 1].0.as_ref().cmp(entries[i].0.as_ref()).is_lt() {
+            return false;
+        }
+    }
+    true
+}
+
+// Whether all keys lie within the bounds.
+fn are_within<V>(entries: &[(IVec, V)], lo: &IVec, hi: &IVec) -> bool
+    ensures { result ≡ true → All (λ e. Within lo.now hi.now e.0) entries.now }
+{
+    for entry in entries {
+        if !is_within(&entry.0, lo, hi) {
+            return false;
+        }
+    }
+    true
+}
+
+// Whether a pointer but the first leads to the page.
+fn is_later(pointers: &[(IVec, Pid)], child: Pid) -> bool
+    ensures { result ≡ true → (k : Key) × In (k, child) (later pointers.now) }
+{
+    for i in 1..pointers.len() {
+        if pointers[i].1 == child {
+            return true;
+        }
+    }
+    false
+}
+
+/// How many entries a page has.
+pub fn count(node: &Node) -> usize
+    ensures { result ≡ count_of node.now.content }
+{
+    match &node.content {
+        Data::Leaf(leaf) => leaf.len(),
+        Data::Index(index) => index.len(),
+    }
+}
+
+/// The pointers of a page; a leaf has none.
+pub fn pointers_of(alloc: Global, node: &Node) -> Result<Vec<(IVec, Pid)>>
+    ensures ok { IfOk result (λ list. list.items ≡ pointers_in node.now.content) }
+    ensures err { IfErr result (λ e. e ≡ NoMemory) }
+{
+    match &node.content {
+        Data::Leaf(_) => Ok(Vec::new(alloc)),
+        Data::Index(index) => index.pairs(alloc),
+    }
+}
+
+/// The page under the first pointer.
+pub fn first_child(alloc: Global, node: &Node) -> Result<Option<Pid>>
+    ensures ok { IfOk result (λ child. child ≡ child_of_first (pointers_in node.now.content)) }
+    ensures err { IfErr result (λ e. e ≡ NoMemory) }
+{
+    let list = pointers_of(alloc, node)?;
+    match list.first() {
+        Some(pointer) => Ok(Some(pointer.1)),
+        None => Ok(None),
+    }
+}
+
+// Tests an index by itself.
+fn check_index(node: &Node, pointers: &[(IVec, Pid)]) -> Result<()>
+    ensures sorted { OnOk result (is_sorted (slice_cmp nat_cmp) pointers.now ≡ true) }
+    ensures within { OnOk result (All (λ e. Within node.now.lo node.now.hi e.0) pointers.now) }
+    ensures first { OnOk result (first_key pointers.now ≡ Some node.now.lo) }
+    ensures child { OnOk result ((c : ℕ) → node.now.merging_child ≡ Some c → (k : Key) × In (k, c) (later pointers.now)) }
+    ensures err { IfErr result RefusesPage }
+{
+    let Some(first) = pointers.first() else {
+        return Err(corruption(WRONG_ENTRIES));
+    };
+    if first.0 != node.lo {
+        return Err(corruption(WRONG_POINTER_KEY));
+    }
+    if !ascends(pointers) || !are_within(pointers, &node.lo, &node.hi) {
+        return Err(corruption(WRONG_ENTRIES));
+    }
+    if let Some(child) = node.merging_child {
+        if !is_later(pointers, child) {
+            return Err(corruption(WRONG_MERGE));
+        }
+    }
+    Ok(())
+}
+
+// Tests a leaf by itself.
+fn check_leaf(node: &Node, pairs: &[(IVec, IVec)]) -> Result<()>
+    ensures sorted { OnOk result (is_sorted (slice_cmp nat_cmp) pairs.now ≡ true) }
+    ensures within { OnOk result (All (λ e. Within node.now.lo node.now.hi e.0) pairs.now) }
+    ensures child { OnOk result (node.now.merging_child ≡ None) }
+    ensures err { IfErr result RefusesPage }
+{
+    if node.merging_child.is_some() {
+        return Err(corruption(WRONG_MERGE));
+    }
+    if !ascends(pairs) || !are_within(pairs, &node.lo, &node.hi) {
+        return Err(corruption(WRONG_ENTRIES));
+    }
+    Ok(())
+}
+
+// Tests what a page of this height has.
+fn check_content(alloc: Global, node: &Node, height: u64) -> Result<()>
+    ensures sound { OnOk result (IsNodeAt height node.now) }
+    ensures child { OnOk result ((c : ℕ) → node.now.merging_child ≡ Some c → (k : Key) × In (k, c) (later (pointers_in node.now.content))) }
+    ensures err { IfErr result RefusesPage }
+{
+    match &node.content {
+        Data::Leaf(leaf) => {
+            if height != 0 {
+                return Err(corruption(MIXED_PAGES));
+            }
+            let pairs = leaf.pairs(alloc)?;
+            let done = check_leaf(node, pairs.as_slice());
+            drop(pairs);
+            done?;
+            Ok(())
+        }
+        Data::Index(index) => {
+            let pointers = index.pairs(alloc)?;
+            let done = check_index(node, pointers.as_slice());
+            drop(pointers);
+            done?;
+            if height == 0 {
+                return Err(corruption(MIXED_PAGES));
+            }
+            Ok(())
+        }
+    }
+}
+
+/// Tests a page of this height by itself.
+pub fn check_page(alloc: Global, node: &Node, height: u64) -> Result<()>
+    ensures ok { OnOk result (IsPage height node.now) }
+    ensures err { IfErr result RefusesPage }
+{
+    if count(node) > MOST {
+        return Err(corruption(TOO_MANY_ENTRIES));
+    }
+    if node.merging && node.merging_child.is_some() {
+        return Err(corruption(WRONG_MERGE));
+    }
+    check_content(alloc, node, height)
+}
+
+/// Tests the number of entries of a merging child.
+pub fn check_merging_child(node: &Node) -> Result<()>
+    ensures ok { OnOk result (count_of node.now.content ≤ 17) }
+    ensures err { IfErr result RefusesPage }
+{
+    if count(node) > MOST_OF_A_CHILD {
+        return Err(corruption(TOO_MANY_ENTRIES));
+    }
+    Ok(())
+}

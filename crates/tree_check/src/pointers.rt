@@ -1,0 +1,148 @@
+//! The pointers from one level to the level below.
+ghost use Rattle.std.specs.Prelude.{ℕ, IsTrue, ◌↔◌, ◌≡◌, ◌⊎◌, ◌≤◌, true, Some, None, [], ◌∷◌, IfErr, OnOk};
+ghost use Rattle.std.specs.List.{All};
+ghost use Rattle.sled_nodes.specs.Node.{pointers, count as count_of};
+ghost use Rattle.sled_store.specs.Store.{now};
+ghost use Rattle.tree_check.specs.declared.levels.Level.{Level as LevelValue};
+ghost use Rattle.tree_check.specs.Check.{RefusesCheck};
+ghost use Rattle.tree_check.specs.theory.Tree.{IsPage};
+ghost use Rattle.tree_check.specs.theory.Walk.{RefusesPage, LeadsTo, FindsReceived, level_of};
+
+use crate::findings::{DANGLING_POINTER, WRONG_MERGE, WRONG_POINTER_KEY, corruption};
+use crate::levels::{Level, found_twice, set_level};
+use crate::page::{check_merging_child, check_page, page_at, pointers_of};
+use sled_nodes::{IVec, Node, Pid, Result};
+use sled_store::{Pages, View};
+use std::alloc::Global;
+use std::collections::BTreeMap;
+
+// Tests a page that a pointer leads to and that stands in no chain: it is to be merging, and so was received.
+fn check_received(alloc: Global, node: &Node, height: u64) -> Result<()>
+    ensures page { OnOk result (IsPage height node.now) }
+    ensures merging { OnOk result (node.now.merging ≡ true) }
+    ensures err { IfErr result RefusesPage }
+{
+    if !node.merging {
+        return Err(corruption(DANGLING_POINTER));
+    }
+    check_page(alloc, node, height)
+}
+
+// Tests that a pointer at this key fits the page that it leads to, which may be the merging child of the pointer's page.
+fn check_fits(node: &Node, key: &IVec, is_child: bool) -> Result<()>
+    ensures key { OnOk result (node.now.lo ≡ key.now) }
+    ensures merged { OnOk result (node.now.merging ≡ true → is_child ≡ true) }
+    ensures few { OnOk result (is_child ≡ true → count_of node.now.content ≤ 17) }
+    ensures err { IfErr result RefusesPage }
+{
+    if node.lo != *key {
+        return Err(corruption(WRONG_POINTER_KEY));
+    }
+    if node.merging && !is_child {
+        return Err(corruption(WRONG_MERGE));
+    }
+    if is_child {
+        return check_merging_child(node);
+    }
+    Ok(())
+}
+
+// Whether this is the node's merging child.
+fn merges(node: &Node, child: Pid) -> bool
+    ensures { IsTrue result ↔ (node.now.merging_child ≡ Some child) }
+{
+    node.merging_child == Some(child)
+}
+
+// Tests that a page that a pointer leads to was found on this level. One that was not found is to have been received, and is
+// noted then.
+fn check_level_of(
+    alloc: Global,
+    found: &View,
+    level: Level,
+    levels: &mut BTreeMap<u64, Level>,
+) -> Result<()>
+    ensures here { OnOk result (level_of levels.new found.now.pid ≡ Some level) }
+    ensures kept { OnOk result ((q : ℕ) (z : LevelValue) → level_of levels.old q ≡ Some z → level_of levels.new q ≡ Some z) }
+    ensures adds { OnOk result ((q : ℕ) (z : LevelValue) → level_of levels.new q ≡ Some z → (level_of levels.old q ≡ Some z) ⊎ ((z ≡ level) × (q ≡ found.now.pid) × IsPage level.height found.now.node × (found.now.node.merging ≡ true))) }
+    ensures err { IfErr result RefusesPage }
+{
+    match levels.get(&found.pid.0) {
+        Some(old) => {
+            let old = *old;
+            if old.tree == level.tree && old.height == level.height {
+                Ok(())
+            } else if old.tree == level.tree {
+                Err(corruption(DANGLING_POINTER))
+            } else {
+                Err(found_twice(old, level))
+            }
+        }
+        None => {
+            check_received(alloc, &found.node, level.height)?;
+            set_level(levels, found.pid, level)
+        }
+    }
+}
+
+// Tests a pointer of a page, whose level below is this one.
+fn check_pointer<P: Pages>(
+    alloc: Global,
+    pages: &P,
+    view: &View,
+    key: &IVec,
+    child: Pid,
+    level: Level,
+    levels: &mut BTreeMap<u64, Level>,
+) -> Result<()>
+    ensures leads { OnOk result (LeadsTo (now (P.store pages.now)) view.now level levels.new key.now child) }
+    ensures adds { OnOk result (FindsReceived (now (P.store pages.now)) (view.now ∷ []) level levels.old levels.new) }
+    ensures err { IfErr result (RefusesCheck (P.store pages.now)) }
+{
+    let found = page_at(alloc, pages, child, DANGLING_POINTER)?;
+    if let Err(e) = check_fits(&found.node, key, merges(&view.node, child)) {
+        drop(found);
+        return Err(e);
+    }
+    let done = check_level_of(alloc, &found, level, levels);
+    drop(found);
+    done?;
+    Ok(())
+}
+
+// Tests all pointers of a page.
+fn check_pointers_of<P: Pages>(
+    alloc: Global,
+    pages: &P,
+    view: &View,
+    level: Level,
+    levels: &mut BTreeMap<u64, Level>,
+) -> Result<()>
+    ensures lead { OnOk result (All (λ e. LeadsTo (now (P.store pages.now)) view.now level levels.new e.0 e.1) (pointers view.now.node.content)) }
+    ensures adds { OnOk result (FindsReceived (now (P.store pages.now)) (view.now ∷ []) level levels.old levels.new) }
+    ensures err { IfErr result (RefusesCheck (P.store pages.now)) }
+{
+    let list = pointers_of(alloc, &view.node)?;
+    for pointer in list.as_slice() {
+        check_pointer(alloc, pages, view, &pointer.0, pointer.1, level, levels)?;
+    }
+    Ok(())
+}
+
+/// Tests all pointers of these pages, whose level below is this one. Its chain was read before.
+pub fn check_pointers<P: Pages>(
+    alloc: Global,
+    pages: &P,
+    above: &[View],
+    level: Level,
+    levels: &mut BTreeMap<u64, Level>,
+) -> Result<()>
+    ensures lead { OnOk result (All (λ v. All (λ e. LeadsTo (now (P.store pages.now)) v level levels.new e.0 e.1) (pointers v.node.content)) above.now) }
+    ensures adds { OnOk result (FindsReceived (now (P.store pages.now)) above.now level levels.old levels.new) }
+    ensures err { IfErr result (RefusesCheck (P.store pages.now)) }
+{
+    for view in above {
+        check_pointers_of(alloc, pages, view, level, levels)?;
+    }
+    Ok(())
+}
