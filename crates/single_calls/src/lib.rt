@@ -8,6 +8,7 @@ mod direct;
 mod fetch;
 mod imports;
 mod machine;
+mod opening;
 mod pops;
 mod reads;
 mod transactions;
@@ -24,6 +25,7 @@ pub use imports::import;
 pub use machine::{
     abandon, begin, complete, drop_whole, finish, new_machine, run, step, turns, whole,
 };
+pub use opening::{reopen_accepted, reopen_checked};
 pub use pops::{clear, pop_max, pop_min};
 pub use reads::{contains_key, get_lt, len, range};
 pub use transactions::{transaction, transaction_all};

@@ -2,7 +2,7 @@
 ghost use Rattle.std.specs.Prelude.{IfOk, IfErr};
 ghost use Rattle.sled.specs.Transactions.{CanTransact, TransactionMade, TransactionNotMade, CanTransactAll, ListMade, ListNotMade, trees_of_list};
 
-use sled::{Db, TransactionAnswer, TransactionResult, TransactionalTree, TransactionalTrees};
+use sled::{Db, TransactionAnswer, TransactionalTree, TransactionalTrees};
 use sled_model::{MergeOperator, Tree};
 use sled_store::Pages;
 
@@ -11,12 +11,12 @@ pub fn transaction<P: Pages, M: MergeOperator, A: Drop, E, R: TransactionAnswer<
     db: &mut Db<P, M>,
     tree: &Tree,
     f: F,
-) -> TransactionResult<A, E>
+) -> R::Ended
 where
     F: Fn(&mut TransactionalTree<'_, P>) -> R,
     requires { CanTransact P.store M.meant (F.pre f) db.old tree.now }
-    ensures ok { IfOk result (λ answer. TransactionMade P.store P.flush_number M.meant F.Fn R.result_of f db.old tree.now answer db.new) }
-    ensures err { IfErr result (λ e. TransactionNotMade P.store P.flush_number M.meant F.Fn R.result_of f db.old tree.now e db.new) }
+    ensures ok { IfOk (R.answer_of result) (λ answer. TransactionMade P.store P.flush_number M.meant F.Fn R.result_of f db.old tree.now answer db.new) }
+    ensures err { IfErr (R.answer_of result) (λ e. TransactionNotMade P.store P.flush_number M.meant F.Fn R.result_of f db.old tree.now e db.new) }
 {
     db.transaction(tree, f)
 }
@@ -26,12 +26,12 @@ pub fn transaction_all<P: Pages, M: MergeOperator, A: Drop, E, R: TransactionAns
     db: &mut Db<P, M>,
     trees: &[&Tree],
     f: F,
-) -> TransactionResult<A, E>
+) -> R::Ended
 where
     F: Fn(&mut TransactionalTrees<'_, P>) -> R,
     requires { CanTransactAll P.store M.meant (F.pre f) db.old (trees_of_list trees.now) }
-    ensures ok { IfOk result (λ answer. ListMade P.store P.flush_number M.meant F.Fn R.result_of f db.old (trees_of_list trees.now) answer db.new) }
-    ensures err { IfErr result (λ e. ListNotMade P.store P.flush_number M.meant F.Fn R.result_of f db.old (trees_of_list trees.now) e db.new) }
+    ensures ok { IfOk (R.answer_of result) (λ answer. ListMade P.store P.flush_number M.meant F.Fn R.result_of f db.old (trees_of_list trees.now) answer db.new) }
+    ensures err { IfErr (R.answer_of result) (λ e. ListNotMade P.store P.flush_number M.meant F.Fn R.result_of f db.old (trees_of_list trees.now) e db.new) }
 {
     db.transaction_all(trees, f)
 }

@@ -12,11 +12,11 @@ use Rattle.sled_model.specs.declared.tree.Tree.{Tree}
 none_some : {P X : Type 0} {x : X} → None ≡ Some x → P
 none_some e = cc
 
-first_none : (a b : Option MustRefuse) → first_of a b ≡ None → (a ≡ None) × (b ≡ None)
+pub first_none : (a b : Option MustRefuse) → first_of a b ≡ None → (a ≡ None) × (b ≡ None)
 first_none None b e = (refl, e)
 first_none (Some x) b e = none_some (sym e)
 
-none_first : {a b : Option MustRefuse} → a ≡ None → b ≡ None → first_of a b ≡ None
+pub none_first : {a b : Option MustRefuse} → a ≡ None → b ≡ None → first_of a b ≡ None
 none_first {a} {b} p q = ap (λ z. first_of z b) p ∙ q
 
 -- the trees of a list pass where those of its parts do

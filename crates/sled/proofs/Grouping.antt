@@ -8,7 +8,7 @@ use Rattle.sled_nodes.specs.declared.error.Error.{Error}
 use Rattle.sled_nodes.specs.declared.error.Error.TheVariants as error
 use Rattle.sled_batch.specs.Batch.{Writes}
 use Rattle.sled_store.specs.State.{GroupEnds}
-use Rattle.sled_store.specs.Store.{Store, now, is_refused_as}
+use Rattle.sled_store.specs.Store.{Store, now, after_action, is_refused_as}
 use Rattle.sled_store.specs.theory.Facts.{now_acted}
 use Rattle.sled_model.specs.Maps.{Map, Maps, Merge}
 use Rattle.sled_model.specs.Groups.{Write, writes_of, after_writes, tag_of, Closes, refuses_group_as}
@@ -45,6 +45,12 @@ use Rattle.sled.proofs.Trees.{trees_at, maps_are, numbered}
 use Rattle.sled.proofs.Flying.{lasts_same, quiet_untold, state_over}
 use Rattle.sled.proofs.Conducting.{untold_fault, leaves_none}
 use Rattle.sled.proofs.Popping.{often_faults, often_readable}
+
+-- ---- a group of some calls is begun and sealed
+
+sealed_loud : (js : List Job) (a b : Store) → (js ≡ [] → ⊥) → seals_as js a b → (last : Store) × ActsInside a last × (b ≡ after_action GroupEnds last)
+sealed_loud [] a b some acts = absurd (some refl)
+sealed_loud (j ∷ js) a b some acts = acts
 
 -- ---- calls as they begin
 
@@ -381,6 +387,7 @@ module _ {P M : Type 0} (store : P → Store) (meant : M → Merge) (old : DbVal
           acts = seals.acts;
           leaves = leaves_so written.after written.keeps seals.mark (subst IsCalm (sym m.tells.held) delivers.calm) (maps_of (db_state store meant new) ∷ []) adds_now;
           same = refl;
+          loud = λ some. sealed_loud jobs (store old.pages) (store p) (λ none. some (sym (events_written (writes_of batches) before current) ∙ ap events_of_jobs none)) m.makes.acts;
         }
 
         pub made_quiet : IsQuietGroup store meant old batches new

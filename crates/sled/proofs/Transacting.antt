@@ -1,26 +1,36 @@
 -- Transactions: ids that are taken, reads inside, and the tests of lists.
 use Rattle.std.proofs.Common.{◌≡◌, ℕ, zero, suc, ◌+◌, ◌<◌, ◌≤◌, Bool, true, false, cond, ◌&&◌, List, [], ◌∷◌, ◌++◌, length, map, take, drop, get_or, add-one, slice_get, Bor, append_assoc, append-nil, Option, Some, None, Result, Ok, Err, OnOk, IfErr, refl, sym, ap, subst, ◌∙◌, inl, inr, nat_lt, arith}
 use Rattle.std.specs.List.{zip}
-use Rattle.std.specs.Option.{unwrap_or}
+use Rattle.std.specs.Option.{unwrap_or, option_map}
+use Rattle.std.proofs.lemmas.Option.{slice_get-map, slice_get_within, get_or_from_slice_get}
+use Rattle.std.specs.declared.ops.Bound.TheVariants.{Included}
 use Rattle.std.specs.FinMap.Entries.{find}
 use Rattle.std.specs.Str.{bytes_eq}
 use Rattle.sled_nodes.specs.Order.{Key, key_cmp}
 use Rattle.sled_nodes.specs.declared.error.Error.{Error}
+use Rattle.sled_nodes.specs.declared.error.Error.TheVariants.{CollectionNotFound, Unsupported, ReportableBug, Io, Corruption, NoMemory, Closed}
 use Rattle.sled_batch.specs.Batch.{Writes}
 use Rattle.sled_store.specs.State.{State}
 use Rattle.sled_store.specs.Store.{Store, now}
 use Rattle.sled_model.specs.Maps.{Merge}
 use Rattle.sled_model.specs.State as model
-use Rattle.sled_model.specs.Refusal.{MustRefuse, IsClosed, IsForeign, IsDropped, first_of, is_number, foreign_test, dropped_test, must_refuse_of, trees_of_batches}
+use Rattle.sled_model.specs.Refusal.{IsClosed, IsForeign, IsDropped, first_of, is_number, foreign_test, dropped_test, must_refuse_of, trees_of_batches}
 use Rattle.sled_model.specs.declared.tree.Tree.{Tree}
 use Rattle.tree_laws.specs.Snapshot.{Snapshot}
 use Rattle.tree_reads.specs.Leaves.{OfContents}
+use Rattle.tree_reads.specs.Walk.{refuses_walk_as, GivesUp, once}
 use Rattle.sled_tree.specs.Known.{IsKnown}
 use Rattle.sled_tree.specs.declared.flight.InFlight.{InFlight}
-use Rattle.tree_transactions.specs.Ids.{OnlyRaises, sets_aside_for}
+use Rattle.tree_transactions.specs.Ids.{OnlyRaises}
 use Rattle.tree_transactions.specs.Attempts.{Answer, Closure}
-use Rattle.tree_transactions.specs.Transactions.{BeginsAll, TransactsAll, left_of_trees}
+use Rattle.tree_transactions.specs.Transactions.{TransactsAll}
+use Rattle.tree_transactions.specs.Overlays.{refuses_through_as, RefusesThrough}
+use Rattle.tree_transactions.specs.Trees.{is_storage, RefusedFor}
+use Rattle.tree_transactions.specs.Positions.{LacksTree}
 use Rattle.tree_transactions.specs.declared.attempts.Commit.{Commit}
+use Rattle.tree_transactions.specs.declared.errors.UnabortableTransactionError.{UnabortableTransactionError}
+use Rattle.tree_transactions.specs.declared.errors.UnabortableTransactionError.TheVariants.{Conflict}
+use Rattle.tree_transactions.specs.declared.errors.UnabortableTransactionError.TheVariants as inside
 use Rattle.tree_transactions.specs.declared.errors.TransactionError.{TransactionError}
 use Rattle.tree_transactions.specs.declared.trees.TransactionalTrees.{TransactionalTrees}
 use Rattle.tree_transactions.specs.declared.errors.TransactionError.TheVariants.{Abort, Storage}
@@ -29,13 +39,13 @@ use Rattle.sled.specs.Flush.{RefusesFlush}
 use Rattle.sled.specs.Sound.{IsDb}
 use Rattle.sled.specs.theory.Transactions.{CommitsGroup, StopsCommit}
 use Rattle.sled.specs.Groups.{GroupDecided, IsQuietGroup}
-use Rattle.sled.specs.Transactions.{TakesIds, flushes_as, MakesWrites, Commits, Stops, ByTest, ByClosure, ByGroup, ByFlush, fails_as, Fails, ShowsLaw, ShowsAtLaw, trees_of_list}
-use Rattle.sled.proofs.Batching.{tested_parts}
+use Rattle.sled.specs.Transactions.{TakesIds, flushes_as, MakesWrites, Commits, Stops, ByTest, ByClosure, ByGroup, ByFlush, fails_as, Fails, ShowsLaw, ShowsAtLaw, RefusesInside, RefusesToShowLaw, RefusesToShowAtLaw, trees_of_list}
+use Rattle.sled.proofs.Batching.{first_none, none_first, tested_parts}
 use Rattle.sled.proofs.Changes.{parted}
 use Rattle.sled.proofs.Numbering.{state_taken, left_taken, leaves_taken}
 use Rattle.sled.proofs.Flushing.{same_moment}
 use Rattle.sled.proofs.Resting.{flushed_now, rests_only_faults, rests_now}
-use Rattle.sled.proofs.Reading.{reads}
+use Rattle.sled.proofs.Reading.{reads, refuses, gives_up}
 
 -- ---- ids
 
@@ -103,23 +113,6 @@ module _ {P M : Type 0} (store : P → Store) (flush_number : P → ℕ) (meant 
     pub fails_know : (e : TransactionError E) (new : DbValue P M) → Fails store flush_number meant tests reaches batches_of has old e new → (h : InFlight) → IsKnown (snapshot_of_db store old) h → IsKnown (snapshot_of_db store new) h
     fails_know e new f h k = fails_know_as e new f.is h k
 
--- ---- reads inside
-
-module _ {P M : Type 0} (store : P → Store) (meant : M → Merge) where
-  pub shows : ShowsLaw store meant
-  shows d tree given key value db tested root_is only s = reads store meant d tree tested given.root root_is db
-      (λ pairs. value ≡ unwrap_or (find key_cmp key given.overlay) (find key_cmp key pairs))
-      (subst (λ (z : State). OfContents z given.root (λ pairs. value ≡ unwrap_or (find key_cmp key given.overlay) (find key_cmp key pairs))) (ap now only.is) s.is.is)
-
-  pub shows_at : ShowsAtLaw store meant
-  shows_at d tree given position key value db tested root_is only s = (
-    s.overlay,
-    s.at.overlay_is,
-    reads store meant d tree tested s.root (root_is ∙ s.at.root_is) db
-        (λ pairs. value ≡ unwrap_or (find key_cmp key s.overlay) (find key_cmp key pairs))
-        (subst (λ (z : State). OfContents z s.root (λ pairs. value ≡ unwrap_or (find key_cmp key s.overlay) (find key_cmp key pairs))) (ap now only.is) s.is.is),
-  )
-
 -- ---- the tests of a list
 
 some_is : {X : Type 0} {x y : X} → Some x ≡ Some y → x ≡ y
@@ -127,13 +120,6 @@ some_is e = cc
 
 none_some : {P X : Type 0} {x : X} → None ≡ Some x → P
 none_some e = cc
-
-first_none : (a b : Option MustRefuse) → first_of a b ≡ None → (a ≡ None) × (b ≡ None)
-first_none None b e = (refl, e)
-first_none (Some x) b e = none_some (sym e)
-
-none_first : {a b : Option MustRefuse} → a ≡ None → b ≡ None → first_of a b ≡ None
-none_first {a} {b} p q = ap (λ z. first_of z b) p ∙ q
 
 foreign_zip : (name : Key) (trees : List Tree) (writes : List Writes) → foreign_test name trees ≡ None → foreign_test name (trees_of_batches (zip trees writes)) ≡ None
 foreign_zip name [] writes e = refl
@@ -169,11 +155,106 @@ map_both f [] more = refl
 map_both f (x ∷ some) more = ap (λ l. f x ∷ l) (map_both f some more)
 
 -- a tree of a list that passes the tests passes them
+tested_place : (s : model.State) (trees : List Tree) (i : ℕ) (t : Tree) → slice_get trees i ≡ Some t → must_refuse_of s trees ≡ None → must_refuse_of s (t ∷ []) ≡ None
+tested_place s trees i t at tested =
+    let rest = (tested_parts s (take i trees) (t ∷ drop (i + 1) trees) (ap (must_refuse_of s) (sym (parted trees i t (slice_get_within trees i t at) (sym (get_or_from_slice_get trees i t t at)))) ∙ tested)).1 in
+    (tested_parts s (t ∷ []) (drop (i + 1) trees) rest).0
+
+-- .. of references
 pub tested_at : (s : model.State) (trees : List (Bor Tree)) (i : ℕ) (t : Bor Tree) → i < length trees → t ≡ get_or trees i t → must_refuse_of s (trees_of_list trees) ≡ None → must_refuse_of s (t.now ∷ []) ≡ None
 tested_at s trees i t h e tested =
     let parts = ap trees_of_list (parted trees i t h e) ∙ map_both (λ (x : Bor Tree). x.now) (take i trees) (t ∷ drop (i + 1) trees) in
     let rest = (tested_parts s (trees_of_list (take i trees)) (trees_of_list (t ∷ drop (i + 1) trees)) (ap (must_refuse_of s) (sym parts) ∙ tested)).1 in
     (tested_parts s (t.now ∷ []) (trees_of_list (drop (i + 1) trees)) rest).0
+
+-- ---- reads inside
+
+-- what is known of a place of the list of roots
+root_at : (roots_of : Tree → Option ℕ) (trees : List Tree) (roots : List ℕ) (position : ℕ) (tree : Tree) (root : ℕ) → map roots_of trees ≡ map Some roots → slice_get trees position ≡ Some tree → slice_get roots position ≡ Some root
+    → roots_of tree ≡ Some root
+root_at roots_of trees roots position tree root are tree_is root_is = some_is (
+    sym (slice_get-map roots_of trees position ∙ ap (option_map roots_of) tree_is)
+    ∙ ap (λ l. slice_get l position) are
+    ∙ slice_get-map Some roots position
+    ∙ ap (option_map Some) root_is
+    )
+
+-- a walk is refused for the same causes over pages that mean the same
+refuses_same : (of : ℕ → ℕ) (s : Store) (mark faults root : ℕ) (e : Error) → refuses_walk_as of (record s { mark = mark; faults = faults }) root e → refuses_walk_as of s root e
+refuses_same of s mark faults root NoMemory h = h
+refuses_same of s mark faults root (Io fault) h = h
+refuses_same of s mark faults root (ReportableBug text) h = h
+refuses_same of s mark faults root (CollectionNotFound name) h = h
+refuses_same of s mark faults root (Unsupported text) h = h
+refuses_same of s mark faults root (Corruption fault) h = h
+refuses_same of s mark faults root Closed h = h
+
+-- a cause that follows from another
+refused_by : (why so : Error → Type 0) → ((e : Error) → why e → so e) → (e : UnabortableTransactionError) → is_storage why e → is_storage so e
+refused_by why so follows Conflict h = absurd h
+refused_by why so follows (inside.Storage e) h = follows e h
+
+module _ {P M : Type 0} (store : P → Store) (meant : M → Merge) where
+  pub shows : ShowsLaw store meant
+  shows d tree given key value db tested root_is only s = reads store meant d tree tested given.root root_is db
+      (λ pairs. value ≡ unwrap_or (find key_cmp key given.overlay) (find key_cmp key pairs))
+      (subst (λ (z : State). OfContents z given.root (λ pairs. value ≡ unwrap_or (find key_cmp key given.overlay) (find key_cmp key pairs))) (ap now only.is) s.is.is)
+
+  pub shows_at : ShowsAtLaw store meant
+  shows_at d trees given position tree key value db tested roots_are only tree_is s = (
+    s.overlay,
+    s.at.overlay_is,
+    reads store meant d tree (tested_place (db_state store meant d) trees position tree tree_is tested) s.root (root_at (λ (t : Tree). (now (store d.pages)).roots t.name) trees given.roots.now position tree s.root roots_are tree_is s.at.root_is) db
+        (λ pairs. value ≡ unwrap_or (find key_cmp key s.overlay) (find key_cmp key pairs))
+        (subst (λ (z : State). OfContents z s.root (λ pairs. value ≡ unwrap_or (find key_cmp key s.overlay) (find key_cmp key pairs))) (ap now only.is) s.is.is),
+  )
+
+  module _ (d : DbValue P M) (tree : Tree) (db : IsDb store d) (tested : must_refuse_of (db_state store meant d) (tree ∷ []) ≡ None) (root : ℕ) (root_is : (now (store d.pages)).roots tree.name ≡ Some root) (s : Store) (only : OnlyRaises (store d.pages) s) (overlay : Writes) (key : Key) where
+    refused_inside : (own : Option (Option Key)) → find key_cmp key overlay ≡ own → (e : Error) → refuses_through_as own s root key e → RefusesInside store meant d tree overlay key e
+    refused_inside (Some written) is e h = subst (RefusesInside store meant d tree overlay key) (sym h) (record {
+      own = λ w found. refl;
+      reading = refuses store meant d tree tested root root_is db once NoMemory (record { is = tt });
+      gives_up = gives_up store meant d tree tested root root_is key NoMemory (record { is = λ k i. tt });
+    })
+    refused_inside None is e h = record {
+      own = λ w found. none_some (sym is ∙ found);
+      reading = refuses store meant d tree tested root root_is db once e (record { is = refuses_same once (store d.pages) s.mark s.faults root e (subst (λ z. refuses_walk_as once z root e) only.is h.0.is) });
+      gives_up = gives_up store meant d tree tested root root_is key e (subst (λ (z : State). GivesUp z root (Included key) 0 e) (ap now only.is) h.1);
+    }
+
+    pub refused_read : (e : Error) → RefusesThrough s root overlay key e → RefusesInside store meant d tree overlay key e
+    refused_read e h = refused_inside (find key_cmp key overlay) refl e h.is
+
+  pub refuses_to_show : RefusesToShowLaw store meant
+  refuses_to_show d tree given key e db tested root_is only h = record {
+    is = refused_by (RefusesThrough (store given.pages.now) given.root given.overlay key) (RefusesInside store meant d tree given.overlay key)
+        (refused_read d tree db tested given.root root_is (store given.pages.now) only given.overlay key) e h.is.is;
+  }
+
+  pub refuses_to_show_at : RefusesToShowAtLaw store meant
+  refuses_to_show_at d trees given position tree overlay key e db tested roots_are only tree_is overlay_is h = elim h.is.is [
+    | inl r ↦ there r.is
+    | inr k ↦ record {
+      is = refused_by (RefusesThrough (store given.pages.now) k.0 k.1 key) (RefusesInside store meant d tree overlay key)
+          (λ cause because. subst (λ w. RefusesInside store meant d tree w key cause) (some_is (sym k.2.overlay_is ∙ overlay_is))
+          (refused_read d tree db (tested_place (db_state store meant d) trees position tree tree_is tested) k.0
+          (root_at (λ (t : Tree). (now (store d.pages)).roots t.name) trees given.roots.now position tree k.0 roots_are tree_is k.2.root_is) (store given.pages.now) only k.1 key cause because)) e k.3.is;
+    }
+  ]
+    where
+      -- there is a tree at the position
+      there : is_storage (LacksTree given position) e → RefusedFor (RefusesInside store meant d tree overlay key) e
+      there r = record {
+        is = refused_by (LacksTree given position) (RefusesInside store meant d tree overlay key) (λ cause l. elim l.none [
+          | inl roots ↦ no_root_at (slice_get-map (λ (t : Tree). (now (store d.pages)).roots t.name) trees position ∙ ap (option_map (λ (t : Tree). (now (store d.pages)).roots t.name)) tree_is) (ap (λ l. slice_get l position) roots_are ∙ slice_get-map Some given.roots.now position ∙ ap (option_map Some) roots)
+          | inr overlays ↦ none_some (sym overlays ∙ overlay_is)
+        ]) e r;
+      }
+        where
+          no_root_at : {X : Type 0} {o : Option (Option ℕ)} {x : Option ℕ} → o ≡ Some x → o ≡ None → X
+          no_root_at p q = none_some (sym q ∙ p)
+
+-- ---- the batches of a list
 
 -- the batches so far, and those to come
 zip_more : {X Y : Type 0} (xs : List X) (i : ℕ) (x : X) (y : Y) (ys : List Y) → slice_get xs i ≡ Some x → zip (drop i xs) (y ∷ ys) ≡ (x, y) ∷ zip (drop (suc i) xs) ys

@@ -2,13 +2,15 @@
 use Rattle.std.specs.Prelude.{◌≡◌, ◌≢◌, ℕ, List, [], Option, Some, None}
 use Rattle.sled_nodes.specs.declared.error.Error.{Error}
 use Rattle.sled_batch.specs.Batch.{Writes}
-use Rattle.sled_store.specs.Store.{Store}
+use Rattle.sled_store.specs.State.{GroupEnds}
+use Rattle.sled_store.specs.Store.{Store, after_action}
 use Rattle.sled_model.specs.Maps.{Maps, Merge}
 use Rattle.sled_model.specs.Groups.{writes_of, events_of_writes, DecidesGroup, StopsGroup}
 use Rattle.sled_model.specs.Refusal.{trees_of_batches, must_refuse_of}
 use Rattle.sled_model.specs.State.{CallInFlight}
 use Rattle.sled_model.specs.declared.reply.Reply.TheVariants.{Done}
 use Rattle.sled_model.specs.declared.tree.Tree.{Tree}
+use Rattle.tree_groups.specs.Groups.{ActsInside}
 use Rattle.sled.specs.Values.{DbValue, state_of, db_state}
 use Rattle.sled.specs.Direct.{LeavesAll, effect_of_group}
 
@@ -20,6 +22,8 @@ module _ {P M : Type 0} (store : P → Store) (meant : M → Merge) (old : DbVal
     pub acts : effect_of_group None (store old.pages) (store new.pages)
     pub leaves : LeavesAll store maps None old new
     pub same : new ≡ record old { pages = new.pages; queues = new.queues }
+    -- where it brings an event it was begun, its writes were made, and it was sealed
+    pub loud : events_of_writes (writes_of batches) (db_state store meant old) ≢ [] → (last : Store) × ActsInside (store old.pages) last × (store new.pages ≡ after_action GroupEnds last)
 
   -- .. or it was refused
   pub record GroupRefused (e : Error) (new : DbValue P M) : Type 0 where

@@ -1,6 +1,7 @@
 pub mod Values
 pub mod Sound
 pub mod Opens
+pub mod Checked
 pub mod Export
 pub mod Calls
 pub mod Names

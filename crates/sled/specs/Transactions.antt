@@ -1,5 +1,5 @@
 -- What a transaction comes to: a closure is run on trees, and then what it wrote is made as a group.
-use Rattle.std.specs.Prelude.{◌≡◌, ℕ, ◌≤◌, true, false, Bool, ◌&&◌, List, [], ◌∷◌, length, map, Option, Some, None, Result, Ok, Err, slice_get}
+use Rattle.std.specs.Prelude.{◌≡◌, ℕ, ◌≤◌, true, false, Bool, ◌&&◌, List, [], ◌∷◌, map, Option, Some, None, Result, Ok, Err, slice_get}
 use Rattle.std.specs.List.{zip}
 use Rattle.std.specs.Option.{unwrap_or}
 use Rattle.std.specs.FinMap.Entries.{find}
@@ -18,9 +18,10 @@ use Rattle.sled_model.specs.declared.tree.Tree.{Tree}
 use Rattle.tree_transactions.specs.Ids.{OnlyRaises}
 use Rattle.tree_transactions.specs.Attempts.{Answer, Closure, CanBegin}
 use Rattle.tree_transactions.specs.Transactions.{Begins, BeginsAll, Transacts, TransactsAll}
-use Rattle.tree_transactions.specs.Trees.{Shows}
-use Rattle.tree_transactions.specs.Positions.{ShowsAt}
+use Rattle.tree_transactions.specs.Trees.{Shows, RefusesToShow, RefusedFor}
+use Rattle.tree_transactions.specs.Positions.{ShowsAt, RefusesToShowAt}
 use Rattle.tree_transactions.specs.declared.attempts.Commit.{Commit}
+use Rattle.tree_transactions.specs.declared.errors.UnabortableTransactionError.{UnabortableTransactionError}
 use Rattle.tree_transactions.specs.declared.errors.TransactionError.{TransactionError}
 use Rattle.tree_transactions.specs.declared.errors.TransactionError.TheVariants.{Abort, Storage}
 use Rattle.tree_transactions.specs.declared.tree.TransactionalTree.{TransactionalTree}
@@ -28,7 +29,8 @@ use Rattle.tree_transactions.specs.declared.trees.TransactionalTrees.{Transactio
 use Rattle.sled.specs.Values.{DbValue, state_of, db_state}
 use Rattle.sled.specs.Sound.{IsDb}
 use Rattle.sled.specs.Calls.{MustBeRefused}
-use Rattle.sled.specs.Reads.{ReadsMap}
+use Rattle.tree_reads.specs.Walk.{once}
+use Rattle.sled.specs.Reads.{ReadsMap, RefusesReading, GivesUpGet}
 use Rattle.sled.specs.Direct.{LeavesAll}
 use Rattle.sled.specs.Flush.{FlushesDb, RefusesFlush}
 use Rattle.sled.specs.Groups.{GroupDecided, GroupRefused, IsQuietGroup}
@@ -180,8 +182,28 @@ ShowsLaw {P} {M} store meant = (d : DbValue P M) (tree : Tree) (given : Transact
     → must_refuse_of (db_state store meant d) (tree ∷ []) ≡ None → (now (store d.pages)).roots tree.name ≡ Some given.root → OnlyRaises (store d.pages) (store given.pages.now)
     → Shows store given key value → ReadsMap store meant d tree (λ pairs. value ≡ unwrap_or (find key_cmp key given.overlay) (find key_cmp key pairs))
 
--- .. and inside one of a list, at a position
+-- .. and inside one of a list of trees that pass them, at the position of the tree
 abbrev pub ShowsAtLaw : {P M : Type 0} → (P → Store) → (M → Merge) → Type 0
-ShowsAtLaw {P} {M} store meant = (d : DbValue P M) (tree : Tree) (given : TransactionalTrees P) (position : ℕ) (key : Key) (value : Option Key) → IsDb store d
-    → must_refuse_of (db_state store meant d) (tree ∷ []) ≡ None → (now (store d.pages)).roots tree.name ≡ slice_get given.roots.now position → OnlyRaises (store d.pages) (store given.pages.now)
-    → ShowsAt store given position key value → (overlay : Writes) × (slice_get given.overlays position ≡ Some overlay) × ReadsMap store meant d tree (λ pairs. value ≡ unwrap_or (find key_cmp key overlay) (find key_cmp key pairs))
+ShowsAtLaw {P} {M} store meant = (d : DbValue P M) (trees : List Tree) (given : TransactionalTrees P) (position : ℕ) (tree : Tree) (key : Key) (value : Option Key) → IsDb store d
+    → must_refuse_of (db_state store meant d) trees ≡ None → map (λ (t : Tree). (now (store d.pages)).roots t.name) trees ≡ map Some given.roots.now → OnlyRaises (store d.pages) (store given.pages.now)
+    → slice_get trees position ≡ Some tree → ShowsAt store given position key value
+    → (overlay : Writes) × (slice_get given.overlays position ≡ Some overlay) × ReadsMap store meant d tree (λ pairs. value ≡ unwrap_or (find key_cmp key overlay) (find key_cmp key pairs))
+
+-- Why a read of a key is refused inside: where there is a write of it, for want of memory alone; and else as a read of the database is
+pub record RefusesInside {P M : Type 0} (store : P → Store) (meant : M → Merge) (d : DbValue P M) (tree : Tree) (overlay : Writes) (key : Key) (e : Error) : Type 0 where
+  pub own : (written : Option Key) → find key_cmp key overlay ≡ Some written → e ≡ NoMemory
+  pub reading : RefusesReading store meant d tree once e
+  pub gives_up : GivesUpGet store meant d tree key e
+
+-- so it is inside a transaction of a tree that passes the tests,
+abbrev pub RefusesToShowLaw : {P M : Type 0} → (P → Store) → (M → Merge) → Type 0
+RefusesToShowLaw {P} {M} store meant = (d : DbValue P M) (tree : Tree) (given : TransactionalTree P) (key : Key) (e : UnabortableTransactionError) → IsDb store d
+    → must_refuse_of (db_state store meant d) (tree ∷ []) ≡ None → (now (store d.pages)).roots tree.name ≡ Some given.root → OnlyRaises (store d.pages) (store given.pages.now)
+    → RefusesToShow store given key e → RefusedFor (RefusesInside store meant d tree given.overlay key) e
+
+-- .. and inside one of a list of trees that pass them, at the position of the tree, where there is a list of writes for it
+abbrev pub RefusesToShowAtLaw : {P M : Type 0} → (P → Store) → (M → Merge) → Type 0
+RefusesToShowAtLaw {P} {M} store meant = (d : DbValue P M) (trees : List Tree) (given : TransactionalTrees P) (position : ℕ) (tree : Tree) (overlay : Writes) (key : Key) (e : UnabortableTransactionError) → IsDb store d
+    → must_refuse_of (db_state store meant d) trees ≡ None → map (λ (t : Tree). (now (store d.pages)).roots t.name) trees ≡ map Some given.roots.now → OnlyRaises (store d.pages) (store given.pages.now)
+    → slice_get trees position ≡ Some tree → slice_get given.overlays position ≡ Some overlay → RefusesToShowAt store given position key e
+    → RefusedFor (RefusesInside store meant d tree overlay key) e

@@ -4,7 +4,7 @@
 //! are well formed, now and in every state that a crash may leave (`specs/Sound`); `Db::audit` tells callers so. One step of
 //! a call in flight is a step of the model, adds the map after the call to what a crash may leave if it was decided, and
 //! keeps true what every other call in flight knows (`specs/Flights`). Opening, flushing and exporting are stated in
-//! `specs/Opens`, `specs/Flush` and `specs/Export`, reads that take no slot in `specs/Reads`, writes that take none in
+//! `specs/Opens`, `specs/Checked`, `specs/Flush` and `specs/Export`, reads that take no slot in `specs/Reads`, writes that take none in
 //! `specs/Direct`, transactions in `specs/Transactions`, and subscribers in `specs/Watch`.
 #![tactic(auto)]
 
@@ -30,6 +30,7 @@ mod whole;
 pub use db::Db;
 pub use direct::CompareAndSwapResult;
 pub use memory::{crash_pages, empty_pages};
+pub use open::GROUP_IS_OPEN;
 pub use sled_batch::Batch;
 pub use sled_model::{
     Call, Collection, CompareAndSwapError, Decision, Effect, Event, MAX_LOOPS, MergeOperator, Next,
@@ -42,6 +43,7 @@ pub use sled_pages::MemPages;
 pub use sled_store::{Page, Pages, View, law_given, law_sealed};
 pub use sled_tree::{InFlight, Job, Stage, Went};
 pub use transaction::law_shows;
+pub use tree_check::{findings, verify_integrity};
 pub use tree_reads::{Iter, Keys, Reads, Values, law_bytes, law_prefix};
 pub use tree_transactions::{
     Commit, ConflictableTransactionError, ConflictableTransactionResult, MOST_ATTEMPTS,

@@ -3,6 +3,7 @@ ghost use Rattle.std.specs.Prelude.{◌≡◌, map, false, None, [], IfOk, IfErr
 ghost use Rattle.sled_nodes.specs.declared.error.Error.TheVariants.{NoMemory};
 ghost use Rattle.sled_store.specs.Store.{now};
 ghost use Rattle.tree_laws.specs.Crashes.{IsValid};
+ghost use Rattle.sled.specs.Checked.{IsFit, RefusesFit, RefusesChecked};
 ghost use Rattle.sled.specs.Opens.{empty_page, MakesTree, StopsMaking, Opens, RefusesOpen, RefusesTree, numbered};
 ghost use Rattle.sled.specs.Values.{numbers_of};
 ghost use Rattle.sled.specs.theory.Opens.{HasTree, AreNumbered};
@@ -14,10 +15,11 @@ use crate::db::Db;
 use crate::tree_list::{number_of, put_tree, reserve_one};
 use sled_model::{MergeOperator, Tree};
 use sled_nodes::texts::NUMBERS_USED_UP;
-use sled_nodes::{Data, Error, IVec, Leaf, Node, Pid, Result};
+use sled_nodes::{Data, Error, Fault, IVec, Leaf, Node, Pid, Result};
 use sled_queues::Queues;
 use sled_store::{Pages, law_given};
 use std::alloc::Global;
+use tree_check::verify_integrity;
 
 // A leaf without pairs that covers every key.
 fn empty_leaf(alloc: Global) -> Result<Node>
@@ -147,6 +149,53 @@ impl<P: Pages> Db<P> {
             trees_given,
             greatest_id,
         })
+    }
+}
+
+/// The code of `Corruption` where pages were to be opened while a group of writes stands open in them.
+pub const GROUP_IS_OPEN: Fault = Fault(10);
+
+// Whether pages can be opened.
+fn check_pages<P: Pages>(alloc: Global, pages: &P) -> Result<()>
+    ensures ok { OnOk result (IsFit (now (P.store pages.now))) }
+    ensures err { IfErr result (RefusesFit (P.store pages.now)) }
+{
+    if pages.in_group() {
+        return Err(Error::Corruption(GROUP_IS_OPEN));
+    }
+    verify_integrity(alloc, pages)
+}
+
+impl<P: Pages> Db<P> {
+    /// Opens the database that the pages hold, whatever they are, after a check of them (`verify_integrity`). It takes as long as a look at
+    /// all of them.
+    ///
+    /// Refused with `Corruption` where they are not well formed, with the codes of `verify_integrity`, and with `GROUP_IS_OPEN` where a group
+    /// of writes stands open, as a group that was refused midway leaves it; with `Io` where a page is not readable, and with `NoMemory`: then
+    /// the pages that are given back are as they were. And refused as `open` is.
+    ///
+    /// ```
+    /// let db = match Db::open_checked(alloc, pages, b"weather") {
+    ///     Ok(db) => db,
+    ///     Err((pages, e)) => {
+    ///         drop(pages); // As they were, if they are no database.
+    ///         return Err(e);
+    ///     }
+    /// };
+    /// ```
+    pub fn open_checked(
+        alloc: Global,
+        pages: P,
+        name: &[u8],
+    ) -> std::result::Result<Db<P>, (P, Error)>
+        ensures fit { OnOk result (IsFit (now (P.store pages))) }
+        ensures ok { IfOk result (Opens P.store (P.store pages) name.now) }
+        ensures err { IfErr result (λ e. RefusesChecked (P.store pages) e.1 (P.store e.0)) }
+    {
+        match check_pages(alloc, &pages) {
+            Ok(()) => Db::open(alloc, pages, name),
+            Err(e) => Err((pages, e)),
+        }
     }
 }
 

@@ -10,7 +10,7 @@ ghost use Rattle.sled_model.specs.Refusal.{must_refuse_of};
 ghost use Rattle.sled_model.specs.declared.tree.Tree.{Tree};
 ghost use Rattle.tree_transactions.specs.Attempts.{CanBegin};
 ghost use Rattle.tree_transactions.specs.Transactions.{Begins, BeginsAll, Transacts, TransactsAll};
-ghost use Rattle.sled.specs.Transactions.{RefusesList, trees_of_list, has_trees, ShowsLaw, ShowsAtLaw};
+ghost use Rattle.sled.specs.Transactions.{RefusesList, trees_of_list, has_trees, ShowsLaw, ShowsAtLaw, RefusesToShowLaw, RefusesToShowAtLaw};
 
 use crate::db::Db;
 use crate::tree_list::number_of;
@@ -170,28 +170,8 @@ impl<P: Pages, M: MergeOperator> Db<P, M> {
         self.flush_where(flushes)
     }
 
-    /// Runs a closure as a transaction of a tree: all that it writes is made, or nothing. Inside, reads see its own writes first, and then
-    /// the tree as it is.
-    ///
-    /// The closure ends by `Ok`, and then what it wrote is made as one batch (`apply_batch`), and a flush follows where it asked for one;
-    /// by `abort`, and then nothing is written and its error is the answer; or by a refusal, as `?` passes on those of the calls inside. It
-    /// is run again, with nothing written, while it ends by `Conflict`, which no call inside answers, up to a million times in all. So that
-    /// it can take ids inside, 4096 are set aside first where fewer than 1024 are; those that it takes stay taken, however it ends.
-    ///
-    /// Refused by the tests of the tree; as the closure is; with `ReportableBug` after a million conflicts; as a batch is, which may close
-    /// the database; and as the flush is, and then what was written stands.
-    ///
-    /// ```
-    /// // Moves the value of one key to another.
-    /// let moved: TransactionResult<bool, ()> = db.transaction(&tree, |weather| {
-    ///     let Some(value) = weather.remove(b"ulm")? else {
-    ///         return Ok(false);
-    ///     };
-    ///     weather.insert(b"bern", value.as_ref())?;
-    ///     Ok(true)
-    /// });
-    /// ```
-    pub fn transaction<A: Drop, E, R: TransactionAnswer<A, E>, F>(
+    // A transaction of a tree, as a result of its own type.
+    fn transact_tree<A: Drop, E, R: TransactionAnswer<A, E>, F>(
         &mut self,
         tree: &Tree,
         f: F,
@@ -224,25 +204,43 @@ impl<P: Pages, M: MergeOperator> Db<P, M> {
         }
     }
 
-    /// Runs a closure as a transaction of several trees, which it names by their positions in the list. It is as `transaction`, and all
-    /// that it writes is made as one group (`apply_group`), in the order of the list.
+    /// Runs a closure as a transaction of a tree: all that it writes is made, or nothing. Inside, reads see its own writes first, and then
+    /// the tree as it is.
     ///
-    /// A tree that stands in the list twice has two positions, of which neither sees the other's writes; those of the later one come
-    /// later. For an empty list no page is touched: no ids are set aside, and a flush that is asked for is passed over.
+    /// The closure ends by `Ok`, and then what it wrote is made as one batch (`apply_batch`), and a flush follows where it asked for one;
+    /// by `abort`, and then nothing is written and its error is the answer; or by a refusal, as `?` passes on those of the calls inside. It
+    /// is run again, with nothing written, while it ends by `Conflict`, which no call inside answers, up to a million times in all. So that
+    /// it can take ids inside, 4096 are set aside first where fewer than 1024 are; those that it takes stay taken, however it ends.
     ///
-    /// Refused with `Unsupported`, with a text of its own, where a tree is another database's, and else as `transaction` is, for want of
-    /// memory too.
+    /// Refused by the tests of the tree; as the closure is; with `ReportableBug` after a million conflicts; as a batch is, which may close
+    /// the database; and as the flush is, and then what was written stands.
     ///
     /// ```
-    /// // Moves a job from one tree to the other.
-    /// let moved: TransactionResult<(), ()> = db.transaction_all(&[&ready, &done], |both| {
-    ///     if let Some(job) = both.remove(0, b"ulm")? {
-    ///         both.insert(1, b"ulm", job.as_ref())?;
-    ///     }
-    ///     Ok(())
+    /// // Moves the value of one key to another.
+    /// let moved: TransactionResult<bool, ()> = db.transaction(&tree, |weather| {
+    ///     let Some(value) = weather.remove(b"ulm")? else {
+    ///         return Ok(false);
+    ///     };
+    ///     weather.insert(b"bern", value.as_ref())?;
+    ///     Ok(true)
     /// });
     /// ```
-    pub fn transaction_all<A: Drop, E, R: TransactionAnswer<A, E>, F>(
+    pub fn transaction<A: Drop, E, R: TransactionAnswer<A, E>, F>(
+        &mut self,
+        tree: &Tree,
+        f: F,
+    ) -> R::Ended
+    where
+        F: Fn(&mut TransactionalTree<'_, P>) -> R,
+        requires { CanTransact P.store M.meant (F.pre f) self.old tree.now }
+        ensures ok { IfOk (R.answer_of result) (λ answer. TransactionMade P.store P.flush_number M.meant F.Fn R.result_of f self.old tree.now answer self.new) }
+        ensures err { IfErr (R.answer_of result) (λ e. TransactionNotMade P.store P.flush_number M.meant F.Fn R.result_of f self.old tree.now e self.new) }
+    {
+        R::ended(self.transact_tree(tree, f))
+    }
+
+    // A transaction of several trees, as a result of its own type.
+    fn transact_list<A: Drop, E, R: TransactionAnswer<A, E>, F>(
         &mut self,
         trees: &[&Tree],
         f: F,
@@ -279,10 +277,42 @@ impl<P: Pages, M: MergeOperator> Db<P, M> {
             Err(e) => Err(e),
         }
     }
+
+    /// Runs a closure as a transaction of several trees, which it names by their positions in the list. It is as `transaction`, and all
+    /// that it writes is made as one group (`apply_group`), in the order of the list.
+    ///
+    /// A tree that stands in the list twice has two positions, of which neither sees the other's writes; those of the later one come
+    /// later. For an empty list no page is touched: no ids are set aside, and a flush that is asked for is passed over.
+    ///
+    /// Refused with `Unsupported`, with a text of its own, where a tree is another database's, and else as `transaction` is, for want of
+    /// memory too.
+    ///
+    /// ```
+    /// // Moves a job from one tree to the other.
+    /// let moved: TransactionResult<(), ()> = db.transaction_all(&[&ready, &done], |both| {
+    ///     if let Some(job) = both.remove(0, b"ulm")? {
+    ///         both.insert(1, b"ulm", job.as_ref())?;
+    ///     }
+    ///     Ok(())
+    /// });
+    /// ```
+    pub fn transaction_all<A: Drop, E, R: TransactionAnswer<A, E>, F>(
+        &mut self,
+        trees: &[&Tree],
+        f: F,
+    ) -> R::Ended
+    where
+        F: Fn(&mut TransactionalTrees<'_, P>) -> R,
+        requires { CanTransactAll P.store M.meant (F.pre f) self.old (trees_of_list trees.now) }
+        ensures ok { IfOk (R.answer_of result) (λ answer. ListMade P.store P.flush_number M.meant F.Fn R.result_of f self.old (trees_of_list trees.now) answer self.new) }
+        ensures err { IfErr (R.answer_of result) (λ e. ListNotMade P.store P.flush_number M.meant F.Fn R.result_of f self.old (trees_of_list trees.now) e self.new) }
+    {
+        R::ended(self.transact_list(trees, f))
+    }
 }
 
 /// What a read inside a transaction shows, told over the maps: the transaction's own write of the key, and where there is none the value in
-/// the map of the tree as it was before. It does nothing.
+/// the map of the tree as it was before. And why one is refused, told as of a read of the database. It does nothing.
 ///
 /// ```
 /// law_shows::<MemPages, Box<dyn MergeOperator + Send>>(); // From here on a proof knows what reads inside show.
@@ -290,4 +320,6 @@ impl<P: Pages, M: MergeOperator> Db<P, M> {
 pub fn law_shows<P: Pages, M: MergeOperator>()
     ensures tree { ShowsLaw P.store M.meant }
     ensures list { ShowsAtLaw P.store M.meant }
+    ensures tree_refused { RefusesToShowLaw P.store M.meant }
+    ensures list_refused { RefusesToShowAtLaw P.store M.meant }
 {}

@@ -27,9 +27,7 @@ ghost use Rattle.sled_lines.specs.theory.Session.{ActsAndShows, Shows};
 use crate::command::Command;
 use crate::input::Stopped;
 use crate::print::{Shown, push_end, push_outcome, push_pair};
-use sled::{
-    Collection, Db, TransactionAnswer, TransactionResult, TransactionalTree, TransactionalTrees,
-};
+use sled::{Collection, Db, TransactionAnswer, TransactionalTree, TransactionalTrees};
 use sled_batch::Batch;
 use sled_machine::Machine;
 use sled_model::{Call, MergeOperator, Outcome, Reply, Slot, Step, Tree, Whole};
@@ -249,15 +247,12 @@ impl<P: Pages, M: MergeOperator> Session<P, M> {
     }
 
     /// Runs a closure as a transaction of the current tree.
-    pub fn transaction<A: Drop, E, R: TransactionAnswer<A, E>, F>(
-        &mut self,
-        f: F,
-    ) -> TransactionResult<A, E>
+    pub fn transaction<A: Drop, E, R: TransactionAnswer<A, E>, F>(&mut self, f: F) -> R::Ended
     where
         F: Fn(&mut TransactionalTree<'_, P>) -> R,
         requires { CanTransact P.store M.meant (F.pre f) self.old.machine.db self.old.tree }
-        ensures ok { IfOk result (λ answer. TransactionMade P.store P.flush_number M.meant F.Fn R.result_of f self.old.machine.db self.old.tree answer self.new.machine.db) }
-        ensures err { IfErr result (λ e. TransactionNotMade P.store P.flush_number M.meant F.Fn R.result_of f self.old.machine.db self.old.tree e self.new.machine.db) }
+        ensures ok { IfOk (R.answer_of result) (λ answer. TransactionMade P.store P.flush_number M.meant F.Fn R.result_of f self.old.machine.db self.old.tree answer self.new.machine.db) }
+        ensures err { IfErr (R.answer_of result) (λ e. TransactionNotMade P.store P.flush_number M.meant F.Fn R.result_of f self.old.machine.db self.old.tree e self.new.machine.db) }
         ensures same { self.new.machine ≡ record (self.old.machine) { db = self.new.machine.db } }
         ensures tree { self.new.tree ≡ self.old.tree }
         ensures slots { self.new.slots ≡ self.old.slots }
@@ -270,12 +265,12 @@ impl<P: Pages, M: MergeOperator> Session<P, M> {
         &mut self,
         trees: &[&Tree],
         f: F,
-    ) -> TransactionResult<A, E>
+    ) -> R::Ended
     where
         F: Fn(&mut TransactionalTrees<'_, P>) -> R,
         requires { CanTransactAll P.store M.meant (F.pre f) self.old.machine.db (trees_of_list trees.now) }
-        ensures ok { IfOk result (λ answer. ListMade P.store P.flush_number M.meant F.Fn R.result_of f self.old.machine.db (trees_of_list trees.now) answer self.new.machine.db) }
-        ensures err { IfErr result (λ e. ListNotMade P.store P.flush_number M.meant F.Fn R.result_of f self.old.machine.db (trees_of_list trees.now) e self.new.machine.db) }
+        ensures ok { IfOk (R.answer_of result) (λ answer. ListMade P.store P.flush_number M.meant F.Fn R.result_of f self.old.machine.db (trees_of_list trees.now) answer self.new.machine.db) }
+        ensures err { IfErr (R.answer_of result) (λ e. ListNotMade P.store P.flush_number M.meant F.Fn R.result_of f self.old.machine.db (trees_of_list trees.now) e self.new.machine.db) }
         ensures same { self.new.machine ≡ record (self.old.machine) { db = self.new.machine.db } }
         ensures tree { self.new.tree ≡ self.old.tree }
         ensures slots { self.new.slots ≡ self.old.slots }

@@ -7,8 +7,9 @@ use Rattle.sled_model.specs.Maps.{Maps, Merge}
 use Rattle.sled_model.specs.State.{maps_of}
 use Rattle.sled_model.specs.Transition.{Kind, Flushing, Telling, Changing, Grouping, InParts, Dropping, Listening, kind_of}
 use Rattle.sled_model.specs.declared.call.Whole.{Whole}
-use Rattle.sled_model.specs.declared.call.Whole.TheVariants.{Flush}
+use Rattle.sled_model.specs.declared.call.Whole.TheVariants.{Flush, Group}
 use Rattle.sled_model.specs.declared.reply.Reply.{Reply}
+use Rattle.sled_model.specs.declared.reply.Reply.TheVariants.{Done}
 use Rattle.sled_model.specs.declared.outcome.Outcome.TheVariants as outcome
 use Rattle.sled_model.specs.declared.outcome.Step.TheVariants as step
 use Rattle.tree_laws.specs.Snapshot.{Snapshot}
@@ -18,6 +19,8 @@ use Rattle.sled_machine.specs.CrashMaps.{AreCrashMaps, crash_maps_after}
 use Rattle.sled_machine.specs.Sound.{IsMachine}
 use Rattle.sled_machine.specs.Step.{MachineStepContract, whole_keeps_tree_pages, whole_gives_up, whole_tested, way_of_whole}
 use Rattle.sled_machine.specs.Values.{MachineValue, slots_of, configuration_of}
+use Rattle.sled_machine.specs.Run.{GroupLaw}
+use Rattle.sled.proofs.Grouping.{group_whole, group_whole_refused}
 use Rattle.sled_machine.proofs.Runs.{extended}
 
 -- a kind of whole calls that is not the flush
@@ -94,6 +97,13 @@ module _ {P M : Type 0} (store : P → Store) (number : P → ℕ) (meant : M �
     tested = record { is = tested_other (kind_of w) off _ (λ must. ap (λ (z : DbValue P M). record v { db = z }) (d.tested must)) };
     way = record { is = way };
   }
+
+-- a group that the database makes
+pub group_steps : {P M : Type 0} (store : P → Store) (number : P → ℕ) (meant : M → Merge) → GroupLaw store number meant
+group_steps store number meant = record {
+  made = λ m batches new k quiet. decided store number meant m (Group batches) tt new Done (group_whole store meant m.db new batches k) quiet;
+  refused = λ m batches e new k quiet. refused store number meant m (Group batches) tt new e (group_whole_refused store meant m.db new batches e k) tt quiet;
+}
 
 -- the same, where a method knows the machine by its fields
 module _ {P M : Type 0} (store : P → Store) (number : P → ℕ) (meant : M → Merge) (inside old : MachineValue P M) (e : inside ≡ old) (im : IsMachine (snapshot_of_db store inside.db) inside.flights inside.slots_given) (w : Whole) (off : IsOther (kind_of w)) (db : DbValue P M) where

@@ -1,10 +1,20 @@
 -- Lists of steps.
 use Rattle.std.specs.Prelude.{ℕ, List, [], ◌∷◌}
+use Rattle.std.specs.Global.{Vec}
+use Rattle.sled_nodes.specs.declared.error.Error.{Error}
+use Rattle.sled_batch.specs.Batch.{Writes}
 use Rattle.sled_store.specs.Store.{Store}
 use Rattle.sled_model.specs.Maps.{Maps, Merge}
 use Rattle.sled_model.specs.State.{maps_of}
+use Rattle.sled_model.specs.declared.call.Whole.TheVariants.{Group}
 use Rattle.sled_model.specs.declared.outcome.Step.{Step}
+use Rattle.sled_model.specs.declared.outcome.Step.TheVariants as step
 use Rattle.sled_model.specs.declared.outcome.Outcome.{Outcome}
+use Rattle.sled_model.specs.declared.outcome.Outcome.TheVariants as outcome
+use Rattle.sled_model.specs.declared.reply.Reply.TheVariants.{Done}
+use Rattle.sled_model.specs.declared.tree.Tree.{Tree}
+use Rattle.sled.specs.Values.{DbValue}
+use Rattle.sled.specs.Groups.{GroupDecided, GroupRefused, IsQuietGroup}
 use Rattle.sled_machine.specs.CrashMaps.{AreCrashMaps, crash_maps_after}
 use Rattle.sled_machine.specs.Step.{MachineStep, MachineStepContract}
 use Rattle.sled_machine.specs.Values.{MachineValue, configuration_of}
@@ -43,3 +53,11 @@ pub data MachineSteps {P M : Type 0} (store : P → Store) (flush_number : P →
 -- Steps of which all holds are steps
 abbrev pub StepsLaw : {P M : Type 0} → (P → Store) → (P → ℕ) → (M → Merge) → Type 0
 StepsLaw {P = P} {M = M} store flush_number meant = (a b : MachineValue P M) (steps : List Step) (outcomes : List Outcome) → MachineSteps store flush_number meant a steps outcomes b → MakesSteps store flush_number meant a steps outcomes b
+
+-- A group that a database makes, as that of a transaction is, is a step of each machine that has the database; and so is one that is
+-- refused
+pub record GroupLaw {P M : Type 0} (store : P → Store) (flush_number : P → ℕ) (meant : M → Merge) : Type 0 where
+  pub made : (m : MachineValue P M) (batches : Vec (Tree × Writes)) (new : DbValue P M) → GroupDecided store meant m.db batches.items new → IsQuietGroup store meant m.db batches.items new
+      → MachineStepContract store flush_number meant m (step.Whole (Group batches)) (outcome.Decided Done) (record m { db = new })
+  pub refused : (m : MachineValue P M) (batches : Vec (Tree × Writes)) (e : Error) (new : DbValue P M) → GroupRefused store meant m.db batches.items e new → IsQuietGroup store meant m.db batches.items new
+      → MachineStepContract store flush_number meant m (step.Whole (Group batches)) (outcome.Refused e) (record m { db = new })

@@ -1,7 +1,7 @@
 //! The laws of a machine: of lists of steps, of the maps that a crash may leave, and of subscribers.
 ghost use Rattle.sled_machine.specs.CrashMaps.{ExtendedLaw, FlushedLaw};
 ghost use Rattle.sled_machine.specs.Hears.{Hears};
-ghost use Rattle.sled_machine.specs.Run.{StepsLaw};
+ghost use Rattle.sled_machine.specs.Run.{StepsLaw, GroupLaw};
 
 use sled_model::MergeOperator;
 use sled_store::Pages;
@@ -9,6 +9,12 @@ use sled_store::Pages;
 /// Steps of which all holds that is said of one step are steps, as `law_hears` asks for them.
 pub fn law_steps<P: Pages, M: MergeOperator>()
     ensures { StepsLaw P.store P.flush_number M.meant }
+{}
+
+/// A group of a database, as that of a transaction is, is a step of the machine that has the database, so that what is said of lists of
+/// steps is said of it too.
+pub fn law_group<P: Pages, M: MergeOperator>()
+    ensures { GroupLaw P.store P.flush_number M.meant }
 {}
 
 /// What adds maps to those that a crash may leave, as each call of a database does but a flush, makes their list go on by these.

@@ -9,7 +9,7 @@ mod flights;
 mod laws;
 mod machine;
 
-pub use laws::{law_extended, law_flushed, law_hears, law_steps};
+pub use laws::{law_extended, law_flushed, law_group, law_hears, law_steps};
 pub use machine::Machine;
 pub use sled_batch::Batch;
 pub use sled_model::{

@@ -10,7 +10,7 @@ ghost use Rattle.sled_model.specs.declared.outcome.Outcome.TheVariants as outcom
 ghost use Rattle.sled_model.specs.declared.outcome.Step.TheVariants as step;
 
 use crate::flights::{add, finish_in, outcome_of, remove, step_in, turns_in};
-use sled::{Db, TransactionAnswer, TransactionResult, TransactionalTree, TransactionalTrees};
+use sled::{Db, TransactionAnswer, TransactionalTree, TransactionalTrees};
 use sled_batch::Batch;
 use sled_model::{
     Call, Collection, MergeOperator, Outcome, Reply, Slot, Step, Subscriber, Tree, Whole,
@@ -176,12 +176,12 @@ impl<P: Pages, M: MergeOperator> Machine<P, M> {
         &mut self,
         tree: &Tree,
         f: F,
-    ) -> TransactionResult<A, E>
+    ) -> R::Ended
     where
         F: Fn(&mut TransactionalTree<'_, P>) -> R,
         requires { CanTransact P.store M.meant (F.pre f) self.old.db tree.now }
-        ensures ok { IfOk result (λ answer. TransactionMade P.store P.flush_number M.meant F.Fn R.result_of f self.old.db tree.now answer self.new.db) }
-        ensures err { IfErr result (λ e. TransactionNotMade P.store P.flush_number M.meant F.Fn R.result_of f self.old.db tree.now e self.new.db) }
+        ensures ok { IfOk (R.answer_of result) (λ answer. TransactionMade P.store P.flush_number M.meant F.Fn R.result_of f self.old.db tree.now answer self.new.db) }
+        ensures err { IfErr (R.answer_of result) (λ e. TransactionNotMade P.store P.flush_number M.meant F.Fn R.result_of f self.old.db tree.now e self.new.db) }
         ensures same { self.new ≡ record (self.old) { db = self.new.db } }
     {
         self.db.transaction(tree, f)
@@ -202,12 +202,12 @@ impl<P: Pages, M: MergeOperator> Machine<P, M> {
         &mut self,
         trees: &[&Tree],
         f: F,
-    ) -> TransactionResult<A, E>
+    ) -> R::Ended
     where
         F: Fn(&mut TransactionalTrees<'_, P>) -> R,
         requires { CanTransactAll P.store M.meant (F.pre f) self.old.db (trees_of_list trees.now) }
-        ensures ok { IfOk result (λ answer. ListMade P.store P.flush_number M.meant F.Fn R.result_of f self.old.db (trees_of_list trees.now) answer self.new.db) }
-        ensures err { IfErr result (λ e. ListNotMade P.store P.flush_number M.meant F.Fn R.result_of f self.old.db (trees_of_list trees.now) e self.new.db) }
+        ensures ok { IfOk (R.answer_of result) (λ answer. ListMade P.store P.flush_number M.meant F.Fn R.result_of f self.old.db (trees_of_list trees.now) answer self.new.db) }
+        ensures err { IfErr (R.answer_of result) (λ e. ListNotMade P.store P.flush_number M.meant F.Fn R.result_of f self.old.db (trees_of_list trees.now) e self.new.db) }
         ensures same { self.new ≡ record (self.old) { db = self.new.db } }
     {
         self.db.transaction_all(trees, f)

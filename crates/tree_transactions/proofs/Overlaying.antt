@@ -36,5 +36,5 @@ puts_more writes old new left k v more next s e put_is = record {
 pub puts_all : (writes old new left : Writes) → SoFar writes old new left → left ≡ [] → new ≡ put_all writes old
 puts_all writes old new left s e = s.is ∙ ap (λ l. put_all l old) (sym (append-nil s.done) ∙ ap (λ l. s.done ++ l) (sym e) ∙ s.all)
 
-pub puts_some : (writes old new left : Writes) → SoFar writes old new left → PutsSome writes old new
-puts_some writes old new left s = record { done = s.done; left = left; all = s.all; is = s.is }
+pub puts_some : (writes old new left : Writes) (w : Key × Option Key) (more : Writes) → SoFar writes old new left → left ≡ w ∷ more → PutsSome writes old new
+puts_some writes old new left w more s e = record { done = s.done; next = w; left = more; all = ap (λ l. s.done ++ l) (sym e) ∙ s.all; is = s.is }

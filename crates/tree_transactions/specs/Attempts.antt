@@ -39,10 +39,10 @@ pub record Left (W : Type 0) : Type 0 where
   pub greatest_id : ℕ
 
 -- A call of the closure at what an attempt is given, over pages that mean the same, has what it requires. Of what an attempt is given it is
--- said what it begins as, over pages of this meaning and with this greatest id
+-- said what it begins as, over pages of this meaning and with this greatest id, which is set aside as the greatest before was
 abbrev pub CanBegin : {T : Type 0} → (Store → ℕ → T → Type 0) → (MutBor T → Type 0) → Store → ℕ → Type 0
 CanBegin {T} begins requires_of pages greatest =
-    (s : Store) (here : ℕ) → OnlyRaises pages s → greatest ≤ here → (given : MutBor T) → begins s here given.now → requires_of given
+    (s : Store) (here : ℕ) → OnlyRaises pages s → greatest ≤ here → (greatest ≤ pages.mark → here ≤ s.mark) → (given : MutBor T) → begins s here given.now → requires_of given
 
 abbrev pub tells_attempts : Error → Type 0
 tells_attempts (ReportableBug text) = text.now ≡ TRANSACTION_PASSED_ATTEMPTS.now

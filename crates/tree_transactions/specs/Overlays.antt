@@ -31,9 +31,10 @@ abbrev pub put_all : Writes → Writes → Writes
 put_all [] overlay = overlay
 put_all (w ∷ ws) overlay = put_all ws (put key_cmp w.0 w.1 overlay)
 
--- an overlay with the first of these writes too, up to some one
+-- an overlay with the first of these writes too, up to the one before this, which was not put
 pub record PutsSome (writes old new : Writes) : Type 0 where
   pub done : Writes
+  pub next : Key × Option Key
   pub left : Writes
-  pub all : done ++ left ≡ writes
+  pub all : done ++ next ∷ left ≡ writes
   pub is : new ≡ put_all done old

@@ -48,7 +48,7 @@ pub record WritesAt {P : Type 0} (old : TransactionalTrees P) (position : ℕ) (
   pub changes : ChangesAt old.overlays position writes new.overlays
   pub rest : new ≡ record old { overlays = new.overlays }
 
--- a batch is refused: there is no tree, and nothing changes; or there is no memory, and the first of its writes are put there, up to some one
+-- a batch is refused: there is no tree, and nothing changes; or there is no memory, and the first of its writes are put there, but not all
 pub record StopsApplying {P : Type 0} (old : TransactionalTrees P) (position : ℕ) (batch : Writes) (new : TransactionalTrees P) (e : UnabortableTransactionError) : Type 0 where
   pub is : (RefusedFor (LacksTree old position) e × (new ≡ old)) ⊎ (RefusedFor (λ cause. cause ≡ NoMemory) e × ChangesSomeAt old.overlays position batch new.overlays)
   pub rest : new ≡ record old { overlays = new.overlays }

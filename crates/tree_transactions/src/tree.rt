@@ -84,7 +84,7 @@ impl<'a, P: Pages> TransactionalTree<'a, P> {
     }
 
     /// The writes of a batch, in the order of its keys. It reads nothing. Refused with `NoMemory` alone, and then the first of
-    /// them, up to some one, are written.
+    /// them, but not all, are written.
     ///
     /// ```
     /// batch.insert(alloc, b"ulm", b"21")?;

@@ -126,7 +126,7 @@ impl<'a, P: Pages> TransactionalTrees<'a, P> {
     }
 
     /// The writes of a batch in the tree at a position, in the order of its keys. It reads nothing. Refused with `Unsupported` where the
-    /// list has no such position; else with `NoMemory` alone, and then the first of them, up to some one, are written.
+    /// list has no such position; else with `NoMemory` alone, and then the first of them, but not all, are written.
     ///
     /// ```
     /// batch.insert(alloc, b"ulm", b"21")?;

@@ -7,8 +7,8 @@ use Rattle.tree_transactions.proofs.attempts.attempt.Goals as goal
 pub call_fresh-answer-requires-after_bounds : goal.call_fresh-answer-requires-after_bounds
 call_fresh-answer-requires-after_bounds g c κs within =
     let store = g.P.Pages.store in
-    λ given begins. c.requires (store c.set_ids_aside.new.pages) c.args.greatest_id.now
-    (sets_only c.args.greatest_id.now (store c.args.pages.now) (store c.set_ids_aside.new.pages) c.set_ids_aside.ensures) (omega arith) given begins
+    let only = sets_only c.args.greatest_id.now (store c.args.pages.now) (store c.set_ids_aside.new.pages) c.set_ids_aside.ensures in
+    λ given begins. c.requires (store c.set_ids_aside.new.pages) c.args.greatest_id.now only (omega arith) (λ before. omega (arith, only.mark, before)) given begins
 
 pub returns-in-Ok : goal.returns-in-Ok
 returns-in-Ok g c =

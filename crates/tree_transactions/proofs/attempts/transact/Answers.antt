@@ -10,8 +10,8 @@ loop-init g c = on_way_first g.F.Fn g.R.TransactionAnswer.result_of c.args.f Set
 pub attempt-requires-after_bounds : goal.attempt-requires-after_bounds
 attempt-requires-after_bounds g c κs within =
     let store = g.P.Pages.store in
-    λ s here only le given begins. c.requires s here
-    (only_both (store c.args.pages.now) (store c.loop.pages) s c.loop.invariant.only only) (omega (arith, c.loop.invariant.rises, le)) given begins
+    λ s here only le aside given begins. c.requires s here
+    (only_both (store c.args.pages.now) (store c.loop.pages) s c.loop.invariant.only only) (omega (arith, c.loop.invariant.rises, le)) (λ before. aside (c.loop.invariant.aside before)) given begins
 
 pub loop-preserved : goal.loop-preserved
 loop-preserved g c =

@@ -7,8 +7,8 @@ use Rattle.tree_transactions.proofs.list_attempts.attempt.Goals as goal
 pub call_fresh-answer-requires-clause-closure : goal.call_fresh-answer-requires-clause-closure
 call_fresh-answer-requires-clause-closure g c κs within =
     let store = g.P.Pages.store in
-    λ given begins. c.requires.closure (store c.set_ids_aside_for.new.pages) c.args.greatest_id.now
-    (sets_only_for c.args.roots.now c.args.greatest_id.now (store c.args.pages.now) (store c.set_ids_aside_for.new.pages) c.set_ids_aside_for.ensures) (omega arith) given begins
+    let only = sets_only_for c.args.roots.now c.args.greatest_id.now (store c.args.pages.now) (store c.set_ids_aside_for.new.pages) c.set_ids_aside_for.ensures in
+    λ given begins. c.requires.closure (store c.set_ids_aside_for.new.pages) c.args.greatest_id.now only (omega arith) (λ before. omega (arith, only.mark, before)) given begins
 
 pub returns-in-Ok : goal.returns-in-Ok
 returns-in-Ok g c =

@@ -1,5 +1,4 @@
 use Rattle.std.proofs.Common.{◌≤◌}
-use Rattle.sled_store.specs.Store.{Store}
 use Rattle.tree_transactions.specs.Ids.{OnlyRaises}
 use Rattle.tree_transactions.specs.Transactions.{TransactsAll}
 use Rattle.sled.proofs.Transacting.{so_over, takes_as, list_goes}
@@ -7,7 +6,7 @@ use Rattle.sled.proofs.db.Db.run_on_list.Goals as goal
 
 pub transact_all-requires-after_bounds : goal.transact_all-requires-after_bounds
 transact_all-requires-after_bounds g c κs within =
-    λ s here only le given begins. c.requires s here (so_over g.P.Pages.store _ _ c.self.view_is (λ z n. OnlyRaises z s) only) (so_over g.P.Pages.store _ _ c.self.view_is (λ z n. n ≤ here) le) given begins
+    λ s here only le aside given begins. c.requires s here (so_over g.P.Pages.store _ _ c.self.view_is (λ z n. OnlyRaises z s) only) (so_over g.P.Pages.store _ _ c.self.view_is (λ z n. n ≤ here) le) (so_over g.P.Pages.store _ _ c.self.view_is (λ z n. n ≤ z.mark → here ≤ s.mark) aside) given begins
 
 pub returns-clause-runs : goal.returns-clause-runs
 returns-clause-runs g c =

@@ -12,10 +12,10 @@ pub transaction-requires-after_bounds : goal.transaction-requires-after_bounds
 transaction-requires-after_bounds g c κs within =
     let store = g.P.Pages.store in
     let meant = g.M.MergeOperator.meant in
-    λ tested root there s here only le given begins. c.requires
+    λ tested root there s here only le aside given begins. c.requires
     (db_over _ _ c.self.view_is (λ d. must_refuse_of (db_state store meant d) (c.args.tree.now ∷ []) ≡ None) tested) root
     (db_over _ _ c.self.view_is (λ d. (now (store d.pages)).roots c.args.tree.now.name ≡ Some root) there) s here
-    (db_over _ _ c.self.view_is (λ d. OnlyRaises (store d.pages) s) only) (db_over _ _ c.self.view_is (λ d. d.greatest_id ≤ here) le) given begins
+    (db_over _ _ c.self.view_is (λ d. OnlyRaises (store d.pages) s) only) (db_over _ _ c.self.view_is (λ d. d.greatest_id ≤ here) le) (db_over _ _ c.self.view_is (λ d. d.greatest_id ≤ (store d.pages).mark → here ≤ s.mark) aside) given begins
 
 pub returns-clause-ok : goal.returns-clause-ok
 returns-clause-ok g c =
@@ -23,7 +23,7 @@ returns-clause-ok g c =
     let number = g.P.Pages.flush_number in
     let meant = g.M.MergeOperator.meant in
     let new = c.transaction.new.self in
-    made_over store _ _ c.self.view_is new (λ d a. TransactionMade store number meant g.F.Fn g.R.TransactionAnswer.result_of c.args.f d c.args.tree.now a new) (λ d e. TransactionNotMade store number meant g.F.Fn g.R.TransactionAnswer.result_of c.args.f d c.args.tree.now e new) c.transaction.result c.transaction.ensures.ok
+    made_over store _ _ c.self.view_is new (λ d a. TransactionMade store number meant g.F.Fn g.R.TransactionAnswer.result_of c.args.f d c.args.tree.now a new) (λ d e. TransactionNotMade store number meant g.F.Fn g.R.TransactionAnswer.result_of c.args.f d c.args.tree.now e new) (g.R.TransactionAnswer.answer_of c.transaction.result) c.transaction.ensures.ok
 
 pub returns-clause-err : goal.returns-clause-err
 returns-clause-err g c =
@@ -31,7 +31,7 @@ returns-clause-err g c =
     let number = g.P.Pages.flush_number in
     let meant = g.M.MergeOperator.meant in
     let new = c.transaction.new.self in
-    fails_over store _ _ c.self.view_is new (λ d a. TransactionMade store number meant g.F.Fn g.R.TransactionAnswer.result_of c.args.f d c.args.tree.now a new) (λ d e. TransactionNotMade store number meant g.F.Fn g.R.TransactionAnswer.result_of c.args.f d c.args.tree.now e new) c.transaction.result c.transaction.ensures.err
+    fails_over store _ _ c.self.view_is new (λ d a. TransactionMade store number meant g.F.Fn g.R.TransactionAnswer.result_of c.args.f d c.args.tree.now a new) (λ d e. TransactionNotMade store number meant g.F.Fn g.R.TransactionAnswer.result_of c.args.f d c.args.tree.now e new) (g.R.TransactionAnswer.answer_of c.transaction.result) c.transaction.ensures.err
 
 pub invariant_of-self : goal.invariant_of-self
 invariant_of-self g c =
@@ -42,4 +42,4 @@ invariant_of-self g c =
     let old = c.self.inside.db in
     let runs = RunsOnTree store meant g.F.Fn g.R.TransactionAnswer.result_of c.args.f old c.args.tree.now in
     after_transaction store _ _ c.self.view_is new (λ d a. TransactionMade store number meant g.F.Fn g.R.TransactionAnswer.result_of c.args.f d c.args.tree.now a new) (λ d e. TransactionNotMade store number meant g.F.Fn g.R.TransactionAnswer.result_of c.args.f d c.args.tree.now e new)
-    c.self.invariant (λ a m. commits_know store number meant _ runs _ true old a new m) (λ e m. fails_know store number meant _ runs _ true old e new m) c.transaction.result c.transaction.ensures.ok c.transaction.ensures.err
+    c.self.invariant (λ a m. commits_know store number meant _ runs _ true old a new m) (λ e m. fails_know store number meant _ runs _ true old e new m) (g.R.TransactionAnswer.answer_of c.transaction.result) c.transaction.ensures.ok c.transaction.ensures.err

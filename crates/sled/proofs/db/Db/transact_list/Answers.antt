@@ -3,10 +3,10 @@ use Rattle.std.proofs.Common.{map, Some, ap, ◌∙◌, sym, subst}
 use Rattle.sled.specs.Transactions.{RunsOnList, trees_of_list, has_trees}
 use Rattle.sled.specs.theory.Transactions.{CommitsGroup, StopsCommit}
 use Rattle.sled.proofs.Transacting.{made_of, not_made_of, still_tested}
-use Rattle.sled.proofs.db.Db.transaction_all.Goals as goal
+use Rattle.sled.proofs.db.Db.transact_list.Goals as goal
 
 pub run_on_list-ended-requires-after_bounds : goal.run_on_list-ended-requires-after_bounds
-run_on_list-ended-requires-after_bounds g c κs within = λ s here only le given begins. c.requires c.in-Ok.ensures.tested c.as_slice.result.now (c.in-Ok.ensures.are ∙ ap (map Some) (sym c.as_slice.ensures.value)) s here only le given begins
+run_on_list-ended-requires-after_bounds g c κs within = c.requires c.in-Ok.ensures.tested c.as_slice.result.now (c.in-Ok.ensures.are ∙ ap (map Some) (sym c.as_slice.ensures.value))
 
 pub returns-in-Ok-commit_list-clause-ok : goal.returns-in-Ok-commit_list-clause-ok
 returns-in-Ok-commit_list-clause-ok g c =

@@ -1,10 +1,10 @@
 use Rattle.std.proofs.Common.{true, refl}
-use Rattle.sled.specs.Transactions.{RunsOnTree, tests_tree, batch_of}
+use Rattle.sled.specs.Transactions.{RunsOnTree}
 use Rattle.sled.proofs.Transacting.{made_of, not_made_of, ended_of}
-use Rattle.sled.proofs.db.Db.transaction.Goals as goal
+use Rattle.sled.proofs.db.Db.transact_tree.Goals as goal
 
 pub run_on-requires-after_bounds : goal.run_on-requires-after_bounds
-run_on-requires-after_bounds g c κs within = λ s here only le given begins. c.requires c.in-Ok.ensures.tested c.in-Ok.root c.in-Ok.ensures.is s here only le given begins
+run_on-requires-after_bounds g c κs within = c.requires c.in-Ok.ensures.tested c.in-Ok.root c.in-Ok.ensures.is
 
 pub returns-in-Ok-commit-clause-ok : goal.returns-in-Ok-commit-clause-ok
 returns-in-Ok-commit-clause-ok g c =
