@@ -45,7 +45,7 @@ sum_read stood n = from_be_bytes-to_be_bytes_8 (sum_of (number_in stood) n) (bel
     below : (m : ℕ) → m % 2 ^ 64 < 2 ^ 64
     below m = mod_below m (2 ^ 64) (omega arith)
 
-number_read : (bytes : Key) (n : ℕ) → bytes ≡ to_be_bytes w64 n → n < 2 ^ 64 → number_in (Some bytes) ≡ n
+pub number_read : (bytes : Key) (n : ℕ) → bytes ≡ to_be_bytes w64 n → n < 2 ^ 64 → number_in (Some bytes) ≡ n
 number_read bytes n is fits = ap (λ b. number_in (Some b)) is ∙ from_be_bytes-to_be_bytes_8 n fits
 
 -- ---- a call that changes nothing

@@ -26,7 +26,7 @@ false_true e = cc
 apart : (q k : Key) → is_eq (key_cmp q k) ≡ false → q ≢ k
 apart q k off same = false_true (sym off ∙ ap (λ x. is_eq (key_cmp x k)) same ∙ ap is_eq (tied_itself key_total k))
 
-same_or_apart : (q k : Key) → (q ≡ k) ⊎ (q ≢ k)
+pub same_or_apart : (q k : Key) → (q ≡ k) ⊎ (q ≢ k)
 same_or_apart q k = go (key_cmp q k) refl
   where
     go : (o : Ordering) → key_cmp q k ≡ o → (q ≡ k) ⊎ (q ≢ k)
@@ -35,10 +35,10 @@ same_or_apart q k = go (key_cmp q k) refl
     go Greater e = inr (apart q k (ap is_eq e))
 
 -- what is found among writes once one more is written
-found_here : (k : Key) (v : Option Key) (ws : Writes) → find key_cmp k (put key_cmp k v ws) ≡ Some v
+pub found_here : (k : Key) (v : Option Key) (ws : Writes) → find key_cmp k (put key_cmp k v ws) ≡ Some v
 found_here k v ws = find-put key_cmp key_total k k v ws ∙ ap (λ o. cond (is_eq o) (Some v) (find key_cmp k ws)) (tied_itself key_total k)
 
-found_there : (q k : Key) (v : Option Key) (ws : Writes) → q ≢ k → find key_cmp q (put key_cmp k v ws) ≡ find key_cmp q ws
+pub found_there : (q k : Key) (v : Option Key) (ws : Writes) → q ≢ k → find key_cmp q (put key_cmp k v ws) ≡ find key_cmp q ws
 found_there q k v ws off = find-put key_cmp key_total q k v ws ∙ go (key_cmp q k) refl
   where
     go : (o : Ordering) → key_cmp q k ≡ o → cond (is_eq o) (Some v) (find key_cmp q ws) ≡ find key_cmp q ws

@@ -114,15 +114,15 @@ not_not false false e f = refl
 
 module _ {P M : Type 0} (store : P → Store) (meant : M → Merge) where
   -- the maps are the contents of the pages
-  maps_are : (d : DbValue P M) → IsDb store d → maps_now store meant d ≡ trees_of (now (store d.pages))
+  pub maps_are : (d : DbValue P M) → IsDb store d → maps_now store meant d ≡ trees_of (now (store d.pages))
   maps_are d is = fun_ext (λ t. map_of_named (numbers_of d.trees t) (trees_of (now (store d.pages)) t) _ (numbered store d is t))
 
   -- where the tests pass no group is open
-  open_now : (d : DbValue P M) (trees : List Tree) → must_refuse_of (db_state store meant d) trees ≡ None → (now (store d.pages)).in_group ≡ false
+  pub open_now : (d : DbValue P M) (trees : List Tree) → must_refuse_of (db_state store meant d) trees ≡ None → (now (store d.pages)).in_group ≡ false
   open_now d trees free = not_true (now (store d.pages)).in_group (was_open (db_state store meant d) trees free)
 
   module _ (old new : DbValue P M) (sound : IsDb store old) where
-    open_before : (db_state store meant new).is_open ≡ (db_state store meant old).is_open → (now (store new.pages)).in_group ≡ false → (now (store old.pages)).in_group ≡ false
+    pub open_before : (db_state store meant new).is_open ≡ (db_state store meant old).is_open → (now (store new.pages)).in_group ≡ false → (now (store old.pages)).in_group ≡ false
     open_before same is = not_not (now (store new.pages)).in_group (now (store old.pages)).in_group same is
 
     module _ (table index : Key) (agrees : Agrees (store old.pages) table index) where

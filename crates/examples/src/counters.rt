@@ -32,8 +32,8 @@ fn number_of(bytes: Option<&[u8]>) -> u64
     }
 }
 
-// The number in this value.
-fn number_at(value: &Option<IVec>) -> u64
+/// The number in this value.
+pub fn number_at(value: &Option<IVec>) -> u64
     ensures { result ≡ number_in value.now }
 {
     match value {

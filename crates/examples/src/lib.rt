@@ -24,7 +24,7 @@ pub use callers::{
     crash, get, get_in_new, insert_then_get, insert_then_get_in_new, race, reopen, reopen_then_get,
 };
 pub use copy::copy_all;
-pub use counters::{Adds, add_to_counter, count, next_ticket};
+pub use counters::{Adds, add_to_counter, count, next_ticket, number_at};
 pub use endings::{Endings, Progress, index_follows, law_still_follows};
 pub use events::{append, open_stream, read_from};
 pub use ids::{law_ids, run_twice};

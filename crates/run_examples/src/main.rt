@@ -1,5 +1,5 @@
-//! Runs the callers in `examples` where there is memory, and a database over the store in `store_examples`: no contract says that
-//! they do not give up. It prints what came of each; `stdout` has what should have come.
+//! Runs the callers in `examples` and in `transaction_examples` where there is memory, and a database over the store in `store_examples`: no
+//! contract says that they do not give up. It prints what came of each; `stdout` has what should have come.
 #![tactic(auto)]
 
 mod batches;
@@ -10,8 +10,11 @@ mod endings;
 mod events;
 mod fresh;
 mod index;
+mod indexed;
+mod jobs;
 mod stock;
 mod stores;
+mod transfers;
 mod typed;
 
 use batches::loads;
@@ -21,11 +24,14 @@ use counters::counts;
 use endings::{begins_anew, follows};
 use events::reads_events;
 use index::finds_entries;
+use indexed::{gives, keeps_in_step};
+use jobs::{keeps_jobs, takes};
 use sled_nodes::Result;
 use std::io;
 use std::process::ExitCode;
 use stock::{agrees, moves};
 use stores::small_store_works;
+use transfers::{keeps_sum, pays};
 use typed::reads_readings;
 
 fn answer(is: Result<bool>) -> &'static str {
@@ -44,6 +50,7 @@ fn tell(rt: &HostRuntime, what: &str, is: Result<bool>) -> io::Result<()> {
     println!(rt; "{what}: {}", answer(is))
 }
 
+// The callers in `examples`, and the database over the small store.
 fn run(rt: &HostRuntime) -> io::Result<()> {
     let alloc = rt.alloc();
     tell(rt, "what was inserted is read", is_read(alloc))?;
@@ -73,8 +80,30 @@ fn run(rt: &HostRuntime) -> io::Result<()> {
     tell(rt, "a crash leaves whole batches of a load", loads(alloc))
 }
 
+// .. and those of transactions.
+fn run_transactions(rt: &HostRuntime) -> io::Result<()> {
+    let alloc = rt.alloc();
+    let what = "an amount goes from one counter to another, or nothing changes";
+    tell(rt, what, pays(alloc))?;
+    let what = "two counters come to the same after each crash and each refusal";
+    tell(rt, what, keeps_sum(alloc))?;
+    let what = "a job is taken once, with its value";
+    tell(rt, what, takes(alloc))?;
+    let what = "no job is lost or in both trees after each crash and each refusal";
+    tell(rt, what, keeps_jobs(alloc))?;
+    let what = "users have the addresses that they were given last";
+    tell(rt, what, gives(alloc))?;
+    let what = "an index of addresses agrees with its table after each crash and each refusal";
+    tell(rt, what, keeps_in_step(alloc))
+}
+
+fn run_all(rt: &HostRuntime) -> io::Result<()> {
+    run(rt)?;
+    run_transactions(rt)
+}
+
 fn main(rt: HostRuntime) -> ExitCode {
-    match run(&rt) {
+    match run_all(&rt) {
         Ok(()) => ExitCode::SUCCESS,
         Err(e) => {
             drop(e);
