@@ -12,9 +12,11 @@ import sys
 import cases_draws
 import cases_drops
 import cases_events
+import cases_extremes
 import cases_fetch
 import cases_flights
 import cases_groups
+import cases_images
 import cases_imports
 import cases_levels
 import cases_merges
@@ -26,6 +28,7 @@ import cases_rare
 import cases_reads
 import cases_refusals
 import cases_shapes
+import cases_sweeps
 import cases_trees
 import cases_values
 import script

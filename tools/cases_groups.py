@@ -630,23 +630,27 @@ def what_serves_a_closed_database(s):
         s.holds(*{'new': [], 'crash 0': []}.get(opening[0], ['a', 'b']))
         s.line('next 1', 'no subscriber')
         s.insert('c')
-    s.note('Its pages cannot be opened before they are recovered, since the group is open in them.')
+    s.note('Its pages are neither opened nor checked before they are recovered, since the group is open in them.')
     s.rows('''
         new refuse 5            opened
         watch %                 subscriber 1
         batch a 1               refused E4
         next 1                  event -
-        reopen                  refused E8
-        next 1                  no subscriber
+        reopen                  refused E5
+        why                     why corruption 10
+        next 1                  event -
         get a                   refused E8
-        reopen mark 7           refused E8
-        reopen unreadable 1     refused E8
-        reopen refuse 99        refused E8
-        recovered               refused E8
-        handle sledsh t 1       refused E8
+        reopen mark 7           refused E5
+        reopen unreadable 1     refused E5
+        reopen refuse 99        refused E5
+        verify                  refused E5
+        recovered               no
+        handle sledsh t 1       done
+        get a                   refused E8
         recover                 opened
         recovered               yes
-        id                      number 8
+        id                      number 1
+        verify                  sound
         dump                    end 0
         recover refuse 4        opened
         batch a 1               refused E4

@@ -12,8 +12,11 @@ A store is a picture of the pages at the last flush and the list of actions sinc
 another in its place. A call in flight is a generator: it yields after each step that goes on, and returns its answer. What
 is seldom reached is noted by name in `Store.notes`, so that cases can say what they reach.
 """
+import copy
+import os
 import re
 import sys
+import images
 from collections import Counter, deque, namedtuple
 from dataclasses import dataclass, replace
 
@@ -34,7 +37,7 @@ DEFAULT_TREE = 'cannot remove the core structures'
 PRESENT = 'import is overwriting existing data'
 UNKNOWN_TYPE = 'unknown collection type'
 IDS = 'ids used up'
-TEXTS = {1: 'collection not found', 2: 'unsupported: ', 4: 'io fault ', 6: 'no memory', 8: 'closed'}
+TEXTS = {1: 'collection not found', 2: 'unsupported: ', 4: 'io fault ', 5: 'corruption ', 6: 'no memory', 8: 'closed'}
 
 
 class BadLine(Exception):
@@ -640,7 +643,7 @@ class Range:
 
 FORMS = """insert K V; get K; remove K; cas K OLD NEW; merge K V; begin merge K V; operator OPERATOR; begin insert K V; begin get K; begin remove K; begin cas K OLD NEW
 step N; finish N; abandon N; turns N; flush; crash N; dump; new; new refuse N ..; reopen; reopen refuse N ..
-reopen unreadable PID ..; reopen mark N; recover; recover refuse N ..; recovered; pages; draw; draw dot; handle DATABASE NAME N; why; help; quit; exit
+reopen unreadable PID ..; reopen mark N; recover; recover refuse N ..; recovered; verify; root NAME PID; image; image mark N; image group; each-refusal FILE; each-crash FILE; pages; draw; draw dot; handle DATABASE NAME N; why; help; quit; exit
 has K; read K; lt K; gt K; first; last; len; empty; range LO HI; range-back LO HI; range-ends LO HI; prefix P; prefix-back P
 keys LO HI; keys-back LO HI; values LO HI; values-back LO HI
 pop-min; pop-max; clear; batch K NEW ..; group TREE K NEW .. ; ..; owned batch K NEW ..
@@ -650,7 +653,7 @@ names; tree NAME; old-tree NAME; drop NAME; id; import NAME K V ..; import-type 
 update K HOW; fetch K HOW; owned update K HOW; owned fetch K HOW
 watch P; next N; unwatch N; owned watch P; owned next N; owned unwatch N"""
 # What the program `crowd` knows beside the lines of `sledrun` and reads that take no slot: many calls at once.
-CROWD = """crowd SEED CALLS; run STEP, ..; reads; load N MOST ALL; find N PAGES; overtake N COUNT; pages; turns N; new; drop NAME; why
+CROWD = """crowd SEED CALLS; images SEED COUNT; run STEP, ..; reads; load N MOST ALL; find N PAGES; overtake N COUNT; pages; turns N; new; drop NAME; why
 insert K V; get K; remove K; cas K OLD NEW; begin insert K V; begin get K; begin remove K; begin cas K OLD NEW
 step N; finish N; abandon N; batch K NEW ..; flush; crash N; dump; tree NAME
 has K; read K; lt K; gt K; first; last; len; empty; names; range LO HI; range-back LO HI; range-ends LO HI; prefix P; prefix-back P
@@ -666,7 +669,7 @@ POINT = ('insert', 'get', 'remove', 'cas', 'merge')
 POPS = ('pop-min', 'pop-max', 'clear')
 ON_TREES = ('begin', 'operator', 'pages', 'draw', 'watch', 'update', 'fetch')
 LOOKS = ('has', 'read', 'lt', 'gt', 'first', 'last', 'len', 'empty', 'range', 'prefix', 'keys', 'values')
-READERS = {'K': value_of, 'V': value_of, 'P': value_of, 'DATABASE': value_of, 'NAME': value_of, 'TYPE': value_of, 'OLD': optional, 'NEW': optional, 'TREE': optional, 'LO': bound_of, 'HI': bound_of, 'OPERATOR': operator_of}
+READERS = {'FILE': value_of, 'K': value_of, 'V': value_of, 'P': value_of, 'DATABASE': value_of, 'NAME': value_of, 'TYPE': value_of, 'OLD': optional, 'NEW': optional, 'TREE': optional, 'LO': bound_of, 'HI': bound_of, 'OPERATOR': operator_of}
 
 
 def fit(form, words):
@@ -725,6 +728,39 @@ def count_of(takes):
     return (f'{counts[once]} and pairs' if once else 'pairs') + ' in each part' * (';' in takes)
 
 
+PAGE = 'PID, leaf, LO HI NEXT, open or merging, and pairs K V; of an index CHILD and pairs K PID'
+
+
+def among(said, **values):
+    """What reads one of these words, and what is said of another."""
+    def read(text):
+        if text.replace('-', '_') not in values:
+            raise BadLine(f'`{text}` {said}')
+        return values[text.replace('-', '_')]
+    return read
+
+
+def page_or_none(text):
+    try:
+        return None if text == '-' else number_of(text)
+    except BadLine:
+        raise BadLine(f'`{text}` is no page number and not -') from None
+
+
+def read_page(words):
+    """The words of a line that notes a page of an image: its number and the page."""
+    kind = among('is no kind of page: leaf, index and odd-leaf are', leaf=0, index=1, odd_leaf=2)
+    state = among('says nothing of a merge: open and merging do', open=False, merging=True)
+    own = kind(words[1]) if len(words) > 1 else 0
+    if len(words) < 6 or len(words) % 2 != own % 2 + own // 2:
+        raise BadLine(f'`page` takes {PAGE}')
+    entries = [value_of, number_of if own == 1 else value_of] * (len(words) // 2)
+    readers = [number_of, kind, value_of, value_of, page_or_none, state] + [page_or_none] * (own > 0) + entries
+    pid, _, lo, hi, next, merging, *rest = [read(word) for read, word in zip(readers, words)]
+    child, rest = (rest[0], rest[1:]) if own else (None, rest)
+    return 'page', pid, Node(lo, hi, next, merging, child, own != 1, tuple(zip(rest[::2], rest[1::2])))
+
+
 def read_step(text):
     """The words of a step in a list of steps."""
     try:
@@ -754,6 +790,8 @@ def read_line(text, forms=FORMS):
         raise BadLine('a line begins with a word; one space stands between two')
     if forms is FORMS and words[0] in ('help', '?'):
         return read_help(words)
+    if words[0] == 'page' and forms is FORMS:
+        return read_page(words[1:])
     if words[0] == 'run' and len(words) > 1 and forms is CROWD:
         return ['run', [read_step(step.removeprefix(' ')) for step in text[4:].split(',')]]
     best, reason = 1, f'`{words[0]}` is no command; `help` lists them'
@@ -799,23 +837,59 @@ class Shell:
 
     def __init__(self, forms=FORMS):
         self.store, self.line, self.forms, self.why = Store(), 0, forms, '-'
+        self.noted, self.is_foreign, self.code = ({}, {}), False, None
         self.open()
 
     def open(self):
         """Opens the pages: where the default tree is missing it is made, and all is flushed. Slots end. Trees get numbers by the
         order of their names."""
         self.slots, self.begun, self.opened = {}, 0, False
-        if self.store.group:
-            raise Refused(8)
+        if self.is_foreign:
+            self.check()
         if TREE not in self.store.roots:
             make_tree(self.store, TREE)
         self.store.flush()
-        self.greatest_id, self.opened = self.store.mark, True
+        self.greatest_id, self.opened, self.is_foreign = self.store.mark, True, False
         self.trees = {name: Tree(name, number) for number, name in enumerate(sorted(self.store.roots), 1)}
         self.created, self.subscribers = len(self.trees), []
         self.handle = self.value_of(TREE)
         # what the last line `tree NAME` got, and what it got before
         self.named = {TREE: (self.handle, self.handle)}
+
+    def check(self):
+        """A check of pages that somebody else made. Which of the things that are wrong is told is for a case to say."""
+        faults = {10} if self.store.group else images.faults(lambda pid: (view := self.store.read(pid)) and view.node, self.store.roots)
+        if faults:
+            assert self.code in faults | {None}, (self.code, faults)
+            raise Refused(5, str(self.code or min(faults)))
+
+    def image(self, kind=None, mark=0):
+        """A store of what was noted, opened after a check."""
+        pages, roots = self.noted
+        notes, self.store, self.noted = self.store.notes, Store(), ({}, {})
+        store = self.store
+        store.notes, store.mark, store.recovered = notes, mark, True
+        store.pages = {pid: View(pid, version, node) for version, (pid, node) in enumerate(pages.items(), 1)}
+        store.roots, store.versions = dict(roots), len(pages)
+        store.base = dict(store.pages), dict(roots), {}
+        named = [number for pid, n in pages.items() for number in [pid, n.next, n.child] + [p for _, p in n.entries if not n.leaf]]
+        store.pids = max([number for number in named + list(roots.values()) if number is not None] + [0])
+        if kind == 'group':
+            store.begin_group()
+        self.is_foreign = True
+        self.open()
+        return ['opened']
+
+    def verify(self):
+        """A check of the pages, and an opening. Where it is a database whose pages do not pass nothing changes."""
+        if self.opened:
+            if self.closed:
+                raise Refused(5, '10')
+            faults = images.faults(lambda pid: (view := self.store.read(pid)) and view.node, self.store.roots)
+            assert not faults, faults
+        self.slots, self.opened = {}, False
+        self.open()
+        return ['sound']
 
     @property
     def closed(self):
@@ -851,12 +925,26 @@ class Shell:
         """The line of a refusal, whose text is kept."""
         number, *text = refusal.args
         self.why = TEXTS.get(number, '?') + ''.join(text)
+        if number == 5 and self.is_foreign:
+            return f'corrupt {text[0]}'
         return f'refused E{number}'
 
     def do(self, name, *words):
         store = self.store
         if name in ('new', 'reopen', 'recover'):
             return self.renew(name, *words)
+        if name in ('each-refusal', 'each-crash'):
+            return [each_refusal(lines_of(words[0])) if name == 'each-refusal' else each_crash(lines_of(words[0]))]
+        if name == 'page':
+            self.noted[0][words[0]] = words[1]
+            return ['noted']
+        if name == 'root':
+            self.noted[1][words[0]] = words[1]
+            return ['noted']
+        if name == 'image':
+            return self.image(*words)
+        if name == 'verify':
+            return self.verify()
         if name == 'crash':
             store.crash(words[0])
             self.open()
@@ -865,6 +953,8 @@ class Shell:
             return [f'why {self.why}']
         if name == 'crowd':
             return [f'agreed {words[1]}']
+        if name == 'images':
+            return [f'images {words[1]}, accepted a third or more, all as read']
         if name == 'reads':
             return [f'reads {self.reads()}']
         if name == 'run':
@@ -1158,10 +1248,12 @@ class Shell:
         """Opens other pages, or the same ones anew."""
         if kind == 'mark' and numbers[0] < self.store.mark:
             raise BadLine(f'`{numbers[0]}` is below the mark, which is {self.store.mark}')
+        if name == 'reopen' and self.opened and self.closed:
+            raise Refused(5, '10')
         self.slots, self.opened = {}, False
         if name == 'new':
             notes, self.store = self.store.notes, Store()
-            self.store.notes = notes
+            self.store.notes, self.is_foreign = notes, False
         if name == 'recover':
             self.store.crash(GREATEST)
         if kind == 'mark':
@@ -1231,6 +1323,92 @@ class Shell:
             levels.append(level)
             pid = None if first.leaf else first.entries[0][1]
         return levels
+
+
+# Lines that are run again and again.
+
+DATA = os.path.join(os.path.dirname(os.path.abspath(__file__)), '..', 'crates', 'sledsh', 'data')
+
+
+def lines_of(name):
+    """The lines of a file, by the word that names it."""
+    try:
+        return open(os.path.join(DATA.encode(), name)).read().removesuffix('\n').split('\n')
+    except FileNotFoundError:
+        raise BadLine(f'`{word(name)}` cannot be read') from None
+
+
+def check_lines(lines, makes_no_store):
+    """What cannot be run again and again: lines that cannot be read, and for refusals those that make another store."""
+    shell = Shell()
+    for line in lines:
+        if line.startswith('each-') or any(text.startswith('bad line') for text in shell.run(line)):
+            raise BadLine('the file has a line that cannot be read')
+    if makes_no_store and any(re.match('(new|crash|recover|image)( |$)|reopen refuse ', line) for line in lines):
+        raise BadLine('the file has a line that makes another store')
+
+
+def run_refusing(lines, call):
+    """Runs lines over a store that refuses this call of it, and makes a line again that is refused so: what they print and the pairs
+    behind them, whether one was told of it, and how many calls the store got."""
+    shell, printed, is_told, tree = Shell(), [], False, None
+    if shell.run(f'new refuse {call}') != ['opened']:
+        is_told = True
+        shell.run('reopen')
+    for line in lines:
+        answer = shell.run(line)
+        if answer[-1:] == ['refused E4']:
+            is_told, answer = True, shell.run(line)
+        if answer[-1:] == ['refused E8']:
+            shell.run('recover')
+            if tree:
+                shell.run(tree)
+            answer = shell.run(line)
+        if line.startswith('tree '):
+            tree = line
+        printed += ['flushed' if text.startswith('flushed ') else text for text in answer]
+    return printed + shell.run('dump'), is_told, shell.store.calls
+
+
+def each_refusal(lines):
+    """What it comes to that each call of the store is refused in turn."""
+    check_lines(lines, True)
+    clean, _, calls = run_refusing(lines, 0)
+    refused = 0
+    for call in range(1, calls + 1):
+        printed, is_told, _ = run_refusing(lines, call)
+        for number, (line, other) in enumerate(zip(printed, clean), 1):
+            if line != other:
+                return f'call {call}: line {number} is `{line}` and not `{other}`'
+        assert printed == clean, (call, printed, clean)
+        refused += is_told
+    return f'calls {calls}, refused {refused}, all the same'
+
+
+def each_crash(lines):
+    """What it comes to that a crash keeps each number of actions in turn."""
+    check_lines(lines, False)
+    shell, dumps = Shell(), []
+    shell.run('new')
+    dumps.append(shell.run('dump'))
+    for line in lines:
+        while line.endswith('clear') and shell.run('pop-min') != ['found -']:
+            dumps.append(shell.run('dump'))
+        shell.run(line)
+        dumps.append(shell.run('dump'))
+    shell = Shell()
+    for line in ['new'] + lines:
+        shell.run(line)
+    count = len(shell.store.recent)
+    for keep in range(count + 1):
+        left = Shell()
+        left.store = copy.deepcopy(shell.store)
+        assert left.run(f'crash {keep}') == ['recovered'] and left.run('verify') == ['sound'], keep
+        dump = left.run('dump')
+        if dump not in dumps:
+            return f'crash {keep}: no beginning'
+        dumps = dumps[dumps.index(dump):]
+    return f'crashes {count + 1}, each a beginning'
 
 
 def main():

@@ -11,7 +11,7 @@ from oracle import (CROWD, DATABASE, FORMS, GREATEST, HOWS, LOOKS, ON_TREES, OPE
                     some_keys, word)
 
 # What a closed database serves, and the shell by itself, or a line that opens one.
-SERVED = ('next', 'unwatch', 'abandon', 'turns', 'recovered', 'why', 'handle', 'old-tree', 'new', 'recover', 'crash')
+SERVED = ('next', 'unwatch', 'abandon', 'turns', 'recovered', 'why', 'handle', 'old-tree', 'new', 'recover', 'crash', 'page', 'root', 'image')
 CRATES = os.path.join(os.path.dirname(os.path.abspath(__file__)), '..', 'crates')
 CASES = []
 
@@ -75,8 +75,10 @@ class Map:
 class Plain:
     """The trees as dictionaries, the calls in flight, and what was changed since the last flush."""
 
-    def __init__(self):
-        self.maps, self.changes = {TREE: Map()}, []
+    def __init__(self, maps=None, is_foreign=False):
+        self.maps, self.changes, self.is_foreign = {name: Map() for name in maps or {TREE: {}}}, [], is_foreign
+        for name, pairs in (maps or {}).items():
+            self.maps[name].pairs = pairs
         self.opened()
 
     def opened(self):
@@ -247,10 +249,13 @@ class Plain:
         """Compares what a line printed with what it must."""
         name, last = words[0], next((line for line in printed if line.startswith('refused') and words[0] != 'run'), printed[-1] if printed else '')
         if self.is_closed and words[name == 'owned'] not in SERVED:
-            expect(last in ('refused E8', 'no slot', 'no subscriber'), 'the database is closed', words, printed)
-            if name == 'reopen':
-                self.calls, self.queues = {}, []
+            wanted = ('refused E5',) if name in ('reopen', 'verify') else ('refused E8', 'no slot', 'no subscriber')
+            expect(last in wanted, 'the database is closed', words, printed)
             return
+        if name.startswith('each-'):
+            return
+        if name == 'image' or self.is_foreign:
+            return self.found(name, last, shell)
         if name == 'owned':
             self.calls = {}
             return self.meets(in_line(words[1:]), printed, shell)
@@ -330,9 +335,15 @@ class Plain:
         elif name == 'load':
             for key in some_keys(words[1]):
                 self.answer(('insert', key, key), self.current)
-        elif name == 'reopen':
+        elif name in ('reopen', 'verify'):
             self.changes = []
             self.opened()
+
+    def found(self, name, printed, shell):
+        """An image was opened, whose pairs the case says; or it is refused, and there is no database."""
+        expect(printed.split()[0] in ('opened', 'recovered', 'sound', 'corrupt', 'refused', 'noted', 'no', 'why'), name, printed)
+        maps = shell.contents() if shell.opened else {TREE: {}}
+        self.__init__(maps, not shell.opened)
 
 
 class Script:

@@ -63,6 +63,11 @@ impl Kept {
         Kept::refused(pages, crashes)
     }
 
+    /// The pages, to be looked at.
+    pub fn pages(&self) -> &MemPages {
+        &self.pages
+    }
+
     /// The pages, and whether a crash may keep some of their actions also where an opening is refused.
     pub fn into_pages(self) -> (MemPages, bool)
         ensures can { IsKept result.1 (store_of result.0) }

@@ -7,6 +7,8 @@ use crate::owned::Owned;
 use crate::places::compare;
 use crate::pops::Pop;
 use crate::subscribers::Listen;
+use hostile_lines::image::Image;
+use hostile_lines::sweeps::Sweep;
 use shell_parts::look::{Look, Side};
 use shell_parts::tell::{Told, tell};
 use sled_draw::draw::Drawing;
@@ -39,6 +41,16 @@ pub enum Verb {
     Mark,
     Recover,
     Recovered,
+    /// A check of the pages.
+    Verify,
+    /// A page of an image.
+    Page,
+    /// A root of an image.
+    Root,
+    /// A store of what was noted.
+    Image(Image),
+    /// The lines of a file, run again and again.
+    Sweep(Sweep),
     Pages,
     /// A drawing of the tree.
     Draw(Drawing),
@@ -73,10 +85,10 @@ pub enum Verb {
 // A command's own words, what it takes, and what it does.
 type Form = (&'static str, &'static str, Verb, &'static str);
 
-// What a command takes has words of its own: K, V, P, OLD, NEW, DATABASE, TYPE, NAME and TREE are byte strings, of which OLD, NEW and TREE
+// What a command takes has words of its own: K, V, P, OLD, NEW, DATABASE, TYPE, NAME, TREE and FILE are byte strings, of which OLD, NEW and TREE
 // may be `-`; LO and HI are bounds, OPERATOR a merge operator, HOW what is made of a value, [WORD] two words at the most, and the others
 // numbers. `..` stands for more of the word before it, `K V ..` and `K NEW ..` for pairs, and `; ..` for more of all that stands before it.
-// PART is a part of a transaction and END how it ends; in front of a PART, P is the position of a tree.
+// A line `page` has the words of one page. PART is a part of a transaction and END how it ends; in front of a PART, P is the position of a tree.
 
 // A key of the current tree.
 const KEYS: [Form; 8] = [
@@ -404,7 +416,7 @@ const SUBSCRIBERS: [Form; 3] = [
 ];
 
 // The store.
-const STORES: [Form; 7] = [
+const STORES: [Form; 8] = [
     ("flush", "", Verb::Line, "makes all durable"),
     (
         "crash",
@@ -426,6 +438,12 @@ const STORES: [Form; 7] = [
         "",
         Verb::Recovered,
         "prints whether the store is what a crash left",
+    ),
+    (
+        "verify",
+        "",
+        Verb::Verify,
+        "checks all pages, and opens the store again",
     ),
 ];
 
@@ -619,6 +637,47 @@ const TESTS: [Form; 6] = [
     ),
 ];
 
+// Images of pages, and lines that are run again and again, for tests.
+const IMAGES: [Form; 7] = [
+    (
+        "page",
+        "PID leaf LO HI NEXT open K V ..",
+        Verb::Page,
+        "notes a page of an image: a leaf, or an index with its merging child CHILD and pairs K PID; open or merging; HI % is no bound, - no page",
+    ),
+    ("root", "NAME PID", Verb::Root, "notes a root of an image"),
+    (
+        "image",
+        "",
+        Verb::Image(Image::Plain),
+        "a store of what was noted since the last image, which is opened after a check of its pages",
+    ),
+    (
+        "image mark",
+        "N",
+        Verb::Image(Image::Mark),
+        "the same, with ids up to N set aside",
+    ),
+    (
+        "image group",
+        "",
+        Verb::Image(Image::Group),
+        "the same, with a group begun in it",
+    ),
+    (
+        "each-refusal",
+        "FILE",
+        Verb::Sweep(Sweep::Refusals),
+        "runs the lines of a file, with each call of the store refused in turn: whether all that they print is the same",
+    ),
+    (
+        "each-crash",
+        "FILE",
+        Verb::Sweep(Sweep::Crashes),
+        "runs the lines of a file, and a crash that keeps each number of their actions in turn: whether each leaves a beginning",
+    ),
+];
+
 // The commands, in several lists, each of which one function alone names: a list is made anew in each function that does, and the check
 // takes four times as long for one of twice the length.
 fn keys() -> &'static [Form] {
@@ -665,6 +724,10 @@ fn others() -> &'static [Form] {
     &TESTS
 }
 
+fn images() -> &'static [Form] {
+    &IMAGES
+}
+
 // Commands that belong together, and what they are about.
 type Group = (&'static str, &'static [Form]);
 
@@ -684,11 +747,11 @@ fn groups() -> [Group; 9] {
 }
 
 // The lists of commands for tests.
-fn tests() -> [&'static [Form]; 2] {
-    [owned(), others()]
+fn tests() -> [&'static [Form]; 3] {
+    [owned(), others(), images()]
 }
 
-fn all() -> [&'static [Form]; 11] {
+fn all() -> [&'static [Form]; 12] {
     [
         keys(),
         flights(),
@@ -701,6 +764,7 @@ fn all() -> [&'static [Form]; 11] {
         ends(),
         owned(),
         others(),
+        images(),
     ]
 }
 

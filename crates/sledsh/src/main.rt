@@ -16,7 +16,7 @@ mod shell;
 mod subscribers;
 
 use line_files::check;
-use shell::{Sessions, run};
+use shell::{Texts, run};
 use sled_lines::input::Stopped;
 use std::io::{BufReader, BufWriter, IsTerminal, Write};
 use std::process::ExitCode;
@@ -27,8 +27,8 @@ const VERSION: &str = "0.1.0";
 
 // Runs standard input as a session: whether each line could be read.
 fn run_input(rt: &HostRuntime, output: &mut impl Write) -> Result<bool, Stopped> {
-    let mut input = BufReader::new(rt.alloc(), rt.reader())?;
-    run(rt.alloc(), &mut input, output, rt.stdin().is_terminal())
+    let input = BufReader::new(rt.alloc(), rt.reader())?;
+    run(rt, input, output, rt.stdin().is_terminal())
 }
 
 // Runs each file as a session of its own: whether each line could be read.
@@ -36,7 +36,7 @@ fn run_files(rt: &HostRuntime, names: &[String], output: &mut impl Write) -> Res
     let mut read = true;
     for name in names {
         let lines = fs::read(rt, name.as_str())?;
-        read &= run(rt.alloc(), &mut lines.as_slice(), output, false)?;
+        read &= run(rt, lines.as_slice(), output, false)?;
     }
     Ok(read)
 }
@@ -49,7 +49,10 @@ fn run_names(rt: &HostRuntime, names: &[String], output: &mut impl Write) -> Res
             Ok(true)
         }
         [first, names @ ..] if first.as_str() == "check" => Ok(check(
-            rt, &Sessions, names, output,
+            rt,
+            &Texts { rt },
+            names,
+            output,
         )?),
         names => run_files(rt, names, output),
     }

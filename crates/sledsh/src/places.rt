@@ -2,6 +2,7 @@
 
 use crate::fetch::takes_bytes;
 use crate::operators::operator_of;
+use hostile_lines::image::check_page;
 use shell_parts::look::read_bound;
 use sled_lines::print::Piece::Text;
 use sled_lines::print::{push_pieces, push_text};
@@ -35,11 +36,15 @@ enum Tail {
     Maybe,
     // A transaction, with the words of the list in front where it is of several trees.
     Script(Reach),
+    // A page of an image.
+    Page,
 }
 
 // Which it is, and the number of words that say it.
 fn tail_of(takes: &[u8]) -> (Tail, usize) {
-    if takes.ends_with(b"K V .. ; ..") {
+    if takes.starts_with(b"PID leaf") {
+        (Tail::Page, 9)
+    } else if takes.ends_with(b"K V .. ; ..") {
         (Tail::Parts("V"), 5)
     } else if takes.ends_with(b"K NEW .. ; ..") {
         (Tail::Parts("NEW"), 5)
@@ -75,6 +80,7 @@ fn fits(takes: Takes<'_>, count: usize) -> bool {
     match (takes.tail, more) {
         (_, None) => false,
         (Tail::Nothing, Some(more)) => more == 0,
+        (Tail::Page, Some(_)) => true,
         (Tail::Numbers | Tail::Script(_), Some(more)) => more > 0,
         (Tail::How, Some(more)) => more == 1 || more == 2,
         (Tail::Maybe, Some(more)) => more <= 2,
@@ -89,7 +95,7 @@ fn place_of<'a>(takes: Takes<'a>, place: usize) -> &'a [u8] {
         (None, Tail::Nothing | Tail::Numbers) => b"N",
         (None, Tail::How) if place == takes.once.len() => b"HOW",
         (None, Tail::How) => b"V",
-        (None, Tail::Maybe | Tail::Script(_)) => b"[WORD]",
+        (None, Tail::Maybe | Tail::Script(_) | Tail::Page) => b"[WORD]",
         (None, Tail::Pairs(_) | Tail::Parts(_)) if (place - takes.once.len()) % 2 == 0 => b"K",
         (None, Tail::Pairs(value) | Tail::Parts(value)) => value.as_bytes(),
     }
@@ -105,7 +111,7 @@ fn count_of(takes: Takes<'_>) -> (&'static str, &'static str) {
     };
     match takes.tail {
         Tail::Nothing => (count, ""),
-        Tail::Numbers | Tail::Script(_) => (", one word or more", ""),
+        Tail::Numbers | Tail::Script(_) | Tail::Page => (", one word or more", ""),
         Tail::How => (", two words or three", ""),
         Tail::Maybe => (", two words at the most", ""),
         Tail::Pairs(_) if takes.once.is_empty() => (", pairs", ""),
@@ -127,13 +133,14 @@ enum Kind {
     Any,
 }
 
-const KINDS: [(&str, Kind); 14] = [
+const KINDS: [(&str, Kind); 15] = [
     ("K", Kind::Bytes),
     ("V", Kind::Bytes),
     ("P", Kind::Bytes),
     ("DATABASE", Kind::Bytes),
     ("TYPE", Kind::Bytes),
     ("NAME", Kind::Bytes),
+    ("FILE", Kind::Bytes),
     ("OLD", Kind::Value),
     ("NEW", Kind::Value),
     ("TREE", Kind::Value),
@@ -252,6 +259,9 @@ fn compare_parts(
 ) -> Result<()> {
     if let Tail::Script(reach) = takes.tail {
         return check_script(alloc, words, reach, why);
+    }
+    if matches!(takes.tail, Tail::Page) {
+        return check_page(alloc, words, why);
     }
     if !matches!(takes.tail, Tail::Parts(_)) {
         return compare_words(alloc, takes, words, why);

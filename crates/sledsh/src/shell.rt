@@ -10,6 +10,12 @@ use crate::operators::Operator;
 use crate::owned::{Owned, tell_owned};
 use crate::pops::tell_pop;
 use crate::subscribers::{Listen, Subscribers, tell_listen, tell_no_subscriber};
+use hostile_lines::held::Held;
+use hostile_lines::image::{Image, Noted};
+use hostile_lines::repeats::Repeats;
+use hostile_lines::source::Source;
+use hostile_lines::sweeps::{Sessions, Sweep, tell_sweep};
+use hostile_lines::verdict::tell_verdict;
 use line_files::Program;
 use shell_parts::known::tell_known;
 use shell_parts::look::{Look, tell_look};
@@ -17,19 +23,20 @@ use shell_parts::store::Kept;
 use shell_parts::tell::{
     Told, answered, bytes_of, tell, tell_refused, tell_turns, tell_whether, tell_why,
 };
-use sled::Db;
+use sled::{Db, GROUP_IS_OPEN, verify_integrity};
 use sled_draw::draw::{Drawing, draw};
 use sled_draw::levels::count_levels;
 use sled_lines::command;
 use sled_lines::input::{Stopped, read_line, without_end};
 use sled_lines::print::Piece::{Number, Text, Word};
-use sled_lines::print::push_pieces;
+use sled_lines::print::{push_pieces, push_text};
 use sled_lines::session::{Session, write};
 use sled_lines::words::first_word;
 use sled_nodes::Error;
 use sled_pages::MemPages;
 use sled_store::Pages;
 use std::alloc::Global;
+use std::fs;
 use std::io::{BufRead, Write};
 use transaction_lines::run::{tell_transaction, tell_transaction_all};
 use transaction_lines::words::quote;
@@ -41,6 +48,7 @@ const DATABASE: &[u8] = b"sledsh";
 fn opening(last: Verb) -> &'static [u8] {
     match last {
         Verb::Crash => b"recovered\n",
+        Verb::Verify => b"sound\n",
         Verb::Quit => b"",
         _ => b"opened\n",
     }
@@ -49,14 +57,31 @@ fn opening(last: Verb) -> &'static [u8] {
 // The store: opened, or the pages that a refused opening gave back.
 enum State {
     Open(Session<MemPages, Operator>),
-    Shut(Kept),
+    Shut(Held),
 }
 
 impl State {
-    fn into_kept(self) -> Kept {
+    fn into_held(self) -> Held {
         match self {
-            State::Open(session) => Kept::of(session.into_db()),
-            State::Shut(kept) => kept,
+            State::Open(session) => Held::Kept(Kept::of(session.into_db())),
+            State::Shut(held) => held,
+        }
+    }
+
+    // The pages, but for those that somebody else made.
+    fn pages(&self) -> Option<&MemPages> {
+        match self {
+            State::Open(session) => Some(session.db().pages()),
+            State::Shut(Held::Kept(kept)) => Some(kept.pages()),
+            State::Shut(Held::Foreign(_)) => None,
+        }
+    }
+
+    // Whether a group that was refused midway closed the database.
+    fn is_closed(&self) -> bool {
+        match self {
+            State::Open(session) => session.db().pages().in_group(),
+            State::Shut(_) => false,
         }
     }
 }
@@ -65,9 +90,9 @@ impl State {
 #[derive(Drop)]
 struct Shell {
     alloc: Global,
-    prompts: bool,
+    // Whether its lines are run again and again, and may have no others run so.
+    is_swept: bool,
     line: Vec<u8>,
-    left: usize,
     number: u64,
     // Whether each line could be read.
     good: bool,
@@ -79,6 +104,7 @@ struct Shell {
     mark: u64,
     names: Names,
     subscribers: Subscribers,
+    noted: Noted,
     // The command that changed the store last, or ended; and why the pages cannot be opened after it.
     last: Verb,
     refused: Option<Error>,
@@ -144,6 +170,11 @@ fn tell_none(why: &mut Vec<u8>, name: &[u8]) -> Result<(), Stopped> {
     ))
 }
 
+// The words of a line behind its first.
+fn words_behind(line: &[u8]) -> &[u8] {
+    first_word(without_end(line)).1.unwrap_or(b"")
+}
+
 // Whether a text goes on so from a place.
 fn goes_on(text: &[u8], start: usize, with: &[u8]) -> bool {
     match text.get(start..) {
@@ -153,6 +184,26 @@ fn goes_on(text: &[u8], start: usize, with: &[u8]) -> bool {
 }
 
 impl Shell {
+    // A shell that has read no line yet.
+    fn new(alloc: Global, explains: bool, is_swept: bool) -> Shell {
+        Shell {
+            alloc,
+            is_swept,
+            line: Vec::new(alloc),
+            number: 0,
+            good: true,
+            out: Told::new(alloc, explains),
+            numbers: Vec::new(alloc),
+            why: Vec::new(alloc),
+            mark: 0,
+            names: Names::empty(alloc),
+            subscribers: Subscribers::empty(alloc),
+            noted: Noted::nothing(alloc),
+            last: Verb::Quit,
+            refused: None,
+        }
+    }
+
     // Adds the line of one that cannot be read, if there is a reason why.
     fn tell_bad(&mut self) -> Result<(), Stopped> {
         if self.why.is_empty() {
@@ -190,28 +241,25 @@ impl Shell {
         }
     }
 
-    // Writes what is to be printed, and reads a line: whether there is one.
-    fn read<R: BufRead, W: Write>(
+    // Has what was printed written, and reads a line: whether there is one.
+    fn read<W: Write, S: Source<W>>(
         &mut self,
-        input: &mut R,
+        source: &mut S,
         output: &mut W,
     ) -> Result<bool, Stopped> {
-        let prompt = if self.prompts { "> " } else { "" };
-        tell(&mut self.out, &[Text(prompt.as_bytes())])?;
-        write(output, &mut self.out.text)?;
-        let length = read_line(input, output, &mut self.line, &mut self.left)?;
+        let is_there = source.next(&mut self.out.text, output, &mut self.line)?;
         self.number = self.number.saturating_add(1);
-        Ok(length > 0)
+        Ok(is_there)
     }
 
     // Reads lines up to the next command; at the end of the input it is the last one.
-    fn next<R: BufRead, W: Write>(
+    fn next<W: Write, S: Source<W>>(
         &mut self,
-        input: &mut R,
+        source: &mut S,
         output: &mut W,
     ) -> Result<Command, Stopped> {
         for _ in 0..u64::MAX {
-            if !self.read(input, output)? {
+            if !self.read(source, output)? {
                 break;
             }
             if let Some(command) = self.command()? {
@@ -333,9 +381,7 @@ impl Shell {
 
     // The words of the line behind its first.
     fn words(&self) -> &[u8] {
-        first_word(without_end(self.line.as_slice()))
-            .1
-            .unwrap_or(b"")
+        words_behind(self.line.as_slice())
     }
 
     // Makes current what a name was before.
@@ -373,7 +419,7 @@ impl Shell {
 
     // Answers a command that is a call of the database itself.
     fn owned(&mut self, state: &mut State, owned: Owned) -> Result<(), Stopped> {
-        let shut = State::Shut(Kept::empty(self.alloc));
+        let shut = State::Shut(Held::Kept(Kept::empty(self.alloc)));
         let (next, told) = match std::mem::replace(state, shut) {
             State::Open(session) => {
                 let (session, told) = tell_owned(
@@ -386,13 +432,13 @@ impl Shell {
                 );
                 (State::Open(session), told)
             }
-            State::Shut(kept) => (
-                State::Shut(kept),
+            State::Shut(held) => (
+                State::Shut(held),
                 tell_unasked(&mut self.out, Verb::Owned(owned)),
             ),
         };
         let shut = std::mem::replace(state, next);
-        drop(shut.into_kept());
+        drop(shut.into_held());
         told
     }
 
@@ -469,11 +515,57 @@ impl Shell {
             Verb::OldTree => self.take_old(state),
             Verb::Owned(owned) => self.owned(state, owned),
             Verb::Mark if numbers[0] < self.mark => self.tell_below(numbers[0]),
+            Verb::Reopen | Verb::Refuse | Verb::Unreadable | Verb::Mark if state.is_closed() => {
+                tell_refused(&mut self.out, Error::Corruption(GROUP_IS_OPEN))
+            }
+            Verb::Verify => return self.verify(state),
+            Verb::Sweep(_) if self.is_swept => self.tell_swept(),
+            Verb::Page => self.note_page(),
+            Verb::Root => self.note_root(),
             Verb::Why => tell_why(&mut self.out),
             Verb::Help => self.help(),
             _ => return Ok(false),
         };
         told.map(|()| true)
+    }
+
+    // Checks the pages as they are. Where they pass it is for the opening behind it to say so, and else they stay as they are: whether
+    // that is told.
+    fn verify(&mut self, state: &State) -> Result<bool, Stopped> {
+        if state.is_closed() {
+            let told = tell_refused(&mut self.out, Error::Corruption(GROUP_IS_OPEN));
+            return told.map(|()| true);
+        }
+        let Some(pages) = state.pages() else {
+            return Ok(false);
+        };
+        match verify_integrity(self.alloc, pages) {
+            Ok(()) => Ok(false),
+            Err(error) => tell_verdict(&mut self.out, error).map(|()| true),
+        }
+    }
+
+    // Adds that a line has others run again and again, and is run so itself.
+    fn tell_swept(&mut self) -> Result<(), Stopped> {
+        let name = first_word(without_end(self.line.as_slice())).0;
+        answered(quote(
+            &mut self.why,
+            name,
+            "does not stand in a file that is run again and again",
+        ))?;
+        self.tell_bad()
+    }
+
+    // Notes a page of an image.
+    fn note_page(&mut self) -> Result<(), Stopped> {
+        let words = words_behind(self.line.as_slice());
+        self.noted.note_page(self.alloc, words, &mut self.out)
+    }
+
+    // Notes a root of an image.
+    fn note_root(&mut self) -> Result<(), Stopped> {
+        let words = words_behind(self.line.as_slice());
+        self.noted.note_root(self.alloc, words, &mut self.out)
     }
 
     // Lists the commands: all in groups, or those that the line asks for.
@@ -520,15 +612,15 @@ impl Shell {
         }
     }
 
-    // Answers lines up to one that changes the store, or ends.
-    fn lines<R: BufRead, W: Write>(
+    // Answers lines up to one that changes the store, has others run again and again, or ends.
+    fn lines<W: Write, S: Source<W>>(
         &mut self,
         state: &mut State,
-        input: &mut R,
+        source: &mut S,
         output: &mut W,
     ) -> Result<Verb, Stopped> {
         for _ in 0..u64::MAX {
-            let command = self.next(input, output)?;
+            let command = self.next(source, output)?;
             if let Some(verb) = self.answer(state, command, output)? {
                 return Ok(verb);
             }
@@ -536,46 +628,19 @@ impl Shell {
         Ok(Verb::Quit)
     }
 
-    // Answers lines up to one that changes the store, or ends: the pages and that line's command.
-    fn live_in<R: BufRead, W: Write>(
-        &mut self,
-        mut state: State,
-        input: &mut R,
-        output: &mut W,
-    ) -> Result<(Kept, Verb), Stopped> {
-        match self.lines(&mut state, input, output) {
-            Ok(verb) => Ok((state.into_kept(), verb)),
+    // Opens nothing after a refusal, which is told.
+    fn shut(&mut self, held: Held, error: Error) -> Result<State, Stopped> {
+        match tell_verdict(&mut self.out, error) {
+            Ok(()) => Ok(State::Shut(held)),
             Err(stopped) => {
-                drop(state.into_kept());
+                drop(held);
                 Err(stopped)
             }
         }
     }
 
-    // The same after a refusal, which is told.
-    fn live_shut<R: BufRead, W: Write>(
-        &mut self,
-        kept: Kept,
-        error: Error,
-        input: &mut R,
-        output: &mut W,
-    ) -> Result<(Kept, Verb), Stopped> {
-        match tell_refused(&mut self.out, error) {
-            Ok(()) => self.live_in(State::Shut(kept), input, output),
-            Err(stopped) => {
-                drop(kept);
-                Err(stopped)
-            }
-        }
-    }
-
-    // The same after an opening, which is told.
-    fn live_over<R: BufRead, W: Write>(
-        &mut self,
-        db: Db<MemPages, Operator>,
-        input: &mut R,
-        output: &mut W,
-    ) -> Result<(Kept, Verb), Stopped> {
+    // A session over a database, whose opening is told.
+    fn begin(&mut self, db: Db<MemPages, Operator>) -> Result<State, Stopped> {
         if tell(&mut self.out, &[Text(opening(self.last))]).is_err() {
             drop(db.into_pages());
             return Err(Stopped);
@@ -583,7 +648,7 @@ impl Shell {
         self.subscribers.clear();
         match Session::over(self.alloc, db) {
             Ok(session) => match self.names.begin(session.tree()) {
-                Ok(()) => self.live_in(State::Open(session), input, output),
+                Ok(()) => Ok(State::Open(session)),
                 Err(stopped) => {
                     drop(session.into_db().into_pages());
                     Err(stopped)
@@ -596,40 +661,41 @@ impl Shell {
         }
     }
 
-    // Opens the pages, and answers lines up to one that changes the store, or ends.
-    fn open<R: BufRead, W: Write>(
-        &mut self,
-        kept: Kept,
-        input: &mut R,
-        output: &mut W,
-    ) -> Result<(Kept, Verb), Stopped> {
+    // Opens well-formed pages.
+    fn open_kept(&mut self, kept: Kept) -> Result<State, Stopped> {
         let (pages, crashes) = kept.into_pages();
         if pages.in_group() {
-            return self.live_shut(Kept::closed(pages, crashes), Error::Closed, input, output);
+            let kept = Kept::closed(pages, crashes);
+            return self.shut(Held::Kept(kept), Error::Closed);
         }
         match Db::open(self.alloc, pages, DATABASE) {
-            Ok(db) => self.live_over(db.with_operators(), input, output),
-            Err((pages, error)) => {
-                self.live_shut(Kept::refused(pages, crashes), error, input, output)
-            }
+            Ok(db) => self.begin(db.with_operators()),
+            Err((pages, error)) => { self.shut(Held::Kept(Kept::refused(pages, crashes)), error) }
         }
     }
 
-    fn live<R: BufRead, W: Write>(
-        &mut self,
-        kept: Kept,
-        input: &mut R,
-        output: &mut W,
-    ) -> Result<(Kept, Verb), Stopped> {
+    // Opens pages that somebody else made, after a check.
+    fn open_foreign(&mut self, pages: MemPages) -> Result<State, Stopped> {
+        match Db::open_checked(self.alloc, pages, DATABASE) {
+            Ok(db) => self.begin(db.with_operators()),
+            Err((pages, error)) => self.shut(Held::Foreign(pages), error),
+        }
+    }
+
+    // Opens pages, unless they were refused before.
+    fn open(&mut self, held: Held) -> Result<State, Stopped> {
         match self.refused.take() {
-            Some(error) => self.live_shut(kept, error, input, output),
-            None => self.open(kept, input, output),
+            Some(error) => self.shut(held, error),
+            None => match held {
+                Held::Kept(kept) => self.open_kept(kept),
+                Held::Foreign(pages) => self.open_foreign(pages),
+            },
         }
     }
 
     // Sets ids aside; where that is refused the pages are not opened.
-    fn set_aside(&mut self, kept: Kept, upto: u64) -> Kept {
-        let (kept, done) = kept.set_aside(upto);
+    fn set_aside(&mut self, held: Held, upto: u64) -> Held {
+        let (held, done) = held.set_aside(upto);
         match done {
             Ok(()) => self.mark = upto,
             Err(error) => {
@@ -637,70 +703,197 @@ impl Shell {
                 drop(old);
             }
         }
-        kept
+        held
+    }
+
+    // A store of what was noted, in place of the one before.
+    fn image(&mut self, held: Held, image: Image, mark: u64) -> Result<Held, Stopped> {
+        drop(held);
+        let pages = self.noted.make(self.alloc, image, mark)?;
+        self.mark = pages.mark();
+        Ok(Held::Foreign(pages))
+    }
+
+    // An empty store, in place of the one before.
+    fn empty(&mut self, held: Held) -> Held {
+        drop(held);
+        self.mark = 0;
+        Held::Kept(Kept::empty(self.alloc))
     }
 
     // What is made of the pages by a line that changes them, which are opened then.
-    fn changed(&mut self, kept: Kept, verb: Verb) -> Result<Kept, Stopped> {
+    fn changed(&mut self, held: Held, verb: Verb) -> Result<Held, Stopped> {
         self.last = verb;
-        let numbers = self.numbers.as_slice();
-        let [first, ..] = three(numbers);
+        let [first, ..] = three(self.numbers.as_slice());
         match verb {
-            Verb::Crash => kept.crash(self.alloc, first),
-            Verb::Recover => kept.crash(self.alloc, u64::MAX)?.refuse(numbers),
-            Verb::New => {
-                drop(kept);
-                self.mark = 0;
-                Kept::empty(self.alloc).refuse(numbers)
+            Verb::Crash => held.crash(self.alloc, first),
+            Verb::Recover => {
+                let left = held.crash(self.alloc, u64::MAX)?;
+                left.refuse(self.numbers.as_slice())
             }
-            Verb::Refuse => kept.refuse(numbers),
-            Verb::Unreadable => kept.unreadable(numbers),
-            Verb::Mark => Ok(self.set_aside(kept, first)),
-            _ => Ok(kept),
+            Verb::New => self.empty(held).refuse(self.numbers.as_slice()),
+            Verb::Refuse => held.refuse(self.numbers.as_slice()),
+            Verb::Unreadable => held.unreadable(self.numbers.as_slice()),
+            Verb::Mark => Ok(self.set_aside(held, first)),
+            Verb::Image(image) => self.image(held, image, first),
+            _ => Ok(held),
         }
     }
 
-    // Answers all lines.
-    fn run<R: BufRead, W: Write>(&mut self, input: &mut R, output: &mut W) -> Result<(), Stopped> {
-        let mut kept = Kept::empty(self.alloc);
+    // Does what a line asks for that changes the store, and opens it then.
+    fn renew(&mut self, state: State, verb: Verb) -> Result<State, Stopped> {
+        let held = self.changed(state.into_held(), verb)?;
+        self.open(held)
+    }
+
+    // An empty store, opened.
+    fn start(&mut self) -> Result<State, Stopped> {
+        self.open(Held::Kept(Kept::empty(self.alloc)))
+    }
+
+    // Answers lines up to one that has others run again and again, or ends.
+    fn live<W: Write, S: Source<W>>(
+        &mut self,
+        state: State,
+        source: &mut S,
+        output: &mut W,
+    ) -> Result<(State, Verb), Stopped> {
+        let mut state = state;
         for _ in 0..u64::MAX {
-            match self.live(kept, input, output)? {
-                (left, Verb::Quit) => {
-                    drop(left);
-                    return Ok(output.flush()?);
+            match self.lines(&mut state, source, output) {
+                Ok(verb @ (Verb::Quit | Verb::Sweep(_))) => return Ok((state, verb)),
+                Ok(verb) => state = self.renew(state, verb)?,
+                Err(stopped) => {
+                    drop(state.into_held());
+                    return Err(stopped);
                 }
-                (left, verb) => kept = self.changed(left, verb)?,
             }
         }
-        drop(kept);
+        drop(state.into_held());
         Err(Stopped)
+    }
+
+    // Has the lines of a file run again and again, which the line names.
+    fn sweep(&mut self, rt: &HostRuntime, sweep: Sweep) -> Result<(), Stopped> {
+        let name = bytes_of(self.alloc, self.words())?;
+        let read = read_file(rt, name.as_ref());
+        drop(name);
+        match read {
+            Some(lines) => {
+                let (alloc, out) = (self.alloc, &mut self.out);
+                tell_sweep(alloc, &Swept, sweep, lines.as_slice(), out, &mut self.why)?;
+            }
+            None => {
+                let word = words_behind(self.line.as_slice());
+                answered(quote(&mut self.why, word, "cannot be read"))?;
+            }
+        }
+        self.tell_bad()
+    }
+
+    // Answers all lines.
+    fn run<W: Write, S: Source<W>>(
+        &mut self,
+        rt: &HostRuntime,
+        source: &mut S,
+        output: &mut W,
+    ) -> Result<(), Stopped> {
+        let mut state = self.start()?;
+        for _ in 0..u64::MAX {
+            let (left, verb) = self.live(state, source, output)?;
+            state = left;
+            let Verb::Sweep(sweep) = verb else {
+                break;
+            };
+            if let Err(stopped) = self.sweep(rt, sweep) {
+                drop(state.into_held());
+                return Err(stopped);
+            }
+        }
+        drop(state.into_held());
+        Ok(output.flush()?)
+    }
+
+    // Answers all lines of a session that is run again and again.
+    fn run_swept(&mut self, source: &mut Repeats<'_>, output: &mut Vec<u8>) -> Result<(), Stopped> {
+        let state = self.start()?;
+        let (state, _) = self.live(state, source, output)?;
+        drop(state.into_held());
+        Ok(())
+    }
+}
+
+// The bytes of the file of this name, if it can be read.
+fn read_file(rt: &HostRuntime, name: &[u8]) -> Option<Vec<u8>> {
+    let Ok(path) = std::str::from_utf8(name) else {
+        return None;
+    };
+    match fs::read(rt, path) {
+        Ok(bytes) => Some(bytes),
+        Err(error) => {
+            drop(error);
+            None
+        }
+    }
+}
+
+// Lines that are read from an input, with a prompt for each of them or without.
+#[derive(Drop)]
+struct Input<R: BufRead + Drop> {
+    input: R,
+    left: usize,
+    prompts: bool,
+}
+
+impl<R: BufRead + Drop, W: Write> Source<W> for Input<R> {
+    fn next(
+        &mut self,
+        printed: &mut Vec<u8>,
+        output: &mut W,
+        line: &mut Vec<u8>,
+    ) -> Result<bool, Stopped> {
+        if self.prompts {
+            answered(push_text(printed, b"> "))?;
+        }
+        write(output, printed)?;
+        let length = read_line(&mut self.input, output, line, &mut self.left)?;
+        Ok(length > 0)
+    }
+}
+
+// Sessions that are run again and again.
+struct Swept;
+
+impl Sessions for Swept {
+    fn run(
+        &self,
+        alloc: Global,
+        source: &mut Repeats<'_>,
+        output: &mut Vec<u8>,
+    ) -> Result<bool, Stopped> {
+        let mut shell = Shell::new(alloc, false, true);
+        let ran = shell.run_swept(source, output);
+        let good = shell.good;
+        drop(shell);
+        ran?;
+        Ok(good)
     }
 }
 
 /// Runs the lines of an input as a session: whether each of them could be read.
-pub fn run<R: BufRead, W: Write>(
-    alloc: Global,
-    input: &mut R,
+pub fn run<R: BufRead + Drop, W: Write>(
+    rt: &HostRuntime,
+    input: R,
     output: &mut W,
     prompts: bool,
 ) -> Result<bool, Stopped> {
-    let mut shell = Shell {
-        alloc,
-        prompts,
-        line: Vec::new(alloc),
+    let mut shell = Shell::new(rt.alloc(), prompts, false);
+    let mut source = Input {
+        input,
         left: 0,
-        number: 0,
-        good: true,
-        out: Told::new(alloc, prompts),
-        numbers: Vec::new(alloc),
-        why: Vec::new(alloc),
-        mark: 0,
-        names: Names::empty(alloc),
-        subscribers: Subscribers::empty(alloc),
-        last: Verb::Quit,
-        refused: None,
+        prompts,
     };
-    let ran = shell.run(input, output);
+    let ran = shell.run(rt, &mut source, output);
     let good = shell.good;
     drop(shell);
     ran?;
@@ -709,13 +902,14 @@ pub fn run<R: BufRead, W: Write>(
 
 /// Texts of lines, each a session of its own.
 #[derive(Clone, Copy)]
-pub struct Sessions;
+pub struct Texts<'a> {
+    pub rt: &'a HostRuntime,
+}
 
-impl Program for Sessions {
-    fn run(&self, alloc: Global, lines: &[u8], printed: &mut Vec<u8>) -> sled_nodes::Result<()> {
-        let mut input = lines;
-        // Nothing is read or written but in memory, so it was that which was missing.
-        match run(alloc, &mut input, printed, false) {
+impl Program for Texts<'_> {
+    fn run(&self, _alloc: Global, lines: &[u8], printed: &mut Vec<u8>) -> sled_nodes::Result<()> {
+        // Nothing is written but to memory, so it was that which was missing.
+        match run(self.rt, lines, printed, false) {
             Ok(_) => Ok(()),
             Err(_) => Err(Error::NoMemory),
         }
