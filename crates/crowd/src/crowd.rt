@@ -124,14 +124,15 @@ fn are_pairs(trees: &[Collection], pairs: &[(IVec, IVec)]) -> bool {
     }
 }
 
-// The machine and its tree.
-struct Side {
-    machine: Machine<MemPages>,
-    tree: Tree,
+/// The machine and its tree.
+pub struct Side {
+    pub machine: Machine<MemPages>,
+    pub tree: Tree,
 }
 
 impl Side {
-    fn over(db: Db<MemPages>) -> Result<Side, Stopped> {
+    /// A machine over a database, and its default tree.
+    pub fn over(db: Db<MemPages>) -> Result<Side, Stopped> {
         match db.default_tree() {
             Ok(tree) => Ok(Side {
                 machine: Machine::new(db),
@@ -145,14 +146,15 @@ impl Side {
         }
     }
 
-    // The database. The calls in flight are given up.
-    fn into_db(self) -> Db<MemPages> {
+    /// The database. The calls in flight are given up.
+    pub fn into_db(self) -> Db<MemPages> {
         let Side { machine, tree } = self;
         drop(tree);
         machine.into_db()
     }
 
-    fn begin(&mut self, call: Call) -> Outcome {
+    /// Begins a call.
+    pub fn begin(&mut self, call: Call) -> Outcome {
         match self.machine.begin(&self.tree, call) {
             Ok(slot) => Outcome::Begun(slot),
             Err(error) => Outcome::Refused(error),

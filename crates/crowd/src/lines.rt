@@ -2,6 +2,7 @@
 
 use crate::counting::{Counting, kept_of};
 use crate::crowd::run_calls;
+use crate::images::tell_images;
 use crate::many::{find, load, overtake, run_steps};
 use line_files::Program;
 use shell_parts::known::tell_known;
@@ -29,6 +30,7 @@ use std::sync::atomic::{AtomicU64, Ordering};
 #[derive(Clone, Copy)]
 enum Word {
     Crowd,
+    Images,
     Load,
     Find,
     Overtake,
@@ -40,8 +42,9 @@ enum Word {
 }
 
 // The words, and how many numbers each of them takes.
-const WORDS: [(&str, Word, usize); 9] = [
+const WORDS: [(&str, Word, usize); 10] = [
     ("crowd", Word::Crowd, 2),
+    ("images", Word::Images, 2),
     ("load", Word::Load, 3),
     ("find", Word::Find, 2),
     ("overtake", Word::Overtake, 2),
@@ -125,6 +128,7 @@ fn own(
 ) -> Result<Answer> {
     match word {
         Word::Crowd => run_calls(alloc, numbers[0], numbers[1], out)?,
+        Word::Images => tell_images(alloc, numbers[0], numbers[1], out)?,
         Word::Load => load(alloc, session, reads, numbers, out)?,
         Word::Find => find(alloc, session, reads, numbers, out)?,
         Word::Overtake => overtake(alloc, session, numbers, out)?,
