@@ -1,6 +1,6 @@
 //! A batch as it is filled, copied and compared.
 use sled_batch::Batch;
-use sled_nodes::Result;
+use sled_nodes::{IVec, Result};
 use std::alloc::Global;
 
 /// One write a key, the last, in the order of the keys.
@@ -22,4 +22,14 @@ pub fn copies(alloc: Global) -> Result<(bool, bool)> {
     copy.remove(alloc, b"b")?;
     let is_still = copy == batch;
     Ok((is_same, is_still))
+}
+
+/// How many writes a batch has, and whether it takes `c` out.
+pub fn written(alloc: Global) -> Result<(usize, bool)> {
+    let batch = filled(alloc)?;
+    let key = IVec::from_slice(alloc, b"c")?;
+    let takes_out = matches!(batch.writes().get(&key), Some(None));
+    let written = (batch.writes().len(), takes_out);
+    drop(batch);
+    Ok(written)
 }

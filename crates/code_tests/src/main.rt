@@ -1,9 +1,10 @@
-//! What only code can test: readers and writers that fail, a reader that waits for each answer, batches, and the
-//! errors of transactions. It prints what came of each
-//! case; `stdout` has what should have come.
+//! What only code can test: readers and writers that fail, a reader that waits for each answer, batches, the errors of transactions,
+//! and calls that no line makes. It prints what came of each case; `stdout` has what should have come.
 #![tactic(auto)]
 
 mod batches;
+mod calls;
+mod nodes;
 mod streams;
 mod transactions;
 
@@ -39,11 +40,22 @@ fn run(rt: &HostRuntime) -> io::Result<()> {
         )?,
         Err(e) => println!(rt; "{e}")?,
     }
+    println!(rt; "writes: {:?}", batches::written(rt.alloc()))?;
     tell_errors(rt)?;
     match transactions::runs(rt.alloc()) {
-        Ok(count) => println!(rt; "after three conflicts a closure was run {count} times"),
-        Err(e) => println!(rt; "{e}"),
+        Ok((count, moved)) => {
+            println!(rt; "after three conflicts a closure was run {count} times")?;
+            println!(rt; "a value is moved to another tree: {:?}", moved)?;
+        }
+        Err(e) => println!(rt; "{e}")?,
     }
+    println!(rt; "entries of copies: {:?}", nodes::counts(rt.alloc()))?;
+    println!(rt; "greatest pages: {:?}", nodes::greatest(rt.alloc()))?;
+    println!(rt;
+        "a change, taken back, made again: {:?}",
+        nodes::changes(rt.alloc())
+    )?;
+    calls::tell(rt)
 }
 
 // Prints the errors of transactions, and whether their clones are the same.

@@ -4,7 +4,7 @@ use sled::{
     UnabortableTransactionError, empty_pages,
 };
 use sled_model::Tree;
-use sled_nodes::{Error, Result};
+use sled_nodes::{Error, IVec, Result};
 use std::alloc::Global;
 use std::cell::Cell;
 
@@ -72,23 +72,50 @@ fn count_runs(db: &mut Db<MemPages>, tree: &Tree) -> u32 {
     count.get()
 }
 
-/// How often a closure is run that meets three conflicts, and takes no id.
-pub fn runs(alloc: Global) -> Result<u32> {
-    let mut db = match Db::open(alloc, empty_pages(alloc), b"weather") {
-        Ok(db) => db,
+// Moves the value of `ulm` from the first tree to the second: what it was, and whether it is gone from the one and in the other.
+fn move_value(db: &mut Db<MemPages>, from: &Tree, to: &Tree) -> Result<(Option<IVec>, bool)> {
+    drop(db.insert(from, b"ulm", b"21")?);
+    let ended: TransactionResult<Option<IVec>, ()> = db.transaction_all(&[from, to], |both| {
+        let value = both.remove(0, b"ulm")?;
+        both.insert(1, b"ulm", b"22")?;
+        Ok(value)
+    });
+    let value = ended.unwrap_or(None);
+    let is_moved = !db.contains_key(from, b"ulm")? && db.contains_key(to, b"ulm")?;
+    Ok((value, is_moved))
+}
+
+// The same between the default tree and another one.
+fn move_on(db: &mut Db<MemPages>) -> Result<(Option<IVec>, bool)> {
+    let from = db.default_tree()?;
+    let to = db.open_tree(b"other")?;
+    let moved = move_value(db, &from, &to);
+    drop(from);
+    drop(to);
+    moved
+}
+
+// How often a closure is run in the default tree.
+fn runs_on(db: &mut Db<MemPages>) -> Result<u32> {
+    let tree = db.default_tree()?;
+    let runs = count_runs(db, &tree);
+    drop(tree);
+    Ok(runs)
+}
+
+/// How often a closure is run that meets three conflicts, and takes no id; and what a value was that one moves from a tree to
+/// another, and whether it is moved.
+pub fn runs(alloc: Global) -> Result<(u32, Result<(Option<IVec>, bool)>)> {
+    match Db::open(alloc, empty_pages(alloc), b"weather") {
+        Ok(mut db) => {
+            let runs = runs_on(&mut db);
+            let moved = move_on(&mut db);
+            drop(db.into_pages());
+            Ok((runs?, moved))
+        }
         Err((pages, e)) => {
             drop(pages);
-            return Err(e);
+            Err(e)
         }
-    };
-    let runs = match db.default_tree() {
-        Ok(tree) => {
-            let runs = count_runs(&mut db, &tree);
-            drop(tree);
-            Ok(runs)
-        }
-        Err(e) => Err(e),
-    };
-    drop(db.into_pages());
-    runs
+    }
 }
