@@ -3,3 +3,4 @@ pub mod Returned
 pub mod Found
 pub mod Rising
 pub mod All
+pub mod Within

@@ -5,5 +5,6 @@ pub mod Returning
 pub mod Halves
 pub mod Posting
 pub mod Among
+pub mod Ranges
 pub mod Image
 pub mod theory

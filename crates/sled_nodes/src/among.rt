@@ -1,9 +1,10 @@
 //! Entries within a bound, in lists that are gone through from the front: those of a foreign node may be out of order. Lists
 //! that ascend are searched by halves.
-ghost use Rattle.std.specs.Prelude.{◌≡◌, ◌<◌, false, nat_eq, not, length, MatchOption, IfSome};
-ghost use Rattle.std.specs.List.{list_any};
+ghost use Rattle.std.specs.Prelude.{◌≡◌, ◌<◌, false, nat_eq, not, length, filter, MatchOption, IfSome};
+ghost use Rattle.std.specs.List.{list_any, slice_get};
 ghost use Rattle.sled_nodes.specs.Among.{bound_of, is_up_to as within_upper, is_from as within_lower};
-ghost use Rattle.sled_nodes.specs.theory.Places.{IsFirstAt, IsLastAt};
+ghost use Rattle.sled_nodes.specs.Ranges.{is_in_range, pairs_in};
+ghost use Rattle.sled_nodes.specs.theory.Places.{IsFirstAt, IsLastAt, IsPlaceOf};
 ghost use Rattle.sled_nodes.specs.theory.Returning.{IsOut};
 
 use crate::{IVec, Pid};
@@ -64,6 +65,68 @@ pub fn first_place<V>(pairs: &[(IVec, V)], bound: Bound<&[u8]>) -> Option<usize>
         }
     }
     None
+}
+
+// Whether a key is within two bounds.
+fn is_within(key: &[u8], lo: Bound<&[u8]>, hi: Bound<&[u8]>) -> bool
+    ensures { result ≡ is_in_range (record { lo = bound_of lo.entry; hi = bound_of hi.entry; back = false }) key.now }
+{
+    is_from(key, lo) && is_up_to(key, hi)
+}
+
+// How many pairs have a key within two bounds.
+fn count_within(pairs: &[(IVec, IVec)], lo: Bound<&[u8]>, hi: Bound<&[u8]>) -> usize
+    ensures { result ≡ length (pairs_in (record { lo = bound_of lo.entry; hi = bound_of hi.entry; back = false }) pairs.now) }
+{
+    let mut count = 0;
+    for i in 0..pairs.len() {
+        if is_within(pairs[i].0.as_ref(), lo, hi) {
+            count += 1;
+        }
+    }
+    count
+}
+
+// The place of the pair that is at a place of those within two bounds, from the front.
+fn place_up(
+    pairs: &[(IVec, IVec)],
+    lo: Bound<&[u8]>,
+    hi: Bound<&[u8]>,
+    place: usize,
+) -> Option<usize>
+    ensures { IsPlaceOf (slice_get (pairs_in (record { lo = bound_of lo.entry; hi = bound_of hi.entry; back = false }) pairs.now) place) pairs.now result }
+{
+    let mut count = 0;
+    for i in 0..pairs.len() {
+        if is_within(pairs[i].0.as_ref(), lo, hi) {
+            if count == place {
+                return Some(i);
+            }
+            count += 1;
+        }
+    }
+    None
+}
+
+// The same, from the front or from the back.
+pub fn place_within(
+    pairs: &[(IVec, IVec)],
+    lo: Bound<&[u8]>,
+    hi: Bound<&[u8]>,
+    back: bool,
+    place: usize,
+) -> Option<usize>
+    ensures { IsPlaceOf (slice_get (pairs_in (record { lo = bound_of lo.entry; hi = bound_of hi.entry; back = back }) pairs.now) place) pairs.now result }
+{
+    if !back {
+        return place_up(pairs, lo, hi, place);
+    }
+    let count = count_within(pairs, lo, hi);
+    if place < count {
+        place_up(pairs, lo, hi, count - 1 - place)
+    } else {
+        None
+    }
 }
 
 // The place of the one pointer to a page, `Some(None)` where there is none, and `None` where there are more.

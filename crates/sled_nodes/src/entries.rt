@@ -3,12 +3,13 @@ ghost use Rattle.std.specs.Prelude.{◌≡◌, ◌<◌, true, false, not, nat_eq
 ghost use Rattle.sled_nodes.specs.declared.error.Error.TheVariants.{NoMemory};
 ghost use Rattle.std.specs.FinMap.Entries.{put, find, where_key};
 ghost use Rattle.std.specs.Option.{option_copied};
-ghost use Rattle.std.specs.List.{list_any, remove};
+ghost use Rattle.std.specs.List.{list_any, remove, slice_get};
 ghost use Rattle.std.specs.Cmp.Lexicographic.{slice_cmp};
 ghost use Rattle.std.specs.Ordering.{nat_cmp, eq_by_cmp};
 ghost use Rattle.sled_nodes.specs.Among.{bound_of, is_up_to as within_upper, is_from as within_lower};
 ghost use Rattle.sled_nodes.specs.Node.{unpointed};
-ghost use Rattle.sled_nodes.specs.theory.Places.{IsFirstAt, IsLastAt};
+ghost use Rattle.sled_nodes.specs.Ranges.{pairs_in};
+ghost use Rattle.sled_nodes.specs.theory.Places.{IsFirstAt, IsLastAt, IsPlaceOf};
 ghost use Rattle.sled_nodes.specs.Returning.{restored, put_in};
 ghost use Rattle.sled_nodes.specs.theory.Returning.{IsOut};
 
@@ -162,6 +163,25 @@ impl<V: Drop> Entries<V> {
         pairs::put_in(&mut self.list, i, key, value)?;
         self.ascends = ascending::ascends(self.list.as_slice());
         Ok(())
+    }
+}
+
+impl Entries<IVec> {
+    /// The place of the pair that is at a place of those within two bounds, from the least key up or from the greatest down.
+    pub fn place_within(
+        &self,
+        lo: Bound<&[u8]>,
+        hi: Bound<&[u8]>,
+        back: bool,
+        place: usize,
+    ) -> Option<usize>
+        ensures { IsPlaceOf (slice_get (pairs_in (record { lo = bound_of lo.entry; hi = bound_of hi.entry; back = back }) self.now) place) self.now result }
+    {
+        if self.ascends {
+            ascending::place_within(self.list.as_slice(), lo, hi, back, place)
+        } else {
+            among::place_within(self.list.as_slice(), lo, hi, back, place)
+        }
     }
 }
 

@@ -1,9 +1,9 @@
 //! Byte strings in their order, errors, and nodes: what lies in one page of a tree.
 //!
 //! The calls of a node are stated by its bounds and entries: what it holds and what a link makes of it (`specs/Node`), its
-//! halves (`specs/Halves`), a pointer more (`specs/Posting`), what lies within a bound (`specs/Among`). A store and those who
-//! read a page hold its node together (`Shared`). A link changes it in place where one alone holds it, and is taken back by
-//! what stood there (`specs/Returning`).
+//! halves (`specs/Halves`), a pointer more (`specs/Posting`), what lies within a bound (`specs/Among`) or two
+//! (`specs/Ranges`). A store and those who read a page hold its node together (`Shared`). A link changes it in place where
+//! one alone holds it, and is taken back by what stood there (`specs/Returning`).
 #![tactic(auto)]
 
 mod among;
@@ -16,6 +16,7 @@ mod link;
 mod node;
 mod pairs;
 mod pid;
+mod ranges;
 mod shared;
 pub mod texts;
 
@@ -27,4 +28,5 @@ pub use link::Link;
 pub use node::{Data, Index, Leaf, Node, copy_pointers};
 pub use pairs::{put_pair, remove_key, value_at};
 pub use pid::{Pid, Version};
+pub use ranges::is_reversed;
 pub use shared::Shared;

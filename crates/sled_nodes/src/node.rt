@@ -7,7 +7,8 @@ ghost use Rattle.sled_nodes.specs.Order.{key_cmp};
 ghost use Rattle.sled_nodes.specs.Node.{after_link, count, pairs, pointers, value_at as value_in, without, unpointed};
 ghost use Rattle.sled_nodes.specs.Halves.{first_half, second_half, first_half_of, second_half_of, first_key, first_key_of, left_half, right_half, appended, after_receiving};
 ghost use Rattle.sled_nodes.specs.Among.{bound_of, IsSuccessor, IsPredecessor, IsPointerFor, IsPointerBefore};
-ghost use Rattle.std.specs.List.{list_all};
+ghost use Rattle.std.specs.List.{list_all, slice_get};
+ghost use Rattle.sled_nodes.specs.Ranges.{pairs_in};
 ghost use Rattle.sled_nodes.specs.Image.{all_of, all_named};
 ghost use Rattle.sled_nodes.specs.Returning.{restored, put_back, put_part, put_in};
 ghost use Rattle.sled_nodes.specs.declared.link.Link.TheVariants.{Set, Del, ParentMergeConfirm};
@@ -267,6 +268,26 @@ impl Leaf {
         ensures err { IfErr result (λ e. e ≡ NoMemory) }
     {
         match self.pairs.last_place(bound) {
+            Some(i) => {
+                let pair = &self.pairs.as_slice()[i];
+                Ok(Some(clone_pair(&pair.0, &pair.1)?))
+            },
+            None => Ok(None),
+        }
+    }
+
+    // The pair at a place of those within two bounds, from the least key up or from the greatest down.
+    fn pair_within(
+        &self,
+        lo: Bound<&[u8]>,
+        hi: Bound<&[u8]>,
+        back: bool,
+        place: usize,
+    ) -> Result<Option<(IVec, IVec)>>
+        ensures ok { IfOk result (λ found. found ≡ slice_get (pairs_in (record { lo = bound_of lo.entry; hi = bound_of hi.entry; back = back }) self.now) place) }
+        ensures err { IfErr result (λ e. e ≡ NoMemory) }
+    {
+        match self.pairs.place_within(lo, hi, back, place) {
             Some(i) => {
                 let pair = &self.pairs.as_slice()[i];
                 Ok(Some(clone_pair(&pair.0, &pair.1)?))
@@ -1041,6 +1062,28 @@ impl Node {
     {
         match &self.content {
             Data::Leaf(leaf) => leaf.last_up_to(bound),
+            Data::Index(_) => Ok(None),
+        }
+    }
+
+    /// The pair of a leaf at a place, counted from 0, of those whose keys are within two bounds: from the least key up or,
+    /// `back`, from the greatest down. An index has none. Refused with `NoMemory` alone.
+    ///
+    /// ```
+    /// let third = node.pair_within(Bound::Included(b"ulm"), Bound::Unbounded, false, 2)?; // The third pair from `ulm` on.
+    /// ```
+    pub fn pair_within(
+        &self,
+        lo: Bound<&[u8]>,
+        hi: Bound<&[u8]>,
+        back: bool,
+        place: usize,
+    ) -> Result<Option<(IVec, IVec)>>
+        ensures ok { IfOk result (λ found. found ≡ slice_get (pairs_in (record { lo = bound_of lo.entry; hi = bound_of hi.entry; back = back }) (pairs self.now.content)) place) }
+        ensures err { IfErr result (λ e. e ≡ NoMemory) }
+    {
+        match &self.content {
+            Data::Leaf(leaf) => leaf.pair_within(lo, hi, back, place),
             Data::Index(_) => Ok(None),
         }
     }

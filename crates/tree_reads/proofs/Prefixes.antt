@@ -9,7 +9,8 @@ use Rattle.std.specs.declared.cmp.Ordering.TheVariants.{Less, Equal, Greater}
 use Rattle.std.specs.declared.ops.Bound.TheVariants.{Included, Excluded}
 use Rattle.sled_nodes.specs.Order.{Key, key_cmp}
 use Rattle.sled_nodes.specs.Among.{is_up_to, is_from}
-use Rattle.tree_reads.specs.Ranges.{pairs_within, is_reversed}
+use Rattle.sled_nodes.specs.Ranges.{is_reversed}
+use Rattle.tree_reads.specs.Ranges.{pairs_within}
 use Rattle.tree_reads.specs.Prefixes.{IsBytes, or_raised, raised_key, below, raised, pairs_beginning, PrefixLaw}
 
 -- the last byte is raised

@@ -10,6 +10,7 @@ use Rattle.std.specs.declared.ops.Bound.TheVariants.{Included, Excluded, Unbound
 use Rattle.sled_nodes.specs.Order.{Key, key_cmp, Below}
 use Rattle.sled_store.specs.In.{In}
 use Rattle.sled_nodes.specs.Among.{is_up_to, is_from, IsFirst, IsLast, IsSuccessor, IsPredecessor}
+use Rattle.sled_nodes.specs.Ranges.{is_reversed}
 use Rattle.sled_store.specs.State.{nodes_of}
 use Rattle.sled_store.specs.Store.{Store, now, AreGiven}
 use Rattle.sled_store.specs.declared.page.View.{View}
@@ -19,7 +20,7 @@ use Rattle.tree_laws.proofs.Order.{key_total, below_irrefl, below_upto-trans, up
 use Rattle.tree_laws.proofs.Fuel.{contents_law}
 use Rattle.tree_laws.proofs.Reading.{sorted_law}
 use Rattle.tree_reads.specs.Leaves.{OfContents, SeeksAt, SeeksBackAt}
-use Rattle.tree_reads.specs.Ranges.{pairs_within, is_reversed, IsRoot}
+use Rattle.tree_reads.specs.Ranges.{pairs_within, IsRoot}
 use Rattle.tree_reads.specs.theory.Ranges.{Advances, Retreats}
 use Rattle.tree_reads.proofs.Turning.{lower}
 use Rattle.tree_reads.proofs.Seeking.{none_at, all_at, in_join, higher, above, under, nothing_below, seeks_on}

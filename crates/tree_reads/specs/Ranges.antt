@@ -1,10 +1,8 @@
 -- The pairs of a tree within two bounds.
-use Rattle.std.specs.Prelude.{◌≡◌, ◌+◌, ◌&&◌, ℕ, Bool, true, false, not, cond, filter, length, List, [], ◌∷◌, ◌++◌, ◌⊎◌, Option, Some, None, Ok, Err, Result}
+use Rattle.std.specs.Prelude.{◌≡◌, ◌+◌, ◌&&◌, ℕ, Bool, true, false, cond, filter, length, List, [], ◌∷◌, ◌++◌, ◌⊎◌, Option, Some, None, Ok, Err, Result}
 use Rattle.std.specs.Iterator.{Count, at_most}
-use Rattle.std.specs.Ordering.{is_lt, is_gt}
 use Rattle.std.specs.declared.ops.Bound.{Bound}
-use Rattle.std.specs.declared.ops.Bound.TheVariants.{Included, Excluded, Unbounded}
-use Rattle.sled_nodes.specs.Order.{Key, key_cmp}
+use Rattle.sled_nodes.specs.Order.{Key}
 use Rattle.sled_nodes.specs.Among.{is_up_to, is_from}
 use Rattle.sled_store.specs.State.{State, nodes_of}
 use Rattle.sled_store.specs.Store.{Store}
@@ -15,16 +13,6 @@ use Rattle.tree_reads.specs.Walk.{RefusesWalk, once, for_each}
 -- the pairs whose keys are within both bounds
 abbrev pub pairs_within : Bound Key → Bound Key → List (Key × Key) → List (Key × Key)
 pairs_within lo hi pairs = filter (λ e. is_from lo e.0 && is_up_to hi e.0) pairs
-
--- the start stands above the end, or at it where not both are included. No start is the empty key, included
-abbrev pub is_reversed : Bound Key → Bound Key → Bool
-is_reversed (Included a) (Included b) = is_gt (key_cmp a b)
-is_reversed (Included a) (Excluded b) = not (is_lt (key_cmp a b))
-is_reversed (Excluded a) (Included b) = not (is_lt (key_cmp a b))
-is_reversed (Excluded a) (Excluded b) = not (is_lt (key_cmp a b))
-is_reversed Unbounded (Excluded b) = not (is_lt (key_cmp [] b))
-is_reversed Unbounded hi = false
-is_reversed lo Unbounded = false
 
 -- the pages are well formed, and the page is a tree's root
 pub record IsRoot (s : State) (root : ℕ) : Type 0 where

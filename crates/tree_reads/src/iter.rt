@@ -3,18 +3,19 @@ ghost use Rattle.std.specs.Prelude.{◌≡◌, false, true, [], IfOk, IfErr, OnO
 ghost use Rattle.std.specs.Iterator.{at_most};
 ghost use Rattle.std.specs.declared.ops.Bound.TheVariants.{Excluded};
 ghost use Rattle.sled_nodes.specs.Among.{bound_of};
+ghost use Rattle.sled_nodes.specs.Ranges.{is_reversed as ends_before};
 ghost use Rattle.sled_store.specs.Store.{now};
 ghost use Rattle.sled_store.specs.State.{nodes_of};
 ghost use Rattle.sled_nodes.specs.declared.error.Error.TheVariants.{NoMemory};
 ghost use Rattle.tree_laws.specs.Contents.{pairs_under};
 ghost use Rattle.tree_reads.specs.Walk.{RefusesWalk, once, for_each};
 ghost use Rattle.tree_reads.specs.Leaves.{SeeksAt, SeeksBackAt};
-ghost use Rattle.tree_reads.specs.Ranges.{pairs_within, is_reversed as ends_before, IsRoot, TakesFirst, TakesLast, whole, key_alone, value_alone, coming_count};
+ghost use Rattle.tree_reads.specs.Ranges.{pairs_within, IsRoot, TakesFirst, TakesLast, whole, key_alone, value_alone, coming_count};
 ghost use Rattle.tree_reads.specs.theory.Ranges.{Advances, Retreats, shown_of};
 
 use crate::nearest::{first_at, last_at};
 use crate::reads::{Reads, law_given};
-use sled_nodes::{IVec, Pid, Result, is_from, is_up_to};
+use sled_nodes::{IVec, Pid, Result, is_from, is_reversed, is_up_to};
 use sled_store::View;
 use std::alloc::Global;
 use std::iter::{DoubleEndedIterator, Iterator};
@@ -30,24 +31,6 @@ fn lend(bound: &Bound<IVec>) -> Bound<&[u8]>
         Bound::Included(key) => Bound::Included(key.as_ref()),
         Bound::Excluded(key) => Bound::Excluded(key.as_ref()),
         Bound::Unbounded => Bound::Unbounded,
-    }
-}
-
-// The empty key.
-const LEAST: &[u8] = &[];
-
-// Whether a range starts above its end, or at it where not both are included.
-#[tactic(auto, unfolding(sled_nodes::specs::Order::key_cmp))]
-fn is_reversed(lo: Bound<&[u8]>, hi: Bound<&[u8]>) -> bool
-    ensures { result ≡ ends_before (bound_of lo.entry) (bound_of hi.entry) }
-{
-    match (lo, hi) {
-        (Bound::Included(start), Bound::Included(end)) => start.cmp(end).is_gt(),
-        (Bound::Included(start), Bound::Excluded(end)) => !start.cmp(end).is_lt(),
-        (Bound::Excluded(start), Bound::Included(end)) => !start.cmp(end).is_lt(),
-        (Bound::Excluded(start), Bound::Excluded(end)) => !start.cmp(end).is_lt(),
-        (Bound::Unbounded, Bound::Excluded(end)) => !LEAST.cmp(end).is_lt(),
-        _ => false,
     }
 }
 

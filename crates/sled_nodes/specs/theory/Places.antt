@@ -1,5 +1,6 @@
 -- The same, by place.
-use Rattle.std.specs.Prelude.{◌≡◌, ℕ, Bool, List, length}
+use Rattle.std.specs.Prelude.{◌≡◌, ◌<◌, ℕ, Bool, List, length, Option, None, MatchOption}
+use Rattle.std.specs.List.{slice_get}
 use Rattle.sled_nodes.specs.Among.{IsFirst, IsLast}
 
 -- at this place stands the first that passes
@@ -13,3 +14,7 @@ pub record IsLastAt {X : Type 0} (passes : X → Bool) (xs : List X) (i : ℕ) :
   pub x : X
   pub last : IsLast passes xs x
   pub place : length last.before ≡ i
+
+-- at the place that was found stands the one that is wanted, or none is
+abbrev pub IsPlaceOf : {X : Type 0} → Option X → List X → Option ℕ → Type 0
+IsPlaceOf wanted xs found = MatchOption found (wanted ≡ None) (λ i. (i < length xs) × (slice_get xs i ≡ wanted))
