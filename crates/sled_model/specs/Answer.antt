@@ -1,5 +1,5 @@
 -- What a point call makes of its tree's map, what it replies, and what subscribers learn.
-use Rattle.std.specs.Prelude.{◌≡◌, ◌≢◌, Bool, Option, Some, None, is_some, Ok, Err, if◌then◌else◌}
+use Rattle.std.specs.Prelude.{◌≡◌, ◌≢◌, [], Bool, Option, Some, None, is_some, Ok, Err, if◌then◌else◌}
 use Rattle.std.specs.FinMap.Entries.{put, find}
 use Rattle.std.specs.Option.{option_eq}
 use Rattle.std.specs.Str.{bytes_eq}
@@ -7,23 +7,24 @@ use Rattle.sled_nodes.specs.Order.{Key, key_cmp}
 use Rattle.sled_nodes.specs.Node.{without}
 use Rattle.sled_model.specs.Maps.{Map, Merge}
 use Rattle.sled_model.specs.declared.call.Call.{Call}
-use Rattle.sled_model.specs.declared.call.Call.TheVariants.{Get, Insert, Remove, CompareAndSwap}
+use Rattle.sled_model.specs.declared.call.Call.TheVariants.{Get, Insert, Remove, CompareAndSwap, Scan}
 use Rattle.sled_model.specs.declared.call.Call.TheVariants as call
 use Rattle.sled_model.specs.declared.decision.Decision.{Decision}
 use Rattle.sled_model.specs.declared.decision.Effect.{Effect}
 use Rattle.sled_model.specs.declared.decision.Effect.TheVariants as effect
-use Rattle.sled_model.specs.declared.reply.Reply.TheVariants.{Value, Swapped}
+use Rattle.sled_model.specs.declared.reply.Reply.TheVariants.{Value, Swapped, End}
 use Rattle.sled_model.specs.declared.reply.Reply.{Reply}
 use Rattle.sled_model.specs.declared.event.Event.{Event}
 use Rattle.sled_model.specs.declared.event.Event.TheVariants as event
 
--- the key that a point call is about
+-- the key that a call on one key is about. A scan is about none, and has the empty one
 abbrev pub key_of : Call → Key
 key_of (Get k) = k
 key_of (Insert k v) = k
 key_of (Remove k) = k
 key_of (CompareAndSwap k old new) = k
 key_of (call.Merge k bytes) = k
+key_of (Scan lo hi back) = []
 
 -- the two are the same value, or both are none
 abbrev pub same_value : Option Key → Option Key → Bool
@@ -58,19 +59,21 @@ decision_of merge (Insert k v) value = record { effect = if same_value value (So
 decision_of merge (Remove k) value = record { effect = if is_some value then effect.Remove else effect.Nothing; reply = Value value }
 decision_of merge (CompareAndSwap k old new) value = decision_of_swap value old new
 decision_of merge (call.Merge k bytes) value = decision_of_merge merge k bytes value
+decision_of merge (Scan lo hi back) value = record { effect = effect.Nothing; reply = End }
 
 -- the reply of a swap that finds another value than it expects
 abbrev pub reply_of_swap : Option Key → Option Key → Option Key → Option Reply
 reply_of_swap value old new = if same_value value old then None else (Some (Swapped (Err (record { current = value; proposed = new }))))
 
 -- The reply of a call as the read of its value tells it, where it changes nothing. A call that has none is to link its change:
--- a merge always is, and a swap that finds what it expects
+-- a merge always is, and a swap that finds what it expects. A scan changes nothing
 abbrev pub reply_of_read : Call → Option Key → Option Reply
 reply_of_read (Get k) value = Some (Value value)
 reply_of_read (Insert k v) value = if same_value value (Some v) then (Some (Value value)) else None
 reply_of_read (Remove k) value = if is_some value then None else (Some (Value value))
 reply_of_read (CompareAndSwap k old new) value = reply_of_swap value old new
 reply_of_read (call.Merge k bytes) value = None
+reply_of_read (Scan lo hi back) value = Some End
 
 -- with a reply there is no effect, and without one there is an effect
 abbrev pub read_decides_as : Decision → Option Reply → Type 0

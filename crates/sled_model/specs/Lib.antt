@@ -3,6 +3,7 @@ pub mod Event
 pub mod Answer
 pub mod Backlog
 pub mod State
+pub mod Scan
 pub mod Ids
 pub mod Collections
 pub mod Queues
@@ -11,4 +12,4 @@ pub mod Whole
 pub mod Groups
 pub mod Imports
 pub mod Transition
-pub mod theory
+pub mod Runs

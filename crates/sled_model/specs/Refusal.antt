@@ -12,7 +12,7 @@ use Rattle.sled_model.specs.State.{State, NamedTree, CallInFlight, default_name}
 use Rattle.sled_model.specs.Ids.{greatest_of_all}
 use Rattle.sled_model.specs.Collections.{Content, contents_of, are_trees}
 use Rattle.sled_model.specs.declared.call.Call.{Call}
-use Rattle.sled_model.specs.declared.call.Call.TheVariants.{Get, Insert, Remove, CompareAndSwap}
+use Rattle.sled_model.specs.declared.call.Call.TheVariants.{Get, Insert, Remove, CompareAndSwap, Scan}
 use Rattle.sled_model.specs.declared.call.Call.TheVariants as call
 use Rattle.sled_model.specs.declared.call.Whole.{Whole}
 use Rattle.sled_model.specs.declared.call.Whole.TheVariants.{Flush, PopMin, PopMax, Clear, Group, OpenTree, DropTree, GenerateId, Import, Watch, Next, Unsubscribe}
@@ -87,6 +87,7 @@ needs_operator (Insert k v) = false
 needs_operator (Remove k) = false
 needs_operator (CompareAndSwap k old new) = false
 needs_operator (call.Merge k bytes) = true
+needs_operator (Scan lo hi back) = false
 
 abbrev pub has_operator : Option NamedTree → Bool
 has_operator None = false

@@ -1,14 +1,15 @@
 -- The state of a database with calls in flight.
-use Rattle.std.specs.Prelude.{ℕ, Bool, List, [], ◌∷◌, ◌++◌, nat_eq, ◌&&◌, Option, Some, None, option_map, codes, if◌then◌else◌}
+use Rattle.std.specs.Prelude.{◌≡◌, ℕ, Bool, List, [], ◌∷◌, ◌++◌, nat_eq, ◌&&◌, Option, Some, None, option_map, codes, if◌then◌else◌}
 use Rattle.std.specs.List.{starts_with}
-use Rattle.std.specs.declared.ops.Bound.{Bound}
 use Rattle.sled_nodes.specs.Order.{Key}
+use Rattle.sled_nodes.specs.Ranges.{Range}
 use Rattle.sled_store.specs.Update.{put_at, put_name}
 use Rattle.sled_model.specs.Maps.{Map, Maps, Merge}
 use Rattle.sled_model.specs.Event.{key_of_event}
 use Rattle.sled_model.specs.Answer.{Answer}
 use Rattle.sled_model.specs.Backlog.{Backlog, comes}
 use Rattle.sled_model.specs.declared.call.Call.{Call}
+use Rattle.sled_model.specs.declared.call.Call.TheVariants.{Scan}
 use Rattle.sled_model.specs.declared.event.Event.{Event}
 use Rattle.sled_model.specs.declared.tree.Tree.{Tree}
 
@@ -27,12 +28,6 @@ pub record Queue : Type 0 where
   pub tree : ℕ
   pub prefix : Key
   pub backlog : Backlog
-
--- a range of keys that a scan has still to read
-pub record Range : Type 0 where
-  pub lo : Bound Key
-  pub hi : Bound Key
-  pub back : Bool
 
 -- a call in flight: its tree, the call, its turns, and of a scan the pairs that wait and the range still to read
 pub record CallInFlight : Type 0 where
@@ -63,9 +58,18 @@ pub record State : Type 0 where
 abbrev pub maps_of : State → Maps
 maps_of s name = option_map (λ t. t.map) (s.trees name)
 
--- a call as it begins
+-- the range of a scan. A call on one key has none
+abbrev pub range_of : Call → Option Range
+range_of (Scan lo hi back) = Some (record { lo = lo; hi = hi; back = back })
+range_of call = None
+
+-- the call is one on a key, and no scan
+abbrev pub IsOnKey : Call → Type 0
+IsOnKey call = range_of call ≡ None
+
+-- a call as it begins: a scan has all of its range to read
 abbrev pub call_begun : Tree → Call → CallInFlight
-call_begun tree call = record { tree = tree; call = call; turns = 0; waiting = []; rest = None }
+call_begun tree call = record { tree = tree; call = call; turns = 0; waiting = []; rest = range_of call }
 
 -- the event is one that the queue waits for
 abbrev pub matches : ℕ → Event → Queue → Bool

@@ -1,11 +1,14 @@
 -- One step of the machine, by cases.
-use Rattle.std.specs.Prelude.{◌≡◌, ℕ, ◌+◌, ◌<◌, List, [], ◌∷◌, Option, Some, None}
+use Rattle.std.specs.Prelude.{◌≡◌, true, ℕ, ◌+◌, ◌<◌, List, [], ◌∷◌, Option, Some, None}
+use Rattle.sled_nodes.specs.Order.{Key}
+use Rattle.sled_nodes.specs.Ranges.{Range}
 use Rattle.sled_store.specs.Update.{put_at}
 use Rattle.sled_store.specs.Store.{Store}
 use Rattle.sled_nodes.specs.declared.error.Error.{Error}
 use Rattle.sled_model.specs.Maps.{Maps, IsLeast, IsGreatest}
 use Rattle.sled_model.specs.Answer.{answer_of}
 use Rattle.sled_model.specs.State.{State, NamedTree, CallInFlight, maps_of, call_begun, after_decision}
+use Rattle.sled_model.specs.Scan.{Reads, is_read}
 use Rattle.sled_model.specs.Refusal.{ToBegin, ToStep, ToCall, must_refuse, MayRefuse, TellsTurns, turns_limit}
 use Rattle.sled_model.specs.declared.call.Call.{Call}
 use Rattle.sled_model.specs.declared.call.Whole.{Whole}
@@ -22,7 +25,7 @@ use Rattle.sled_model.specs.declared.reply.Reply.TheVariants as told
 use Rattle.sled_model.specs.declared.outcome.Step.{Step}
 use Rattle.sled_model.specs.declared.outcome.Step.TheVariants as step
 use Rattle.sled_model.specs.declared.outcome.Outcome.{Outcome}
-use Rattle.sled_model.specs.declared.outcome.Outcome.TheVariants.{Begun, Moved, Decided, Refused, Abandoned, NoSuchSlot}
+use Rattle.sled_model.specs.declared.outcome.Outcome.TheVariants.{Begun, Moved, Yielded, Decided, Refused, Abandoned, NoSuchSlot}
 
 -- the state of a database and the store that it stands on, at one moment, and the number that a flush would answer then
 pub record Configuration : Type 0 where
@@ -36,15 +39,31 @@ pub record Begin (old : State) (tree : Tree) (call : Call) (slot : ℕ) (new : S
   pub next : slot ≡ old.slots_given + 1
   pub is : new ≡ record old { slots = put_at old.slots slot (Some (call_begun tree call)); slots_given = slot }
 
--- the call in the slot has one turn more
+-- the call in the slot has one turn more. A scan may have read a part of its range
 pub record Move (old : State) (slot : ℕ) (new : State) : Type 0 where
   pub flying : CallInFlight
   pub here : old.slots slot ≡ Some flying
   pub free : must_refuse old (ToStep flying) ≡ None
   pub fits : flying.turns < turns_limit
-  pub is : new ≡ record old { slots = put_at old.slots slot (Some (record flying { turns = flying.turns + 1 })) }
+  pub waiting : List (Key × Key)
+  pub rest : Option Range
+  pub tree : NamedTree
+  pub there : old.trees flying.tree.name ≡ Some tree
+  pub reads : Reads tree.map flying.waiting flying.rest waiting rest
+  pub is : new ≡ record old { slots = put_at old.slots slot (Some (record flying { turns = flying.turns + 1; waiting = waiting; rest = rest })) }
 
--- the call in the slot replies, changes its tree's map and fills the queues by the answer on the map now, and ends
+-- the scan in the slot gives the first pair that waits, and its turns begin again
+pub record Yield (old : State) (slot : ℕ) (key value : Key) (new : State) : Type 0 where
+  pub flying : CallInFlight
+  pub here : old.slots slot ≡ Some flying
+  pub free : must_refuse old (ToStep flying) ≡ None
+  pub fits : flying.turns < turns_limit
+  pub more : List (Key × Key)
+  pub waits : flying.waiting ≡ (key, value) ∷ more
+  pub is : new ≡ record old { slots = put_at old.slots slot (Some (record flying { turns = 0; waiting = more })) }
+
+-- The call in the slot replies, changes its tree's map and fills the queues by the answer on the map now, and ends. A scan ends where
+-- no pair waits, and nothing is left to read
 pub record Decide (old : State) (slot : ℕ) (reply : Reply) (new : State) : Type 0 where
   pub flying : CallInFlight
   pub here : old.slots slot ≡ Some flying
@@ -52,6 +71,8 @@ pub record Decide (old : State) (slot : ℕ) (reply : Reply) (new : State) : Typ
   pub fits : flying.turns < turns_limit
   pub tree : NamedTree
   pub there : old.trees flying.tree.name ≡ Some tree
+  pub none : flying.waiting ≡ []
+  pub done : is_read flying.rest ≡ true
   pub replies : reply ≡ (answer_of tree.merge flying.call tree.map).reply
   pub is : new ≡ after_decision old slot flying.tree.name tree (answer_of tree.merge flying.call tree.map)
 
@@ -144,6 +165,7 @@ transition_as old (step.Begin tree call) (Begun slot) new maps = Begin old.state
 transition_as old (step.Begin tree call) (Refused e) new maps = MayRefuse old.state old.store new.store (ToBegin tree call) e × (new.state ≡ old.state) × (maps ≡ [])
 transition_as old (step.Step slot) NoSuchSlot new maps = NoSlot old.state slot new.state × (maps ≡ [])
 transition_as old (step.Step slot) Moved new maps = Move old.state slot new.state × (maps ≡ [])
+transition_as old (step.Step slot) (Yielded key value) new maps = Yield old.state slot key value new.state × (maps ≡ [])
 transition_as old (step.Step slot) (Decided reply) new maps = Decide old.state slot reply new.state × (maps ≡ maps_of new.state ∷ [])
 transition_as old (step.Step slot) (Refused e) new maps = RefuseStep old.state old.store new.store slot e new.state × (maps ≡ [])
 transition_as old (step.Abandon slot) NoSuchSlot new maps = NoSlot old.state slot new.state × (maps ≡ [])

@@ -1,11 +1,13 @@
 //! The calls on a database.
-ghost use Rattle.std.specs.Prelude.{◌≡◌, IfOk, IfErr};
+ghost use Rattle.std.specs.Prelude.{◌≡◌, IfOk, IfErr, is_none};
 ghost use Rattle.std.specs.Option.{option_copied};
 ghost use Rattle.sled_nodes.specs.declared.error.Error.TheVariants.{NoMemory};
+ghost use Rattle.sled_nodes.specs.Among.{bound_of};
 ghost use Rattle.sled_model.specs.Answer.{key_of};
+ghost use Rattle.sled_model.specs.State.{range_of};
 ghost use Rattle.sled_model.specs.Refusal.{needs_operator};
 ghost use Rattle.sled_model.specs.Whole.{IsSameWhole};
-ghost use Rattle.sled_model.specs.declared.call.Call.TheVariants.{Get, Insert, Remove, CompareAndSwap, Merge};
+ghost use Rattle.sled_model.specs.declared.call.Call.TheVariants.{Get, Insert, Remove, CompareAndSwap, Merge, Scan};
 ghost use Rattle.sled_model.specs.declared.call.Whole.TheVariants.{Group, Import, Watch};
 
 use crate::batches::copied_batches;
@@ -16,8 +18,9 @@ use crate::tree::Tree;
 use sled_batch::Batch;
 use sled_nodes::{IVec, Result};
 use std::alloc::Global;
+use std::ops::Bound;
 
-/// A call on one key of a tree. It takes effect at one step, its deciding step.
+/// A call in flight: one on a key of a tree, which takes effect at one step, its deciding step; or a scan of a range of keys.
 #[derive(Drop, PartialEq, Eq)]
 pub enum Call {
     /// The value at a key.
@@ -30,6 +33,13 @@ pub enum Call {
     CompareAndSwap(IVec, Option<IVec>, Option<IVec>),
     /// The value at a key becomes what the merge operator of the tree makes of it and these bytes. Replies with the new value.
     Merge(IVec, IVec),
+    /// The pairs whose keys are within both bounds, one at a step, from the least key up or, `back`, from the greatest down. Replies
+    /// with `End` after the last.
+    Scan {
+        lo: Bound<IVec>,
+        hi: Bound<IVec>,
+        back: bool,
+    },
 }
 
 /// A call that is one step of the machine as a whole.
@@ -147,21 +157,78 @@ impl Call {
         Ok(Call::Merge(key, bytes))
     }
 
-    /// The key that the call is about.
+    /// The call that gives the pairs whose keys are within both bounds, one at a step: from the least key up or, `back`, from the
+    /// greatest down.
+    ///
+    /// ```
+    /// // From `ulm` on, as long as there are keys.
+    /// let call = Call::scan(alloc, Bound::Included(b"ulm"), Bound::Unbounded, false)?;
+    /// ```
+    pub fn scan(alloc: Global, lo: Bound<&[u8]>, hi: Bound<&[u8]>, back: bool) -> Result<Call>
+        ensures ok { IfOk result (λ call. call ≡ Scan (bound_of lo.entry) (bound_of hi.entry) back) }
+        ensures err { IfErr result (λ e. e ≡ NoMemory) }
+    {
+        let lo = own_bound(alloc, lo)?;
+        match own_bound(alloc, hi) {
+            Ok(hi) => Ok(Call::Scan { lo, hi, back }),
+            Err(e) => {
+                drop(lo);
+                Err(e)
+            }
+        }
+    }
+
+    /// The key that the call is about. A scan is about none, and the empty one is told.
     ///
     /// ```
     /// let key = call.key(); // Of a swap too, whose values are beside it.
     /// ```
-    pub fn key(&self) -> &IVec
+    #[inline(always)]
+    pub fn key(&self) -> &[u8]
         ensures { result.now ≡ key_of self.now }
     {
-        match self {
+        let key = match self {
             Call::Get(key) => key,
             Call::Insert(key, _) => key,
             Call::Remove(key) => key,
             Call::CompareAndSwap(key, _, _) => key,
             Call::Merge(key, _) => key,
-        }
+            Call::Scan { .. } => return &[],
+        };
+        key.as_ref()
+    }
+
+    /// A copy of the key that the call is about, which shares its bytes. Refused with `NoMemory` alone.
+    ///
+    /// ```
+    /// let key = call.clone_key(alloc)?; // Of a scan the empty one.
+    /// ```
+    #[inline(always)]
+    pub fn clone_key(&self, alloc: Global) -> Result<IVec>
+        ensures ok { IfOk result (λ key. key ≡ key_of self.now) }
+        ensures err { IfErr result (λ e. e ≡ NoMemory) }
+    {
+        let key = match self {
+            Call::Get(key) => key,
+            Call::Insert(key, _) => key,
+            Call::Remove(key) => key,
+            Call::CompareAndSwap(key, _, _) => key,
+            Call::Merge(key, _) => key,
+            Call::Scan { .. } => return IVec::from_slice(alloc, &[]),
+        };
+        key.clone()
+    }
+
+    /// Whether the call is on a key, and no scan.
+    ///
+    /// ```
+    /// let replies_once = call.is_on_key();
+    /// ```
+    #[inline(always)]
+    pub fn is_on_key(&self) -> bool
+        ensures { result ≡ is_none (range_of self.now) }
+    {
+        !matches!(self, Call::Scan { .. })
     }
 
     /// Whether the call needs the merge operator of its tree.
@@ -190,6 +257,7 @@ impl Call {
             Call::Remove(key) => Ok(Call::Remove(key.clone()?)),
             Call::CompareAndSwap(key, old, new) => copied_swap(key, old, new),
             Call::Merge(key, bytes) => copied_merge(key, bytes),
+            Call::Scan { lo, hi, back } => copied_scan(lo, hi, *back),
         }
     }
 }
@@ -245,6 +313,45 @@ fn copied_merge(key: &IVec, bytes: &IVec) -> Result<Call>
         Ok(bytes) => Ok(Call::Merge(key, bytes)),
         Err(e) => {
             drop(key);
+            Err(e)
+        }
+    }
+}
+
+// A bound of one's own.
+fn own_bound(alloc: Global, bound: Bound<&[u8]>) -> Result<Bound<IVec>>
+    ensures ok { IfOk result (λ own. own ≡ bound_of bound.entry) }
+    ensures err { IfErr result (λ e. e ≡ NoMemory) }
+{
+    match bound {
+        Bound::Included(key) => Ok(Bound::Included(IVec::from_slice(alloc, key)?)),
+        Bound::Excluded(key) => Ok(Bound::Excluded(IVec::from_slice(alloc, key)?)),
+        Bound::Unbounded => Ok(Bound::Unbounded),
+    }
+}
+
+// The same bound.
+fn copied_bound(bound: &Bound<IVec>) -> Result<Bound<IVec>>
+    ensures ok { IfOk result (λ copy. copy ≡ bound.now) }
+    ensures err { IfErr result (λ e. e ≡ NoMemory) }
+{
+    match bound {
+        Bound::Included(key) => Ok(Bound::Included(key.clone()?)),
+        Bound::Excluded(key) => Ok(Bound::Excluded(key.clone()?)),
+        Bound::Unbounded => Ok(Bound::Unbounded),
+    }
+}
+
+// The scan between copies of two bounds.
+fn copied_scan(lo: &Bound<IVec>, hi: &Bound<IVec>, back: bool) -> Result<Call>
+    ensures ok { IfOk result (λ call. call ≡ Scan lo.now hi.now back) }
+    ensures err { IfErr result (λ e. e ≡ NoMemory) }
+{
+    let lo = copied_bound(lo)?;
+    match copied_bound(hi) {
+        Ok(hi) => Ok(Call::Scan { lo, hi, back }),
+        Err(e) => {
+            drop(lo);
             Err(e)
         }
     }

@@ -1,4 +1,4 @@
-//! What a call on one key comes to, by the value that stands there.
+//! What a call on one key comes to, by the value that stands there. A scan changes nothing of any value.
 ghost use Rattle.std.specs.Prelude.{◌≡◌, IfOk, IfErr, Some};
 ghost use Rattle.std.specs.Option.{option_map, option_copied};
 ghost use Rattle.sled_nodes.specs.declared.error.Error.TheVariants.{NoMemory};
@@ -49,6 +49,10 @@ impl Call {
             Call::Remove(_) => value.is_some(),
             Call::CompareAndSwap(_, old, new) => return conflict(value, old, new),
             Call::Merge(_, _) => true,
+            Call::Scan { .. } => {
+                drop(value);
+                return Ok(Some(Reply::End));
+            }
         };
         if links {
             drop(value);
@@ -84,6 +88,13 @@ impl Call {
             },
             Call::CompareAndSwap(_, old, new) => return swap(value, old, new),
             Call::Merge(key, bytes) => return merge(alloc, key, value, bytes, operator),
+            Call::Scan { .. } => {
+                drop(value);
+                return Ok(Decision {
+                    effect: Effect::Nothing,
+                    reply: Reply::End,
+                });
+            }
         };
         Ok(Decision {
             effect,

@@ -1,6 +1,6 @@
 //! The steps of the machine and how they come out.
 use crate::{Call, Reply, Tree, Whole};
-use sled_nodes::Error;
+use sled_nodes::{Error, IVec};
 use std::marker::Model;
 
 /// Names a call in flight. Slots are numbered from 1, in order of the begins that succeeded.
@@ -37,7 +37,9 @@ pub enum Outcome {
     Begun(Slot),
     /// The call went on, and no map changed.
     Moved,
-    /// The call took effect at this step.
+    /// A scan gave its next pair.
+    Yielded(IVec, IVec),
+    /// The call took effect at this step. A scan has given all its pairs.
     Decided(Reply),
     /// The call was refused, and changed no map, but for the parts that a clear or an import did; or a group was refused midway, and the
     /// database is closed.

@@ -51,6 +51,8 @@ pub enum Reply {
     Swapped(std::result::Result<(), CompareAndSwapError>),
     /// A number, as of a flush, or an id.
     Number(u64),
+    /// A scan has given all its pairs.
+    End,
     /// The call has done what it was to do, and has nothing to tell.
     Done,
     /// The pair that was taken out, if there was one.
@@ -63,6 +65,62 @@ pub enum Reply {
     Subscriber(Subscriber),
     /// What a subscriber was told next, if something waited for it.
     Next(Option<Next>),
+}
+
+impl Reply {
+    /// The same reply. Refused with `NoMemory` alone.
+    ///
+    /// ```
+    /// let kept = Reply::Number(5).clone()?; // Beside the one that goes to the caller.
+    /// ```
+    pub fn clone(&self) -> Result<Reply>
+        ensures ok { IfOk result (λ copy. copy ≡ self.now) }
+        ensures err { IfErr result (λ e. e ≡ NoMemory) }
+    {
+        match self {
+            Reply::Value(value) => Ok(Reply::Value(clone_value(value)?)),
+            Reply::Swapped(Ok(())) => Ok(Reply::Swapped(Ok(()))),
+            Reply::Swapped(Err(conflict)) => Ok(Reply::Swapped(Err(conflict.clone()?))),
+            Reply::Number(number) => Ok(Reply::Number(*number)),
+            Reply::End => Ok(Reply::End),
+            Reply::Done => Ok(Reply::Done),
+            Reply::Pair(pair) => Ok(Reply::Pair(clone_pair(pair)?)),
+            Reply::Tree(tree) => Ok(Reply::Tree(tree.clone()?)),
+            Reply::Flag(flag) => Ok(Reply::Flag(*flag)),
+            Reply::Subscriber(subscriber) => Ok(Reply::Subscriber(Subscriber(subscriber.0))),
+            Reply::Next(next) => Ok(Reply::Next(clone_next(next)?)),
+        }
+    }
+}
+
+// The same pair, if there is one.
+fn clone_pair(pair: &Option<(IVec, IVec)>) -> Result<Option<(IVec, IVec)>>
+    ensures ok { IfOk result (λ copy. copy ≡ pair.now) }
+    ensures err { IfErr result (λ e. e ≡ NoMemory) }
+{
+    let Some((key, value)) = pair else {
+        return Ok(None);
+    };
+    let key = key.clone()?;
+    match value.clone() {
+        Ok(value) => Ok(Some((key, value))),
+        Err(e) => {
+            drop(key);
+            Err(e)
+        }
+    }
+}
+
+// What a subscriber is told, if it is told something.
+fn clone_next(next: &Option<Next>) -> Result<Option<Next>>
+    ensures ok { IfOk result (λ copy. copy ≡ next.now) }
+    ensures err { IfErr result (λ e. e ≡ NoMemory) }
+{
+    match next {
+        Some(Next::Event(event)) => Ok(Some(Next::Event(event.clone()?))),
+        Some(Next::Missed(count)) => Ok(Some(Next::Missed(*count))),
+        None => Ok(None),
+    }
 }
 
 // The same value, if there is one.

@@ -339,6 +339,7 @@ whole_told a w (outcome.Decided reply) b maps t n = where_open a.state (step.Who
 whole_told a w (outcome.Refused e) b maps t n = refused_told a w e b maps t n
 whole_told a w (outcome.Begun slot) b maps t n = absurd t
 whole_told a w outcome.Moved b maps t n = absurd t
+whole_told a w (outcome.Yielded key value) b maps t n = absurd t
 whole_told a w outcome.Abandoned b maps t n = absurd t
 whole_told a w outcome.NoSuchSlot b maps t n = absurd t
 
@@ -347,6 +348,7 @@ begin_told : (a : Configuration) (tree : Tree) (call : Call) (o : Outcome) (b : 
 begin_told a tree call (outcome.Begun slot) b maps t n = same_trees a.state b.state (ap (λ (s : State). s.trees) t.0.is) (ap (λ (s : State). s.trees_given) t.0.is) n
 begin_told a tree call (outcome.Refused e) b maps t n = same_state a.state b.state t.1 n
 begin_told a tree call outcome.Moved b maps t n = absurd t
+begin_told a tree call (outcome.Yielded key value) b maps t n = absurd t
 begin_told a tree call (outcome.Decided reply) b maps t n = absurd t
 begin_told a tree call outcome.Abandoned b maps t n = absurd t
 begin_told a tree call outcome.NoSuchSlot b maps t n = absurd t
@@ -355,6 +357,7 @@ step_told : (a : Configuration) (slot : ℕ) (o : Outcome) (b : Configuration) (
     → AreNumbered a.state → Tells a.state keeps_all (turns_of a (step.Step slot) o b maps t) b.state
 step_told a slot outcome.NoSuchSlot b maps t n = same_state a.state b.state t.0.is n
 step_told a slot outcome.Moved b maps t n = same_trees a.state b.state (ap (λ (s : State). s.trees) t.0.is) (ap (λ (s : State). s.trees_given) t.0.is) n
+step_told a slot (outcome.Yielded key value) b maps t n = same_trees a.state b.state (ap (λ (s : State). s.trees) t.0.is) (ap (λ (s : State). s.trees_given) t.0.is) n
 step_told a slot (outcome.Decided reply) b maps t n = slot_decided a.state b.state slot t.0.flying.tree.name t.0.tree t.0.flying.call t.0.is t.0.there n
 step_told a slot (outcome.Refused e) b maps t n = same_trees a.state b.state (ap (λ (s : State). s.trees) t.0.is) (ap (λ (s : State). s.trees_given) t.0.is) n
 step_told a slot (outcome.Begun i) b maps t n = absurd t
@@ -366,6 +369,7 @@ abandon_told a slot outcome.NoSuchSlot b maps t n = same_state a.state b.state t
 abandon_told a slot outcome.Abandoned b maps t n = same_trees a.state b.state (ap (λ (s : State). s.trees) t.0.is) (ap (λ (s : State). s.trees_given) t.0.is) n
 abandon_told a slot (outcome.Begun i) b maps t n = absurd t
 abandon_told a slot outcome.Moved b maps t n = absurd t
+abandon_told a slot (outcome.Yielded key value) b maps t n = absurd t
 abandon_told a slot (outcome.Decided reply) b maps t n = absurd t
 abandon_told a slot (outcome.Refused e) b maps t n = absurd t
 
