@@ -27,6 +27,9 @@ use Rattle.sled_tree.specs.Follows.{TakesWay, LinksChange}
 use Rattle.sled_tree.specs.theory.Change.{IsChangeOf}
 use Rattle.sled_tree.specs.StageAction.{LeaksNoPage}
 use Rattle.sled_tree.specs.theory.StageAction.{StageActionBy, DecidesAs, Only}
+use Rattle.sled_nodes.specs.Node.{value_at}
+use Rattle.sled_model.specs.State.{IsOnKey}
+use Rattle.sled_tree.proofs.Replying.{links_on_key}
 use Rattle.sled_tree.proofs.Basics.{none_some, some_is}
 use Rattle.sled_tree.proofs.Facts.{once_acts, leaves_replaced, rid_of_none}
 
@@ -56,13 +59,15 @@ act_moves operator j old new view change given is c = record {
       let all : List (Key × Key) = contents (nodes_at m) w t in
       let current : IsNodeNow m t j.tree.number view c.is.0 = record { named = named; page = c.is.1 } in
       let e : Effect = (decision_at operator j.call view.node.content).effect in
-      let acts : IsActing m w t j.tree.number (Included key) view = subst (λ aim. IsActing m w t j.tree.number aim view) a.2 a.0.0 in
+      let on_key : IsOnKey j.call = links_on_key j.call (value_at view.node.content (key_of j.call)) a.1 in
+      let acts : IsActing m w t j.tree.number (Included key) view = subst (λ aim. IsActing m w t j.tree.number aim view) (a.2.key on_key) a.0.0 in
       let did = wrote at t j.tree.number key view c.is.0 acts a.0.1 current given c.is.2.fresh e change.link is.0 in
       let after : snapshot_of new numbers gave ≡ after_replacement m view.pid (record { version = given; node = after_link change.link c.is.0 }) = store_replaced numbers gave c.is.2 in
       let same : decision_of operator j.call (find key_cmp key all) ≡ decision_at operator j.call view.node.content = ap (decision_of operator j.call) (answers at t j.tree.number key view c.is.0 acts current) in (
         w,
         subst (λ (z : Snapshot). KeepsForest [] [] m w z w) (sym after) (did.0),
         λ which same_one. subst (λ (o : Option Operator). DecidesAs o j change.reply old new m w (snapshot_of new numbers gave) w) (sym same_one) (subst (λ (z : Snapshot). DecidesAs operator j change.reply old new m w z w) (sym after) (record {
+          on_key = on_key;
           replies = is.1 ∙ ap (λ (d : Decision). d.reply) (sym same);
           here = did.1 ∙ ap (λ (d : Decision). map_after d.effect key all) (sym same);
           others = did.2;

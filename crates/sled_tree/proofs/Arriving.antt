@@ -10,6 +10,7 @@ use Rattle.sled_store.specs.Store.{Store, now, view_of}
 use Rattle.sled_nodes.specs.declared.node.Data.{Data}
 use Rattle.sled_nodes.specs.declared.node.Data.TheVariants.{Leaf, Index}
 use Rattle.sled_store.specs.declared.page.View.{View}
+use Rattle.sled_model.specs.State.{IsOnKey}
 use Rattle.sled_model.specs.Answer.{decision_of, reply_of_read, read_decides_as, map_after, event_of, key_of}
 use Rattle.sled_model.specs.declared.call.Call.{Call}
 use Rattle.sled_model.specs.declared.decision.Decision.{Decision}
@@ -92,16 +93,21 @@ module _ (j : Course) (view : View) (by : Reached) where
         pub acts : reply_at j.call view.node.content ≡ None → AfterPage j view by (Go (stage.Act view))
         acts changes = goes _ refl changes (λ m w is named r. let b = leaf_is view.node.content leaf in ((follows m w is r).acts b.0 b.1 under, record { fits = fits }))
 
-        pub answers : (reply : Reply) → reply_at j.call view.node.content ≡ Some reply → AfterPage j view by (Decided reply)
-        answers reply e = record {
+        -- a scan keeps it, to give its pairs
+        pub keeps : (IsOnKey j.call → ⊥) → AfterPage j view by (Go (stage.Give (record { leaf = view; given = 0 })))
+        keeps scan = goes _ refl scan (λ m w is named r. let b = leaf_is view.node.content leaf in (follows m w is r).acts b.0 b.1 under)
+
+        pub answers : (reply : Reply) → IsOnKey j.call → reply_at j.call view.node.content ≡ Some reply → AfterPage j view by (Decided reply)
+        answers reply on_key e = record {
           touches = λ s. inl refl;
           is = λ s numbers given w is named r.
               let m : Snapshot = snapshot_of s numbers given in
               let b = leaf_is view.node.content leaf in
               let all : List (Key × Key) = contents (nodes_at m) w j.tree.name in
-              let found : find key_cmp (key_of j.call) all ≡ value_at view.node.content (key_of j.call) = (follows m w is r).answers b.0 (key_of j.call) b.1 (under_covers (key_of j.call) view.node (subst (λ aim. LiesUnder aim view.node) r.1 under)) in (
+              let found : find key_cmp (key_of j.call) all ≡ value_at view.node.content (key_of j.call) = (follows m w is r).answers b.0 (key_of j.call) b.1 (under_covers (key_of j.call) view.node (subst (λ aim. LiesUnder aim view.node) (r.1.key on_key) under)) in (
                 refl,
                 λ operator any. let d : decision_of operator j.call (find key_cmp (key_of j.call) all) ≡ record { effect = effect.Nothing; reply = reply } = ap (decision_of operator j.call) found ∙ subst (read_decides_as (decision_of operator j.call (value_at view.node.content (key_of j.call)))) e (read_law operator j.call (value_at view.node.content (key_of j.call))) in record {
+                  on_key = on_key;
                   replies = sym (ap (λ (z : Decision). z.reply) d);
                   here = sym (ap (λ (z : Decision). map_after z.effect (key_of j.call) all) d);
                   others = λ u off. refl;

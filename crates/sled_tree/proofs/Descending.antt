@@ -1,6 +1,6 @@
 -- The steps of a walk.
 use native.Mathlib.Omega.{arith}
-use Rattle.std.proofs.Common.{◌≡◌, ℕ, ◌+◌, ◌<◌, ◌≤◌, true, Bool, Option, Some, None, Result, Ok, Err, IfOk, IfErr, OnOk, MatchOption, refl, sym, ap, ◌∙◌, subst, inl, inr}
+use Rattle.std.proofs.Common.{◌≡◌, ℕ, ◌+◌, ◌<◌, ◌≤◌, true, false, Bool, is_none, Option, Some, None, Result, Ok, Err, IfOk, IfErr, OnOk, MatchOption, refl, sym, ap, ◌∙◌, subst, inl, inr}
 use Rattle.sled_nodes.specs.Order.{Key}
 use Rattle.sled_nodes.specs.Among.{IsPointer, IsPointerFor}
 use Rattle.sled_nodes.specs.Node.{count, pointers}
@@ -10,11 +10,16 @@ use Rattle.sled_nodes.specs.declared.error.Error.TheVariants.{NoMemory}
 use Rattle.sled_nodes.specs.declared.node.Data.{Data}
 use Rattle.sled_nodes.specs.declared.node.Data.TheVariants.{Leaf, Index}
 use Rattle.sled_store.specs.declared.page.View.{View}
+use Rattle.sled_nodes.specs.Node.{value_at}
+use Rattle.sled_nodes.specs.Ranges.{Range}
+use Rattle.sled_model.specs.Answer.{key_of}
+use Rattle.sled_model.specs.State.{range_of, IsOnKey}
+use Rattle.sled_model.specs.declared.call.Call.{Call}
 use Rattle.sled_model.specs.declared.reply.Reply.{Reply}
 use Rattle.sled_tree.specs.Change.{reply_at}
 use Rattle.sled_tree.specs.theory.Change.{IsLeaf, IsIndex}
 use Rattle.sled_tree.specs.theory.Descent.{way_of, met_as, RepairsParent, IsClean, Meets, Leads, Descends, Settles}
-use Rattle.sled_tree.specs.Follows.{follows_here, Follows, FollowsPage, done_at, follows_read, follows_root, follows_leaf, follows_content}
+use Rattle.sled_tree.specs.Follows.{follows_here, Follows, FollowsPage, OrNoMemory, done_at, kept_at, follows_read, follows_root, follows_leaf, follows_leaf_as, follows_content}
 use Rattle.sled_tree.specs.declared.walk.Descent.TheVariants as descent
 use Rattle.sled_tree.specs.declared.flight.InFlight.{InFlight}
 use Rattle.sled_tree.specs.Course.{Course, course_of}
@@ -28,9 +33,11 @@ use Rattle.tree_laws.specs.Stages.{by_pointer}
 use Rattle.tree_laws.specs.declared.flight.Reached.{Reached}
 use Rattle.tree_laws.specs.declared.flight.Reached.TheVariants as reached
 use Rattle.sled_tree.proofs.Facts.{unable, unread, restarts}
-use Rattle.sled_tree.proofs.Arriving.{goes, root_read, cursor_read, descends, acts, answers}
+use Rattle.sled_tree.proofs.Basics.{true_false}
+use Rattle.sled_tree.proofs.Arriving.{goes, root_read, cursor_read, descends, acts, keeps, answers}
+use Rattle.sled_tree.proofs.Replying.{links_on_key}
 use Rattle.sled_tree.proofs.Following.{opened}
-use Rattle.sled_tree.proofs.Passing.{not_behind, no_root, shut_pointless, root_gone, cursor_gone, root_passes, cursor_passes, down_passes, leaf_passes}
+use Rattle.sled_tree.proofs.Passing.{not_behind, no_root, shut_pointless, root_gone, cursor_gone, root_passes, cursor_passes, down_passes, leaf_passes, kept_passes}
 
 -- a page that was read says what comes
 page_follows : (s : Store) (pid : ℕ) (found : View → Next → Type 0) (view : View) (next : Next) → s.is_readable pid ≡ true → Some view ≡ view_of pid ((now s).pages pid) → found view next → FollowsPage s pid found next
@@ -153,6 +160,14 @@ module _ (j : Course) (s : Store) where
       };
     }
 
+-- a call that has no range is on a key
+pub on_key : (call : Call) (b : Bool) → b ≡ is_none (range_of call) → b ≡ true → IsOnKey call
+on_key call b is e = go (range_of call) (sym is ∙ e)
+  where
+    go : (range : Option Range) → is_none range ≡ true → range ≡ None
+    go None e = refl
+    go (Some range) e = true_false (sym e)
+
 -- a step that was made is one of the call
 module _ (s : Store) (f : InFlight) where
   pub settles_go : (b : Stage) → Leads s (course_of f) f.stage (Go b) → Settles s f went.Moved (record { job = f.job; aim = f.aim; stage = b; turns = f.turns + 1 })
@@ -164,30 +179,45 @@ module _ (s : Store) (f : InFlight) where
   pub settles_refused : (b : Stage) (e : Error) → Leads s (course_of f) f.stage (Refused e) → Settles s f (went.Refused e) (record { job = f.job; aim = f.aim; stage = b; turns = f.turns })
   settles_refused b e l = record { advances = record { is = l.moves }; passes = record { is = tt }; follows = record { is = l.follows } }
 
-  -- at the leaf the call goes on to its change,
+  -- at the leaf a scan keeps it,
   module _ (view : View) (leaf : IsLeaf view.node.content) (clean : IsClean (course_of f) (way_of f.stage) view) (m : Meets s (course_of f) f.stage view) where
     at_leaf_follows : (next : Next) → follows_leaf (course_of f) view next → Follows (course_of f) s f.stage next s
     at_leaf_follows next t = m.follows next (clean_follows (course_of f) view (way_of f.stage) next clean (leaf_follows (course_of f) view next _ leaf t))
 
+    pub comes_to_give : is_none (range_of f.job.call) ≡ false → Settles s f went.Moved (record { job = f.job; aim = f.aim; stage = stage.Give (record { leaf = view; given = 0 }); turns = f.turns + 1 })
+    comes_to_give scan = settles_go (stage.Give (record { leaf = view; given = 0 })) (record {
+      moves = m.moves _ (keeps (course_of f) view (way_of f.stage) clean.not_merging clean.free clean.under clean.fits leaf (λ on_key. true_false (sym (ap is_none on_key) ∙ scan)));
+      passes = m.passes _ (kept_passes (course_of f) view (way_of f.stage) leaf);
+      follows = at_leaf_follows _ (go (range_of f.job.call) scan);
+    })
+      where
+        go : (range : Option Range) → is_none range ≡ false → follows_leaf_as range (course_of f) view (kept_at view)
+        go None none = true_false none
+        go (Some range) some = refl
+
+    on_key_follows : IsOnKey f.job.call → (next : Next) → OrNoMemory next (done_at view (reply_at f.job.call view.node.content)) → Follows (course_of f) s f.stage next s
+    on_key_follows on_key next t = at_leaf_follows next (subst (λ r. follows_leaf_as r (course_of f) view next) (sym on_key) t)
+
+    -- and a call on a key goes on to its change,
     pub comes_to_act : reply_at f.job.call view.node.content ≡ None → Settles s f went.Moved (record { job = f.job; aim = f.aim; stage = stage.Act view; turns = f.turns + 1 })
     comes_to_act changes = settles_go (stage.Act view) (record {
       moves = m.moves _ (acts (course_of f) view (way_of f.stage) clean.not_merging clean.free clean.under clean.fits leaf changes);
       passes = m.passes _ (leaf_passes (course_of f) view (way_of f.stage) leaf changes);
-      follows = at_leaf_follows _ (inl (sym (ap (done_at view) changes)));
+      follows = on_key_follows (links_on_key f.job.call (value_at view.node.content (key_of f.job.call)) changes) _ (inl (sym (ap (done_at view) changes)));
     })
 
     -- or is decided,
-    pub comes_to_reply : (reply : Reply) → reply_at f.job.call view.node.content ≡ Some reply → Settles s f (went.Decided reply) f
-    comes_to_reply reply e = record {
-      advances = record { is = m.moves _ (answers (course_of f) view (way_of f.stage) clean.not_merging clean.free clean.under clean.fits leaf reply e) };
+    pub comes_to_reply : (reply : Reply) → IsOnKey f.job.call → reply_at f.job.call view.node.content ≡ Some reply → Settles s f (went.Decided reply) f
+    comes_to_reply reply on_key e = record {
+      advances = record { is = m.moves _ (answers (course_of f) view (way_of f.stage) clean.not_merging clean.free clean.under clean.fits leaf reply on_key e) };
       passes = record { is = tt };
-      follows = record { is = at_leaf_follows _ (inl (sym (ap (done_at view) e))) };
+      follows = record { is = on_key_follows on_key _ (inl (sym (ap (done_at view) e))) };
     }
 
     -- or there is no memory
-    pub comes_to_nothing : (e : Error) → e ≡ NoMemory → Settles s f (went.Refused e) f
-    comes_to_nothing e none = record {
+    pub comes_to_nothing : (e : Error) → IsOnKey f.job.call → e ≡ NoMemory → Settles s f (went.Refused e) f
+    comes_to_nothing e on_key none = record {
       advances = record { is = unable (course_of f) s f.stage e none };
       passes = record { is = tt };
-      follows = record { is = at_leaf_follows _ (inr (ap Refused none)) };
+      follows = record { is = on_key_follows on_key _ (inr (ap Refused none)) };
     }

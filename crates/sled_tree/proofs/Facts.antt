@@ -302,5 +302,6 @@ by_these {by} j old new a n s = record {
 
 pub flies_by_these : {by : Option Operator → Type 0} (old new : Store) (f g : InFlight) (w : Went) → FlightStep old f w new g → FlightStepBy by old f w new g
 flies_by_these old new f g went.Moved s = record { is = (s.is.0, s.is.1, s.is.2, by_these (course_of f) old new f.stage (next.Go g.stage) s.is.3) }
+flies_by_these old new f g (went.Yielded key value) s = absurd s.is
 flies_by_these old new f g (went.Decided reply) s = record { is = by_these (course_of f) old new f.stage (next.Decided reply) s.is }
 flies_by_these old new f g (went.Refused e) s = record { is = by_these (course_of f) old new f.stage (next.Refused e) s.is }

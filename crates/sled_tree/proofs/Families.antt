@@ -14,6 +14,7 @@ use Rattle.tree_laws.specs.declared.flight.InstallLeft.{InstallLeft}
 use Rattle.tree_laws.specs.declared.flight.Split.{Split}
 use Rattle.tree_laws.specs.declared.flight.Stage.{Stage}
 use Rattle.tree_laws.specs.declared.flight.Stage.TheVariants as stage
+use Rattle.sled_tree.specs.Stages.{IsOnItsWay}
 use Rattle.sled_tree.specs.theory.Stages.{IsOffWalk, IsOfMerge, IsElsewhere}
 
 -- a stage that is none of these is of a merge
@@ -21,6 +22,7 @@ pub of_merge : (s : Stage) → IsElsewhere s → ((a : Split) → s ≡ stage.Sp
 of_merge stage.Root elsewhere split install_left post hoist swap_root free = absurd elsewhere
 of_merge (stage.Walk a) elsewhere split install_left post hoist swap_root free = absurd elsewhere
 of_merge (stage.Act a) elsewhere split install_left post hoist swap_root free = absurd elsewhere
+of_merge (stage.Give a) elsewhere split install_left post hoist swap_root free = absurd elsewhere
 of_merge (stage.Split a) elsewhere split install_left post hoist swap_root free = absurd (split a refl)
 of_merge (stage.InstallLeft a) elsewhere split install_left post hoist swap_root free = absurd (install_left a refl)
 of_merge (stage.Post a) elsewhere split install_left post hoist swap_root free = absurd (post a refl)
@@ -39,9 +41,10 @@ no_other (stage.Receive a) of intend child cap seek receive confirm = receive a 
 no_other (stage.Confirm a) of intend child cap seek receive confirm = confirm a refl
 no_other other of intend child cap seek receive confirm = of
 
--- a stage off the walk that is not to link the call's change is elsewhere
-pub elsewhere : (s : Stage) → IsOffWalk s → ((a : View) → s ≡ stage.Act a → ⊥) → IsElsewhere s
-elsewhere stage.Root off act = off
-elsewhere (stage.Walk a) off act = off
-elsewhere (stage.Act a) off act = act a refl
-elsewhere other off act = tt
+-- a stage off the walk that is not to link the call's change, nor to give pairs, is elsewhere
+pub elsewhere : (s : Stage) → IsOffWalk s → IsOnItsWay s → ((a : View) → s ≡ stage.Act a → ⊥) → IsElsewhere s
+elsewhere stage.Root off way act = off
+elsewhere (stage.Walk a) off way act = off
+elsewhere (stage.Act a) off way act = act a refl
+elsewhere (stage.Give a) off way act = way
+elsewhere other off way act = tt

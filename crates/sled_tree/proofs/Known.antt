@@ -1,19 +1,26 @@
 -- What an action of one call leaves of what another knows.
-use Rattle.std.proofs.Common.{arith, ℕ, List, [], ◌∷◌, ◌++◌, Option, refl, subst, inl, inr, ◌⊎◌}
+use Rattle.std.proofs.Common.{◌≡◌, arith, ℕ, true, false, List, [], ◌∷◌, ◌++◌, Option, Some, None, refl, sym, ap, ◌∙◌, subst, inl, inr, ◌⊎◌}
 use Rattle.sled_store.specs.In.{In}
 use Rattle.tree_laws.specs.Forest.{Tree, Forest}
 use Rattle.tree_laws.specs.Snapshot.{Snapshot, nodes_at, HasForest}
 use Rattle.tree_laws.specs.theory.Snapshot.{Guarantee, GrowsByReceiving, KeepsForest}
 use Rattle.tree_laws.specs.Stages.{owned}
+use Rattle.std.specs.declared.ops.Bound.TheVariants.{Included}
+use Rattle.sled_model.specs.Answer.{key_of}
+use Rattle.sled_nodes.specs.Order.{Key}
+use Rattle.sled_nodes.specs.Ranges.{Range}
+use Rattle.sled_model.specs.State.{IsOnKey, range_of}
 use Rattle.sled_model.specs.declared.call.Call.{Call}
+use Rattle.sled_model.specs.declared.call.Call.TheVariants.{Get, Insert, Remove, CompareAndSwap, Merge, Scan}
 use Rattle.sled_model.specs.declared.tree.Tree.{Tree as CallTree}
 use Rattle.tree_laws.specs.declared.flight.Stage.{Stage}
 use Rattle.tree_laws.specs.declared.flight.Stage.TheVariants.{Root}
 use Rattle.tree_laws.proofs.Staged.{apart_law}
 use Rattle.tree_laws.proofs.Staying.{stage_stays}
 use Rattle.tree_laws.proofs.Reading.{one_law}
-use Rattle.sled_tree.specs.Course.{Course, aim_of, course_of}
-use Rattle.sled_tree.specs.declared.flight.Aim.TheVariants.{OwnKey}
+use Rattle.sled_tree.proofs.Basics.{none_some, some_is, true_false}
+use Rattle.sled_tree.specs.Course.{Course, start_of, first_aim, aim_of, course, course_of, IsAimed}
+use Rattle.sled_tree.specs.declared.flight.Aim.TheVariants.{Own}
 use Rattle.sled_tree.specs.declared.flight.InFlight.{InFlight}
 use Rattle.sled_tree.specs.Stages.{Knows}
 use Rattle.sled_tree.specs.Known.{IsKnown}
@@ -41,6 +48,27 @@ known_kept {mine} {own} {old} {new} {w} {v} is a h k off = record {
   begins = k.begins;
 }
 
+-- what a call aims at first
+aims_at_key : (call : Call) → IsOnKey call → first_aim call ≡ Included (key_of call)
+aims_at_key (Get k) key = refl
+aims_at_key (Insert k v) key = refl
+aims_at_key (Remove k) key = refl
+aims_at_key (CompareAndSwap k a b) key = refl
+aims_at_key (Merge k bytes) key = refl
+aims_at_key (Scan lo hi back) key = cc
+
+rises_from : (call : Call) (range : Range) → range_of call ≡ Some range → range.back ≡ false → (k : Key) × (first_aim call ≡ Included k)
+rises_from (Get k) range is up = none_some is
+rises_from (Insert k v) range is up = none_some is
+rises_from (Remove k) range is up = none_some is
+rises_from (CompareAndSwap k a b) range is up = none_some is
+rises_from (Merge k bytes) range is up = none_some is
+rises_from (Scan lo hi false) range is up = (start_of lo, refl)
+rises_from (Scan lo hi true) range is up = true_false (ap (λ (r : Range). r.back) (some_is is) ∙ up)
+
+pub aims : (tree : CallTree) (call : Call) → IsAimed (course (record { tree = tree; call = call }) Own)
+aims tree call = record { key = aims_at_key call; rises = rises_from call }
+
 -- a call that begins knows nothing of the pages, and aims at its key
-pub known_new : (m : Snapshot) (tree : CallTree) (call : Call) → IsKnown m (record { job = record { tree = tree; call = call }; aim = OwnKey; stage = Root; turns = 0 })
-known_new m tree call = record { is = λ w is. (tt, tt, refl); aimed = refl; fits = omega arith; begins = λ none. refl }
+pub known_new : (m : Snapshot) (tree : CallTree) (call : Call) → IsKnown m (record { job = record { tree = tree; call = call }; aim = Own; stage = Root; turns = 0 })
+known_new m tree call = record { is = λ w is. (tt, tt, aims tree call); aimed = aims tree call; fits = omega arith; begins = λ key none. refl }

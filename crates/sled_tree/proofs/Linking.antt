@@ -35,6 +35,7 @@ module _ (change : Change) (a b : Store) (f : InFlight) (view : View) (here : f.
       passes = record { is = tt };
       follows = record { is = subst (λ z. Follows (course_of f) a z (next.Refused e) b) (sym here) (record { is = inr (e, refl, r) }) };
     };
+    replies = tt;
   }
 
   pub link_late : (present : Option ℕ) → Changes (after_link change.link) view.pid view.version a b (Err present) → LinksPrepared change a f went.Moved b (begun_again f)
@@ -44,6 +45,7 @@ module _ (change : Change) (a b : Store) (f : InFlight) (view : View) (here : f.
       passes = passes_further (now a) (now b) f (stage.Act view) stage.Root (next.Go stage.Root) (sym here) refl (act_current (course_of f) a b view (next.Go stage.Root) c);
       follows = record { is = subst (λ z. Follows (course_of f) a z (next.Go stage.Root) b) (sym here) (record { is = inl (late_follows operator (course_of f) a b view change (p.is view here) present c) }) };
     };
+    replies = tt;
   }
 
   pub link_done : (given : ℕ) → Changes (after_link change.link) view.pid view.version a b (Ok given) → LinksPrepared change a f (went.Decided change.reply) b f
@@ -53,6 +55,7 @@ module _ (change : Change) (a b : Store) (f : InFlight) (view : View) (here : f.
       passes = record { is = tt };
       follows = record { is = subst (λ z. Follows (course_of f) a z (next.Decided change.reply) b) (sym here) (record { is = inl (links_follows operator (course_of f) a b view change (p.is view here) given c) }) };
     };
+    replies = refl;
   }
 
 -- the change of a call is one of a pair, and subscribers learn of it what its effect tells them

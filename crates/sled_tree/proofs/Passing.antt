@@ -191,6 +191,15 @@ module _ (j : Course) (view : View) (by : Reached) where
         ([], ap length ((steps s j.aim path view a.0 live a.1).leaf b.0 b.1), (refl, live, changes));
   }
 
+  -- and so it is one whose pairs a scan is to give
+  pub kept_passes : IsLeaf view.node.content → AdvancesFromPage j view by (next.Go (stage.Give (record { leaf = view; given = 0 })))
+  kept_passes leaf = record {
+    is = λ s path live k.
+        let b = leaf_is view.node.content leaf in
+        let a = clean_ahead (nodes_of s) j.aim view.pid by path k in
+        ([], ap length ((steps s j.aim path view a.0 live a.1).leaf b.0 b.1), refl);
+  }
+
 -- the leaf is unchanged, so that the call does not begin again
 pub act_current : (j : Course) (old new : Store) (view : View) {change : Node → Node} {present : Option ℕ} (n : Next) → Changes change view.pid view.version old new (Err present) → AdvancesOnPath j (now old) (stage.Act view) n (now new)
 act_current j old new view n c = passes_never j (now old) (now new) (stage.Act view) n (λ path k. c.is.2 (c.is.1 ∙ ap (option_map (λ (g : Page). g.version)) k.1))

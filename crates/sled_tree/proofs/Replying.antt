@@ -3,10 +3,11 @@ use Rattle.std.proofs.Common.{◌≡◌, ◌≢◌, Bool, true, false, cond, Opt
 use Rattle.sled_nodes.specs.Order.{Key}
 use Rattle.sled_model.specs.Maps.{Merge as Operator}
 use Rattle.sled_model.specs.Answer.{decision_of, effect_of_write, reply_of_read, read_decides_as, same_value}
+use Rattle.sled_model.specs.State.{IsOnKey}
 use Rattle.sled_model.specs.declared.call.Call.{Call}
-use Rattle.sled_model.specs.declared.call.Call.TheVariants.{Get, Insert, Remove, CompareAndSwap, Merge}
+use Rattle.sled_model.specs.declared.call.Call.TheVariants.{Get, Insert, Remove, CompareAndSwap, Merge, Scan}
 use Rattle.sled_model.specs.declared.decision.Effect.TheVariants as effect
-use Rattle.sled_model.specs.declared.reply.Reply.TheVariants.{Value, Swapped}
+use Rattle.sled_model.specs.declared.reply.Reply.TheVariants.{Value, Swapped, End}
 
 written : (new : Option Key) → effect_of_write new ≢ effect.Nothing
 written None = λ e. cc
@@ -38,7 +39,20 @@ read_law operator (CompareAndSwap k old new) value = go (same_value value old)
     go false = refl
 read_law None (Merge k bytes) value = removed
 read_law (Some operator) (Merge k bytes) value = written (operator k value bytes)
+read_law operator (Scan lo hi back) value = refl
 
 -- a call that has no reply yet has an effect
 pub links_law : (operator : Option Operator) (call : Call) (value : Option Key) → reply_of_read call value ≡ None → (decision_of operator call value).effect ≢ effect.Nothing
 links_law operator call value none = subst (read_decides_as (decision_of operator call value)) none (read_law operator call value)
+
+some_none : {X P : Type 0} {x : X} → Some x ≡ None → P
+some_none e = cc
+
+-- .. and is on a key
+pub links_on_key : (call : Call) (value : Option Key) → reply_of_read call value ≡ None → IsOnKey call
+links_on_key (Get k) value none = refl
+links_on_key (Insert k v) value none = refl
+links_on_key (Remove k) value none = refl
+links_on_key (CompareAndSwap k old new) value none = refl
+links_on_key (Merge k bytes) value none = refl
+links_on_key (Scan lo hi back) value none = some_none none

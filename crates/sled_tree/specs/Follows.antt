@@ -16,7 +16,9 @@ use Rattle.sled_nodes.specs.declared.node.Node.{Node}
 use Rattle.sled_nodes.specs.declared.node.Data.{Data}
 use Rattle.sled_nodes.specs.declared.node.Data.TheVariants.{Leaf, Index}
 use Rattle.sled_store.specs.declared.page.View.{View}
+use Rattle.sled_nodes.specs.Ranges.{Range}
 use Rattle.sled_model.specs.Answer.{key_of}
+use Rattle.sled_model.specs.State.{range_of}
 use Rattle.sled_model.specs.Maps.{Merge as Operator}
 use Rattle.sled_model.specs.declared.reply.Reply.{Reply}
 use Rattle.tree_laws.specs.Snapshot.{LiesUnder}
@@ -109,8 +111,16 @@ abbrev pub done_at : View → Option Reply → Next
 done_at v (Some reply) = Decided reply
 done_at v None = Go (stage.Act v)
 
+-- a scan is to give the pairs of its leaf
+abbrev pub kept_at : View → Next
+kept_at v = Go (stage.Give (record { leaf = v; given = 0 }))
+
+abbrev pub follows_leaf_as : Option Range → Course → View → Next → Type 0
+follows_leaf_as None j v next = OrNoMemory next (done_at v (reply_at j.call v.node.content))
+follows_leaf_as (Some range) j v next = next ≡ kept_at v
+
 abbrev pub follows_leaf : Course → View → Next → Type 0
-follows_leaf j v next = OrNoMemory next (done_at v (reply_at j.call v.node.content))
+follows_leaf j v next = follows_leaf_as (range_of j.call) j v next
 
 abbrev pub follows_content : Data → Course → View → Next → Type 0
 follows_content (Index es) j v next = GoesDown j v next
@@ -306,11 +316,12 @@ follows_confirm old new a next =
     (λ _. Go (stage.Free (record { pid = a.child; version = a.version })))
     (λ _. Go stage.Root)
 
--- what a step from a stage does, and what it leads to
+-- what a step from a stage does, and what it leads to. A scan that has its leaf is gone on with elsewhere
 abbrev pub follows_as : Course → Store → Stage → Next → Store → Type 0
 follows_as j old stage.Root next new = (new ≡ old) × follows_root j old ((now old).roots j.tree.name) next
 follows_as j old (stage.Walk a) next new = (new ≡ old) × follows_walk j old a next
 follows_as j old (stage.Act v) next new = OrRefused old new next (LinksChange j old new v next)
+follows_as j old (stage.Give a) next new = ⊥
 follows_as j old (stage.Split a) next new = OrRefused old new next (follows_split old new a next)
 follows_as j old (stage.InstallLeft a) next new = OrRefused old new next (follows_install_left old new a next)
 follows_as j old (stage.Post a) next new = OrRefused old new next (follows_post old new a next)
@@ -329,6 +340,7 @@ pub record Follows (j : Course) (old : Store) (stage : Stage) (next : Next) (new
 
 abbrev pub went_as : Store → InFlight → Went → Store → InFlight → Type 0
 went_as old f went.Moved new g = Follows (course_of f) old f.stage (Go g.stage) new
+went_as old f (went.Yielded key value) new g = ⊥
 went_as old f (went.Decided reply) new g = Follows (course_of f) old f.stage (Decided reply) new
 went_as old f (went.Refused e) new g = Follows (course_of f) old f.stage (Refused e) new
 

@@ -27,11 +27,12 @@ IsAheadOf nodes aim p (reached.LaterPointer parent) path = CleanFrom nodes aim p
 IsAheadOf nodes aim p (reached.Next parent) path = ⊥
 
 -- What is ahead of a call of a clean path to its key: all of it as the call begins, then the rest from the cursor of its walk on,
--- and no page more at its leaf, which it read, changes, and finds unchanged
+-- and no page more at its leaf, which it read, and changes and finds unchanged, or gives
 abbrev pub IsOnPath : State → Course → Stage → List ℕ → Type 0
 IsOnPath s j stage.Root path = IsClean s j.tree.name j.aim path
 IsOnPath s j (stage.Walk a) path = IsAheadOf (nodes_of s) j.aim a.cursor a.reached path
 IsOnPath s j (stage.Act v) path = (path ≡ []) × IsUnchanged s v × (reply_at j.call v.node.content ≡ None)
+IsOnPath s j (stage.Give a) path = path ≡ []
 IsOnPath s j other path = ⊥
 
 -- a path with one page less is ahead of the call
@@ -40,6 +41,7 @@ IsOneCloser s j stage path = (rest : List ℕ) × (length path ≡ suc (length r
 
 abbrev pub steps_on_path_as : State → InFlight → Went → State → InFlight → Type 0
 steps_on_path_as old f went.Moved new g = (path : List ℕ) → IsOnPath old (course_of f) f.stage path → IsOneCloser new (course_of g) g.stage path
+steps_on_path_as old f (went.Yielded key value) new g = ⊥
 steps_on_path_as old f (went.Decided reply) new g = Unit {0}
 steps_on_path_as old f (went.Refused e) new g = Unit {0}
 

@@ -3,6 +3,7 @@ ghost use Rattle.std.specs.Prelude.{◌≡◌, ◌<◌, IfOk, IfErr, Some};
 ghost use Rattle.std.specs.Option.{option_map};
 ghost use Rattle.sled_store.specs.Store.{now};
 ghost use Rattle.sled_nodes.specs.declared.error.Error.TheVariants.{NoMemory};
+ghost use Rattle.sled_model.specs.Answer.{key_of};
 ghost use Rattle.sled_tree.specs.theory.StageAction.{StageActionBy, Only};
 ghost use Rattle.sled_tree.specs.Follows.{OrRefused, LinksChange};
 ghost use Rattle.sled_tree.specs.theory.Passing.{AdvancesOnPath};
@@ -12,8 +13,8 @@ ghost use Rattle.sled_tree.specs.theory.Linking.{IsAtLink, PreparesChange, Links
 ghost use Rattle.sled_tree.specs.Course.{course};
 
 use crate::flight::{Aim, InFlight, Job, Next, Went};
-use sled_model::{Decision, Effect, Event, MAX_LOOPS, MergeOperator, Reply};
-use sled_nodes::{IVec, Link, Node, Result};
+use sled_model::{Call, Decision, Effect, Event, MAX_LOOPS, MergeOperator, Reply};
+use sled_nodes::{Link, Node, Result};
 use sled_store::{Pages, View};
 use std::alloc::Global;
 use tree_laws::flight::Stage;
@@ -25,33 +26,33 @@ pub struct Change {
     pub reply: Reply,
 }
 
-// The link that has an effect at a key; without an effect there is none.
+// The link that has an effect at the key of a call; without an effect there is none.
 #[inline(always)]
-fn link_for(key: &IVec, effect: Effect) -> Result<Option<Link>>
-    ensures ok { IfOk result (λ link. link_of effect key.now ≡ link) }
+fn link_for(alloc: Global, call: &Call, effect: Effect) -> Result<Option<Link>>
+    ensures ok { IfOk result (λ link. link_of effect (key_of call.now) ≡ link) }
     ensures err { IfErr result (λ e. e ≡ NoMemory) }
 {
     match effect {
         Effect::Nothing => Ok(None),
-        Effect::Set(value) => match key.clone() {
+        Effect::Set(value) => match call.clone_key(alloc) {
             Ok(key) => Ok(Some(Link::Set(key, value))),
             Err(e) => {
                 drop(value);
                 Err(e)
             }
         },
-        Effect::Remove => Ok(Some(Link::Del(key.clone()?))),
+        Effect::Remove => Ok(Some(Link::Del(call.clone_key(alloc)?))),
     }
 }
 
-// The change by a decision at a key.
+// The change by a decision at the key of a call.
 #[inline(always)]
-fn change_by(key: &IVec, decision: Decision) -> Result<Option<Change>>
-    ensures ok { IfOk result (IsChangeBy decision key.now) }
+fn change_by(alloc: Global, call: &Call, decision: Decision) -> Result<Option<Change>>
+    ensures ok { IfOk result (IsChangeBy decision (key_of call.now)) }
     ensures err { IfErr result (λ e. e ≡ NoMemory) }
 {
     let Decision { effect, reply } = decision;
-    match link_for(key, effect) {
+    match link_for(alloc, call, effect) {
         Ok(Some(link)) => Ok(Some(Change { link, reply })),
         Ok(None) => {
             drop(reply);
@@ -76,10 +77,9 @@ fn prepare<M: MergeOperator>(
     ensures ok { IfOk result (IsChangeOf (option_map (λ o. M.meant o.now) operator.entry) job.now.call node.now.content) }
     ensures err { IfErr result (λ e. e ≡ NoMemory) }
 {
-    let key = job.call.key();
-    let value = node.get(key.as_ref())?;
+    let value = node.get(job.call.key())?;
     let decision = job.call.at_link(alloc, value, operator)?;
-    change_by(key, decision)
+    change_by(alloc, &job.call, decision)
 }
 
 // Links the call's change at the version of the leaf that it has read.

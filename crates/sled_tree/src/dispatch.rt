@@ -7,6 +7,7 @@ ghost use Rattle.sled_tree.specs.theory.StageAction.{StageAction, StageActionBy,
 ghost use Rattle.sled_tree.specs.Follows.{Follows, FollowsOn};
 ghost use Rattle.sled_tree.specs.Passing.{StepsOnPath};
 ghost use Rattle.sled_tree.specs.theory.Passing.{AdvancesOnPath};
+ghost use Rattle.sled_tree.specs.Stages.{IsOnItsWay};
 ghost use Rattle.sled_tree.specs.theory.Stages.{IsOffWalk, IsElsewhere, IsOfMerge};
 
 use crate::act::act;
@@ -30,7 +31,8 @@ fn step<P: Pages, M: MergeOperator>(
     aim: &Aim,
     stage: Stage,
 ) -> Next
-    requires { IsOffWalk stage }
+    requires off { IsOffWalk stage }
+    requires way { IsOnItsWay stage }
     ensures moves { StageActionBy (Only (option_map (λ o. M.meant o.now) operator.entry)) (course job.now aim.now) (P.store pages.old) stage result (P.store pages.new) }
     ensures passes { AdvancesOnPath (course job.now aim.now) (now (P.store pages.old)) stage result (now (P.store pages.new)) }
     ensures follows { Follows (course job.now aim.now) (P.store pages.old) stage result (P.store pages.new) }
@@ -92,6 +94,7 @@ fn advance_stage<P: Pages, M: MergeOperator>(
 ) -> Went
     requires room { flight.old.turns < MAX_LOOPS }
     requires off { IsOffWalk flight.old.stage }
+    requires way { IsOnItsWay flight.old.stage }
     ensures advances { FlightStepBy (Only (option_map (λ o. M.meant o.now) operator.entry)) (P.store pages.old) flight.old result (P.store pages.new) flight.new }
     ensures passes { StepsOnPath (now (P.store pages.old)) flight.old result (now (P.store pages.new)) flight.new }
     ensures follows { FollowsOn (P.store pages.old) flight.old result (P.store pages.new) flight.new }
@@ -110,14 +113,15 @@ fn advance_stage<P: Pages, M: MergeOperator>(
 }
 
 /// Does one step of a call in flight that has turns left: at most one page action. A merge is decided by the operator that its
-/// tree has then.
+/// tree has then. A scan that has its leaf is gone on with elsewhere.
 pub fn advance<P: Pages, M: MergeOperator>(
     pages: &mut P,
     alloc: Global,
     operator: Option<&M>,
     flight: &mut InFlight,
 ) -> Went
-    requires { flight.old.turns < MAX_LOOPS }
+    requires room { flight.old.turns < MAX_LOOPS }
+    requires way { IsOnItsWay flight.old.stage }
     ensures advances { FlightStepBy (Only (option_map (λ o. M.meant o.now) operator.entry)) (P.store pages.old) flight.old result (P.store pages.new) flight.new }
     ensures passes { StepsOnPath (now (P.store pages.old)) flight.old result (now (P.store pages.new)) flight.new }
     ensures follows { FollowsOn (P.store pages.old) flight.old result (P.store pages.new) flight.new }

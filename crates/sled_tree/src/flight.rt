@@ -1,6 +1,6 @@
 //! A call in flight as a value.
 ghost use Rattle.std.specs.Prelude.{◌≡◌};
-ghost use Rattle.sled_tree.specs.declared.flight.Aim.TheVariants.{OwnKey};
+ghost use Rattle.sled_tree.specs.declared.flight.Aim.TheVariants.{Own};
 ghost use Rattle.tree_laws.specs.declared.flight.Stage.TheVariants.{Root};
 
 use sled_model::{Call, Reply, Tree};
@@ -18,9 +18,9 @@ pub struct Job {
 /// What the walk of a call in flight aims at: the last page of a level that begins within it has what it looks for.
 #[derive(Drop)]
 pub enum Aim {
-    /// The key of the call.
-    OwnKey,
-    /// A bound that lies elsewhere: at a key, just below a key, or the top.
+    /// What the call itself names: its key, or the end of its range where a scan begins.
+    Own,
+    /// Where a scan goes on: at a key, or just below a key.
     At(Bound<IVec>),
 }
 
@@ -36,11 +36,11 @@ pub struct InFlight {
 impl InFlight {
     /// A call as it begins.
     pub fn new(tree: Tree, call: Call) -> InFlight
-        ensures { result ≡ record { job = record { tree = tree; call = call }; aim = OwnKey; stage = Root; turns = 0 } }
+        ensures { result ≡ record { job = record { tree = tree; call = call }; aim = Own; stage = Root; turns = 0 } }
     {
         InFlight {
             job: Job { tree, call },
-            aim: Aim::OwnKey,
+            aim: Aim::Own,
             stage: Stage::Root,
             turns: 0,
         }
@@ -63,7 +63,9 @@ pub enum Next {
 pub enum Went {
     /// The call goes on.
     Moved,
-    /// The call was decided.
+    /// A scan gave its next pair, and goes on.
+    Yielded(IVec, IVec),
+    /// The call was decided. A scan has given all its pairs.
     Decided(Reply),
     /// The call is refused.
     Refused(Error),

@@ -20,7 +20,7 @@ pub use dispatch::advance;
 pub use flight::{Aim, InFlight, Job, Next, Went};
 pub use sled_model::{Event, Subscriber};
 pub use tree_laws::flight::{
-    Cap, Confirm, Hoist, InstallLeft, Merge, Orphan, Post, Posting, Reached, Receive, Seek, Split,
-    Stage, SwapRoot, Walk,
+    Cap, Confirm, Giving, Hoist, InstallLeft, Merge, Orphan, Post, Posting, Reached, Receive, Seek,
+    Split, Stage, SwapRoot, Walk,
 };
 pub use tree_laws::half::Half;

@@ -5,18 +5,19 @@
 //!
 //! Every call takes most of its time here. So what a step does at such a page is inlined wherever a step is made; left to itself LLVM
 //! does that only where there is one such place.
-ghost use Rattle.std.specs.Prelude.{◌≡◌, ◌<◌, ◌↔◌, false, MatchOption, IsTrue, IfOk, IfErr};
+ghost use Rattle.std.specs.Prelude.{◌≡◌, ◌<◌, ◌↔◌, false, is_none, MatchOption, IsTrue, IfOk, IfErr};
 ghost use Rattle.std.specs.declared.ops.Bound.TheVariants.{Included};
 ghost use Rattle.sled_nodes.specs.Among.{IsPointerFor, bound_of};
 ghost use Rattle.sled_nodes.specs.Node.{count, pointers};
 ghost use Rattle.sled_nodes.specs.Posting.{IsOpen};
 ghost use Rattle.sled_store.specs.Store.{Store};
+ghost use Rattle.sled_model.specs.State.{range_of, IsOnKey};
 ghost use Rattle.tree_laws.specs.Snapshot.{LiesUnder};
 ghost use Rattle.tree_laws.specs.Stages.{by_pointer as reached_by};
 ghost use Rattle.sled_nodes.specs.declared.error.Error.TheVariants.{NoMemory};
 ghost use Rattle.sled_tree.specs.theory.Change.{IsLeaf, IsIndex};
 ghost use Rattle.sled_tree.specs.Change.{reply_at};
-ghost use Rattle.sled_tree.specs.Course.{aim_of, course, course_of};
+ghost use Rattle.sled_tree.specs.Course.{start_of, first_aim, aim_of, course, course_of};
 ghost use Rattle.sled_tree.specs.theory.Descent.{way_of, RepairsParent, IsClean, NeedsRepair, Meets, Leads, met_as, Descends, Settles};
 ghost use Rattle.sled_tree.specs.theory.Stages.{IsOffWalk};
 ghost use Rattle.tree_laws.specs.declared.flight.Stage.{Stage};
@@ -24,12 +25,12 @@ ghost use Rattle.tree_laws.specs.declared.flight.Stage.TheVariants as variant;
 
 use crate::flight::{Aim, InFlight, Job, Next, Went};
 use crate::repair::repair;
-use sled_model::{MAX_LOOPS, Reply};
-use sled_nodes::{Data, Node, Pid, Result, is_up_to};
+use sled_model::{Call, MAX_LOOPS, Reply};
+use sled_nodes::{Data, IVec, Node, Pid, Result, is_up_to};
 use sled_store::{Pages, View};
 use std::alloc::Global;
 use std::ops::Bound;
-use tree_laws::flight::{Reached, Stage, Walk};
+use tree_laws::flight::{Giving, Reached, Stage, Walk};
 
 // How far a step down came.
 #[derive(Drop)]
@@ -56,15 +57,54 @@ fn by_pointer(parent: View, first: bool) -> Reached
     }
 }
 
+// A bound, lent.
+#[inline(always)]
+fn lent(bound: &Bound<IVec>) -> Bound<&[u8]>
+    ensures { bound_of result ≡ bound.now }
+{
+    match bound {
+        Bound::Included(key) => Bound::Included(key.as_ref()),
+        Bound::Excluded(key) => Bound::Excluded(key.as_ref()),
+        Bound::Unbounded => Bound::Unbounded,
+    }
+}
+
+// The key that a range begins at, from the least key up.
+fn start_of(bound: &Bound<IVec>) -> &[u8]
+    ensures { result.now ≡ start_of bound.now }
+{
+    match bound {
+        Bound::Included(key) => key.as_ref(),
+        Bound::Excluded(key) => key.as_ref(),
+        Bound::Unbounded => &[],
+    }
+}
+
+// What the first walk of a call aims at.
+#[inline(always)]
+fn first_aim(call: &Call) -> Bound<&[u8]>
+    ensures { bound_of result ≡ first_aim call.now }
+{
+    match call {
+        Call::Scan { lo, hi, back } => {
+            if *back {
+                lent(hi)
+            } else {
+                Bound::Included(start_of(lo))
+            }
+        }
+        call => Bound::Included(call.key()),
+    }
+}
+
 // What the walk of a call aims at.
+#[inline(always)]
 pub(crate) fn target<'a>(job: &'a Job, aim: &'a Aim) -> Bound<&'a [u8]>
     ensures { bound_of result ≡ aim_of job.now aim.now }
 {
     match aim {
-        Aim::OwnKey => Bound::Included(job.call.key().as_ref()),
-        Aim::At(Bound::Included(key)) => Bound::Included(key.as_ref()),
-        Aim::At(Bound::Excluded(key)) => Bound::Excluded(key.as_ref()),
-        Aim::At(Bound::Unbounded) => Bound::Unbounded,
+        Aim::Own => first_aim(&job.call),
+        Aim::At(bound) => lent(bound),
     }
 }
 
@@ -141,9 +181,9 @@ fn covers(node: &Node, key: &[u8]) -> bool
 fn is_under(job: &Job, aim: &Aim, node: &Node) -> bool
     ensures { IsTrue result ↔ LiesUnder (aim_of job.now aim.now) node.now }
 {
-    match aim {
-        Aim::OwnKey => covers(node, job.call.key().as_ref()),
-        Aim::At(_) => lies_under(node, target(job, aim)),
+    match target(job, aim) {
+        Bound::Included(key) => covers(node, key),
+        bound => lies_under(node, bound),
     }
 }
 
@@ -152,9 +192,9 @@ fn is_under(job: &Job, aim: &Aim, node: &Node) -> bool
 fn pointer_under(job: &Job, aim: &Aim, node: &Node) -> Option<(Pid, bool)>
     ensures { IsPointerFor (aim_of job.now aim.now) (pointers node.now.content) result }
 {
-    match aim {
-        Aim::OwnKey => node.pointer(Bound::Included(job.call.key().as_ref())),
-        Aim::At(_) => node.pointer(target(job, aim)),
+    match target(job, aim) {
+        Bound::Included(key) => node.pointer(Bound::Included(key)),
+        bound => node.pointer(bound),
     }
 }
 
@@ -178,7 +218,7 @@ fn reply_at(job: &Job, node: &Node) -> Result<Option<Reply>>
     ensures ok { IfOk result (λ reply. reply ≡ reply_at job.now.call node.now.content) }
     ensures err { IfErr result (λ e. e ≡ NoMemory) }
 {
-    job.call.at_read(node.get(job.call.key().as_ref())?)
+    job.call.at_read(node.get(job.call.key())?)
 }
 
 // Puts another stage in the place of one.
@@ -273,10 +313,29 @@ pub(crate) fn settle(flight: &mut InFlight, next: Next) -> Went
     }
 }
 
-// The rest of the step at the leaf. A call that changes nothing is decided.
+// A scan keeps its leaf, to give the pairs.
 #[inline(always)]
-pub(crate) fn at_leaf(flight: &mut InFlight, view: View) -> Went
+fn keep(flight: &mut InFlight, view: View) -> Went
     requires room { flight.old.turns < MAX_LOOPS }
+    requires scan { is_none (range_of flight.old.job.call) ≡ false }
+    requires leaf { IsLeaf view.node.content }
+    requires clean { IsClean (course_of flight.old) (way_of flight.old.stage) view }
+    ensures { (s : Store) → Meets s (course_of flight.old) flight.old.stage view → Settles s flight.old result flight.new }
+{
+    let giving = Giving {
+        leaf: view,
+        given: 0,
+    };
+    set(&mut flight.stage, Stage::Give(giving));
+    flight.turns += 1;
+    Went::Moved
+}
+
+// A call on a key that changes nothing of its leaf is decided, and any other is to link its change.
+#[inline(always)]
+fn decide(flight: &mut InFlight, view: View) -> Went
+    requires room { flight.old.turns < MAX_LOOPS }
+    requires on_key { IsOnKey flight.old.job.call }
     requires leaf { IsLeaf view.node.content }
     requires clean { IsClean (course_of flight.old) (way_of flight.old.stage) view }
     ensures { (s : Store) → Meets s (course_of flight.old) flight.old.stage view → Settles s flight.old result flight.new }
@@ -295,5 +354,20 @@ pub(crate) fn at_leaf(flight: &mut InFlight, view: View) -> Went
             flight.turns += 1;
             Went::Moved
         }
+    }
+}
+
+// The rest of the step at the leaf.
+#[inline(always)]
+pub(crate) fn at_leaf(flight: &mut InFlight, view: View) -> Went
+    requires room { flight.old.turns < MAX_LOOPS }
+    requires leaf { IsLeaf view.node.content }
+    requires clean { IsClean (course_of flight.old) (way_of flight.old.stage) view }
+    ensures { (s : Store) → Meets s (course_of flight.old) flight.old.stage view → Settles s flight.old result flight.new }
+{
+    if flight.job.call.is_on_key() {
+        decide(flight, view)
+    } else {
+        keep(flight, view)
     }
 }

@@ -11,6 +11,7 @@ use Rattle.sled_store.specs.Store.{Store, now, after_action, is_refused_as, IsRe
 use Rattle.sled_model.specs.Answer.{answer_of}
 use Rattle.sled_model.specs.Maps.{Merge}
 use Rattle.sled_model.specs.Refusal.{needs_operator}
+use Rattle.sled_model.specs.State.{IsOnKey}
 use Rattle.tree_laws.specs.Crashes.{AddsCrashStates}
 use Rattle.tree_laws.specs.Forest.{Tree, Forest, Place, contents}
 use Rattle.tree_laws.specs.Snapshot.{Snapshot, snapshot_of, nodes_at, HasForest}
@@ -104,7 +105,7 @@ so_far_first all rest s e fresh = subst (λ (l : List InFlight). SoFar (jobs_of 
 })
 
 -- the next write
-pub so_far_fresh : (all : List Job) (f : InFlight) (fs rest : List InFlight) (old new : Store) → rest ≡ f ∷ fs → SoFar all rest old new → IsFresh f × (needs_operator f.job.call ≡ false)
+pub so_far_fresh : (all : List Job) (f : InFlight) (fs rest : List InFlight) (old new : Store) → rest ≡ f ∷ fs → SoFar all rest old new → IsFresh f × IsOnKey f.job.call × (needs_operator f.job.call ≡ false)
 so_far_fresh all f fs rest old new e k = (subst AreFresh e k.fresh).0
 
 -- one more is made

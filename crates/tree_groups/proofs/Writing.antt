@@ -11,6 +11,7 @@ use Rattle.sled_store.specs.declared.page.Page.{Page}
 use Rattle.sled_model.specs.Answer.{answer_of, key_of}
 use Rattle.sled_model.specs.Maps.{Map, Merge}
 use Rattle.sled_model.specs.Refusal.{needs_operator, TellsTurns, turns_limit}
+use Rattle.sled_model.specs.State.{IsOnKey}
 use Rattle.sled_model.specs.declared.TheConstants.{MAX_LOOPS}
 use Rattle.sled_model.specs.declared.call.Call.{Call}
 use Rattle.sled_model.specs.declared.call.Call.TheVariants as call
@@ -28,16 +29,18 @@ use Rattle.sled_tree.specs.Course.{Course, course, course_of}
 use Rattle.sled_tree.specs.Known.{IsKnown, AreApart}
 use Rattle.sled_tree.specs.Passing.{IsOnPath, StepsOnPath}
 use Rattle.sled_tree.specs.StageAction.{ActsAtMostOnce}
-use Rattle.sled_tree.specs.Stages.{Knows}
+use Rattle.sled_tree.specs.Follows.{FollowsOn}
+use Rattle.sled_tree.specs.Stages.{Knows, IsOnItsWay}
 use Rattle.sled_tree.specs.theory.StageAction.{StageActionBy, FlightStepBy, Only, is_action_refused_as}
-use Rattle.sled_tree.specs.declared.flight.Aim.TheVariants.{OwnKey}
+use Rattle.sled_tree.specs.declared.flight.Aim.TheVariants.{Own}
 use Rattle.sled_tree.specs.declared.flight.InFlight.{InFlight}
 use Rattle.sled_tree.specs.declared.flight.Job.{Job}
 use Rattle.sled_tree.specs.declared.flight.Next.{Next}
 use Rattle.sled_tree.specs.declared.flight.Next.TheVariants as next
 use Rattle.sled_tree.specs.declared.flight.Went.TheVariants.{Moved, Decided, Refused}
 use Rattle.sled_tree.proofs.Facts.{rests}
-use Rattle.sled_tree.proofs.Known.{known_kept, not_own}
+use Rattle.sled_tree.proofs.Known.{known_kept, not_own, aims}
+use Rattle.tree_groups.proofs.Ways.{stays_on_way}
 use Rattle.tree_groups.specs.Writes.{IsFresh, ActsOften, NoAction, OneAction, is_write_refused_as, Keeps, MakesWrite, KeepsMapsAt, StopsWriting, IsInside, OpenGroupLaw, RefusedGroupLaw, SealedGroupLaw, GroupBoundsLaw}
 
 pub none_some : {P X : Type 0} {x : X} → None ≡ Some x → P
@@ -153,6 +156,7 @@ plain_answer (call.Insert k v) plain operator map = refl
 plain_answer (call.Remove k) plain operator map = refl
 plain_answer (call.CompareAndSwap k old new) plain operator map = refl
 plain_answer (call.Merge k bytes) plain operator map = cc
+plain_answer (call.Scan lo hi back) plain operator map = refl
 
 -- ---- how far a write has come
 
@@ -160,7 +164,7 @@ plain_answer (call.Merge k bytes) plain operator map = cc
 pub record IsOnWay (j : Job) (m : Snapshot) (w : Forest) (n : Snapshot) (f : InFlight) : Type 0 where
   pub after : Forest
   pub keeps : Keeps m w n after
-  pub knows : Knows n after (course j OwnKey) f.stage
+  pub knows : Knows n after (course j Own) f.stage
   pub same : (t : Tree) → contents (nodes_at n) after t ≡ contents (nodes_at m) w t
   pub apart : (h : InFlight) → IsKnown m h → AreApart f h
 
@@ -168,29 +172,31 @@ pub record IsOnWay (j : Job) (m : Snapshot) (w : Forest) (n : Snapshot) (f : InF
 pub record HasPassed (j : Job) (s : Store) (f : InFlight) (path : List ℕ) : Type 0 where
   pub rest : List ℕ
   pub count : length path ≡ f.turns + length rest
-  pub ahead : IsOnPath (now s) (course j OwnKey) f.stage rest
+  pub ahead : IsOnPath (now s) (course j Own) f.stage rest
 
 -- from the store before the write to the store now
 pub record OnWay (j : Job) (old new : Store) (f : InFlight) : Type 0 where
-  pub course_is : course_of f ≡ course j OwnKey
+  pub course_is : course_of f ≡ course j Own
+  pub way : IsOnItsWay f.stage
   pub acts : ActsOften old new
   pub passes : (path : List ℕ) → IsClean (now old) j.tree.name (Included (key_of j.call)) path → HasPassed j new f path
   pub told : (numbers : Tree → Option ℕ) (given : ℕ → Bool) (w : Forest) → HasForest (snapshot_of old numbers given) w → numbers j.tree.name ≡ Some j.tree.number
       → IsOnWay j (snapshot_of old numbers given) w (snapshot_of new numbers given) f
 
-pub on_way_first : (s : Store) (f : InFlight) → IsFresh f → OnWay f.job s s f
-on_way_first s f fresh = record {
+pub on_way_first : (s : Store) (f : InFlight) → IsFresh f → IsOnKey f.job.call → OnWay f.job s s f
+on_way_first s f fresh key = record {
   course_is = ap course_of fresh;
+  way = subst IsOnItsWay (sym root) tt;
   acts = NoAction;
   passes = λ path clean. record {
     rest = path;
     count = none_passed f.turns (length path) (ap (λ (g : InFlight). g.turns) fresh);
-    ahead = subst (λ (z : Stage). IsOnPath (now s) (course f.job OwnKey) z path) (sym root) clean;
+    ahead = subst (λ (z : Stage). IsOnPath (now s) (course f.job Own) z path) (sym root) (subst (λ b. IsClean (now s) f.job.tree.name b path) (sym ((aims f.job.tree f.job.call).key key)) clean);
   };
   told = λ numbers given w is named. record {
     after = w;
     keeps = keeps_first (snapshot_of s numbers given) w is;
-    knows = subst (λ (z : Stage). Knows (snapshot_of s numbers given) w (course f.job OwnKey) z) (sym root) (tt, tt, refl);
+    knows = subst (λ (z : Stage). Knows (snapshot_of s numbers given) w (course f.job Own) z) (sym root) (tt, tt, aims f.job.tree f.job.call);
     same = λ t. refl;
     apart = λ h k. record { off = λ q i. absurd (subst (λ (z : Stage). In q (owned z)) root i) };
   };
@@ -203,13 +209,14 @@ on_way_first s f fresh = record {
     none_passed t n e = omega arith
 
 module _ (j : Job) (old a : Store) (f : InFlight) (k : OnWay j old a f) (b : Store) where
-  on_course : (n : Next) → StageActionBy (Only None) (course_of f) a f.stage n b → StageActionBy (Only None) (course j OwnKey) a f.stage n b
+  on_course : (n : Next) → StageActionBy (Only None) (course_of f) a f.stage n b → StageActionBy (Only None) (course j Own) a f.stage n b
   on_course n s = subst (λ (z : Course). StageActionBy (Only None) z a f.stage n b) k.course_is s
 
   -- the call goes on
-  pub on_way_more : (g : InFlight) → FlightStepBy (Only None) a f Moved b g → StepsOnPath (now a) f Moved (now b) g → OnWay j old b g
-  on_way_more g x further = record {
+  pub on_way_more : IsOnKey j.call → (g : InFlight) → FlightStepBy (Only None) a f Moved b g → StepsOnPath (now a) f Moved (now b) g → FollowsOn a f Moved b g → OnWay j old b g
+  on_way_more key g x further follows = record {
     course_is = course_on;
+    way = stays_on_way (course_of f) (subst (λ (z : Course). IsOnKey z.call) (sym k.course_is) key) a b f.stage g.stage follows.is;
     acts = often_then k.acts (often_once a b step.touches);
     passes = λ path clean.
         let p = k.passes path clean in
@@ -229,10 +236,10 @@ module _ (j : Job) (old a : Store) (f : InFlight) (k : OnWay j old a f) (b : Sto
         };
   }
     where
-      step : StageActionBy (Only None) (course j OwnKey) a f.stage (next.Go g.stage) b
+      step : StageActionBy (Only None) (course j Own) a f.stage (next.Go g.stage) b
       step = on_course (next.Go g.stage) x.is.3
 
-      course_on : course_of g ≡ course j OwnKey
+      course_on : course_of g ≡ course j Own
       course_on = ap (λ (z : Job). course z g.aim) x.is.0 ∙ ap (course f.job) x.is.1 ∙ k.course_is
 
       one_passed : (all t u rest less : ℕ) → all ≡ t + rest → u ≡ t + 1 → rest ≡ suc less → all ≡ u + less
@@ -253,7 +260,7 @@ module _ (j : Job) (old a : Store) (f : InFlight) (k : OnWay j old a f) (b : Sto
         };
   }
     where
-      step : StageActionBy (Only None) (course j OwnKey) a f.stage (next.Decided reply) b
+      step : StageActionBy (Only None) (course j Own) a f.stage (next.Decided reply) b
       step = on_course (next.Decided reply) x.is
 
   -- it is refused
@@ -272,7 +279,7 @@ module _ (j : Job) (old a : Store) (f : InFlight) (k : OnWay j old a f) (b : Sto
         };
   }
     where
-      step : StageActionBy (Only None) (course j OwnKey) a f.stage (next.Refused e) b
+      step : StageActionBy (Only None) (course j Own) a f.stage (next.Refused e) b
       step = on_course (next.Refused e) x.is
 
 pub limit_is : MAX_LOOPS ≡ turns_limit

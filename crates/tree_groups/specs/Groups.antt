@@ -7,6 +7,7 @@ use Rattle.sled_store.specs.Store.{Store, now, after_action, is_refused_as}
 use Rattle.sled_model.specs.Maps.{Map, Merge}
 use Rattle.sled_model.specs.Answer.{answer_of}
 use Rattle.sled_model.specs.Refusal.{needs_operator}
+use Rattle.sled_model.specs.State.{IsOnKey}
 use Rattle.tree_laws.specs.Contents.{trees_of}
 use Rattle.tree_laws.specs.Crashes.{AddsCrashStates, IsValid}
 use Rattle.tree_laws.specs.Forest.{Tree, Forest, contents}
@@ -15,10 +16,10 @@ use Rattle.sled_tree.specs.declared.flight.InFlight.{InFlight}
 use Rattle.sled_tree.specs.declared.flight.Job.{Job}
 use Rattle.tree_groups.specs.Writes.{IsFresh, ActsOften, is_write_refused_as, Keeps}
 
--- each call has yet to begin, and needs no operator
+-- each call has yet to begin, is one on a key, and needs no operator
 abbrev pub AreFresh : List InFlight → Type 0
 AreFresh [] = Unit {0}
-AreFresh (f ∷ fs) = (IsFresh f × (needs_operator f.job.call ≡ false)) × AreFresh fs
+AreFresh (f ∷ fs) = (IsFresh f × IsOnKey f.job.call × (needs_operator f.job.call ≡ false)) × AreFresh fs
 
 abbrev pub jobs_of : List InFlight → List Job
 jobs_of flights = map (λ f. f.job) flights

@@ -18,13 +18,13 @@ use Rattle.tree_laws.specs.Snapshot.{Snapshot, snapshot_of, nodes_at, HasForest}
 use Rattle.tree_laws.specs.declared.flight.Stage.TheVariants.{Root}
 use Rattle.sled_tree.specs.Known.{IsKnown}
 use Rattle.sled_tree.specs.StageAction.{ActsOnce}
-use Rattle.sled_tree.specs.declared.flight.Aim.TheVariants.{OwnKey}
+use Rattle.sled_tree.specs.declared.flight.Aim.TheVariants.{Own}
 use Rattle.sled_tree.specs.declared.flight.InFlight.{InFlight}
 use Rattle.sled_tree.specs.declared.flight.Job.{Job}
 
 -- a call that has yet to begin
 abbrev pub IsFresh : InFlight → Type 0
-IsFresh f = f ≡ record { job = f.job; aim = OwnKey; stage = Root; turns = 0 }
+IsFresh f = f ≡ record { job = f.job; aim = Own; stage = Root; turns = 0 }
 
 -- any number of changing actions, one after the other, of which none begins or ends a group
 pub data ActsOften : Store → Store → Type 0 where

@@ -1,6 +1,7 @@
 //! Writes of a group.
 ghost use Rattle.std.specs.Prelude.{◌≡◌, false, OnOk, IfErr};
 ghost use Rattle.sled_model.specs.Refusal.{needs_operator};
+ghost use Rattle.sled_model.specs.State.{IsOnKey};
 ghost use Rattle.sled_store.specs.Store.{now};
 ghost use Rattle.tree_groups.specs.Groups.{AreFresh, jobs_of, MakesGroup, LeavesGroup};
 ghost use Rattle.tree_groups.specs.theory.Groups.{WritesAll, StopsWritingAll};
@@ -13,8 +14,8 @@ use sled_store::Pages;
 use sled_tree::{InFlight, Went, advance};
 use std::alloc::Global;
 
-/// Makes one write: the steps of a call that has yet to begin, repairs included, until it ends. A call that is refused leaves the
-/// repairs that it made, and changes no map. It asks for no operator, so no merge can be written so; and it tells no subscriber.
+/// Makes one write: the steps of a call on a key that has yet to begin, repairs included, until it ends. A call that is refused leaves
+/// the repairs that it made, and changes no map. It asks for no operator, so no merge can be written so; and it tells no subscriber.
 ///
 /// ```
 /// pages.begin_group()?;
@@ -23,6 +24,7 @@ use std::alloc::Global;
 /// ```
 pub fn write<P: Pages>(pages: &mut P, alloc: Global, flight: InFlight) -> Result<()>
     requires fresh { IsFresh flight }
+    requires on_key { IsOnKey flight.job.call }
     requires plain { needs_operator flight.job.call ≡ false }
     ensures ok { OnOk result (MakesWrite flight.job (P.store pages.old) (P.store pages.new)) }
     ensures err { IfErr result (StopsWriting flight.job (P.store pages.old) (P.store pages.new)) }
@@ -32,6 +34,7 @@ pub fn write<P: Pages>(pages: &mut P, alloc: Global, flight: InFlight) -> Result
         let went = advance::<P, Box<dyn MergeOperator + Send>>(pages, alloc, None, &mut flight);
         match went {
             Went::Moved => {}
+            Went::Yielded(_, _) => unreachable!(),
             Went::Decided(reply) => {
                 drop(reply);
                 drop(flight);

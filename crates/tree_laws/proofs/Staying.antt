@@ -363,6 +363,7 @@ pub stage_stays : StageStays
 stage_stays mine lost old w new v o t number aim stage.Root off k = tt
 stage_stays mine lost old w new v o t number aim (stage.Walk a) off k = walking_kept o.is o.goes t number aim a k
 stage_stays mine lost old w new v o t number aim (stage.Act look) off k = (acting_kept o.goes t number aim look k.0, k.1)
+stage_stays mine lost old w new v o t number aim (stage.Give a) off k = acting_kept o.goes t number aim a.leaf k
 stage_stays mine lost old w new v o t number aim (stage.Split a) off k = splitting_kept o.is o.goes t number a k
 stage_stays mine lost old w new v o t number aim (stage.InstallLeft a) off k = replacing_kept o.is o.goes t number a (off a.right (inl refl)) k
 stage_stays mine lost old w new v o t number aim (stage.Post a) off k = posting_kept o.is o.goes t number a k

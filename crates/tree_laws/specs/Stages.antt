@@ -252,6 +252,7 @@ abbrev pub IsStage : Snapshot → Forest → Tree → ℕ → Bound Key → Stag
 IsStage m w t number aim stage.Root = Unit {0}
 IsStage m w t number aim (stage.Walk a) = IsWalking m w t number aim a
 IsStage m w t number aim (stage.Act v) = IsActing m w t number aim v × HasRoomForOne v
+IsStage m w t number aim (stage.Give a) = IsActing m w t number aim a.leaf
 IsStage m w t number aim (stage.Split a) = IsSplitting m w t number a
 IsStage m w t number aim (stage.InstallLeft a) = IsReplacing m w t number a
 IsStage m w t number aim (stage.Post a) = IsPosting m w t number a

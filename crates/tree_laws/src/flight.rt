@@ -146,6 +146,14 @@ pub struct Confirm {
     pub version: Version,
 }
 
+/// A leaf whose pairs a scan gives.
+#[derive(Drop)]
+pub struct Giving {
+    pub leaf: View,
+    /// How many pairs of the leaf the scan has given.
+    pub given: usize,
+}
+
 /// Where a call in flight stands: what its next step does.
 #[derive(Drop)]
 pub enum Stage {
@@ -155,6 +163,8 @@ pub enum Stage {
     Walk(Walk),
     /// It links its change at the version of this leaf, which it has read.
     Act(View),
+    /// It gives the next pair of this leaf, which it has read.
+    Give(Giving),
     /// It makes the right half of a split.
     Split(Split),
     /// It replaces the page that is split by its left half.

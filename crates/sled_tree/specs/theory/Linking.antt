@@ -3,6 +3,7 @@ use Rattle.std.specs.Prelude.{◌≡◌, ◌+◌, Option, Some}
 use Rattle.sled_store.specs.Store.{Store, now}
 use Rattle.sled_store.specs.declared.page.View.{View}
 use Rattle.sled_model.specs.Maps.{Merge as Operator}
+use Rattle.sled_model.specs.declared.reply.Reply.{Reply}
 use Rattle.tree_laws.specs.declared.flight.Stage.{Stage}
 use Rattle.tree_laws.specs.declared.flight.Stage.TheVariants as stage
 use Rattle.sled_tree.specs.Follows.{FollowsOn}
@@ -12,6 +13,7 @@ use Rattle.sled_tree.specs.theory.StageAction.{FlightStepBy, Only}
 use Rattle.sled_tree.specs.declared.act.Change.{Change}
 use Rattle.sled_tree.specs.declared.flight.InFlight.{InFlight}
 use Rattle.sled_tree.specs.declared.flight.Went.{Went}
+use Rattle.sled_tree.specs.declared.flight.Went.TheVariants as went
 
 -- the call is to link its change
 abbrev pub IsAtLink : Stage → Type 0
@@ -32,6 +34,14 @@ pub record StepsBy (operator : Option Operator) (old : Store) (f : InFlight) (we
   pub passes : StepsOnPath (now old) f went (now new) g
   pub follows : FollowsOn old f went new g
 
--- such a step comes of the link of a change, by each operator by which it is the call's
+-- where the call is decided, this is its reply
+abbrev pub replies_with : Reply → Went → Type 0
+replies_with reply went.Moved = Unit {0}
+replies_with reply (went.Yielded key value) = Unit {0}
+replies_with reply (went.Decided told) = told ≡ reply
+replies_with reply (went.Refused e) = Unit {0}
+
+-- such a step comes of the link of a change, by each operator by which it is the call's. The reply is the one that was prepared
 pub record LinksPrepared (change : Change) (old : Store) (f : InFlight) (went : Went) (new : Store) (g : InFlight) : Type 0 where
   pub is : (operator : Option Operator) → PreparesChange operator f (Some change) → StepsBy operator old f went new g
+  pub replies : replies_with change.reply went

@@ -6,6 +6,7 @@ use Rattle.sled_nodes.specs.declared.error.Error.{Error}
 use Rattle.sled_nodes.specs.declared.error.Error.TheVariants.{Io}
 use Rattle.sled_model.specs.Maps.{Merge as Operator}
 use Rattle.sled_model.specs.Answer.{answer_of}
+use Rattle.sled_model.specs.State.{IsOnKey}
 use Rattle.sled_model.specs.declared.reply.Reply.{Reply}
 use Rattle.tree_laws.specs.Forest.{Tree, Forest, contents}
 use Rattle.tree_laws.specs.Snapshot.{Snapshot, snapshot_of, nodes_at, HasForest}
@@ -40,9 +41,10 @@ effect_of_action (Refused e) old new = is_action_refused_as e old new
 pub record KeepsContents (old : Snapshot) (w : Forest) (new : Snapshot) (v : Forest) : Type 0 where
   pub same : (t : Tree) → contents (nodes_at new) v t ≡ contents (nodes_at old) w t
 
--- The call replies and changes its tree as its answer on the contents now says, by this operator. Without an event nothing is touched,
+-- The call, which is on a key, replies and changes its tree as its answer on the contents now says, by this operator. Without an event nothing is touched,
 -- and with one there is exactly one action
 pub record DecidesAs (operator : Option Operator) (j : Course) (reply : Reply) (a b : Store) (old : Snapshot) (w : Forest) (new : Snapshot) (v : Forest) : Type 0 where
+  pub on_key : IsOnKey j.call
   pub replies : reply ≡ (answer_of operator j.call (contents (nodes_at old) w j.tree.name)).reply
   pub here : contents (nodes_at new) v j.tree.name ≡ (answer_of operator j.call (contents (nodes_at old) w j.tree.name)).map
   pub others : (t : Tree) → t ≢ j.tree.name → contents (nodes_at new) v t ≡ contents (nodes_at old) w t
@@ -81,6 +83,7 @@ StageAction = StageActionBy Whichever
 
 abbrev pub flight_step_as : (Option Operator → Type 0) → Store → InFlight → Went → Store → InFlight → Type 0
 flight_step_as by old f went.Moved new g = (g.job ≡ f.job) × (g.aim ≡ f.aim) × (g.turns ≡ f.turns + 1) × StageActionBy by (course_of f) old f.stage (Go g.stage) new
+flight_step_as by old f (went.Yielded key value) new g = ⊥
 flight_step_as by old f (went.Decided reply) new g = StageActionBy by (course_of f) old f.stage (Decided reply) new
 flight_step_as by old f (went.Refused e) new g = StageActionBy by (course_of f) old f.stage (Refused e) new
 
@@ -91,7 +94,7 @@ pub record FlightStepBy (by : Option Operator → Type 0) (old : Store) (f : InF
 abbrev pub FlightStep : Store → InFlight → Went → Store → InFlight → Type 0
 FlightStep = FlightStepBy Whichever
 
--- a page that was just read, how the walk came to it, and that the call aims at its key
+-- a page that was just read, how the walk came to it, and that a call on a key aims at it
 abbrev pub IsReadPage : Snapshot → Forest → Course → View → Reached → Type 0
 IsReadPage m w j v by = IsHere m w j.tree.name j.tree.number j.aim v by × IsAimed j
 

@@ -18,9 +18,10 @@ IsOffWalk stage.Root = ⊥
 IsOffWalk (stage.Walk a) = ⊥
 IsOffWalk other = Unit {0}
 
--- .. and the call is not to link its change
+-- .. and the call is not to link its change, and no scan that has its leaf
 abbrev pub IsElsewhere : Stage → Type 0
 IsElsewhere stage.Root = ⊥
 IsElsewhere (stage.Walk a) = ⊥
 IsElsewhere (stage.Act a) = ⊥
+IsElsewhere (stage.Give a) = ⊥
 IsElsewhere other = Unit {0}

@@ -3,10 +3,13 @@ use Rattle.tree_groups.proofs.Writing.{on_way_first, on_way_more, on_way_decided
 use Rattle.tree_groups.proofs.group.write.Goals as goal
 
 pub loop-flight-init : goal.loop-flight-init
-loop-flight-init g c = on_way_first _ _ c.requires.fresh
+loop-flight-init g c = on_way_first _ _ c.requires.fresh c.requires.on_key
+
+pub advance-went-requires-clause-way : goal.advance-went-requires-clause-way
+advance-went-requires-clause-way g c κs within = c.loop-flight.invariant.way
 
 pub loop-flight-preserved : goal.loop-flight-preserved
-loop-flight-preserved g c = on_way_more _ _ _ _ c.loop-flight.invariant _ _ c.in-Moved.ensures.advances c.in-Moved.ensures.passes
+loop-flight-preserved g c = on_way_more _ _ _ _ c.loop-flight.invariant _ c.requires.on_key _ c.in-Moved.ensures.advances c.in-Moved.ensures.passes c.in-Moved.ensures.follows
 
 pub returns-in-Decided-clause-ok : goal.returns-in-Decided-clause-ok
 returns-in-Decided-clause-ok g c = on_way_decided _ _ _ _ c.loop-flight.invariant _ c.requires.plain _ _ c.in-Decided.ensures.advances

@@ -8,8 +8,11 @@ loop-flight-init g c = (so_far_first _ _ _ c.into_iter-flight-iterator.ensures.i
 pub write-requires-clause-fresh : goal.write-requires-clause-fresh
 write-requires-clause-fresh g c κs within = (so_far_fresh _ _ _ _ _ _ c.in-Some.ensures.steps.0 c.loop-flight.invariant.0).0
 
+pub write-requires-clause-on_key : goal.write-requires-clause-on_key
+write-requires-clause-on_key g c κs within = (so_far_fresh _ _ _ _ _ _ c.in-Some.ensures.steps.0 c.loop-flight.invariant.0).1
+
 pub write-requires-clause-plain : goal.write-requires-clause-plain
-write-requires-clause-plain g c κs within = (so_far_fresh _ _ _ _ _ _ c.in-Some.ensures.steps.0 c.loop-flight.invariant.0).1
+write-requires-clause-plain g c κs within = (so_far_fresh _ _ _ _ _ _ c.in-Some.ensures.steps.0 c.loop-flight.invariant.0).2
 
 pub loop-flight-preserved : goal.loop-flight-preserved
 loop-flight-preserved g c =
