@@ -21,12 +21,12 @@ pub use database::{
 };
 pub use direct::{compare_and_swap, insert, merge, remove};
 pub use fetch::update_and_fetch;
-pub use imports::import;
+pub use imports::{import, import_counted};
 pub use machine::{
-    abandon, begin, complete, drop_whole, finish, new_machine, run, step, turns, whole,
+    abandon, begin, complete, drop_whole, finish, new_machine, run, step, turns, whole, whole_kept,
 };
 pub use opening::{reopen_accepted, reopen_checked};
-pub use pops::{clear, pop_max, pop_min};
+pub use pops::{clear, clear_counted, pop_max, pop_min, pop_min_kept};
 pub use reads::{contains_key, get_lt, len, range};
 pub use transactions::{transaction, transaction_all};
 pub use watch::{next, unsubscribe, watch_prefix};

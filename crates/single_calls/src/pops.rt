@@ -1,14 +1,15 @@
 //! Calls of a database that take pairs out of a tree.
-ghost use Rattle.std.specs.Prelude.{IfOk, IfErr, OnOk};
+ghost use Rattle.std.specs.Prelude.{◌≡◌, IfOk, IfErr, OnOk};
 ghost use Rattle.sled_model.specs.Maps.{IsLeast, IsGreatest};
 ghost use Rattle.sled_model.specs.declared.call.Whole.TheVariants.{PopMin, PopMax, Clear};
 ghost use Rattle.sled_model.specs.declared.reply.Reply.TheVariants.{Pair, Done};
 ghost use Rattle.tree_reads.specs.Walk.{once, for_each};
 ghost use Rattle.sled.specs.Direct.{WholeDecided, WholeRefused};
+ghost use Rattle.sled.specs.Parts.{ClearsParts};
 ghost use Rattle.sled.specs.Pops.{PopsBySteps, PopRefusedBySteps, GivesUpPop, ClearsBySteps, ClearRefusedBySteps};
 
 use sled::Db;
-use sled_model::{MergeOperator, Tree};
+use sled_model::{MergeOperator, Reply, Tree};
 use sled_nodes::{IVec, Result};
 use sled_store::Pages;
 
@@ -48,4 +49,28 @@ pub fn clear<P: Pages, M: MergeOperator>(db: &mut Db<P, M>, tree: &Tree) -> Resu
     ensures refused { IfErr result (λ e. ClearRefusedBySteps P.store M.meant db.old tree.now e db.new) }
 {
     db.clear(tree)
+}
+
+/// Takes out the pair with the least key, and answers the reply and two copies of it.
+pub fn pop_min_kept<P: Pages, M: MergeOperator>(
+    db: &mut Db<P, M>,
+    tree: &Tree,
+) -> Result<(Reply, Reply, Reply)>
+    ensures ok { IfOk result (λ told. WholeDecided P.store M.meant db.old (PopMin tree.now) told.0 db.new) }
+    ensures kept { IfOk result (λ told. (told.1 ≡ told.0) × (told.2 ≡ told.0)) }
+    ensures err { IfErr result (λ e. WholeRefused P.store M.meant db.old (PopMin tree.now) e db.new) }
+{
+    db.pop_min_kept(tree)
+}
+
+/// Takes out all keys, and tells how many that were.
+pub fn clear_counted<P: Pages, M: MergeOperator>(
+    db: &mut Db<P, M>,
+    tree: &Tree,
+) -> (Result<()>, u64)
+    ensures ok { OnOk result.0 (WholeDecided P.store M.meant db.old (Clear tree.now) Done db.new) }
+    ensures err { IfErr result.0 (λ e. WholeRefused P.store M.meant db.old (Clear tree.now) e db.new) }
+    ensures parts { ClearsParts P.store M.meant db.old tree.now result.1 db.new }
+{
+    db.clear_counted(tree)
 }

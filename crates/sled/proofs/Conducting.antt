@@ -10,7 +10,7 @@ use Rattle.sled_store.specs.declared.page.Page.{Page}
 use Rattle.sled_nodes.specs.declared.error.Error.{Error}
 use Rattle.sled_nodes.specs.declared.error.Error.TheVariants as error
 use Rattle.sled_model.specs.Maps.{Maps, Merge}
-use Rattle.sled_model.specs.State.{State, CallInFlight, maps_of}
+use Rattle.sled_model.specs.State.{State, CallInFlight, IsOnKey, maps_of}
 use Rattle.sled_model.specs.Refusal.{MustRefuse, IsClosed, IsForeign, IsDropped, HasNoOperator, ToStep, ToPoint, must_refuse, must_refuse_of, needs_operator, MayRefuse, TellsTurns, cause_of, may_refuse_as, turns_limit}
 use Rattle.sled_model.specs.Transition.{Decide, RefuseStep}
 use Rattle.sled_model.specs.Whole.{DecidesPoint, RefusesPoint}
@@ -18,6 +18,7 @@ use Rattle.sled_model.specs.declared.call.Call.{Call}
 use Rattle.sled_model.specs.declared.reply.Reply.{Reply}
 use Rattle.sled_model.specs.declared.tree.Tree.{Tree}
 use Rattle.tree_laws.specs.Forest.{Place, Forest}
+use Rattle.tree_laws.specs.Paths.{IsClean}
 use Rattle.tree_laws.specs.Snapshot.{Snapshot, nodes_at, HasForest}
 use Rattle.tree_laws.specs.Crashes.{AddsCrashStates}
 use Rattle.tree_laws.proofs.Crashing.{extends_same, extends_then}
@@ -26,7 +27,8 @@ use Rattle.sled_tree.specs.StageAction.{ActsAtMostOnce}
 use Rattle.sled_tree.specs.declared.flight.InFlight.{InFlight}
 use Rattle.sled_tree.specs.declared.flight.Job.{Job}
 use Rattle.sled_tree.specs.declared.flight.Went.{Went}
-use Rattle.sled_tree.specs.declared.flight.Went.TheVariants.{Moved, Decided, Refused}
+use Rattle.sled_tree.specs.declared.flight.Went.TheVariants.{Moved, Yielded, Decided, Refused}
+use Rattle.sled_tree.proofs.Known.{known_new, aims}
 use Rattle.sled.specs.Values.{DbValue, state_of, db_state, snapshot_of_db}
 use Rattle.sled.specs.Sound.{IsDb}
 use Rattle.sled.specs.Calls.{MustBeRefused, must_be_refused_as}
@@ -47,6 +49,7 @@ some_is e = cc
 -- what a step of a call was refused for
 abbrev error_of : Went → Option Error
 error_of Moved = None
+error_of (Yielded key value) = None
 error_of (Decided reply) = None
 error_of (Refused e) = Some e
 
@@ -64,6 +67,7 @@ acts_then (Some e) a b c first rest = (rest.0, often_then first rest.1, rest.2)
 
 acts_of_step : (went : Went) (a b : Store) → effect_of_step went a b → effects_until (error_of went) a b
 acts_of_step Moved a b d = often_once a b d
+acts_of_step (Yielded key value) a b d = subst (λ (s : Store). ActsOften a s) (sym d) NoAction
 acts_of_step (Decided reply) a b d = often_once a b d
 acts_of_step (Refused e) a b d = (a, NoAction, d)
 
@@ -211,7 +215,7 @@ module _ {P M : Type 0} (store : P → Store) (meant : M → Merge) where
 
   walk_others : (n : ℕ) (old new : DbValue P M) (f g : InFlight) (went : Went) → DbSteps store meant n old f went new g → (k : InFlight) → AreApart f k → IsKnown (snapshot_of_db store old) k → IsKnown (snapshot_of_db store new) k
   walk_others zero old new f g went (Ends flies off) k apart known = (flies.knows.others k apart known).0
-  walk_others (suc n) old new f g went (GoesOn {mid = mid} {h = h} flies db rest) k apart known = let o = flies.knows.others k apart known in walk_others n mid new h g went rest k (o.1 refl) o.0
+  walk_others (suc n) old new f g went (GoesOn {mid = mid} {h = h} flies db rest) k apart known = let o = flies.knows.others k apart known in walk_others n mid new h g went rest k (o.1 tt) o.0
 
   walk_loses : (n : ℕ) (old new : DbValue P M) (f g : InFlight) (went : Went) → DbSteps store meant n old f went new g → KeepsOrFreesTreePages None (snapshot_of_db store old) (snapshot_of_db store new)
   walk_loses zero old new f g went (Ends flies off) = loses_once None (snapshot_of_db store old) (snapshot_of_db store new) flies.loses
@@ -242,13 +246,13 @@ module _ {P M : Type 0} (store : P → Store) (meant : M → Merge) where
   walk_decides zero old new f g reply (Ends flies off) = decided_now old new f g reply flies
   walk_decides (suc n) old new f g reply (GoesOn {mid = mid} {h = h} flies db rest) =
       subst (λ (s : State). DecidesPoint s f.job.tree f.job.call reply (db_state store meant new)) (moved_state store meant old mid f h flies)
-      (subst (λ (j : Job). DecidesPoint (db_state store meant mid) j.tree j.call reply (db_state store meant new)) (flies.knows.goes_on refl).0 (walk_decides n mid new h g reply rest))
+      (subst (λ (j : Job). DecidesPoint (db_state store meant mid) j.tree j.call reply (db_state store meant new)) (flies.knows.goes_on tt).0 (walk_decides n mid new h g reply rest))
 
   walk_refuses : (n : ℕ) (old new : DbValue P M) (f g : InFlight) (e : Error) → DbSteps store meant n old f (Refused e) new g → RefusesPoint (db_state store meant old) (store old.pages) (store new.pages) f.job.tree f.job.call e (db_state store meant new)
   walk_refuses zero old new f g e (Ends flies off) = refused_now old new f g e flies
   walk_refuses (suc n) old new f g e (GoesOn {mid = mid} {h = h} flies db rest) =
       let r = subst (λ (s : State). RefusesPoint s (store mid.pages) (store new.pages) f.job.tree f.job.call e (db_state store meant new)) (moved_state store meant old mid f h flies)
-      (subst (λ (j : Job). RefusesPoint (db_state store meant mid) (store mid.pages) (store new.pages) j.tree j.call e (db_state store meant new)) (flies.knows.goes_on refl).0 (walk_refuses n mid new h g e rest)) in record {
+      (subst (λ (j : Job). RefusesPoint (db_state store meant mid) (store mid.pages) (store new.pages) j.tree j.call e (db_state store meant new)) (flies.knows.goes_on tt).0 (walk_refuses n mid new h g e rest)) in record {
         may = may_alike (db_state store meant old) (store old.pages) (store mid.pages) (store new.pages) f.job.tree f.job.call e (alike_acting (store old.pages) (store mid.pages) flies.does.does) r.may;
         is = r.is;
       }
@@ -277,13 +281,13 @@ module _ {P M : Type 0} (store : P → Store) (meant : M → Merge) where
       steps = flies;
     }
 
-    begun_refused : (e : Error) → DbRunsToEnd store meant old (begun_flight tree call) (Refused e) new g → PointRefused store meant old tree call e new
-    begun_refused e flies = record {
+    begun_refused : (e : Error) → IsOnKey call → DbRunsToEnd store meant old (begun_flight tree call) (Refused e) new g → PointRefused store meant old tree call e new
+    begun_refused e on_key flies = record {
       refuses = walk_refuses flies.moves old new (begun_flight tree call) g e flies.flies;
       conducts = begun_conducts (Refused e) flies;
       steps = inr (g, flies);
       turns = λ tells path clean. elim (cases_lt (length path) turns_limit) [
-        | inl fits ↦ absurd ((flies.passes path clean (unused (length path) fits)).unlimited tells)
+        | inl fits ↦ absurd ((flies.passes on_key path (subst (λ aim. IsClean (now (store old.pages)) tree.name aim path) (sym ((aims tree call).key on_key)) clean) (unused (length path) fits)).unlimited tells)
         | inr many ↦ many
       ];
     }
@@ -299,8 +303,8 @@ module _ {P M : Type 0} (store : P → Store) (meant : M → Merge) where
       pub point_decided : (reply : Reply) (went : Went) → went ≡ Decided reply → DbRunsToEnd store meant old f went new g → PointDecided store meant old tree call reply new
       point_decided reply went out flies = begun_decided reply (subst (λ z. DbRunsToEnd store meant old z (Decided reply) new g) begun (subst (λ z. DbRunsToEnd store meant old f z new g) out flies))
 
-      pub point_refused : (e : Error) (went : Went) → went ≡ Refused e → DbRunsToEnd store meant old f went new g → PointRefused store meant old tree call e new
-      point_refused e went out flies = begun_refused e (subst (λ z. DbRunsToEnd store meant old z (Refused e) new g) begun (subst (λ z. DbRunsToEnd store meant old f z new g) out flies))
+      pub point_refused : (e : Error) → IsOnKey call → (went : Went) → went ≡ Refused e → DbRunsToEnd store meant old f went new g → PointRefused store meant old tree call e new
+      point_refused e on_key went out flies = begun_refused e on_key (subst (λ z. DbRunsToEnd store meant old z (Refused e) new g) begun (subst (λ z. DbRunsToEnd store meant old f z new g) out flies))
 
 -- ---- a call that is refused before its first step
 
@@ -369,7 +373,7 @@ module _ {P M : Type 0} (store : P → Store) (meant : M → Merge) (old : DbVal
 
   -- a call that begins knows nothing of the pages
   pub point_known : (copy : Tree) (f : InFlight) → f ≡ begun_flight copy call → IsKnown (snapshot_of_db store old) f
-  point_known copy f is = subst (λ z. IsKnown (snapshot_of_db store old) z) (sym is) (record { is = λ w m. (tt, tt, refl); fits = omega arith; begins = λ none. refl; aimed = refl })
+  point_known copy f is = subst (λ z. IsKnown (snapshot_of_db store old) z) (sym is) (known_new (snapshot_of_db store old) copy call)
 
   pub point_tested : (copy : Tree) (f : InFlight) → f ≡ begun_flight copy call → copy ≡ tree → must_refuse (db_state store meant old) (ToPoint tree call) ≡ None → must_refuse (db_state store meant old) (ToStep (call_in_flight_of f)) ≡ None
   point_tested copy f is same must = ap (λ (z : InFlight). must_refuse (db_state store meant old) (ToPoint z.job.tree z.job.call)) is ∙ ap (λ t. must_refuse (db_state store meant old) (ToPoint t call)) same ∙ must

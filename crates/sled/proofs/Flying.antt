@@ -13,12 +13,13 @@ use Rattle.sled_nodes.specs.declared.error.Fault.{Fault}
 use Rattle.sled_nodes.specs.declared.error.Error.{Error}
 use Rattle.sled_nodes.specs.declared.error.Error.TheVariants as error
 use Rattle.sled_model.specs.Maps.{Map, Merge}
-use Rattle.sled_nodes.specs.Node.{after_link}
+use Rattle.sled_nodes.specs.Node.{after_link, value_at}
 use Rattle.sled_nodes.specs.declared.link.Link.{Link}
 use Rattle.sled_nodes.specs.declared.node.Node.{Node}
 use Rattle.sled_store.specs.declared.page.View.{View}
 use Rattle.sled_model.specs.Answer.{Answer, answer_of, decision_of, event_of, key_of}
-use Rattle.sled_model.specs.State.{State, NamedTree, CallInFlight, maps_of, queues_after, after_decision}
+use Rattle.sled_model.specs.Scan.{Reads, is_read}
+use Rattle.sled_model.specs.State.{State, NamedTree, CallInFlight, range_of, IsOnKey, maps_of, queues_after, after_decision}
 use Rattle.sled_model.specs.Refusal.{MustRefuse, IsClosed, IsForeign, IsDropped, HasNoOperator, must_refuse, MayRefuse, ToStep, ToPoint, TellsTurns, cause_of, may_refuse_as, turns_limit}
 use Rattle.sled_model.specs.declared.event.Event.{Event}
 use Rattle.sled_model.specs.declared.reply.Reply.{Reply}
@@ -40,7 +41,7 @@ use Rattle.sled_tree.specs.declared.flight.Job.{Job}
 use Rattle.sled_tree.specs.declared.flight.InFlight.{InFlight}
 use Rattle.sled_tree.specs.declared.flight.Next.TheVariants as next
 use Rattle.sled_tree.specs.declared.flight.Went.{Went}
-use Rattle.sled_tree.specs.declared.flight.Went.TheVariants.{Moved, Decided, Refused}
+use Rattle.sled_tree.specs.declared.flight.Went.TheVariants.{Moved, Yielded, Decided, Refused}
 use Rattle.tree_laws.specs.Stages.{owned}
 use Rattle.tree_laws.specs.declared.flight.Stage.{Stage}
 use Rattle.tree_laws.specs.declared.flight.Stage.TheVariants as stage
@@ -57,10 +58,12 @@ use Rattle.sled.specs.Values.{DbValue, numbers_of, given_to, named, state_of, db
 use Rattle.sled.specs.Sound.{IsDb}
 use Rattle.sled.specs.Calls.{MustBeRefused, must_be_refused_as}
 use Rattle.tree_groups.specs.Writes.{PagesLast}
-use Rattle.sled.specs.Flights.{call_in_flight_of, StaysInChain, KeepsTreePages, IsStepRefused, DbStepContract, DbSteps, Ends, GoesOn, has_turns, TakesAtMost, DbRunsToEnd}
+use Rattle.tree_scans.specs.Scans.{waiting_of, rest_of, waiting_in, rest_in}
+use Rattle.sled.specs.Flights.{call_in_flight_of, follows_as, has_path, DbFollows, StaysInChain, KeepsTreePages, IsStepRefused, DbStepContract, DbSteps, Ends, GoesOn, has_turns, TakesAtMost, DbRunsToEnd}
 use Rattle.sled.specs.theory.Watched.{told, told_by, AdvancesOver}
 use Rattle.sled_tree.proofs.Known.{not_own, known_kept}
 use Rattle.sled_tree.proofs.Deciding.{IsReading, decided_law}
+use Rattle.sled_tree.proofs.Replying.{links_on_key}
 use Rattle.sled.proofs.Watching.{same_queues}
 use Rattle.sled.proofs.Resting.{Rests, rests_refused, now_rests, rests_extends, rests_left}
 use Rattle.sled.proofs.Testing.{tree_tested, limit_is, tested_calm}
@@ -79,6 +82,10 @@ page_gone s p e = go (s.pages p) e
     go : (o : Option Page) → option_map (λ (g : Page). g.node) o ≡ None → o ≡ None
     go None e = refl
     go (Some g) e = none_some (sym e)
+
+-- a call on a key has no pairs that wait, and nothing to read
+pub waits_never : (f : InFlight) → IsOnKey f.job.call → (waiting_of f ≡ []) × (rest_of f ≡ None)
+waits_never f on_key = (ap (waiting_in f.stage f.aim) on_key, ap (rest_in f.stage f.aim) on_key)
 
 -- what an action leaves of the trees, at the forests that fit
 pub lasts_same : (m : Snapshot) → PagesLast m m
@@ -112,12 +119,12 @@ pub record Touches (a b : Store) : Type 0 where
   pub mark : b.mark ≡ a.mark
   pub no_group : (now b).in_group ≡ (now a).in_group
 
-touches_acting : (a b : Store) → ActsAtMostOnce a b → Touches a b
+pub touches_acting : (a b : Store) → ActsAtMostOnce a b → Touches a b
 touches_acting a b (inl e) = record { mark = ap (λ (s : Store). s.mark) e; no_group = ap (λ (s : Store). (now s).in_group) e }
 touches_acting a b (inr o) = record { mark = ap (λ (s : Store). s.mark) o.is; no_group = o.no_group }
 
 -- for a fault alone one is counted
-refuses_quietly : (e : Error) (a b : Store) → is_action_refused_as e a b → IsStepRefused e a b
+pub refuses_quietly : (e : Error) (a b : Store) → is_action_refused_as e a b → IsStepRefused e a b
 refuses_quietly error.NoMemory a b t = t
 refuses_quietly (error.Io fault) a b t = t
 refuses_quietly (error.CollectionNotFound name) a b t = absurd t
@@ -149,7 +156,7 @@ extends_seen a b (inl e) no_group well = extends_again (subst (λ (s : Store). A
 extends_seen a b (inr o) no_group well = adds_extends (once_adds o) no_group well
 
 -- a cause of a refusal of the store is one of the model
-cause_is : (s : State) (f : CallInFlight) (e : Error) (a b : Store) → is_action_refused_as e a b → cause_of s a b (ToStep f) e
+pub cause_is : (s : State) (f : CallInFlight) (e : Error) (a b : Store) → is_action_refused_as e a b → cause_of s a b (ToStep f) e
 cause_is s f error.NoMemory a b t = tt
 cause_is s f (error.Io fault) a b (inl t) = inl (more (ap (λ (z : Store). z.faults) t))
   where
@@ -189,8 +196,8 @@ acts_not a b same o = absurd (more a.actions b.actions (ap (λ (s : Store). s.ac
 
 -- a call that is refused before it touches a page
 module _ {P M : Type 0} (store : P → Store) (meant : M → Merge) (old : DbValue P M) where
-  untouched : (f g : InFlight) (e : Error) → ((fault : Fault) → e ≡ error.Io fault → ⊥) → (must_refuse (db_state store meant old) (ToStep (call_in_flight_of f)) ≡ None → f.turns < turns_limit → ⊥) → (must_refuse (db_state store meant old) (ToStep (call_in_flight_of f)) ≡ None → f.turns ≡ turns_limit → TellsTurns e) → ((slots : ℕ → Option CallInFlight) (given : ℕ) → MayRefuse (state_of store meant old slots given) (store old.pages) (store old.pages) (ToStep (call_in_flight_of f)) e) → DbStepContract store meant old f (Refused e) old g
-  untouched f g e off stopped limit may = record {
+  pub untouched : (f g : InFlight) (e : Error) → ((fault : Fault) → e ≡ error.Io fault → ⊥) → DbFollows store meant old f (Refused e) old g → (must_refuse (db_state store meant old) (ToStep (call_in_flight_of f)) ≡ None → f.turns ≡ turns_limit → TellsTurns e) → ((slots : ℕ → Option CallInFlight) (given : ℕ) → MayRefuse (state_of store meant old slots given) (store old.pages) (store old.pages) (ToStep (call_in_flight_of f)) e) → DbStepContract store meant old f (Refused e) old g
+  untouched f g e off follows limit may = record {
     step = record {
       steps = λ slots given slot before after here. record { is = (record { flying = call_in_flight_of f; here = here; may = may slots given; limit = limit; is = refl }, refl) };
       extends = extends_same (store old.pages);
@@ -199,16 +206,13 @@ module _ {P M : Type 0} (store : P → Store) (meant : M → Merge) (old : DbVal
     };
     sound = record { keeps = λ d. d };
     does = record { does = quiet_untold e (store old.pages) off; quiet = λ q. refl; loud = λ event b. absurd (silent b.reply b.decided) };
-    follows = λ must fits. absurd (stopped must fits);
-    passes = record { is = tt };
+    follows = follows;
+    passes = λ path. record { is = tt };
     loses = loses_nothing None (snapshot_of_db store old);
     leaves = λ v is. tt;
-    knows = record { goes_on = λ e. absurd (apart e); others = λ h off k. (k, λ e. absurd (apart e)) };
+    knows = record { goes_on = λ more. absurd more; others = λ h off k. (k, λ more. absurd more) };
   }
     where
-      apart : Refused e ≡ Moved → ⊥
-      apart e = cc
-
       silent : (r : Reply) → Refused e ≡ Decided r → ⊥
       silent r e = cc
 
@@ -235,13 +239,13 @@ module _ {P M : Type 0} (store : P → Store) (meant : M → Merge) (old : DbVal
 
     -- its turns are the limit
     pub flies_limit : (g : InFlight) (e : Error) → f.turns ≡ turns_limit → TellsTurns e → ((slots : ℕ → Option CallInFlight) (given : ℕ) → cause_of (state_of store meant old slots given) (store old.pages) (store old.pages) (ToStep (call_in_flight_of f)) e) → DbStepContract store meant old f (Refused e) old g
-    flies_limit g e all tells cause = untouched f g e (λ fault io. subst TellsTurns io tells) (λ none fits. below f.turns all fits) (λ none all. tells) (λ slots given. may_refuse slots given (store old.pages) (store old.pages) e (cause slots given))
+    flies_limit g e all tells cause = untouched f g e (λ fault io. subst TellsTurns io tells) (λ none fits. absurd (below f.turns all fits)) (λ none all. tells) (λ slots given. may_refuse slots given (store old.pages) (store old.pages) e (cause slots given))
       where
         below : (n : ℕ) → n ≡ turns_limit → n < turns_limit → ⊥
         below n all fits = omega arith
 
 module _ {P M : Type 0} (store : P → Store) (meant : M → Merge) (old : DbValue P M) (db : IsDb store old) where
-  abbrev at : Snapshot
+  abbrev pub at : Snapshot
   at = snapshot_of_db store old
 
   -- the state over other pages
@@ -265,17 +269,17 @@ module _ {P M : Type 0} (store : P → Store) (meant : M → Merge) (old : DbVal
 
   -- the tests let the call pass
   module _ (f : InFlight) (must : must_refuse (db_state store meant old) (ToStep (call_in_flight_of f)) ≡ None) where
-    named_now : numbers_of old.trees f.job.tree.name ≡ Some f.job.tree.number
+    pub named_now : numbers_of old.trees f.job.tree.name ≡ Some f.job.tree.number
     named_now = numbered f.job.tree.number (numbers_of old.trees f.job.tree.name) (trees_of (now (store old.pages)) f.job.tree.name) _ (current (db_state store meant old) f.job.tree (tree_tested (db_state store meant old) f.job.tree f.job.call must))
 
     -- the call's tree
-    abbrev operator : Option Merge
+    abbrev pub operator : Option Merge
     operator = option_map meant (find nat_cmp f.job.tree.number old.operators)
 
-    abbrev tree_now : NamedTree
+    abbrev pub tree_now : NamedTree
     tree_now = record { number = f.job.tree.number; map = contents (nodes_at at) db.forest f.job.tree.name; merge = operator }
 
-    there : (db_state store meant old).trees f.job.tree.name ≡ Some tree_now
+    pub there : (db_state store meant old).trees f.job.tree.name ≡ Some tree_now
     there =
         ap (λ n. named n (trees_of (now (store old.pages)) f.job.tree.name) (λ n. option_map meant (find nat_cmp n old.operators))) named_now
         ∙ ap (λ m. named (Some f.job.tree.number) m (λ n. option_map meant (find nat_cmp n old.operators)))
@@ -287,7 +291,7 @@ module _ {P M : Type 0} (store : P → Store) (meant : M → Merge) (old : DbVal
       pub calm : IsCalm (queue_at queues)
       pub count : queues.given ≡ old.queues.given
 
-    told_now : (queues : QueuesValue) (event : Option Event) → (answer_of operator f.job.call tree_now.map).event ≡ event → told f.job.tree.number event old.queues queues → Told queues
+    pub told_now : (queues : QueuesValue) (event : Option Event) → (answer_of operator f.job.call tree_now.map).event ≡ event → told f.job.tree.number event old.queues queues → Told queues
     told_now queues None is t = record {
       is = ap queues_of t.held ∙ sym (ap (λ e. queues_after f.job.tree.number e (queues_of (queue_at old.queues))) is);
       calm = subst IsCalm (sym t.held) db.calm;
@@ -304,7 +308,7 @@ module _ {P M : Type 0} (store : P → Store) (meant : M → Merge) (old : DbVal
     module _ (view : View) (knows : Knows at db.forest (course_of f) (stage.Act view)) (node : Node) (page : (now (store old.pages)).pages view.pid ≡ Some (record { version = view.version; node = node })) where
       read_event : (answer_of operator f.job.call tree_now.map).event ≡ event_of (decision_at operator f.job.call view.node.content).effect (key_of f.job.call)
       read_event = ap (λ v. event_of (decision_of operator f.job.call v).effect (key_of f.job.call))
-          (answers db.is f.job.tree.name f.job.tree.number (key_of f.job.call) view node (subst (λ aim. IsActing at db.forest f.job.tree.name f.job.tree.number aim view) knows.2 knows.0.0) (record { named = named_now; page = page }))
+          (answers db.is f.job.tree.name f.job.tree.number (key_of f.job.call) view node (subst (λ aim. IsActing at db.forest f.job.tree.name f.job.tree.number aim view) (knows.2.key (links_on_key f.job.call (value_at view.node.content (key_of f.job.call)) knows.1)) knows.0.0) (record { named = named_now; page = page }))
 
     module _ (q : P) (queues : QueuesValue) (known : IsKnown at f) where
       abbrev after : Snapshot
@@ -314,14 +318,14 @@ module _ {P M : Type 0} (store : P → Store) (meant : M → Merge) (old : DbVal
       new = record old { pages = q; queues = queues }
 
       -- the database is as it should be
-      is_db : (v : Forest) {mine own : List ℕ} → KeepsForest mine own at db.forest after v → IsCrashConsistent (store q) → (store q).mark ≡ (store old.pages).mark → IsCalm (queue_at queues) → IsDb store new
+      pub is_db : (v : Forest) {mine own : List ℕ} → KeepsForest mine own at db.forest after v → IsCrashConsistent (store q) → (store q).mark ≡ (store old.pages).mark → IsCalm (queue_at queues) → IsDb store new
       is_db v a safe mark calm = record { forest = v; is = a.is; sized = a.sized db.sized; safe = safe; ascends = db.ascends; default = db.default; ungiven = db.ungiven; calm = calm; ids = subst (λ m. old.greatest_id ≤ m) (sym mark) db.ids }
 
-      calm_still : Becomes (queue_at old.queues) old.queues.given queues → IsCalm (queue_at queues)
+      pub calm_still : Becomes (queue_at old.queues) old.queues.given queues → IsCalm (queue_at queues)
       calm_still keeps = subst IsCalm (sym keeps.held) db.calm
 
       -- no group is open
-      no_group : (now (store old.pages)).in_group ≡ false
+      pub no_group : (now (store old.pages)).in_group ≡ false
       no_group = tested_calm store meant old f.job.tree (tree_tested (db_state store meant old) f.job.tree f.job.call must)
 
       -- after an action the state now, and every state that a crash may leave, is as it should be
@@ -333,7 +337,7 @@ module _ {P M : Type 0} (store : P → Store) (meant : M → Merge) (old : DbVal
       whole v a (inr o) = valid_law o.action (store old.pages) (store q) (once_adds o) db.safe (λ no_group. well v a)
 
       -- the call goes on
-      module _ (fits : f.turns < turns_limit) (g : InFlight) (job : g.job ≡ f.job) (aim : g.aim ≡ f.aim) (turns : g.turns ≡ f.turns + 1) (moves : StageActionBy (Only operator) (course_of f) (store old.pages) f.stage (next.Go g.stage) (store q)) (further : StepsOnPath (now (store old.pages)) f Moved (now (store q)) g) (follows : FollowsOn (store old.pages) f Moved (store q) g) (keeps : Becomes (queue_at old.queues) old.queues.given queues) where
+      module _ (fits : f.turns < turns_limit) (g : InFlight) (job : g.job ≡ f.job) (aim : g.aim ≡ f.aim) (turns : g.turns ≡ f.turns + 1) (moves : StageActionBy (Only operator) (course_of f) (store old.pages) f.stage (next.Go g.stage) (store q)) (further : has_path (range_of f.job.call) f.stage → StepsOnPath (now (store old.pages)) f Moved (now (store q)) g) (follows : follows_as (range_of f.job.call) (store old.pages) f Moved (store q) g) (keeps : Becomes (queue_at old.queues) old.queues.given queues) (reads : Reads tree_now.map (waiting_of f) (rest_of f) (waiting_of g) (rest_of g)) where
         moved : (v : Forest) × KeepsForest (owned f.stage) (owned g.stage) at db.forest after v × (Knows after v (course_of f) g.stage × KeepsContents at db.forest after v) × LeaksNoPage (owned f.stage) (owned g.stage) (now (store old.pages)) (now (store q)) v
         moved = moves.is (numbers_of old.trees) (given_to old.trees_given) db.forest db.is named_now (known.is db.forest db.is)
 
@@ -349,15 +353,15 @@ module _ {P M : Type 0} (store : P → Store) (meant : M → Merge) (old : DbVal
         pub moved_db : IsDb store new
         moved_db = is_db moved.0 moved.1 (whole moved.0 moved.1 moves.touches) moved_touches.mark (calm_still keeps)
 
-        flying_more : call_in_flight_of g ≡ record (call_in_flight_of f) { turns = f.turns + 1 }
-        flying_more = λ i. record { tree = (job i).tree; call = (job i).call; turns = turns i; waiting = []; rest = None }
+        flying_more : call_in_flight_of g ≡ record (call_in_flight_of f) { turns = f.turns + 1; waiting = waiting_of g; rest = rest_of g }
+        flying_more = λ i. record { tree = (job i).tree; call = (job i).call; turns = turns i; waiting = waiting_of g; rest = rest_of g }
 
         moved_known : IsKnown after g
         moved_known = record {
           is = λ u is. on_course (λ j. Knows after u j g.stage) (subst (λ (z : Forest). Knows after z (course_of f) g.stage) (one_law (nodes_at after) after.state.roots moved.0 u moved.1.is.formed is.formed) moved.2.0);
           aimed = on_course (λ j. IsAimed j) known.aimed;
           fits = more f.turns g.turns fits turns;
-          begins = λ none. absurd (some f.turns g.turns turns none);
+          begins = λ on_key none. absurd (some f.turns g.turns turns none);
         }
           where
             on_course : (P : Course → Type 0) → P (course_of f) → P (course_of g)
@@ -379,6 +383,11 @@ module _ {P M : Type 0} (store : P → Store) (meant : M → Merge) (old : DbVal
                   here = here;
                   free = must;
                   fits = fits;
+                  waiting = waiting_of g;
+                  rest = rest_of g;
+                  tree = tree_now;
+                  there = there;
+                  reads = reads;
                   is = state_over q queues keeps slots (put_at slots slot (Some (call_in_flight_of g))) given (λ t i. moved_trees i t) moved_touches.no_group moved_touches.mark
                       ∙ ap (λ (z : CallInFlight). record (state_of store meant old slots given) { slots = put_at slots slot (Some z) }) flying_more;
                 },
@@ -396,8 +405,8 @@ module _ {P M : Type 0} (store : P → Store) (meant : M → Merge) (old : DbVal
           loses = loses_acting at after db.forest moved.0 db.is moved.1;
           leaves = λ u is. subst (λ (z : Forest). LeaksNoPage (owned f.stage) (owned g.stage) (now (store old.pages)) (now (store q)) z) (one_law (nodes_at after) after.state.roots moved.0 u moved.1.is.formed is.formed) moved.3;
           knows = record {
-            goes_on = λ e. (job, moved_known);
-            others = λ h apart k. (known_kept db.is moved.1 h k apart.off, λ e. record { off = λ p i j. not_own db.is moved.1 h k apart.off p j i });
+            goes_on = λ more. (job, moved_known);
+            others = λ h apart k. (known_kept db.is moved.1 h k apart.off, λ more. record { off = λ p i j. not_own db.is moved.1 h k apart.off p j i });
           };
         }
           where
@@ -405,7 +414,7 @@ module _ {P M : Type 0} (store : P → Store) (meant : M → Merge) (old : DbVal
             apart r e = cc
 
       -- the call is refused, and the store does what it does where it refuses an action
-      module _ (fits : f.turns < turns_limit) (g : InFlight) (e : Error) (moves : StageActionBy (Only operator) (course_of f) (store old.pages) f.stage (next.Refused e) (store q)) (quietly : IsStepRefused e (store old.pages) (store q)) (cause : (slots : ℕ → Option CallInFlight) (given : ℕ) → cause_of (state_of store meant old slots given) (store old.pages) (store q) (ToStep (call_in_flight_of f)) e) (follows : FollowsOn (store old.pages) f (Refused e) (store q) g) (keeps : Becomes (queue_at old.queues) old.queues.given queues) where
+      module _ (fits : f.turns < turns_limit) (g : InFlight) (e : Error) (moves : StageActionBy (Only operator) (course_of f) (store old.pages) f.stage (next.Refused e) (store q)) (quietly : IsStepRefused e (store old.pages) (store q)) (cause : (slots : ℕ → Option CallInFlight) (given : ℕ) → cause_of (state_of store meant old slots given) (store old.pages) (store q) (ToStep (call_in_flight_of f)) e) (follows : follows_as (range_of f.job.call) (store old.pages) f (Refused e) (store q) g) (keeps : Becomes (queue_at old.queues) old.queues.given queues) where
         refused : (v : Forest) × KeepsForest (owned f.stage) [] at db.forest after v × KeepsContents at db.forest after v × Unit {0}
         refused = moves.is (numbers_of old.trees) (given_to old.trees_given) db.forest db.is named_now (known.is db.forest db.is)
 
@@ -443,23 +452,57 @@ module _ {P M : Type 0} (store : P → Store) (meant : M → Merge) (old : DbVal
           sound = record { keeps = λ d. refused_db };
           does = record { does = quietly; quiet = λ k. absurd (apart k.reply k.decided); loud = λ event k. absurd (apart k.reply k.decided) };
           follows = λ must fits. follows;
-          passes = record { is = tt };
+          passes = λ path. record { is = tt };
           loses = loses_acting at after db.forest refused.0 db.is refused.1;
           leaves = λ v is. tt;
-          knows = record { goes_on = λ e. absurd (off e); others = λ h a k. (known_kept db.is refused.1 h k a.off, λ e. absurd (off e)) };
+          knows = record { goes_on = λ more. absurd more; others = λ h a k. (known_kept db.is refused.1 h k a.off, λ more. absurd more) };
         }
           where
             apart : (r : Reply) → Refused e ≡ Decided r → ⊥
             apart r e = cc
 
-            off : Refused e ≡ Moved → ⊥
-            off e = cc
-
             below : (n : ℕ) → n < turns_limit → n ≡ turns_limit → ⊥
             below n h e = omega arith
 
+      -- the state after the call was decided, where its tree's map became that of its answer
+      module _ (trees_put_there : trees_of (now (store q)) ≡ put_name (trees_of (now (store old.pages))) f.job.tree.name (Some (answer_of operator f.job.call tree_now.map).map)) (touches : Touches (store old.pages) (store q)) (tells : Told queues) where
+        abbrev answer_now : Answer
+        answer_now = answer_of operator f.job.call tree_now.map
+
+        -- the trees of the state, where that of the call is another
+        named_trees : (t : Key) → named (numbers_of old.trees t) (trees_of (now (store q)) t) (λ n. option_map meant (find nat_cmp n old.operators))
+            ≡ put_name (db_state store meant old).trees f.job.tree.name (Some (record tree_now { map = answer_now.map })) t
+        named_trees t =
+            ap (λ (z : Key → Option Map). named (numbers_of old.trees t) (z t) (λ n. option_map meant (find nat_cmp n old.operators))) trees_put_there
+            ∙ go (bytes_eq t f.job.tree.name) refl
+          where
+            go : (b : Bool) → bytes_eq t f.job.tree.name ≡ b
+                → named (numbers_of old.trees t) (cond (bytes_eq t f.job.tree.name) (Some answer_now.map) (trees_of (now (store old.pages)) t)) (λ n. option_map meant (find nat_cmp n old.operators))
+                ≡ cond (bytes_eq t f.job.tree.name) (Some (record tree_now { map = answer_now.map })) (named (numbers_of old.trees t) (trees_of (now (store old.pages)) t) (λ n. option_map meant (find nat_cmp n old.operators)))
+            go true e =
+                ap (λ b. named (numbers_of old.trees t) (cond b (Some answer_now.map) (trees_of (now (store old.pages)) t)) (λ n. option_map meant (find nat_cmp n old.operators))) e
+                ∙ ap (λ n. named n (Some answer_now.map) (λ n. option_map meant (find nat_cmp n old.operators))) (ap (numbers_of old.trees) (Rattle.sled_store.specs.theory.Facts.same_name t f.job.tree.name e) ∙ named_now)
+                ∙ ap (λ b. cond b (Some (record tree_now { map = answer_now.map })) (named (numbers_of old.trees t) (trees_of (now (store old.pages)) t) (λ n. option_map meant (find nat_cmp n old.operators)))) (sym e)
+            go false e =
+                ap (λ b. named (numbers_of old.trees t) (cond b (Some answer_now.map) (trees_of (now (store old.pages)) t)) (λ n. option_map meant (find nat_cmp n old.operators))) e
+                ∙ ap (λ b. cond b (Some (record tree_now { map = answer_now.map })) (named (numbers_of old.trees t) (trees_of (now (store old.pages)) t) (λ n. option_map meant (find nat_cmp n old.operators)))) (sym e)
+
+        pub done_state : (slots : ℕ → Option CallInFlight) (given slot : ℕ) → state_of store meant new (put_at slots slot None) given ≡ after_decision (state_of store meant old slots given) slot f.job.tree.name tree_now answer_now
+        done_state slots given slot = λ i. record {
+          name = old.name;
+          trees = λ t. named_trees t i;
+          queues = tells.is i;
+          slots = put_at slots slot None;
+          is_open = not (touches.no_group i);
+          greatest_id = old.greatest_id;
+          mark = touches.mark i;
+          trees_given = old.trees_given;
+          slots_given = given;
+          subscribers_given = tells.count i;
+        }
+
       -- the call is decided
-      module _ (fits : f.turns < turns_limit) (g : InFlight) (reply : Reply) (moves : StageActionBy (Only operator) (course_of f) (store old.pages) f.stage (next.Decided reply) (store q)) (follows : FollowsOn (store old.pages) f (Decided reply) (store q) g) (tells : Told queues) where
+      module _ (fits : f.turns < turns_limit) (g : InFlight) (reply : Reply) (moves : StageActionBy (Only operator) (course_of f) (store old.pages) f.stage (next.Decided reply) (store q)) (follows : follows_as (range_of f.job.call) (store old.pages) f (Decided reply) (store q) g) (tells : Told queues) where
         done : (v : Forest) × KeepsForest (owned f.stage) [] at db.forest after v × DecidesAs operator (course_of f) reply (store old.pages) (store q) at db.forest after v × LeaksNoPage (owned f.stage) [] (now (store old.pages)) (now (store q)) v
         done = let d = moves.is (numbers_of old.trees) (given_to old.trees_given) db.forest db.is named_now (known.is db.forest db.is) in (d.0, d.1, d.2 operator refl, d.3)
 
@@ -480,38 +523,6 @@ module _ {P M : Type 0} (store : P → Store) (meant : M → Merge) (old : DbVal
         pub decided_db : IsDb store new
         decided_db = is_db done.0 done.1 (whole done.0 done.1 moves.touches) done_touches.mark tells.calm
 
-        -- the trees of the state, where that of the call is another
-        named_trees : (t : Key) → named (numbers_of old.trees t) (trees_of (now (store q)) t) (λ n. option_map meant (find nat_cmp n old.operators))
-            ≡ put_name (db_state store meant old).trees f.job.tree.name (Some (record tree_now { map = answer.map })) t
-        named_trees t =
-            ap (λ (z : Key → Option Map). named (numbers_of old.trees t) (z t) (λ n. option_map meant (find nat_cmp n old.operators))) done_trees
-            ∙ go (bytes_eq t f.job.tree.name) refl
-          where
-            go : (b : Bool) → bytes_eq t f.job.tree.name ≡ b
-                → named (numbers_of old.trees t) (cond (bytes_eq t f.job.tree.name) (Some answer.map) (trees_of (now (store old.pages)) t)) (λ n. option_map meant (find nat_cmp n old.operators))
-                ≡ cond (bytes_eq t f.job.tree.name) (Some (record tree_now { map = answer.map })) (named (numbers_of old.trees t) (trees_of (now (store old.pages)) t) (λ n. option_map meant (find nat_cmp n old.operators)))
-            go true e =
-                ap (λ b. named (numbers_of old.trees t) (cond b (Some answer.map) (trees_of (now (store old.pages)) t)) (λ n. option_map meant (find nat_cmp n old.operators))) e
-                ∙ ap (λ n. named n (Some answer.map) (λ n. option_map meant (find nat_cmp n old.operators))) (ap (numbers_of old.trees) (Rattle.sled_store.specs.theory.Facts.same_name t f.job.tree.name e) ∙ named_now)
-                ∙ ap (λ b. cond b (Some (record tree_now { map = answer.map })) (named (numbers_of old.trees t) (trees_of (now (store old.pages)) t) (λ n. option_map meant (find nat_cmp n old.operators)))) (sym e)
-            go false e =
-                ap (λ b. named (numbers_of old.trees t) (cond b (Some answer.map) (trees_of (now (store old.pages)) t)) (λ n. option_map meant (find nat_cmp n old.operators))) e
-                ∙ ap (λ b. cond b (Some (record tree_now { map = answer.map })) (named (numbers_of old.trees t) (trees_of (now (store old.pages)) t) (λ n. option_map meant (find nat_cmp n old.operators)))) (sym e)
-
-        done_state : (slots : ℕ → Option CallInFlight) (given slot : ℕ) → state_of store meant new (put_at slots slot None) given ≡ after_decision (state_of store meant old slots given) slot f.job.tree.name tree_now answer
-        done_state slots given slot = λ i. record {
-          name = old.name;
-          trees = λ t. named_trees t i;
-          queues = tells.is i;
-          slots = put_at slots slot None;
-          is_open = not (done_touches.no_group i);
-          greatest_id = old.greatest_id;
-          mark = done_touches.mark i;
-          trees_given = old.trees_given;
-          slots_given = given;
-          subscribers_given = tells.count i;
-        }
-
         same_maps : maps_of (db_state store meant new) ≡ trees_of (now (store q))
         same_maps = maps_are store meant new done.0 done.1.is
 
@@ -527,8 +538,10 @@ module _ {P M : Type 0} (store : P → Store) (meant : M → Merge) (old : DbVal
                   fits = fits;
                   tree = tree_now;
                   there = there;
+                  none = (waits_never f done.2.on_key).0;
+                  done = ap is_read (waits_never f done.2.on_key).1;
                   replies = done.2.replies;
-                  is = done_state slots given slot;
+                  is = done_state done_trees done_touches tells slots given slot;
                 },
                 refl,
               );
@@ -544,18 +557,15 @@ module _ {P M : Type 0} (store : P → Store) (meant : M → Merge) (old : DbVal
             loud = λ event k. done.2.loud (λ none. none_some (sym none ∙ brought k.tree k.there ∙ k.is));
           };
           follows = λ must fits. follows;
-          passes = record { is = tt };
+          passes = λ path. record { is = tt };
           loses = loses_acting at after db.forest done.0 db.is done.1;
           leaves = λ u is. subst (λ (z : Forest). LeaksNoPage (owned f.stage) [] (now (store old.pages)) (now (store q)) z) (one_law (nodes_at after) after.state.roots done.0 u done.1.is.formed is.formed) done.3;
-          knows = record { goes_on = λ e. absurd (off e); others = λ h a k. (known_kept db.is done.1 h k a.off, λ e. absurd (off e)) };
+          knows = record { goes_on = λ more. absurd more; others = λ h a k. (known_kept db.is done.1 h k a.off, λ more. absurd more) };
         }
           where
             -- the event by the map now
             brought : (t : NamedTree) → (db_state store meant old).trees f.job.tree.name ≡ Some t → answer.event ≡ (answer_of t.merge f.job.call t.map).event
             brought t there_too = ap (λ (t : NamedTree). (answer_of t.merge f.job.call t.map).event) (some_is (sym there ∙ there_too))
-
-            off : Decided reply ≡ Moved → ⊥
-            off e = cc
 
       -- one step of the call over the pages, and what it told
       module _ (fits : f.turns < turns_limit) (g : InFlight) where
@@ -584,28 +594,33 @@ module _ {P M : Type 0} (store : P → Store) (meant : M → Merge) (old : DbVal
                 let d = steps.advances.is.is (numbers_of old.trees) (given_to old.trees_given) db.forest db.is named_now (known.is db.forest db.is) in
                 acts_not (store old.pages) (store q) same ((d.2 operator refl).loud (λ none. none_some (sym none ∙ e)))
 
-        -- one step of the call, whatever comes of it
-        pub flown : (went : Went) → AdvancesOver operator (store old.pages) old.queues f went (store q) queues g → Flown went
-        flown Moved s = (
-          flies_moved fits g s.steps.advances.is.0 s.steps.advances.is.1 s.steps.advances.is.2 s.steps.advances.is.3 s.steps.passes s.steps.follows s.tells,
-          moved_db fits g s.steps.advances.is.0 s.steps.advances.is.1 s.steps.advances.is.2 s.steps.advances.is.3 s.steps.passes s.steps.follows s.tells,
-        )
-        flown (Decided reply) s = (
-          flies_decided fits g reply s.steps.advances.is s.steps.follows (told_decided reply s.steps s.tells),
-          decided_db fits g reply s.steps.advances.is s.steps.follows (told_decided reply s.steps s.tells),
-        )
-        flown (Refused e) s = (
-          flies_refused fits g e s.steps.advances.is (refuses_quietly e (store old.pages) (store q) s.steps.advances.is.touches) (λ slots given. cause_is (state_of store meant old slots given) (call_in_flight_of f) e (store old.pages) (store q) s.steps.advances.is.touches) s.steps.follows s.tells,
-          refused_db fits g e s.steps.advances.is (refuses_quietly e (store old.pages) (store q) s.steps.advances.is.touches) (λ slots given. cause_is (state_of store meant old slots given) (call_in_flight_of f) e (store old.pages) (store q) s.steps.advances.is.touches) s.steps.follows s.tells,
-        )
+        -- a call on a key reads no range
+        same_reads : IsOnKey f.job.call → g.job ≡ f.job → Reads tree_now.map (waiting_of f) (rest_of f) (waiting_of g) (rest_of g)
+        same_reads on_key job =
+            let one = waits_never f on_key in
+            let two = waits_never g (ap (λ (j : Job). range_of j.call) job ∙ on_key) in
+            inl (two.0 ∙ sym one.0, two.1 ∙ sym one.1)
 
--- the same, where a method knows the database by its fields
-module _ {P M : Type 0} (store : P → Store) (meant : M → Merge) (inside old : DbValue P M) (e : inside ≡ old) (db : IsDb store inside) (f : InFlight) where
-  pub flown_as : (q : P) (queues : QueuesValue) (fits : f.turns < turns_limit) (went : Went) (g : InFlight) → must_refuse (db_state store meant old) (ToStep (call_in_flight_of f)) ≡ None → IsKnown (snapshot_of_db store old) f
-      → AdvancesOver (option_map meant (find nat_cmp f.job.tree.number inside.operators)) (store inside.pages) inside.queues f went (store q) queues g → DbStepContract store meant old f went (record inside { pages = q; queues = queues }) g × IsDb store (record inside { pages = q; queues = queues })
-  flown_as q queues fits went g must known a =
-      subst (λ (z : DbValue P M). must_refuse (db_state store meant z) (ToStep (call_in_flight_of f)) ≡ None → IsKnown (snapshot_of_db store z) f → DbStepContract store meant z f went (record inside { pages = q; queues = queues }) g × IsDb store (record inside { pages = q; queues = queues }))
-      e (λ must known. flown store meant inside db f must q queues known fits g went a) must known
+        on_key_follows : IsOnKey f.job.call → (went : Went) → FollowsOn (store old.pages) f went (store q) g → follows_as (range_of f.job.call) (store old.pages) f went (store q) g
+        on_key_follows on_key went s = subst (λ r. follows_as r (store old.pages) f went (store q) g) (sym on_key) s
+
+        -- one step of a call on a key, whatever comes of it
+        pub flown : IsOnKey f.job.call → (went : Went) → AdvancesOver operator (store old.pages) old.queues f went (store q) queues g → Flown went
+        flown on_key Moved s =
+            let a = s.steps.advances.is in
+            let follows = on_key_follows on_key Moved s.steps.follows in (
+              flies_moved fits g a.0 a.1 a.2 a.3 (λ path. s.steps.passes) follows s.tells (same_reads on_key a.0),
+              moved_db fits g a.0 a.1 a.2 a.3 (λ path. s.steps.passes) follows s.tells (same_reads on_key a.0),
+            )
+        flown on_key (Yielded key value) s = absurd s.steps.advances.is
+        flown on_key (Decided reply) s = (
+          flies_decided fits g reply s.steps.advances.is (on_key_follows on_key (Decided reply) s.steps.follows) (told_decided reply s.steps s.tells),
+          decided_db fits g reply s.steps.advances.is (on_key_follows on_key (Decided reply) s.steps.follows) (told_decided reply s.steps s.tells),
+        )
+        flown on_key (Refused e) s = (
+          flies_refused fits g e s.steps.advances.is (refuses_quietly e (store old.pages) (store q) s.steps.advances.is.touches) (λ slots given. cause_is (state_of store meant old slots given) (call_in_flight_of f) e (store old.pages) (store q) s.steps.advances.is.touches) (on_key_follows on_key (Refused e) s.steps.follows) s.tells,
+          refused_db fits g e s.steps.advances.is (refuses_quietly e (store old.pages) (store q) s.steps.advances.is.touches) (λ slots given. cause_is (state_of store meant old slots given) (call_in_flight_of f) e (store old.pages) (store q) s.steps.advances.is.touches) (on_key_follows on_key (Refused e) s.steps.follows) s.tells,
+        )
 
 -- below the limit
 pub below_limit : (f : InFlight) → f.turns ≤ MAX_LOOPS → f.turns ≢ MAX_LOOPS → f.turns < turns_limit
@@ -627,14 +642,14 @@ module _ {P M : Type 0} (store : P → Store) (meant : M → Merge) (old new : D
   -- the tests pass still
   pub still_tested : must_refuse (db_state store meant old) (ToStep (call_in_flight_of f)) ≡ None → must_refuse (db_state store meant new) (ToStep (call_in_flight_of g)) ≡ None
   still_tested must =
-      ap (λ (j : Job). must_refuse (db_state store meant new) (ToPoint j.tree j.call)) (flies.knows.goes_on refl).0
+      ap (λ (j : Job). must_refuse (db_state store meant new) (ToPoint j.tree j.call)) (flies.knows.goes_on tt).0
       ∙ (ap (λ (s : State). must_refuse s (ToPoint f.job.tree f.job.call)) went_on.is ∙ must)
 
   -- it had turns left, and has one less
   pub turn_taken : (f.turns < turns_limit) × (g.turns ≡ f.turns + 1)
   turn_taken =
       let same : call_in_flight_of f ≡ went_on.flying = some_is went_on.here in
-      let after : Some (call_in_flight_of g) ≡ Some (record (went_on.flying) { turns = went_on.flying.turns + 1 }) = ap (λ (s : State). s.slots 0) went_on.is in (
+      let after : Some (call_in_flight_of g) ≡ Some (record (went_on.flying) { turns = went_on.flying.turns + 1; waiting = went_on.waiting; rest = went_on.rest }) = ap (λ (s : State). s.slots 0) went_on.is in (
         subst (λ (z : CallInFlight). z.turns < turns_limit) (sym same) went_on.fits,
         ap (λ (z : CallInFlight). z.turns) (some_is after) ∙ ap (λ (z : CallInFlight). z.turns + 1) (sym same),
       )
@@ -674,6 +689,7 @@ module _ {P M : Type 0} (store : P → Store) (meant : M → Merge) (old new : D
 
   ends_with_turns : (went : Went) → DbStepContract store meant old f went new g → f.turns < turns_limit → has_turns went
   ends_with_turns Moved flies fits = tt
+  ends_with_turns (Yielded key value) flies fits = tt
   ends_with_turns (Decided reply) flies fits = tt
   ends_with_turns (Refused e) flies fits = λ tells. below f.turns fits (all_turns e tells flies)
     where
@@ -682,12 +698,12 @@ module _ {P M : Type 0} (store : P → Store) (meant : M → Merge) (old new : D
 
 -- over a clean path a call goes on at most once a page
 module _ {P M : Type 0} (store : P → Store) (meant : M → Merge) where
-  prompt : (n : ℕ) (old new : DbValue P M) (f g : InFlight) (went : Went) → DbSteps store meant n old f went new g → (path : List ℕ) → IsOnPath (now (store old.pages)) (course_of f) f.stage path → f.turns + length path < turns_limit → TakesAtMost n went path
-  prompt zero old new f g went (Ends flies off) path on fits = record { fits = omega arith; unlimited = ends_with_turns store meant old new f g went flies (omega arith) }
-  prompt (suc n) old new f g went (GoesOn {mid = mid} {h = h} flies db rest) path on fits =
-      let p = flies.passes.is path on in
+  prompt : (n : ℕ) (old new : DbValue P M) (f g : InFlight) (went : Went) → DbSteps store meant n old f went new g → IsOnKey f.job.call → (path : List ℕ) → IsOnPath (now (store old.pages)) (course_of f) f.stage path → f.turns + length path < turns_limit → TakesAtMost n went path
+  prompt zero old new f g went (Ends flies off) on_key path on fits = record { fits = omega arith; unlimited = ends_with_turns store meant old new f g went flies (omega arith) }
+  prompt (suc n) old new f g went (GoesOn {mid = mid} {h = h} flies db rest) on_key path on fits =
+      let p = (flies.passes (subst (λ r. has_path r f.stage) (sym on_key) tt)).is path on in
       let turns = (turn_taken store meant old mid f h flies).1 in
-      let k = prompt n mid new h g went rest p.0 p.2 (fewer f.turns h.turns (length path) (length p.0) turns p.1 fits) in record {
+      let k = prompt n mid new h g went rest (ap (λ (j : Job). range_of j.call) (flies.knows.goes_on tt).0 ∙ on_key) p.0 p.2 (fewer f.turns h.turns (length path) (length p.0) turns p.1 fits) in record {
         fits = more n (length p.0) (length path) p.1 k.fits;
         unlimited = k.unlimited;
       }
@@ -714,7 +730,7 @@ module _ {P M : Type 0} (store : P → Store) (meant : M → Merge) (old : DbVal
   pub going_more : (mid next : DbValue P M) (h k : InFlight) → IsFlying store meant old f mid h → DbStepContract store meant mid h Moved next k → IsDb store next → IsFlying store meant old f next k
   going_more mid next h k is flies db = record {
     whole = λ n went new g end. is.whole (suc n) went new g (GoesOn flies db end);
-    known = (flies.knows.goes_on refl).1;
+    known = (flies.knows.goes_on tt).1;
     tested = still_tested store meant mid next h k flies is.tested;
   }
 
@@ -732,3 +748,20 @@ module _ {P M : Type 0} (store : P → Store) (meant : M → Merge) where
 
   pub end_reached : (old new : DbValue P M) (f g : InFlight) (went : Went) → DbRunsToEnd store meant old f went new g → went ≢ Moved
   end_reached old new f g went flies = times_end flies.moves old new f g went flies.flies
+
+  -- a call on a key gives no pair
+  never_yields : (n : ℕ) (old new : DbValue P M) (f g : InFlight) (key value : Key) → DbSteps store meant n old f (Yielded key value) new g → IsOnKey f.job.call → ⊥
+  never_yields zero old new f g key value (Ends flies off) on_key =
+      let y = (flies.step.steps (everywhere f) 0 0 0 0 refl).is.0 in
+      none_waits (sym (waits_never f on_key).0 ∙ (ap (λ (z : CallInFlight). z.waiting) (some_is y.here) ∙ y.waits))
+    where
+      none_waits : {X : Type 0} {x : X} {xs : List X} → [] ≡ x ∷ xs → ⊥
+      none_waits e = cc
+  never_yields (suc n) old new f g key value (GoesOn {mid = mid} {h = h} flies db rest) on_key = never_yields n mid new h g key value rest (ap (λ (j : Job). range_of j.call) (flies.knows.goes_on tt).0 ∙ on_key)
+
+  -- so it comes to its end decided or refused
+  pub only_ends : (old new : DbValue P M) (f g : InFlight) (went : Went) → DbRunsToEnd store meant old f went new g → IsOnKey f.job.call → ((reply : Reply) → went ≡ Decided reply → ⊥) → ((e : Error) → went ≡ Refused e → ⊥) → ⊥
+  only_ends old new f g Moved flies on_key decided refused = end_reached old new f g Moved flies refl
+  only_ends old new f g (Yielded key value) flies on_key decided refused = never_yields flies.moves old new f g key value flies.flies on_key
+  only_ends old new f g (Decided reply) flies on_key decided refused = decided reply refl
+  only_ends old new f g (Refused e) flies on_key decided refused = refused e refl

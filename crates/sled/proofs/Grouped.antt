@@ -11,7 +11,7 @@ use Rattle.sled_model.specs.Maps.{Map, Merge}
 use Rattle.sled_model.specs.Answer.{answer_of, decision_of, event_of, map_after, key_of, same_value}
 use Rattle.sled_model.specs.Groups.{Write, writes_on, writes_of, call_with, call_of_write, answer_of_write, after_write_on, after_write, after_writes, events_of_write, events_of_writes}
 use Rattle.sled_model.specs.Refusal.{MustRefuse, IsClosed, IsDropped, first_of, is_number, needs_operator, dropped_test, trees_of_batches, must_refuse_of}
-use Rattle.sled_model.specs.State.{State, NamedTree, CallInFlight}
+use Rattle.sled_model.specs.State.{IsOnKey, State, NamedTree, CallInFlight}
 use Rattle.sled_model.specs.declared.call.Call.{Call}
 use Rattle.sled_model.specs.declared.call.Call.TheVariants as call
 use Rattle.sled_model.specs.declared.decision.Effect.{Effect}
@@ -200,14 +200,14 @@ jobs_numbered numbers (w ∷ ws) s at c =
     go None is more = more
     go (Some t) is more = one (answer_of_write t w).event (jobs_of_writes ws (after_write w s)) is more
 
--- none needs an operator
+-- each is on a key, and needs no operator
 abbrev pub ArePlain : List Job → Type 0
 ArePlain [] = Unit {0}
-ArePlain (j ∷ js) = (needs_operator j.call ≡ false) × ArePlain js
+ArePlain (j ∷ js) = (IsOnKey j.call × (needs_operator j.call ≡ false)) × ArePlain js
 
-write_plain : (key : Key) (value : Option Key) → needs_operator (call_with key value) ≡ false
-write_plain key None = refl
-write_plain key (Some v) = refl
+write_plain : (key : Key) (value : Option Key) → IsOnKey (call_with key value) × (needs_operator (call_with key value) ≡ false)
+write_plain key None = (refl, refl)
+write_plain key (Some v) = (refl, refl)
 
 pub jobs_plain : (ws : List Write) (s : State) → ArePlain (jobs_of_writes ws s)
 jobs_plain [] s = tt

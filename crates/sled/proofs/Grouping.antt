@@ -60,7 +60,7 @@ jobs_begun (j ∷ js) = ap (λ l. j ∷ l) (jobs_begun js)
 
 fresh_begun : (js : List Job) → ArePlain js → AreFresh (begun_flights js)
 fresh_begun [] plain = tt
-fresh_begun (j ∷ js) plain = ((refl, plain.0), fresh_begun js plain.1)
+fresh_begun (j ∷ js) plain = ((refl, plain.0.0, plain.0.1), fresh_begun js plain.1)
 
 pub changes_fresh : (ws : List Write) (s : State) (flights : List InFlight) → flights ≡ begun_flights (jobs_of_writes ws s) → AreFresh flights
 changes_fresh ws s flights is = subst AreFresh (sym is) (fresh_begun (jobs_of_writes ws s) (jobs_plain ws s))

@@ -1,5 +1,5 @@
 -- Imports.
-use Rattle.std.proofs.Common.{◌≡◌, ◌⊎◌, ℕ, suc, ◌+◌, ◌<◌, ◌≤◌, Bool, true, false, not, cond, Bor, List, [], ◌∷◌, ◌++◌, append-nil, append_assoc, add-one, drop-cons, drop, get_or, length, Option, Some, None, is_some, Result, Ok, Err, IfErr, OnOk, sym, refl, ap, ◌∙◌, subst, inl, inr}
+use Rattle.std.proofs.Common.{◌≡◌, ◌≢◌, ◌⊎◌, ℕ, suc, ◌+◌, min, ◌<◌, ◌≤◌, Bool, true, false, not, cond, Bor, List, [], ◌∷◌, ◌++◌, append-nil, append_assoc, add-one, add-zero, drop-cons, drop, get_or, length, length-append, Option, Some, None, is_some, Result, Ok, Err, IfErr, OnOk, sym, refl, ap, ◌∙◌, subst, inl, inr}
 use Rattle.std.proofs.lemmas.List.{drop_all}
 use Rattle.std.specs.FinMap.Entries.{find}
 use Rattle.std.specs.Global.{Vec}
@@ -29,7 +29,9 @@ use Rattle.tree_groups.specs.Writes.{NoAction}
 use Rattle.sled.specs.Direct.{LeavesAll, PointDecided, PointRefused, WholeDecided, WholeRefused}
 use Rattle.sled.specs.Opens.{OpensBySteps, OpenRefusedBySteps}
 use Rattle.sled.specs.Imports.{grows_trees, ImportDecided, PartRefusedBySteps, ImportsBySteps, ImportsNone, ImportsMore, ImportStops, ImportRefused}
-use Rattle.sled.specs.theory.Imports.{IsTreeNow, PartsDone, PartsStopped}
+use Rattle.sled.specs.Parts.{most_parts, told_parts, ImportsParts, ImportRefusedAfter}
+use Rattle.sled.specs.theory.Imports.{IsTreeNow, PartsDone, PartsStopped, PartsStoppedAfter}
+use Rattle.sled.proofs.Counting.{told_then, told_one, told_before}
 use Rattle.sled.proofs.Conducting.{ReadsAlike, acts_then, may_alike, leaves_then, leaves_none}
 use Rattle.sled.proofs.Popping.{often_faults, often_readable, min_unread}
 use Rattle.sled.proofs.Testing.{first_alone}
@@ -156,10 +158,11 @@ module _ {P M : Type 0} (store : P → Store) (meant : M → Merge) where
   stopped_later : (ps done : List Part) (next : Part) (later qs : List Part) → qs ≡ done ++ next ∷ later → ps ++ qs ≡ (ps ++ done) ++ next ∷ later
   stopped_later ps done next later qs e = ap (λ l. ps ++ l) e ∙ sym (append_assoc ps done (next ∷ later))
 
-  pub stops_then : (old mid new : DbValue P M) (ps qs : List Part) (e : Error) → PartsDone store meant old ps mid → IsDb store mid → PartsStopped store meant mid qs e new → PartsStopped store meant old (ps ++ qs) e new
+  pub stops_then : (old mid new : DbValue P M) (ps qs : List Part) {count : ℕ} (e : Error) → PartsDone store meant old ps mid → IsDb store mid → PartsStopped store meant mid qs count e new → PartsStopped store meant old (ps ++ qs) (length ps + count) e new
   stops_then old mid new ps qs e a db b = record {
     maps = a.maps ++ b.maps;
     stop = record { done = ps ++ b.stop.done; next = b.stop.next; later = b.stop.later };
+    counted = ap (λ n. length ps + n) b.counted ∙ sym (length-append ps b.stop.done);
     all_parts = stopped_later ps b.stop.done b.stop.next b.stop.later qs b.all_parts;
     mid = b.mid;
     does = λ slots given. parts_then (a.does slots given) (b.does slots given);
@@ -175,10 +178,11 @@ module _ {P M : Type 0} (store : P → Store) (meant : M → Merge) where
   stopped_before : (done : List Part) (next : Part) (later ps rs : List Part) → ps ≡ done ++ next ∷ later → ps ++ rs ≡ done ++ next ∷ (later ++ rs)
   stopped_before done next later ps rs e = ap (λ l. l ++ rs) e ∙ append_assoc done (next ∷ later) rs
 
-  pub stops_more : (old new : DbValue P M) (ps rs : List Part) (e : Error) → PartsStopped store meant old ps e new → PartsStopped store meant old (ps ++ rs) e new
+  pub stops_more : (old new : DbValue P M) (ps rs : List Part) {count : ℕ} (e : Error) → PartsStopped store meant old ps count e new → PartsStopped store meant old (ps ++ rs) count e new
   stops_more old new ps rs e b = record {
     maps = b.maps;
     stop = record { done = b.stop.done; next = b.stop.next; later = b.stop.later ++ rs };
+    counted = b.counted;
     all_parts = stopped_before b.stop.done b.stop.next b.stop.later ps rs b.all_parts;
     mid = b.mid;
     does = b.does;
@@ -193,10 +197,11 @@ module _ {P M : Type 0} (store : P → Store) (meant : M → Merge) where
 
   -- a part that is refused at once
   stops_at : (old new : DbValue P M) (next : Part) (e : Error) → ((slots : ℕ → Option CallInFlight) (given : ℕ) → State_of new slots given ≡ State_of old slots given) → ((slots : ℕ → Option CallInFlight) (given : ℕ) → refuses_part (State_of old slots given) (store old.pages) (store new.pages) next e)
-      → Rattle.sled.specs.Direct.effects_until (Some e) (store old.pages) (store new.pages) → LeavesAll store [] None old new → grows_trees old new → PartRefusedBySteps store meant old next e new → PartsStopped store meant old (next ∷ []) e new
+      → Rattle.sled.specs.Direct.effects_until (Some e) (store old.pages) (store new.pages) → LeavesAll store [] None old new → grows_trees old new → PartRefusedBySteps store meant old next e new → PartsStopped store meant old (next ∷ []) 0 e new
   stops_at old new next e stays refuses acts leaves same steps = record {
     maps = [];
     stop = record { done = []; next = next; later = [] };
+    counted = refl;
     all_parts = refl;
     mid = old;
     does = λ slots given. NoPart;
@@ -223,7 +228,7 @@ module _ {P M : Type 0} (store : P → Store) (meant : M → Merge) where
       opens : OpensTree (db_state store meant old) name (told.Tree tree) (db_state store meant new) w.maps
       opens = w.decides (λ n. None) 0 0
 
-      replied : tree ≡ record { database = old.name; name = name; number = number_opened ((db_state store meant old).trees name) (db_state store meant old) }
+      pub replied : tree ≡ record { database = old.name; name = name; number = number_opened ((db_state store meant old).trees name) (db_state store meant old) }
       replied = told_tree _ _ opens.replies
 
       pub opened_name : tree.name ≡ name
@@ -247,7 +252,7 @@ module _ {P M : Type 0} (store : P → Store) (meant : M → Merge) where
         did = ImportsMore (record { is = s }) ImportsNone;
       }
 
-    pub opened_not : (e : Error) → WholeRefused store meant old (OpenTree name) e new → OpenRefusedBySteps store name old e new → PartsStopped store meant old (OpensName name ∷ []) e new
+    pub opened_not : (e : Error) → WholeRefused store meant old (OpenTree name) e new → OpenRefusedBySteps store name old e new → PartsStopped store meant old (OpensName name ∷ []) 0 e new
     opened_not e w s = stops_at old new (OpensName name) e (λ slots given. (w.refuses slots given).1) (λ slots given. (w.refuses slots given).0)
         w.acts (subst (λ m. LeavesAll store m None old new) (w.refuses (λ n. None) 0).2 w.leaves) (grows_not old new w.same) (record { is = s })
 
@@ -307,7 +312,7 @@ module _ {P M : Type 0} (store : P → Store) (meant : M → Merge) where
           go None k = cause e k
           go (Some must) k = k
 
-      pub put_not : (there : Bool) → there ≡ false → ReadsMap store meant old tree (λ map. there ≡ is_some (find key_cmp key map)) → (e : Error) → PointRefused store meant old tree (Insert key value) e new → PartsStopped store meant old (Puts tree.name key value ∷ []) e new
+      pub put_not : (there : Bool) → there ≡ false → ReadsMap store meant old tree (λ map. there ≡ is_some (find key_cmp key map)) → (e : Error) → PointRefused store meant old tree (Insert key value) e new → PartsStopped store meant old (Puts tree.name key value ∷ []) 0 e new
       put_not there off r e p = stops_at old new (Puts tree.name key value) e (λ slots given. ap (with_slots slots given) p.refuses.is)
           (λ slots given. inr (inr (is_absent slots given there off r, subst (λ t. MayRefuse (State_of old slots given) (store old.pages) (store new.pages) (ToPoint t (Insert key value)) e) (is_now.is ∙ at_slots old slots given tree.name) (may_slots e p.refuses.may slots given))))
           p.conducts.acts p.conducts.leaves (grows_pages old new p.conducts.same)
@@ -327,14 +332,14 @@ module _ {P M : Type 0} (store : P → Store) (meant : M → Merge) where
     read_not None e k = read_cause e k
     read_not (Some must) e k = k
 
-    pub put_unread : (e : Error) → RefusesReading store meant old tree once e → GivesUpGet store meant old tree key e → PartsStopped store meant old (Puts tree.name key value ∷ []) e old
+    pub put_unread : (e : Error) → RefusesReading store meant old tree once e → GivesUpGet store meant old tree key e → PartsStopped store meant old (Puts tree.name key value ∷ []) 0 e old
     put_unread e r g = stops_at old old (Puts tree.name key value) e (λ slots given. refl)
         (λ slots given. inr (inl (subst (λ t. unread_as (must_refuse_of (State_of old slots given) (t ∷ [])) (store old.pages) e) (is_now.is ∙ at_slots old slots given tree.name) (read_not (must_refuse_of (db_state store meant old) (tree ∷ [])) e r.is))))
         (min_unread store meant old tree e r).acts (leaves_none store meant old) refl
         (record { is = inr (inl (record { refuses = subst (λ t. RefusesReading store meant old t once e) is_now.is r; gives_up = subst (λ t. GivesUpGet store meant old t key e) is_now.is g; same = refl })) })
 
     -- the key is present
-    pub put_present : (text : Bor Key) → text.now ≡ OVERWRITES_DATA.now → (there : Bool) → there ≡ true → ReadsMap store meant old tree (λ map. there ≡ is_some (find key_cmp key map)) → PartsStopped store meant old (Puts tree.name key value ∷ []) (error.Unsupported text) old
+    pub put_present : (text : Bor Key) → text.now ≡ OVERWRITES_DATA.now → (there : Bool) → there ≡ true → ReadsMap store meant old tree (λ map. there ≡ is_some (find key_cmp key map)) → PartsStopped store meant old (Puts tree.name key value ∷ []) 0 (error.Unsupported text) old
     put_present text is there on r =
         let v = value_of (find key_cmp key r.named.map) (sym r.is ∙ on) in
         stops_at old old (Puts tree.name key value) (error.Unsupported text) (λ slots given. refl)
@@ -343,74 +348,100 @@ module _ {P M : Type 0} (store : P → Store) (meant : M → Merge) where
 
   -- ---- pairs, and collections
 
-  -- a part of these pairs were put, and the others are left
-  pub record PutSoFar (old : DbValue P M) (tree : Tree) (pairs left : List (Key × Key)) (d : DbValue P M) : Type 0 where
+  -- a part of these pairs were put and counted, and the others are left
+  pub record PutSoFar (old : DbValue P M) (tree : Tree) (pairs left : List (Key × Key)) (number : ℕ) (d : DbValue P M) : Type 0 where
     pub done : List Part
+    pub told : number ≡ told_parts (length done)
     pub rest : puts_of tree.name pairs [] ≡ done ++ puts_of tree.name left []
     pub does : PartsDone store meant old done d
     pub is_now : IsTreeNow store meant d tree
 
   module _ (old : DbValue P M) (tree : Tree) (pairs : List (Key × Key)) where
-    pub put_first : IsTreeNow store meant old tree → PutSoFar old tree pairs pairs old
-    put_first is_now = record { done = []; rest = refl; does = done_none old; is_now = is_now }
+    pub put_first : IsTreeNow store meant old tree → PutSoFar old tree pairs pairs 0 old
+    put_first is_now = record { done = []; told = refl; rest = refl; does = done_none old; is_now = is_now }
 
-    module _ (left : List (Key × Key)) (d : DbValue P M) (k : PutSoFar old tree pairs left d) where
+    module _ (left : List (Key × Key)) {number : ℕ} (d : DbValue P M) (k : PutSoFar old tree pairs left number d) where
+      all_done : left ≡ [] → puts_of tree.name pairs [] ≡ k.done
+      all_done e = k.rest ∙ ap (λ l. k.done ++ puts_of tree.name l []) e ∙ append-nil k.done
+
       pub put_all : left ≡ [] → PartsDone store meant old (puts_of tree.name pairs []) d
-      put_all e = subst (λ ps. PartsDone store meant old ps d) (sym (k.rest ∙ ap (λ l. k.done ++ puts_of tree.name l []) e ∙ append-nil k.done)) k.does
+      put_all e = subst (λ ps. PartsDone store meant old ps d) (sym (all_done e)) k.does
+
+      pub put_all_told : left ≡ [] → number ≡ told_parts (length (puts_of tree.name pairs []))
+      put_all_told e = k.told ∙ ap (λ ps. told_parts (length ps)) (sym (all_done e))
 
       module _ (db : IsDb store d) (pair : Key × Key) (more : List (Key × Key)) (e : left ≡ pair ∷ more) where
         rest_is : puts_of tree.name pairs [] ≡ (k.done ++ Puts tree.name pair.0 pair.1 ∷ []) ++ puts_of tree.name more []
         rest_is = k.rest ∙ ap (λ l. k.done ++ puts_of tree.name l []) e ∙ sym (append_assoc k.done (Puts tree.name pair.0 pair.1 ∷ []) (puts_of tree.name more []))
 
-        pub put_more : (new : DbValue P M) → PartsDone store meant d (Puts tree.name pair.0 pair.1 ∷ []) new → IsTreeNow store meant new tree → PutSoFar old tree pairs more new
-        put_more new p is_now = record {
+        pub put_more : (new : DbValue P M) → PartsDone store meant d (Puts tree.name pair.0 pair.1 ∷ []) new → IsTreeNow store meant new tree → (now_told : ℕ) → now_told ≡ min (number + 1) most_parts → PutSoFar old tree pairs more now_told new
+        put_more new p is_now now_told counted = record {
           done = k.done ++ Puts tree.name pair.0 pair.1 ∷ [];
+          told = told_then (length k.done) 1 number 1 now_told k.told refl counted ∙ ap told_parts (sym (length-append k.done (Puts tree.name pair.0 pair.1 ∷ [])));
           rest = rest_is;
           does = done_then old d new k.done (Puts tree.name pair.0 pair.1 ∷ []) k.does db p;
           is_now = is_now;
         }
 
-        pub put_stopped : (x : Error) (new : DbValue P M) → PartsStopped store meant d (Puts tree.name pair.0 pair.1 ∷ []) x new → PartsStopped store meant old (puts_of tree.name pairs []) x new
-        put_stopped x new p = subst (λ ps. PartsStopped store meant old ps x new) (sym rest_is)
-            (stops_more old new (k.done ++ Puts tree.name pair.0 pair.1 ∷ []) (puts_of tree.name more []) x (stops_then old d new k.done (Puts tree.name pair.0 pair.1 ∷ []) x k.does db p))
+        pub put_stopped : (x : Error) (new : DbValue P M) → PartsStopped store meant d (Puts tree.name pair.0 pair.1 ∷ []) 0 x new → PartsStoppedAfter store meant old (puts_of tree.name pairs []) number x new
+        put_stopped x new p = record {
+          count = length k.done + 0;
+          told = k.told ∙ ap told_parts (sym (add-zero (length k.done)));
+          is = subst (λ ps. PartsStopped store meant old ps (length k.done + 0) x new) (sym rest_is)
+              (stops_more old new (k.done ++ Puts tree.name pair.0 pair.1 ∷ []) (puts_of tree.name more []) x (stops_then old d new k.done (Puts tree.name pair.0 pair.1 ∷ []) x k.does db p));
+        }
 
-  -- some of these collections are in, and the others are left
-  pub record ImportedSoFar (old : DbValue P M) (all left : List Content) (d : DbValue P M) : Type 0 where
+  -- some of these collections are in, their parts are counted, and the others are left
+  pub record ImportedSoFar (old : DbValue P M) (all left : List Content) (number : ℕ) (d : DbValue P M) : Type 0 where
     pub done : List Part
+    pub told : number ≡ told_parts (length done)
     pub rest : parts_of all ≡ done ++ parts_of left
     pub does : PartsDone store meant old done d
 
   module _ (old : DbValue P M) (all : List Content) where
-    pub imported_first : ImportedSoFar old all all old
-    imported_first = record { done = []; rest = refl; does = done_none old }
+    pub imported_first : ImportedSoFar old all all 0 old
+    imported_first = record { done = []; told = refl; rest = refl; does = done_none old }
 
-    module _ (left : List Content) (d : DbValue P M) (k : ImportedSoFar old all left d) where
+    module _ (left : List Content) {number : ℕ} (d : DbValue P M) (k : ImportedSoFar old all left number d) where
+      every_done : left ≡ [] → parts_of all ≡ k.done
+      every_done e = k.rest ∙ ap (λ l. k.done ++ parts_of l) e ∙ append-nil k.done
+
       pub imported_all : left ≡ [] → PartsDone store meant old (parts_of all) d
-      imported_all e = subst (λ ps. PartsDone store meant old ps d) (sym (k.rest ∙ ap (λ l. k.done ++ parts_of l) e ∙ append-nil k.done)) k.does
+      imported_all e = subst (λ ps. PartsDone store meant old ps d) (sym (every_done e)) k.does
+
+      pub imported_parts : left ≡ [] → ImportsParts all number
+      imported_parts e = record { told = k.told ∙ ap (λ ps. told_parts (length ps)) (sym (every_done e)) }
 
       module _ (db : IsDb store d) (c : Content) (more : List Content) (e : left ≡ c ∷ more) where
         next_is : parts_of all ≡ (k.done ++ parts_of (c ∷ [])) ++ parts_of more
         next_is = k.rest ∙ ap (λ l. k.done ++ parts_of l) e ∙ ap (λ ps. k.done ++ ps) (parts_first c more) ∙ sym (append_assoc k.done (parts_of (c ∷ [])) (parts_of more))
 
-        pub imported_more : (new : DbValue P M) → PartsDone store meant d (parts_of (c ∷ [])) new → ImportedSoFar old all more new
-        imported_more new p = record { done = k.done ++ parts_of (c ∷ []); rest = next_is; does = done_then old d new k.done (parts_of (c ∷ [])) k.does db p }
+        pub imported_more : (new : DbValue P M) → PartsDone store meant d (parts_of (c ∷ [])) new → (these now_told : ℕ) → these ≡ told_parts (length (parts_of (c ∷ []))) → now_told ≡ min (number + these) most_parts → ImportedSoFar old all more now_told new
+        imported_more new p these now_told are counted = record { done = k.done ++ parts_of (c ∷ []); told = told_then (length k.done) (length (parts_of (c ∷ []))) number these now_told k.told are counted ∙ ap told_parts (sym (length-append k.done (parts_of (c ∷ [])))); rest = next_is; does = done_then old d new k.done (parts_of (c ∷ [])) k.does db p }
 
-        pub imported_stopped : (x : Error) (new : DbValue P M) → PartsStopped store meant d (parts_of (c ∷ [])) x new → PartsStopped store meant old (parts_of all) x new
-        imported_stopped x new p = subst (λ ps. PartsStopped store meant old ps x new) (sym next_is)
-            (stops_more old new (k.done ++ parts_of (c ∷ [])) (parts_of more) x (stops_then old d new k.done (parts_of (c ∷ [])) x k.does db p))
+        pub imported_stopped : (x : Error) (new : DbValue P M) (these now_told : ℕ) → PartsStoppedAfter store meant d (parts_of (c ∷ [])) these x new → now_told ≡ min (number + these) most_parts → PartsStoppedAfter store meant old (parts_of all) now_told x new
+        imported_stopped x new these now_told p counted = record {
+          count = length k.done + p.count;
+          told = told_then (length k.done) p.count number these now_told k.told p.told counted;
+          is = subst (λ ps. PartsStopped store meant old ps (length k.done + p.count) x new) (sym next_is)
+              (stops_more old new (k.done ++ parts_of (c ∷ [])) (parts_of more) x (stops_then old d new k.done (parts_of (c ∷ [])) x k.does db p.is));
+        }
 
   -- ---- the whole import
 
   module _ (old : DbValue P M) (all : List Content) where
     -- the database is closed
-    pub import_closed : (now (store old.pages)).in_group ≡ true → ImportRefused store meant old all error.Closed old
+    pub import_closed : (now (store old.pages)).in_group ≡ true → ImportRefusedAfter store meant old all 0 error.Closed old
     import_closed e = record {
-      maps = [];
-      refuses = inl (subst (λ o. refuses_import_as o all error.Closed) (sym (ap (λ b. first_of (cond (not b) None (Some IsClosed)) None) e)) refl, refl, refl);
-      acts = (store old.pages, NoAction, refl);
-      leaves = leaves_none store meant old;
-      same = refl;
-      tested = λ must. refl;
+      is = record {
+        maps = [];
+        refuses = inl (subst (λ o. refuses_import_as o all error.Closed) (sym (ap (λ b. first_of (cond (not b) None (Some IsClosed)) None) e)) refl, refl, refl);
+        acts = (store old.pages, NoAction, refl);
+        leaves = leaves_none store meant old;
+        same = refl;
+        tested = λ must. refl;
+      };
+      told = refl;
     }
 
     module _ (no_group : (now (store old.pages)).in_group ≡ false) where
@@ -418,14 +449,17 @@ module _ {P M : Type 0} (store : P → Store) (meant : M → Merge) where
       open_is slots given = ap (λ b. first_of (cond (not b) None (Some IsClosed)) None) no_group
 
       -- some collection is of another type
-      pub import_unknown : are_trees all ≡ false → (text : Bor Key) → text.now ≡ UNKNOWN_COLLECTION_TYPE.now → ImportRefused store meant old all (error.Unsupported text) old
+      pub import_unknown : are_trees all ≡ false → (text : Bor Key) → text.now ≡ UNKNOWN_COLLECTION_TYPE.now → ImportRefusedAfter store meant old all 0 (error.Unsupported text) old
       import_unknown off text is = record {
-        maps = [];
-        refuses = inl (subst (λ o. refuses_import_as o all (error.Unsupported text)) (sym (open_is (λ n. None) 0)) (is, off), refl, refl);
-        acts = (store old.pages, NoAction, refl);
-        leaves = leaves_none store meant old;
-        same = refl;
-        tested = λ must. refl;
+        is = record {
+          maps = [];
+          refuses = inl (subst (λ o. refuses_import_as o all (error.Unsupported text)) (sym (open_is (λ n. None) 0)) (is, off), refl, refl);
+          acts = (store old.pages, NoAction, refl);
+          leaves = leaves_none store meant old;
+          same = refl;
+          tested = λ must. refl;
+        };
+        told = refl;
       }
 
       module _ (trees : are_trees all ≡ true) (new : DbValue P M) where
@@ -438,21 +472,24 @@ module _ {P M : Type 0} (store : P → Store) (meant : M → Merge) where
           same = k.same;
         }
 
-        pub import_stopped : (e : Error) → PartsStopped store meant old (parts_of all) e new → ImportRefused store meant old all e new
-        import_stopped e k = record {
-          maps = k.maps;
-          refuses = inr (record {
-            stop = k.stop;
-            mid = k.mid;
-            state = λ slots given. record { free = open_is slots given; trees = trees; all_parts = k.all_parts; does = k.does slots given; refuses = k.refuses slots given };
-            stays = k.stays;
-            did = k.did;
-            refused = k.refused;
-          });
-          acts = k.acts;
-          leaves = k.leaves;
-          same = k.same;
-          tested = λ must. absurd (must (open_is (λ n. None) 0));
+        pub import_stopped : (number : ℕ) (e : Error) → PartsStoppedAfter store meant old (parts_of all) number e new → ImportRefusedAfter store meant old all number e new
+        import_stopped number e after = let k = after.is in record {
+          is = record {
+            maps = k.maps;
+            refuses = inr (record {
+              stop = k.stop;
+              mid = k.mid;
+              state = λ slots given. record { free = open_is slots given; trees = trees; all_parts = k.all_parts; does = k.does slots given; refuses = k.refuses slots given };
+              stays = k.stays;
+              did = k.did;
+              refused = k.refused;
+            });
+            acts = k.acts;
+            leaves = k.leaves;
+            same = k.same;
+            tested = λ must. absurd (must (open_is (λ n. None) 0));
+          };
+          told = after.told ∙ ap told_parts k.counted;
         }
 
   -- ---- the same of the call that a machine makes
@@ -480,6 +517,14 @@ module _ {P M : Type 0} (store : P → Store) (meant : M → Merge) where
 
 -- ---- the same, of what calls answer
 
+-- what holds where a result is no error, and of the error that it is
+pub done_here : {T : Type 0} (r : Result (Unit {0}) Error) → ((x : Error) → r ≢ Err x) → OnOk r T → T
+done_here (Ok u) fine t = t
+done_here (Err e) fine t = absurd (fine e refl)
+
+pub stopped_here : (p : Error → Type 0) (r : Result (Unit {0}) Error) (x : Error) → r ≡ Err x → IfErr r p → p x
+stopped_here p r x e t = subst (λ z. IfErr z p) e t
+
 module _ {P M : Type 0} (store : P → Store) (meant : M → Merge) where
   -- a collection's pairs, after its tree was opened
   module _ (old mid new : DbValue P M) (name : Key) (tree : Tree) (w : WholeDecided store meant old (OpenTree name) (told.Tree tree) mid) (s : OpensBySteps store name old mid) (db : IsDb store mid) (pairs : List (Key × Key)) where
@@ -487,12 +532,22 @@ module _ {P M : Type 0} (store : P → Store) (meant : M → Merge) where
     collection_done (Ok u) k = done_then store meant old mid new (OpensName name ∷ []) (puts_of name pairs []) (opened_done store meant old mid name tree w s) db (subst (λ n. PartsDone store meant mid (puts_of n pairs []) new) (opened_name store meant old mid name tree w) k)
     collection_done (Err e) k = tt
 
-    pub collection_stopped : (r : Result (Unit {0}) Error) → IfErr r (λ e. PartsStopped store meant mid (puts_of tree.name pairs []) e new) → IfErr r (λ e. PartsStopped store meant old (OpensName name ∷ puts_of name pairs []) e new)
-    collection_stopped (Ok u) k = tt
-    collection_stopped (Err e) k = stops_then store meant old mid new (OpensName name ∷ []) (puts_of name pairs []) e (opened_done store meant old mid name tree w s) db (subst (λ n. PartsStopped store meant mid (puts_of n pairs []) e new) (opened_name store meant old mid name tree w) k)
+    pub collection_stopped : (number more : ℕ) → more ≡ min (number + 1) most_parts → (r : Result (Unit {0}) Error) → IfErr r (λ e. PartsStoppedAfter store meant mid (puts_of tree.name pairs []) number e new) → IfErr r (λ e. PartsStoppedAfter store meant old (OpensName name ∷ puts_of name pairs []) more e new)
+    collection_stopped number more counted (Ok u) k = tt
+    collection_stopped number more counted (Err e) k =
+        let after = subst (λ n. PartsStoppedAfter store meant mid (puts_of n pairs []) number e new) (opened_name store meant old mid name tree w) k in record {
+          count = 1 + after.count;
+          told = told_before after.count number more after.told counted;
+          is = stops_then store meant old mid new (OpensName name ∷ []) (puts_of name pairs []) e (opened_done store meant old mid name tree w s) db after.is;
+        }
 
-  pub collection_unopened : (old new : DbValue P M) (name : Key) (pairs : List (Key × Key)) (e : Error) → WholeRefused store meant old (OpenTree name) e new → OpenRefusedBySteps store name old e new → PartsStopped store meant old (OpensName name ∷ puts_of name pairs []) e new
-  collection_unopened old new name pairs e w s = stops_more store meant old new (OpensName name ∷ []) (puts_of name pairs []) e (opened_not store meant old new name e w s)
+    -- .. and how many parts that were
+    pub collection_told : (number more : ℕ) → more ≡ min (number + 1) most_parts → (r : Result (Unit {0}) Error) → OnOk r (number ≡ told_parts (length (puts_of tree.name pairs []))) → OnOk r (more ≡ told_parts (length (OpensName name ∷ puts_of name pairs [])))
+    collection_told number more counted (Ok u) k = told_one (length (puts_of name pairs [])) number more (subst (λ n. number ≡ told_parts (length (puts_of n pairs []))) (opened_name store meant old mid name tree w) k) counted
+    collection_told number more counted (Err e) k = tt
+
+  pub collection_unopened : (old new : DbValue P M) (name : Key) (pairs : List (Key × Key)) (e : Error) → WholeRefused store meant old (OpenTree name) e new → OpenRefusedBySteps store name old e new → PartsStoppedAfter store meant old (OpensName name ∷ puts_of name pairs []) 0 e new
+  collection_unopened old new name pairs e w s = record { count = 0; told = refl; is = stops_more store meant old new (OpensName name ∷ []) (puts_of name pairs []) e (opened_not store meant old new name e w s) }
 
 -- ---- where a key and a value were read
 

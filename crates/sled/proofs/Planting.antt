@@ -43,7 +43,7 @@ use Rattle.sled_tree.specs.declared.flight.InFlight.{InFlight}
 use Rattle.sled_tree.proofs.Facts.{once_made, once_rooted, grows_not}
 use Rattle.sled_tree.proofs.Known.{not_own, known_kept}
 use Rattle.sled_tree.proofs.Splits.{made_below}
-use Rattle.sled.specs.Values.{DbValue, named, numbers_of, given_to, state_of, snapshot_of_db}
+use Rattle.sled.specs.Values.{DbValue, named, numbers_of, given_to, state_of, db_state, snapshot_of_db}
 use Rattle.sled_queues.specs.Values.{queue_at}
 use Rattle.sled_queues.specs.Queues.{queues_of}
 use Rattle.sled.specs.Sound.{IsDb}
@@ -142,9 +142,17 @@ module _ {P M : Type 0} (store : P → Store) (meant : M → Merge) (old : DbVal
       same = refl;
     }
 
+    -- the number that an opening tells
+    pub number_known : n ≡ number_opened ((db_state store meant old).trees name) (db_state store meant old)
+    number_known = ap (λ (o : Option NamedTree). number_opened o (db_state store meant old)) (sym (there (λ n. None) 0))
+
     pub all_known : (r : Result Tree Error) → IfOk r (λ t. t ≡ record { database = old.name; name = name; number = n }) → IfOk r (λ t. WholeDecided store meant old (OpenTree name) (told.Tree t) old)
     all_known (Ok t) is = opens_known t is
     all_known (Err e) is = tt
+
+  -- .. and of a name that is new
+  pub number_new : (inside : DbValue P M) → inside ≡ old → numbers_of old.trees name ≡ None → inside.trees_given + 1 ≡ number_opened ((db_state store meant old).trees name) (db_state store meant old)
+  number_new inside same unknown = ap (λ (z : DbValue P M). z.trees_given + 1) same ∙ ap (λ (o : Option NamedTree). number_opened o (db_state store meant old)) (sym (ap (λ o. named o (trees_of (now (store old.pages)) name) (λ n. option_map meant (find nat_cmp n old.operators))) unknown))
 
   -- there is no memory, or no number
   pub opens_not : (e : Error) → ((slots : ℕ → Option CallInFlight) (given : ℕ) → cause_of (state_of store meant old slots given) (store old.pages) (store old.pages) (ToCall (OpenTree name)) e) → IsStepRefused e (store old.pages) (store old.pages) → WholeRefused store meant old (OpenTree name) e old

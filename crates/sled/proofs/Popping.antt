@@ -1,5 +1,5 @@
 -- Calls that take out the pair at an end of a tree, and clears.
-use Rattle.std.proofs.Common.{◌≡◌, ◌≢◌, ℕ, zero, suc, ◌<◌, ◌≤◌, ◌⊎◌, Bool, true, false, not, cond, List, [], ◌∷◌, ◌++◌, append-nil, length, Option, Some, None, is_some, Result, Ok, Err, IfOk, IfErr, sym, refl, ap, ◌∙◌, subst, inl, inr, arith}
+use Rattle.std.proofs.Common.{◌≡◌, ◌≢◌, ℕ, zero, suc, ◌+◌, min, ◌<◌, ◌≤◌, ◌⊎◌, Bool, true, false, not, cond, List, [], ◌∷◌, ◌++◌, append-nil, length, Option, Some, None, is_some, Result, Ok, Err, IfOk, IfErr, sym, refl, ap, ◌∙◌, subst, inl, inr, arith}
 use Rattle.std.proofs.lemmas.Cmp.{tied_itself}
 use Rattle.std.specs.List.{filter, list_any}
 use Rattle.std.specs.FinMap.Entries.{find}
@@ -38,7 +38,9 @@ use Rattle.sled.specs.Reads.{ReadsMap, RefusesReading, refuses_reading_as, stops
 use Rattle.tree_groups.specs.Writes.{ActsOften, NoAction, OneAction}
 use Rattle.sled.specs.Direct.{Conducts, PointDecided, PointRefused, WholeDecided, WholeRefused, effect_of_whole, changes_only, lost_of, LeavesAll, changes_refused}
 use Rattle.sled.specs.Pops.{TakesOut, RefusesToTake, IsAtEnd, PopsBySteps, PopRefusedBySteps, GivesUpPop, ClearsBySteps, ClearsNone, ClearsMore, ClearRefusedBySteps}
+use Rattle.sled.specs.Parts.{most_parts, told_parts, ClearsParts}
 use Rattle.sled.proofs.Conducting.{conducts_then, conducts_none, conducts_refused}
+use Rattle.sled.proofs.Counting.{told_one}
 use Rattle.sled.proofs.Testing.{tested_calm}
 use Rattle.sled.proofs.Trees.{maps_are}
 
@@ -429,9 +431,10 @@ pub often_readable : {a b : Store} → ActsOften a b → b.is_readable ≡ a.is_
 often_readable NoAction = refl
 often_readable (OneAction o r) = often_readable r ∙ ap (λ (s : Store). s.is_readable) o.is
 
--- a clear that removed so many keys so far
-pub record IsClearing {P M : Type 0} (store : P → Store) (meant : M → Merge) (old : DbValue P M) (tree : Tree) (mid : DbValue P M) : Type 0 where
+-- a clear that removed so many keys so far, and counted them
+pub record IsClearing {P M : Type 0} (store : P → Store) (meant : M → Merge) (old : DbValue P M) (tree : Tree) (number : ℕ) (mid : DbValue P M) : Type 0 where
   pub parts : ℕ
+  pub told : number ≡ told_parts parts
   pub maps : List Maps
   pub removes : (slots : ℕ → Option CallInFlight) (given : ℕ) → RemovesLeast tree (state_of store meant old slots given) parts (state_of store meant mid slots given) maps
   pub conducts : Conducts store maps None old mid
@@ -440,15 +443,19 @@ pub record IsClearing {P M : Type 0} (store : P → Store) (meant : M → Merge)
   pub tested : ((mid ≡ old) × (parts ≡ zero)) ⊎ (must_refuse_of (db_state store meant old) (tree ∷ []) ≡ None)
 
 module _ {P M : Type 0} (store : P → Store) (meant : M → Merge) (old : DbValue P M) (tree : Tree) where
-  pub clearing_first : IsClearing store meant old tree old
-  clearing_first = record { parts = 0; maps = []; removes = λ slots given. RemovesNone; conducts = conducts_none store meant old; clears = ClearsNone; tested = inl (refl, refl) }
+  pub clearing_first : IsClearing store meant old tree 0 old
+  clearing_first = record { parts = 0; told = refl; maps = []; removes = λ slots given. RemovesNone; conducts = conducts_none store meant old; clears = ClearsNone; tested = inl (refl, refl) }
 
-  module _ (mid : DbValue P M) (k : IsClearing store meant old tree mid) where
+  module _ {number : ℕ} (mid : DbValue P M) (k : IsClearing store meant old tree number mid) where
     passed : must_refuse_of (db_state store meant mid) (tree ∷ []) ≡ None → must_refuse_of (db_state store meant old) (tree ∷ []) ≡ None
     passed now_passed = elim k.tested [
       | inl same ↦ subst (λ (z : DbValue P M). must_refuse_of (db_state store meant z) (tree ∷ []) ≡ None) same.0 now_passed
       | inr before ↦ before
     ]
+
+    -- so many parts are done
+    pub clearing_parts : ClearsParts store meant old tree number mid
+    clearing_parts = record { parts = k.parts; told = k.told; maps = k.maps; removes = k.removes }
 
     -- no pair is left
     pub clearing_ends : (read : Option (Key × Key)) → read ≡ None → ReadsMap store meant mid tree (λ map. IsSuccessor Unbounded map read) → WholeDecided store meant old (Clear tree) Done mid
@@ -519,6 +526,15 @@ module _ {P M : Type 0} (store : P → Store) (meant : M → Merge) (old : DbVal
         gives_up = gives_up_untaken store meant mid tree IsLeast (PopMin tree) (min_is tree) pair (at_least store meant mid tree read (Some pair) e r) once x new (record { is = inl p });
       }
 
+      -- .. and no part more is done
+      pub clearing_parts_untaken : (x : Error) (new : DbValue P M) → PointRefused store meant mid tree (Remove pair.0) x new → ClearsParts store meant old tree number new
+      clearing_parts_untaken x new p = record {
+        parts = k.parts;
+        told = k.told;
+        maps = k.maps;
+        removes = λ slots given. subst (λ (s : State). RemovesLeast tree (state_of store meant old slots given) k.parts s k.maps) (sym (ap (with_slots slots given) p.refuses.is)) (k.removes slots given);
+      }
+
       -- a part is done
       module _ (reply : Reply) (new : DbValue P M) (p : PointDecided store meant mid tree (Remove pair.0) reply new) where
         abbrev named : NamedTree
@@ -530,9 +546,10 @@ module _ {P M : Type 0} (store : P → Store) (meant : M → Merge) (old : DbVal
         state_now : (slots : ℕ → Option CallInFlight) (given : ℕ) → state_of store meant new slots given ≡ after_decision_on (state_of store meant mid slots given) tree.name named (answer_of named.merge (Remove pair.0) named.map)
         state_now slots given = ap (with_slots slots given) p.decides.is
 
-        pub clearing_more : IsDb store mid → IsClearing store meant old tree new
-        clearing_more db = record {
+        pub clearing_more : IsDb store mid → (more : ℕ) → more ≡ min (number + 1) most_parts → IsClearing store meant old tree more new
+        clearing_more db more counted = record {
           parts = suc k.parts;
+          told = told_one k.parts number more k.told counted;
           maps = k.maps ++ maps_of (db_state store meant new) ∷ [];
           removes = λ slots given. subst (λ (s : State). RemovesLeast tree (state_of store meant old slots given) (suc k.parts) s (k.maps ++ maps_of s ∷ [])) (sym (state_now slots given))
               (removes_more tree k.parts (state_of store meant old slots given) (state_of store meant mid slots given) k.maps (k.removes slots given) named pair first.0 p.decides.there first.1);

@@ -5,6 +5,7 @@ use Rattle.std.specs.declared.ops.Bound.{Bound}
 use Rattle.std.specs.declared.ops.Bound.TheVariants.{Included, Unbounded}
 use Rattle.sled_nodes.specs.Order.{Key, key_cmp}
 use Rattle.sled_nodes.specs.Among.{IsSuccessor}
+use Rattle.sled_nodes.specs.Ranges.{is_reversed}
 use Rattle.sled_store.specs.State.{nodes_of}
 use Rattle.sled_store.specs.Store.{Store, now, AreGiven}
 use Rattle.sled_nodes.specs.declared.error.Error.{Error}
@@ -16,7 +17,7 @@ use Rattle.sled_model.specs.declared.tree.Tree.{Tree}
 use Rattle.tree_laws.specs.Contents.{pairs_under}
 use Rattle.tree_reads.specs.Walk.{RefusesWalk, refuses_walk_as, GivesUp, gives_up_as}
 use Rattle.tree_reads.specs.Leaves.{OfContents}
-use Rattle.tree_reads.specs.Ranges.{IsRoot, Coming, pairs_within, is_reversed}
+use Rattle.tree_reads.specs.Ranges.{IsRoot, Coming, pairs_within}
 use Rattle.tree_reads.specs.declared.TheConstants.{MOST_PAGES}
 use Rattle.tree_reads.proofs.Ranging.{of_pairs}
 use Rattle.sled.specs.Values.{DbValue, numbers_of, named, db_state}

@@ -31,7 +31,7 @@ use Rattle.sled_tree.specs.declared.act.Change.{Change}
 use Rattle.sled_tree.specs.declared.flight.InFlight.{InFlight}
 use Rattle.sled_tree.specs.declared.flight.Next.TheVariants as next
 use Rattle.sled_tree.specs.declared.flight.Went.{Went}
-use Rattle.sled_tree.specs.declared.flight.Went.TheVariants.{Moved, Decided, Refused}
+use Rattle.sled_tree.specs.declared.flight.Went.TheVariants.{Moved, Yielded, Decided, Refused}
 use Rattle.sled_tree.proofs.Facts.{unable, restarts, goes_on, by_these}
 use Rattle.sled_tree.proofs.Linking.{change_event}
 use Rattle.sled_tree.proofs.Passing.{act_changes, passes_further}
@@ -107,6 +107,7 @@ module _ (operator : Option Merge) (a : Store) (f : InFlight) (view : View) (her
 
         go : (w : Went) → ((reply : Reply) → w ≡ Decided reply → ⊥) → tells_as operator f w old new
         go Moved off = as_before
+        go (Yielded key value) off = as_before
         go (Decided reply) off = absurd (off reply refl)
         go (Refused e) off = as_before
 
@@ -142,6 +143,7 @@ module _ (operator : Option Merge) (a b : Store) (f g : InFlight) (queues : Queu
 
       tells : (w : Went) → tells_as operator f w queues queues
       tells Moved = same_queues queues queues refl
+      tells (Yielded key value) = same_queues queues queues refl
       tells (Decided reply) = quiet f.stage refl
       tells (Refused e) = same_queues queues queues refl
 

@@ -28,7 +28,7 @@ use Rattle.tree_laws.specs.Paths.{IsClean}
 use Rattle.tree_laws.specs.Crashes.{AddsCrashStates}
 use Rattle.tree_laws.specs.declared.flight.Stage.TheVariants.{Root}
 use Rattle.sled_tree.specs.Known.{IsKnown}
-use Rattle.sled_tree.specs.declared.flight.Aim.TheVariants.{OwnKey}
+use Rattle.sled_tree.specs.declared.flight.Aim.TheVariants.{Own}
 use Rattle.sled_tree.specs.declared.flight.InFlight.{InFlight}
 use Rattle.sled_tree.specs.declared.flight.Went.TheVariants.{Decided, Refused}
 use Rattle.tree_groups.specs.Writes.{ActsOften, PagesLast}
@@ -149,7 +149,7 @@ lost_of (Unsubscribe subscriber) reply = None
 
 -- a call as it begins
 abbrev pub begun_flight : Tree → Call → InFlight
-begun_flight tree call = record { job = record { tree = tree; call = call }; aim = OwnKey; stage = Root; turns = 0 }
+begun_flight tree call = record { job = record { tree = tree; call = call }; aim = Own; stage = Root; turns = 0 }
 
 module _ {P M : Type 0} (store : P → Store) (meant : M → Merge) where
   -- A call on a key of a tree was decided, by the same steps as in a machine

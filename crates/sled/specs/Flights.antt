@@ -8,7 +8,8 @@ use Rattle.sled_store.specs.Store.{Store, now, HasUnreadable, only_faults}
 use Rattle.sled_store.specs.Update.{put_at}
 use Rattle.sled_model.specs.Maps.{Maps, Merge}
 use Rattle.sled_model.specs.Answer.{answer_of}
-use Rattle.sled_model.specs.State.{NamedTree, CallInFlight, maps_of}
+use Rattle.sled_nodes.specs.Ranges.{Range}
+use Rattle.sled_model.specs.State.{NamedTree, CallInFlight, maps_of, range_of, IsOnKey}
 use Rattle.sled_model.specs.Refusal.{ToStep, must_refuse, TellsTurns, turns_limit}
 use Rattle.sled_model.specs.Transition.{Transition}
 use Rattle.sled_model.specs.declared.event.Event.{Event}
@@ -22,7 +23,10 @@ use Rattle.tree_laws.specs.Forest.{Tree, Place, Forest}
 use Rattle.tree_laws.specs.Crashes.{AddsCrashStates}
 use Rattle.tree_laws.specs.Snapshot.{Snapshot, nodes_at, HasForest}
 use Rattle.tree_laws.specs.Stages.{owned}
+use Rattle.tree_laws.specs.declared.flight.Stage.{Stage}
+use Rattle.sled_tree.specs.Stages.{IsOnItsWay}
 use Rattle.sled_tree.specs.Known.{IsKnown, AreApart}
+use Rattle.tree_scans.specs.Scans.{waiting_of, rest_of, ScanStep}
 use Rattle.sled_tree.specs.StageAction.{ActsOnce, ActsAtMostOnce, leaks_no_page_as}
 use Rattle.sled_tree.specs.Follows.{FollowsOn}
 use Rattle.sled_tree.specs.Passing.{IsOnPath, StepsOnPath}
@@ -31,35 +35,39 @@ use Rattle.sled_tree.specs.declared.flight.InFlight.{InFlight}
 use Rattle.sled_tree.specs.declared.flight.Next.{Next}
 use Rattle.sled_tree.specs.declared.flight.Next.TheVariants as next
 use Rattle.sled_tree.specs.declared.flight.Went.{Went}
-use Rattle.sled_tree.specs.declared.flight.Went.TheVariants.{Moved, Decided, Refused}
+use Rattle.sled_tree.specs.declared.flight.Went.TheVariants.{Moved, Yielded, Decided, Refused}
 use Rattle.tree_groups.specs.Writes.{PagesLast}
 use Rattle.sled.specs.Values.{DbValue, db_state, configuration_of, snapshot_of_db}
 use Rattle.sled.specs.Sound.{IsDb}
 
 -- a call in flight, as the model has it
 abbrev pub call_in_flight_of : InFlight → CallInFlight
-call_in_flight_of f = record { tree = f.job.tree; call = f.job.call; turns = f.turns; waiting = []; rest = None }
+call_in_flight_of f = record { tree = f.job.tree; call = f.job.call; turns = f.turns; waiting = waiting_of f; rest = rest_of f }
 
 abbrev pub outcome_of : Went → Outcome
 outcome_of Moved = outcome.Moved
+outcome_of (Yielded key value) = outcome.Yielded key value
 outcome_of (Decided reply) = outcome.Decided reply
 outcome_of (Refused e) = outcome.Refused e
 
 -- what the call's slot holds after the step
 abbrev pub slot_after : Went → InFlight → Option CallInFlight
 slot_after Moved g = Some (call_in_flight_of g)
+slot_after (Yielded key value) g = Some (call_in_flight_of g)
 slot_after (Decided reply) g = None
 slot_after (Refused e) g = None
 
 -- what a step comes to, as what its page action came to
 abbrev pub next_of : Went → InFlight → Next
 next_of Moved g = next.Go g.stage
+next_of (Yielded key value) g = next.Go g.stage
 next_of (Decided reply) g = next.Decided reply
 next_of (Refused e) g = next.Refused e
 
 -- the maps that the step added
 abbrev pub maps_added : Went → Maps → List Maps
 maps_added Moved maps = []
+maps_added (Yielded key value) maps = []
 maps_added (Decided reply) maps = maps ∷ []
 maps_added (Refused e) maps = []
 
@@ -85,15 +93,17 @@ abbrev pub IsStepRefused : Error → Store → Store → Type 0
 IsStepRefused (Io fault) old new = only_faults (Io fault) old new ⊎ ((new ≡ old) × HasUnreadable old)
 IsStepRefused e old new = only_faults e old new
 
--- what a step does to the store: at most one changing action, and none where the call is refused
+-- what a step does to the store: at most one changing action, and none where a pair is given or the call is refused
 abbrev pub effect_of_step : Went → Store → Store → Type 0
 effect_of_step Moved old new = ActsAtMostOnce old new
+effect_of_step (Yielded key value) old new = new ≡ old
 effect_of_step (Decided reply) old new = ActsAtMostOnce old new
 effect_of_step (Refused e) old new = IsStepRefused e old new
 
 -- a step fills the queues where it decides the call, and else leaves them as they are. It gives no subscriber a number
 abbrev pub keeps_queues : Went → QueuesValue → QueuesValue → Type 0
 keeps_queues Moved old new = Becomes (queue_at old) old.given new
+keeps_queues (Yielded key value) old new = Becomes (queue_at old) old.given new
 keeps_queues (Decided reply) old new = new.given ≡ old.given
 keeps_queues (Refused e) old new = Becomes (queue_at old) old.given new
 
@@ -117,23 +127,40 @@ pub record DbActs {P M : Type 0} (store : P → Store) (meant : M → Merge) (ol
   pub quiet : BringsEvent store meant old f went None → store new.pages ≡ store old.pages
   pub loud : (event : Event) → BringsEvent store meant old f went (Some event) → ActsOnce (store old.pages) (store new.pages)
 
+-- a step of a call on a key leads where its stage does, and one of a scan where its range and its leaf do
+abbrev pub follows_as : Option Range → Store → InFlight → Went → Store → InFlight → Type 0
+follows_as None old f went new g = FollowsOn old f went new g
+follows_as (Some range) old f went new g = ScanStep FollowsOn old f went new g
+
 -- where the tests pass and a turn is left, the step does what the call's stage is to do, and leads where that leads
 abbrev pub DbFollows : {P M : Type 0} → (P → Store) → (M → Merge) → DbValue P M → InFlight → Went → DbValue P M → InFlight → Type 0
-DbFollows store meant old f went new g = must_refuse (db_state store meant old) (ToStep (call_in_flight_of f)) ≡ None → f.turns < turns_limit → FollowsOn (store old.pages) f went (store new.pages) g
+DbFollows store meant old f went new g = must_refuse (db_state store meant old) (ToStep (call_in_flight_of f)) ≡ None → f.turns < turns_limit → follows_as (range_of f.job.call) (store old.pages) f went (store new.pages) g
+
+-- a call on a key goes over a path at every step, and a scan until it has its leaf
+abbrev pub has_path : Option Range → Stage → Type 0
+has_path None a = Unit {0}
+has_path (Some range) a = IsOnItsWay a
 
 -- on a clean path the call goes one page further, or ends
 abbrev pub DbPasses : {P M : Type 0} → (P → Store) → DbValue P M → InFlight → Went → DbValue P M → InFlight → Type 0
-DbPasses store old f went new g = StepsOnPath (now (store old.pages)) f went (now (store new.pages)) g
+DbPasses store old f went new g = has_path (range_of f.job.call) f.stage → StepsOnPath (now (store old.pages)) f went (now (store new.pages)) g
 
 -- no page of the call's own is left behind, but by a call that is refused
 abbrev pub DbLeaksNoPage : {P M : Type 0} → (P → Store) → DbValue P M → InFlight → Went → DbValue P M → InFlight → Type 0
 DbLeaksNoPage store old f went new g = (v : Forest) → HasForest (snapshot_of_db store new) v → leaks_no_page_as (next_of went g) (owned f.stage) (now (store old.pages)) (now (store new.pages)) v
 
+-- the call has not ended with the step
+abbrev pub HasMore : Went → Type 0
+HasMore Moved = Unit {0}
+HasMore (Yielded key value) = Unit {0}
+HasMore (Decided reply) = ⊥
+HasMore (Refused e) = ⊥
+
 -- What the calls know: the call goes on and knows what it needs; and what another call knows stays true, and no page becomes the two
 -- calls' own
 pub record DbKnows {P M : Type 0} (store : P → Store) (old : DbValue P M) (f : InFlight) (went : Went) (new : DbValue P M) (g : InFlight) : Type 0 where
-  pub goes_on : went ≡ Moved → (g.job ≡ f.job) × IsKnown (snapshot_of_db store new) g
-  pub others : (h : InFlight) → AreApart f h → IsKnown (snapshot_of_db store old) h → IsKnown (snapshot_of_db store new) h × (went ≡ Moved → AreApart g h)
+  pub goes_on : HasMore went → (g.job ≡ f.job) × IsKnown (snapshot_of_db store new) g
+  pub others : (h : InFlight) → AreApart f h → IsKnown (snapshot_of_db store old) h → IsKnown (snapshot_of_db store new) h × (HasMore went → AreApart g h)
 
 -- All that is said of one step
 pub record DbStepContract {P M : Type 0} (store : P → Store) (meant : M → Merge) (old : DbValue P M) (f : InFlight) (went : Went) (new : DbValue P M) (g : InFlight) : Type 0 where
@@ -147,7 +174,8 @@ pub record DbStepContract {P M : Type 0} (store : P → Store) (meant : M → Me
   pub leaves : DbLeaksNoPage store old f went new g
   pub knows : DbKnows store old f went new g
 
--- Steps of a call in flight, one after the other, of which so many go on and the next ends it. Between them the database is as it should be
+-- Steps of a call in flight, one after the other, of which so many go on and the next gives a pair of a scan or ends the call. Between them
+-- the database is as it should be
 pub data DbSteps {P M : Type 0} (store : P → Store) (meant : M → Merge) : ℕ → DbValue P M → InFlight → Went → DbValue P M → InFlight → Type 0 where
   Ends : {old new : DbValue P M} {f g : InFlight} {went : Went} → DbStepContract store meant old f went new g → went ≢ Moved → DbSteps store meant zero old f went new g
   GoesOn : {n : ℕ} {old mid new : DbValue P M} {f h g : InFlight} {went : Went} → DbStepContract store meant old f Moved mid h → IsDb store mid → DbSteps store meant n mid h went new g → DbSteps store meant (suc n) old f went new g
@@ -155,6 +183,7 @@ pub data DbSteps {P M : Type 0} (store : P → Store) (meant : M → Merge) : �
 -- the call was not refused for its turns
 abbrev pub has_turns : Went → Type 0
 has_turns Moved = Unit {0}
+has_turns (Yielded key value) = Unit {0}
 has_turns (Decided reply) = Unit {0}
 has_turns (Refused e) = TellsTurns e → ⊥
 
@@ -163,8 +192,9 @@ pub record TakesAtMost (moves : ℕ) (went : Went) (path : List ℕ) : Type 0 wh
   pub fits : moves ≤ length path
   pub unlimited : has_turns went
 
--- All steps of a call in flight to its end. Over a clean path of fewer pages than it has turns left it goes on at most once a page
+-- All steps of a call in flight to its end, or of a scan to its next pair. Over a clean path of fewer pages than it has turns left a call
+-- on a key goes on at most once a page
 pub record DbRunsToEnd {P M : Type 0} (store : P → Store) (meant : M → Merge) (old : DbValue P M) (f : InFlight) (went : Went) (new : DbValue P M) (g : InFlight) : Type 0 where
   pub moves : ℕ
   pub flies : DbSteps store meant moves old f went new g
-  pub passes : (path : List ℕ) → IsOnPath (now (store old.pages)) (course_of f) f.stage path → f.turns + length path < turns_limit → TakesAtMost moves went path
+  pub passes : IsOnKey f.job.call → (path : List ℕ) → IsOnPath (now (store old.pages)) (course_of f) f.stage path → f.turns + length path < turns_limit → TakesAtMost moves went path

@@ -15,6 +15,10 @@ use Rattle.sled.specs.Values.{DbValue, state_of, db_state}
 use Rattle.sled.specs.Direct.{LeavesAll, effect_of_group}
 
 module _ {P M : Type 0} (store : P → Store) (meant : M → Merge) (old : DbValue P M) (batches : List (Tree × Writes)) where
+  -- a group that brings an event was begun, its writes were made, and it was sealed
+  abbrev pub is_loud_group : DbValue P M → Type 0
+  is_loud_group new = events_of_writes (writes_of batches) (db_state store meant old) ≢ [] → (last : Store) × ActsInside (store old.pages) last × (store new.pages ≡ after_action GroupEnds last)
+
   -- A group was decided, in whatever machine the database is
   pub record GroupDecided (new : DbValue P M) : Type 0 where
     pub maps : List Maps
@@ -22,8 +26,7 @@ module _ {P M : Type 0} (store : P → Store) (meant : M → Merge) (old : DbVal
     pub acts : effect_of_group None (store old.pages) (store new.pages)
     pub leaves : LeavesAll store maps None old new
     pub same : new ≡ record old { pages = new.pages; queues = new.queues }
-    -- where it brings an event it was begun, its writes were made, and it was sealed
-    pub loud : events_of_writes (writes_of batches) (db_state store meant old) ≢ [] → (last : Store) × ActsInside (store old.pages) last × (store new.pages ≡ after_action GroupEnds last)
+    pub loud : is_loud_group new
 
   -- .. or it was refused
   pub record GroupRefused (e : Error) (new : DbValue P M) : Type 0 where

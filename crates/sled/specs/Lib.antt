@@ -7,12 +7,14 @@ pub mod Calls
 pub mod Names
 pub mod Reads
 pub mod Flights
+pub mod Kept
 pub mod Direct
 pub mod Pops
 pub mod Fetch
 pub mod Flush
 pub mod Groups
 pub mod Imports
+pub mod Parts
 pub mod Ids
 pub mod Transactions
 pub mod Operators

@@ -4,6 +4,7 @@ use Rattle.std.specs.List.{AllByRecursion}
 use Rattle.std.specs.declared.ops.Bound.{Bound}
 use Rattle.std.specs.declared.ops.Bound.TheVariants.{Included}
 use Rattle.sled_nodes.specs.Order.{Key}
+use Rattle.sled_nodes.specs.Ranges.{is_reversed}
 use Rattle.sled_store.specs.Store.{Store, now, refuses_read_as}
 use Rattle.sled_nodes.specs.declared.error.Error.{Error}
 use Rattle.sled_nodes.specs.declared.error.Error.TheVariants.{NoMemory, ReportableBug}
@@ -13,7 +14,7 @@ use Rattle.sled_model.specs.State.{NamedTree}
 use Rattle.sled_model.specs.Refusal.{MustRefuse, must_refuse_of, tells}
 use Rattle.sled_model.specs.declared.tree.Tree.{Tree}
 use Rattle.tree_laws.specs.Paths.{IsClean, tree_pages}
-use Rattle.tree_reads.specs.Ranges.{Coming, pairs_within, is_reversed}
+use Rattle.tree_reads.specs.Ranges.{Coming, pairs_within}
 use Rattle.tree_reads.specs.Prefixes.{IsBytes, raised, pairs_beginning}
 use Rattle.tree_reads.specs.declared.TheConstants.{MOST_PAGES}
 use Rattle.sled.specs.Values.{DbValue, db_state}

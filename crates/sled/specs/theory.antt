@@ -7,3 +7,4 @@ pub mod Drops
 pub mod Watched
 pub mod Groups
 pub mod Transactions
+pub mod Kept

@@ -3,6 +3,7 @@
 //! They make the same steps as a call in flight, one after the other, repairs included.
 ghost use Rattle.std.specs.Prelude.{◌≡◌, IfOk, IfErr, None};
 ghost use Rattle.std.specs.Option.{option_copied};
+ghost use Rattle.sled_model.specs.State.{IsOnKey};
 ghost use Rattle.sled_model.specs.Refusal.{must_refuse, ToPoint};
 ghost use Rattle.sled_model.specs.declared.call.Call.TheVariants as call;
 ghost use Rattle.sled_model.specs.declared.reply.Reply.TheVariants as told;
@@ -46,6 +47,7 @@ impl<P: Pages, M: MergeOperator> Db<P, M> {
 
     // Makes a call on a key of a tree, to its end. The tests come first.
     pub(crate) fn point(&mut self, tree: &Tree, call: Call) -> Result<Reply>
+        requires { IsOnKey call }
         ensures ok { IfOk result (λ reply. PointDecided P.store M.meant self.old tree.now call reply self.new) }
         ensures err { IfErr result (λ e. PointRefused P.store M.meant self.old tree.now call e self.new) }
     {
@@ -58,7 +60,8 @@ impl<P: Pages, M: MergeOperator> Db<P, M> {
 
     // The same of a call that passed the tests.
     pub(crate) fn make(&mut self, tree: &Tree, call: Call) -> Result<Reply>
-        requires { must_refuse (db_state P.store M.meant self.old) (ToPoint tree.now call) ≡ None }
+        requires on_key { IsOnKey call }
+        requires tested { must_refuse (db_state P.store M.meant self.old) (ToPoint tree.now call) ≡ None }
         ensures ok { IfOk result (λ reply. PointDecided P.store M.meant self.old tree.now call reply self.new) }
         ensures err { IfErr result (λ e. PointRefused P.store M.meant self.old tree.now call e self.new) }
     {
@@ -75,7 +78,7 @@ impl<P: Pages, M: MergeOperator> Db<P, M> {
         match went {
             Went::Decided(reply) => Ok(reply),
             Went::Refused(e) => Err(e),
-            Went::Moved => unreachable!(),
+            _ => unreachable!(),
         }
     }
 

@@ -99,7 +99,7 @@ fn prepare_event(queues: &mut Queues, tree: u64, call: &Call) -> Result<()>
     ensures err { OnErr result (queues.new ≡ queues.old) }
     ensures cause { IfErr result (λ e. e ≡ NoMemory) }
 {
-    if !queues.is_watched(tree, call.key().as_ref()) {
+    if !queues.is_watched(tree, call.key()) {
         return Ok(());
     }
     let event = match call {

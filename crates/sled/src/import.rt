@@ -1,9 +1,10 @@
 //! Importing collections, as an export gives them.
-ghost use Rattle.std.specs.Prelude.{◌≡◌, IfErr, OnOk, [], ◌∷◌};
+ghost use Rattle.std.specs.Prelude.{◌≡◌, IfErr, OnOk, [], ◌∷◌, length};
 ghost use Rattle.sled_model.specs.Collections.{content_of, contents_of, are_trees};
 ghost use Rattle.sled_model.specs.Imports.{OpensName, Puts, puts_of, parts_of};
 ghost use Rattle.sled.specs.Imports.{ImportDecided, ImportRefused, ImportsBySteps};
-ghost use Rattle.sled.specs.theory.Imports.{IsTreeNow, PartsDone, PartsStopped};
+ghost use Rattle.sled.specs.Parts.{told_parts, ImportsParts, ImportRefusedAfter};
+ghost use Rattle.sled.specs.theory.Imports.{IsTreeNow, PartsDone, PartsStopped, PartsStoppedAfter};
 
 use crate::db::Db;
 use sled_model::{Collection, MergeOperator, Tree};
@@ -29,7 +30,7 @@ impl<P: Pages, M: MergeOperator> Db<P, M> {
         requires { IsTreeNow P.store M.meant self.old tree.now }
         ensures ok { OnOk result (PartsDone P.store M.meant self.old (Puts tree.now.name pair.now.0 pair.now.1 ∷ []) self.new) }
         ensures now { OnOk result (IsTreeNow P.store M.meant self.new tree.now) }
-        ensures err { IfErr result (λ e. PartsStopped P.store M.meant self.old (Puts tree.now.name pair.now.0 pair.now.1 ∷ []) e self.new) }
+        ensures err { IfErr result (λ e. PartsStopped P.store M.meant self.old (Puts tree.now.name pair.now.0 pair.now.1 ∷ []) 0 e self.new) }
     {
         match self.contains_key(tree, pair.0.as_ref()) {
             Ok(true) => return Err(Error::Unsupported(OVERWRITES_DATA)),
@@ -45,34 +46,38 @@ impl<P: Pages, M: MergeOperator> Db<P, M> {
         }
     }
 
-    // Puts pairs into a tree, one after the other.
-    fn import_pairs(&mut self, tree: &Tree, pairs: &[(IVec, IVec)]) -> Result<()>
+    // Puts pairs into a tree, one after the other, and tells how many.
+    fn import_pairs(&mut self, tree: &Tree, pairs: &[(IVec, IVec)]) -> (Result<()>, u64)
         requires { IsTreeNow P.store M.meant self.old tree.now }
-        ensures ok { OnOk result (PartsDone P.store M.meant self.old (puts_of tree.now.name pairs.now []) self.new) }
-        ensures err { IfErr result (λ e. PartsStopped P.store M.meant self.old (puts_of tree.now.name pairs.now []) e self.new) }
+        ensures ok { OnOk result.0 (PartsDone P.store M.meant self.old (puts_of tree.now.name pairs.now []) self.new) }
+        ensures all { OnOk result.0 (result.1 ≡ told_parts (length (puts_of tree.now.name pairs.now []))) }
+        ensures err { IfErr result.0 (λ e. PartsStoppedAfter P.store M.meant self.old (puts_of tree.now.name pairs.now []) result.1 e self.new) }
     {
+        let mut count: u64 = 0;
         for pair in pairs {
             self.audit();
             if let Err(e) = self.import_pair(tree, pair) {
-                return Err(e);
+                return (Err(e), count);
             }
+            count = count.saturating_add(1);
         }
-        Ok(())
+        (Ok(()), count)
     }
 
-    // Opens the tree of a collection, and puts its pairs into it.
-    fn import_collection(&mut self, collection: &Collection) -> Result<()>
-        ensures ok { OnOk result (PartsDone P.store M.meant self.old (parts_of (content_of collection.now ∷ [])) self.new) }
-        ensures err { IfErr result (λ e. PartsStopped P.store M.meant self.old (parts_of (content_of collection.now ∷ [])) e self.new) }
+    // Opens the tree of a collection, and puts its pairs into it. Tells how many parts that were: the opening and the pairs.
+    fn import_collection(&mut self, collection: &Collection) -> (Result<()>, u64)
+        ensures ok { OnOk result.0 (PartsDone P.store M.meant self.old (parts_of (content_of collection.now ∷ [])) self.new) }
+        ensures all { OnOk result.0 (result.1 ≡ told_parts (length (parts_of (content_of collection.now ∷ [])))) }
+        ensures err { IfErr result.0 (λ e. PartsStoppedAfter P.store M.meant self.old (parts_of (content_of collection.now ∷ [])) result.1 e self.new) }
     {
         let tree = match self.open_tree(collection.1.as_slice()) {
             Ok(tree) => tree,
-            Err(e) => return Err(e),
+            Err(e) => return (Err(e), 0),
         };
         self.audit();
-        let done = self.import_pairs(&tree, collection.2.as_slice());
+        let (done, count) = self.import_pairs(&tree, collection.2.as_slice());
         drop(tree);
-        done
+        (done, count.saturating_add(1))
     }
 
     /// Opens the tree of each collection, one after the other, as `open_tree` does, and puts its pairs into it, one after the other, as
@@ -89,18 +94,38 @@ impl<P: Pages, M: MergeOperator> Db<P, M> {
         ensures err { IfErr result (λ e. ImportRefused P.store M.meant self.old (contents_of collections.now) e self.new) }
         ensures steps { OnOk result (ImportsBySteps P.store M.meant self.old (parts_of (contents_of collections.now)) self.new) }
     {
+        let (done, _) = self.import_counted(collections);
+        done
+    }
+
+    /// Does what `import` does, and tells how many parts it did beside its answer: trees that it opened, whether they were known or
+    /// not, and pairs that it put in. Of one that is refused midway these are the parts before the one that was refused. `u64::MAX`
+    /// stands for as many or more.
+    ///
+    /// ```
+    /// let (done, count) = other.import_counted(db.export()?.as_slice()); // Where `done` is `Ok`, as many as there are trees and pairs.
+    /// ```
+    pub fn import_counted(&mut self, collections: &[Collection]) -> (Result<()>, u64)
+        ensures ok { OnOk result.0 (ImportDecided P.store M.meant self.old (contents_of collections.now) self.new) }
+        ensures parts { OnOk result.0 (ImportsParts (contents_of collections.now) result.1) }
+        ensures err { IfErr result.0 (λ e. ImportRefusedAfter P.store M.meant self.old (contents_of collections.now) result.1 e self.new) }
+        ensures steps { OnOk result.0 (ImportsBySteps P.store M.meant self.old (parts_of (contents_of collections.now)) self.new) }
+    {
         if self.pages.in_group() {
-            return Err(Error::Closed);
+            return (Err(Error::Closed), 0);
         }
         if !are_trees(collections) {
-            return Err(Error::Unsupported(UNKNOWN_COLLECTION_TYPE));
+            return (Err(Error::Unsupported(UNKNOWN_COLLECTION_TYPE)), 0);
         }
+        let mut count: u64 = 0;
         for collection in collections {
             self.audit();
-            if let Err(e) = self.import_collection(collection) {
-                return Err(e);
+            let (done, more) = self.import_collection(collection);
+            count = count.saturating_add(more);
+            if let Err(e) = done {
+                return (Err(e), count);
             }
         }
-        Ok(())
+        (Ok(()), count)
     }
 }

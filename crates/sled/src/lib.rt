@@ -5,7 +5,7 @@
 //! a call in flight is a step of the model, adds the map after the call to what a crash may leave if it was decided, and
 //! keeps true what every other call in flight knows (`specs/Flights`). Opening, flushing and exporting are stated in
 //! `specs/Opens`, `specs/Checked`, `specs/Flush` and `specs/Export`, reads that take no slot in `specs/Reads`, writes that take none in
-//! `specs/Direct`, transactions in `specs/Transactions`, and subscribers in `specs/Watch`.
+//! `specs/Direct`, the parts that a clear and an import did in `specs/Parts`, transactions in `specs/Transactions`, and subscribers in `specs/Watch`.
 #![tactic(auto)]
 
 mod db;
@@ -22,10 +22,12 @@ mod open;
 mod operators;
 mod read;
 mod step;
+mod step_kept;
 mod transaction;
 mod tree_list;
 mod watch;
 mod whole;
+mod whole_kept;
 
 pub use db::Db;
 pub use direct::CompareAndSwapResult;

@@ -7,50 +7,44 @@ ghost use Rattle.std.specs.Prelude.{◌<◌};
 ghost use Rattle.std.specs.Option.{option_map};
 ghost use Rattle.sled_queues.specs.Values.{queue_at};
 ghost use Rattle.sled_queues.specs.Queues.{IsCalm};
+ghost use Rattle.sled_tree.specs.theory.Change.{IsOfPair};
 ghost use Rattle.sled_tree.specs.theory.Linking.{IsAtLink};
-ghost use Rattle.sled.specs.theory.Watched.{AdvancesOver, links_watched_as};
+ghost use Rattle.sled_model.specs.State.{IsOnKey};
+ghost use Rattle.sled_tree.specs.Stages.{IsOnItsWay};
+ghost use Rattle.sled.specs.theory.Watched.{AdvancesOver, StepsOver, TellsPrepared, links_watched_as};
 
 use sled_model::{MAX_LOOPS, MergeOperator};
 use sled_queues::Queues;
 use sled_store::Pages;
 use sled_tree::{
-    InFlight, Stage, Went, advance, begin_again, event_of, link_change, prepare_change,
+    Change, InFlight, Stage, Went, advance, begin_again, event_of, link_change, prepare_change,
 };
 use std::alloc::Global;
 
 // Whether a call is to link a change of a key that some queue waits for.
-fn links_watched(queues: &Queues, flight: &InFlight) -> bool
+pub(crate) fn links_watched(queues: &Queues, flight: &InFlight) -> bool
     ensures { links_watched_as queues.now flight.now result }
 {
     match &flight.stage {
-        Stage::Act(_) => {
-            queues.is_watched(flight.job.tree.number, flight.job.call.key().as_ref())
-        }
+        Stage::Act(_) => { queues.is_watched(flight.job.tree.number, flight.job.call.key()) }
         _ => false,
     }
 }
 
-// The step of a call that is to link its change, and tells its event. All that may be refused comes before the link.
-fn link_watched<P: Pages, M: MergeOperator>(
+// Links a change that was prepared for a call, and tells its event. All that may be refused comes before the link.
+#[inline(always)]
+pub(crate) fn link_told<P: Pages>(
     pages: &mut P,
     queues: &mut Queues,
-    alloc: Global,
-    operator: Option<&M>,
     flight: &mut InFlight,
+    change: Change,
 ) -> Went
     requires room { flight.old.turns < MAX_LOOPS }
     requires here { IsAtLink flight.old.stage }
+    requires pair { IsOfPair change.link }
     requires calm { IsCalm (queue_at queues.old) }
-    ensures { AdvancesOver (option_map (λ o. M.meant o.now) operator.entry) (P.store pages.old) queues.old flight.old result (P.store pages.new) queues.new flight.new }
+    ensures { TellsPrepared change (P.store pages.old) queues.old flight.old result (P.store pages.new) queues.new flight.new }
 {
-    let change = match prepare_change(alloc, flight, operator) {
-        Err(e) => return Went::Refused(e),
-        Ok(None) => {
-            begin_again(flight);
-            return Went::Moved;
-        }
-        Ok(Some(change)) => change,
-    };
     let event = match event_of(&change.link) {
         Ok(event) => event,
         Err(e) => {
@@ -76,7 +70,51 @@ fn link_watched<P: Pages, M: MergeOperator>(
     }
 }
 
-// One step of a call in flight that has turns left.
+// The step of a call that is to link its change, and tells its event.
+fn link_watched<P: Pages, M: MergeOperator>(
+    pages: &mut P,
+    queues: &mut Queues,
+    alloc: Global,
+    operator: Option<&M>,
+    flight: &mut InFlight,
+) -> Went
+    requires room { flight.old.turns < MAX_LOOPS }
+    requires here { IsAtLink flight.old.stage }
+    requires calm { IsCalm (queue_at queues.old) }
+    ensures { AdvancesOver (option_map (λ o. M.meant o.now) operator.entry) (P.store pages.old) queues.old flight.old result (P.store pages.new) queues.new flight.new }
+{
+    match prepare_change(alloc, flight, operator) {
+        Err(e) => Went::Refused(e),
+        Ok(None) => {
+            begin_again(flight);
+            Went::Moved
+        }
+        Ok(Some(change)) => link_told(pages, queues, flight, change),
+    }
+}
+
+// One step of a call on a key that has turns left.
+#[inline(always)]
+fn advance_on_key<P: Pages, M: MergeOperator>(
+    pages: &mut P,
+    queues: &mut Queues,
+    alloc: Global,
+    operator: Option<&M>,
+    flight: &mut InFlight,
+) -> Went
+    requires room { flight.old.turns < MAX_LOOPS }
+    requires way { IsOnItsWay flight.old.stage }
+    requires calm { IsCalm (queue_at queues.old) }
+    ensures { AdvancesOver (option_map (λ o. M.meant o.now) operator.entry) (P.store pages.old) queues.old flight.old result (P.store pages.new) queues.new flight.new }
+{
+    if links_watched(queues, flight) {
+        link_watched(pages, queues, alloc, operator, flight)
+    } else {
+        advance(pages, alloc, operator, flight)
+    }
+}
+
+// One step of a call in flight that has turns left. A scan touches no queue.
 pub(crate) fn advance_over<P: Pages, M: MergeOperator>(
     pages: &mut P,
     queues: &mut Queues,
@@ -85,12 +123,13 @@ pub(crate) fn advance_over<P: Pages, M: MergeOperator>(
     flight: &mut InFlight,
 ) -> Went
     requires room { flight.old.turns < MAX_LOOPS }
+    requires way { IsOnKey flight.old.job.call → IsOnItsWay flight.old.stage }
     requires calm { IsCalm (queue_at queues.old) }
-    ensures { AdvancesOver (option_map (λ o. M.meant o.now) operator.entry) (P.store pages.old) queues.old flight.old result (P.store pages.new) queues.new flight.new }
+    ensures { StepsOver (option_map (λ o. M.meant o.now) operator.entry) (P.store pages.old) queues.old flight.old result (P.store pages.new) queues.new flight.new }
 {
-    if links_watched(queues, flight) {
-        link_watched(pages, queues, alloc, operator, flight)
+    if flight.job.call.is_on_key() {
+        advance_on_key(pages, queues, alloc, operator, flight)
     } else {
-        advance(pages, alloc, operator, flight)
+        tree_scans::advance(pages, alloc, flight)
     }
 }

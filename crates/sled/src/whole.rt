@@ -12,10 +12,15 @@ use sled_store::Pages;
 
 impl<P: Pages, M: MergeOperator> Db<P, M> {
     ghost use Rattle.sled.specs.Direct.{WholeDecided, WholeRefused};
+    ghost use Rattle.sled.specs.Parts.{ClearsParts};
     ghost use Rattle.sled.specs.Pops.{TakesOut, RefusesToTake, PopsBySteps, PopRefusedBySteps, GivesUpPop, ClearsBySteps, ClearRefusedBySteps};
 
     // Takes out a pair that was read just now.
-    fn pop_pair(&mut self, tree: &Tree, pair: (IVec, IVec)) -> Result<Option<(IVec, IVec)>>
+    pub(crate) fn pop_pair(
+        &mut self,
+        tree: &Tree,
+        pair: (IVec, IVec),
+    ) -> Result<Option<(IVec, IVec)>>
         ensures ok { IfOk result (λ found. TakesOut P.store M.meant self.old tree.now pair found self.new) }
         ensures err { IfErr result (λ e. RefusesToTake P.store M.meant self.old tree.now pair e self.new) }
     {
@@ -100,18 +105,37 @@ impl<P: Pages, M: MergeOperator> Db<P, M> {
         ensures steps { OnOk result (ClearsBySteps P.store M.meant tree.now self.old self.new) }
         ensures refused { IfErr result (λ e. ClearRefusedBySteps P.store M.meant self.old tree.now e self.new) }
     {
+        let (done, _) = self.clear_counted(tree);
+        done
+    }
+
+    /// Does what `clear` does, and tells how many keys it took out beside its answer: of one that is refused midway those that are
+    /// out. `u64::MAX` stands for as many or more.
+    ///
+    /// ```
+    /// let (done, count) = db.clear_counted(&tree); // Where `done` is `Ok`, as many as `db.len(&tree)?` was.
+    /// ```
+    pub fn clear_counted(&mut self, tree: &Tree) -> (Result<()>, u64)
+        ensures ok { OnOk result.0 (WholeDecided P.store M.meant self.old (Clear tree.now) Done self.new) }
+        ensures err { IfErr result.0 (λ e. WholeRefused P.store M.meant self.old (Clear tree.now) e self.new) }
+        ensures steps { OnOk result.0 (ClearsBySteps P.store M.meant tree.now self.old self.new) }
+        ensures refused { IfErr result.0 (λ e. ClearRefusedBySteps P.store M.meant self.old tree.now e self.new) }
+        ensures parts { ClearsParts P.store M.meant self.old tree.now result.1 self.new }
+    {
+        let mut count: u64 = 0;
         'parts: loop {
             self.audit();
             let (key, value) = match self.first(tree) {
                 Ok(Some(pair)) => pair,
-                Ok(None) => return Ok(()),
-                Err(e) => return Err(e),
+                Ok(None) => return (Ok(()), count),
+                Err(e) => return (Err(e), count),
             };
             drop(value);
             match self.point(tree, Call::Remove(key)) {
                 Ok(reply) => drop(reply),
-                Err(e) => return Err(e),
+                Err(e) => return (Err(e), count),
             }
+            count = count.saturating_add(1);
         }
     }
 }

@@ -1,17 +1,21 @@
 -- What the calls of a machine do, by its fields.
 use Rattle.std.proofs.Common.{◌≡◌, ◌≢◌, ℕ, ◌+◌, ◌<◌, ◌≤◌, true, false, cond, nat_eq, List, [], ◌∷◌, ◌++◌, Option, Some, None, is_some, Result, Ok, Err, IfErr, option_map, map, sym, refl, ap, ◌∙◌, subst, inl, inr, ◌⊎◌, arith}
 use Rattle.std.proofs.Math.Path.{fun_ext}
+use Rattle.std.specs.Borrow.{Bor}
+use Rattle.std.specs.Option.{option_copied}
 use Rattle.std.proofs.lemmas.Bool.{eq-eqb, ne_eqb, eqb-true}
 use Rattle.sled_store.specs.Update.{put_at}
 use Rattle.sled_store.specs.Store.{Store, now}
 use Rattle.sled_nodes.specs.declared.error.Error.{Error}
 use Rattle.sled_model.specs.Maps.{Maps, Merge}
 use Rattle.sled_model.specs.Answer.{answer_of}
-use Rattle.sled_model.specs.State.{CallInFlight, maps_of}
+use Rattle.sled_model.specs.State.{CallInFlight, maps_of, range_of, call_begun}
 use Rattle.sled_model.specs.Refusal.{MustRefuse, MayRefuse, must_refuse, may_refuse_as, cause_of, ToBegin, ToStep, turns_limit}
 use Rattle.sled_model.specs.Transition.{Transition}
 use Rattle.sled_model.specs.declared.event.Event.{Event}
 use Rattle.sled_model.specs.declared.call.Call.{Call}
+use Rattle.sled_model.specs.declared.call.Call.TheVariants.{Get, Insert, Remove, CompareAndSwap, Scan}
+use Rattle.sled_model.specs.declared.call.Call.TheVariants as call
 use Rattle.sled_model.specs.declared.call.Whole.TheVariants.{Flush}
 use Rattle.sled_model.specs.declared.tree.Tree.{Tree}
 use Rattle.sled_model.specs.declared.reply.Reply.TheVariants.{Number}
@@ -24,25 +28,25 @@ use Rattle.tree_laws.specs.Snapshot.{Snapshot}
 use Rattle.tree_laws.specs.Contents.{trees_of}
 use Rattle.tree_laws.proofs.Crashing.{matches_same}
 use Rattle.sled_tree.specs.Course.{course_of}
-use Rattle.sled_tree.specs.declared.flight.Aim.TheVariants.{OwnKey}
+use Rattle.sled_tree.specs.declared.flight.Aim.TheVariants.{Own}
 use Rattle.sled_tree.specs.declared.flight.InFlight.{InFlight}
+use Rattle.sled_tree.specs.declared.flight.Job.{Job}
 use Rattle.sled_tree.proofs.Known.{known_new}
 use Rattle.tree_laws.specs.declared.flight.Stage.TheVariants.{Root}
 use Rattle.sled_tree.specs.declared.flight.Went.{Went}
-use Rattle.sled_tree.specs.declared.flight.Went.TheVariants.{Moved, Decided, Refused}
+use Rattle.sled_tree.specs.declared.flight.Went.TheVariants.{Moved, Yielded, Decided, Refused}
 use Rattle.sled.specs.Values.{DbValue, state_of, db_state, configuration_of as instant_of_db, snapshot_of_db}
 use Rattle.sled.specs.Calls.{MustBeRefused, must_be_refused_as}
 use Rattle.sled_tree.specs.Known.{IsKnown, AreApart}
-use Rattle.sled.specs.Flights.{call_in_flight_of, KeepsTreePages, BringsEvent, DbStepContract, outcome_of, slot_after, maps_added}
+use Rattle.sled.specs.Flights.{call_in_flight_of, KeepsTreePages, BringsEvent, DbStepContract, HasMore, follows_as, has_path, outcome_of, slot_after, maps_added}
 use Rattle.sled.specs.Flush.{FlushesDb, RefusesFlush}
 use Rattle.sled.proofs.Flying.{loses_nothing}
 use Rattle.sled.proofs.Flushing.{stays_state, stays_moment}
 use Rattle.sled.proofs.Resting.{SameNow, flushed_now, rests_only_faults, rests_now, rests_extends}
-use Rattle.sled_machine.specs.Values.{MachineValue, kept_at, slots_of, configuration_of}
+use Rattle.sled_machine.specs.Values.{MachineValue, kept_at, slots_of, job_of_call, job_lent, configuration_of}
 use Rattle.tree_laws.specs.Forest.{Forest}
 use Rattle.sled_tree.specs.Passing.{IsOnPath}
 use Rattle.tree_laws.specs.Stages.{owned}
-use Rattle.sled_tree.specs.Follows.{FollowsOn}
 use Rattle.sled_tree.specs.StageAction.{LeaksNoPage}
 use Rattle.sled_tree.proofs.Facts.{leaves_same as leaves_same_pages}
 use Rattle.sled_machine.specs.CrashMaps.{AreCrashMaps, crash_maps_after}
@@ -102,6 +106,15 @@ other_or_new fs gs slot x e j f there = elim (same_or_not j slot) [
   | inl s ↦ inl (s, some_is (sym there ∙ e j ∙ ap (put_at (kept_at fs) slot (Some x)) s ∙ put_here (kept_at fs) slot (Some x)))
   | inr o ↦ inr (o, sym (put_there (kept_at fs) slot j (Some x) o) ∙ sym (e j) ∙ there)
 ]
+
+-- a call that begins has nothing that waits, and all of its range to read
+begun_flying : (tree : Tree) (call : Call) → call_in_flight_of (record { job = record { tree = tree; call = call }; aim = Own; stage = Root; turns = 0 }) ≡ call_begun tree call
+begun_flying tree (Get key) = refl
+begun_flying tree (Insert key value) = refl
+begun_flying tree (Remove key) = refl
+begun_flying tree (CompareAndSwap key old new) = refl
+begun_flying tree (call.Merge key bytes) = refl
+begun_flying tree (Scan lo hi back) = refl
 
 module _ {P M : Type 0} (store : P → Store) (number : P → ℕ) (meant : M → Merge) (v : MachineValue P M) (im : IsMachine (snapshot_of_db store v.db) v.flights v.slots_given) where
   -- a step that leaves the store, the maps and the other slots as they are
@@ -195,7 +208,7 @@ module _ {P M : Type 0} (store : P → Store) (number : P → ℕ) (meant : M �
           next = next;
           outcome = refl;
           there = are slot ∙ put_here (kept_at v.flights) slot kept ∙ stands;
-          follows = subst (λ (z : InFlight). FollowsOn (store v.db.pages) z went (store db.pages) next) (sym same)
+          follows = subst (λ (z : InFlight). follows_as (range_of z.job.call) (store v.db.pages) z went (store db.pages) next) (sym same)
               (flies.follows (subst (λ (z : InFlight). must_refuse (db_state store meant v.db) (ToStep (call_in_flight_of z)) ≡ None) same must) (subst (λ (z : InFlight). z.turns < turns_limit) same fits));
         };
       };
@@ -213,6 +226,7 @@ module _ {P M : Type 0} (store : P → Store) (number : P → ℕ) (meant : M �
 
         acts_flying : (went : Went) → DbStepContract store meant v.db f went db next → effect_of_machine_step (configuration_of store number meant v).state (step.Step slot) (outcome_of went) (store v.db.pages) (store db.pages)
         acts_flying Moved k = k.does.does
+        acts_flying (Yielded key value) k = k.does.does
         acts_flying (Decided reply) k = record { does = k.does.does; quiet = λ b. k.does.quiet (brings b); loud = λ event b. k.does.loud event (brings b) }
           where
             brings : {event : Option Event} → BringsAt (configuration_of store number meant v).state slot event → BringsEvent store meant v.db f (Decided reply) event
@@ -227,9 +241,9 @@ module _ {P M : Type 0} (store : P → Store) (number : P → ℕ) (meant : M �
 
     -- on a clean path the call has a page less ahead of it
     further : (f next : InFlight) → kept_at v.flights slot ≡ Some f → DbStepContract store meant v.db f Moved db next → ((q : ℕ) → kept_at gs q ≡ put_at (kept_at v.flights) slot (Some next) q) → advances_on_path_as store v (step.Step slot) outcome.Moved (record v { db = db; flights = gs })
-    further f next there flies e path k =
+    further f next there flies e path k walks =
         let same : k.flight ≡ f = some_is (sym k.here ∙ there) in
-        let p = flies.passes.is path (subst (λ (z : InFlight). IsOnPath (now (store v.db.pages)) (course_of z) z.stage path) same k.clean) in
+        let p = (flies.passes (subst (λ (z : InFlight). has_path (range_of z.job.call) z.stage) same walks)).is path (subst (λ (z : InFlight). IsOnPath (now (store v.db.pages)) (course_of z) z.stage path) same k.clean) in
         (p.0, p.1, record { flight = next; here = e slot ∙ put_here (kept_at v.flights) slot (Some next); clean = p.2 })
 
     -- what the call owned and what it owns, by its slot
@@ -240,7 +254,7 @@ module _ {P M : Type 0} (store : P → Store) (number : P → ℕ) (meant : M �
         (subst (λ z. LeaksNoPage (owned_by z) (owned_by o) (now (store v.db.pages)) (now (store db.pages)) w) (sym there) l)
 
     -- what the others know is kept
-    kept : (f next : InFlight) (went : Went) → kept_at v.flights slot ≡ Some f → DbStepContract store meant v.db f went db next → (j : ℕ) (h : InFlight) → j ≢ slot → kept_at v.flights j ≡ Some h → IsKnown after h × (went ≡ Moved → AreApart next h)
+    kept : (f next : InFlight) (went : Went) → kept_at v.flights slot ≡ Some f → DbStepContract store meant v.db f went db next → (j : ℕ) (h : InFlight) → j ≢ slot → kept_at v.flights j ≡ Some h → IsKnown after h × (HasMore went → AreApart next h)
     kept f next went there flies j h off e = flies.knows.others h (im.apart slot j f h there e (λ s. off (sym s))) (im.known j h e)
 
     ended_machine : (f next : InFlight) (went : Went) → kept_at v.flights slot ≡ Some f → DbStepContract store meant v.db f went db next → ((q : ℕ) → kept_at gs q ≡ put_at (kept_at v.flights) slot None q) → IsMachine after gs v.slots_given
@@ -251,31 +265,33 @@ module _ {P M : Type 0} (store : P → Store) (number : P → ℕ) (meant : M �
           apart = λ j k h g a b off. im.apart j k h g (less j h a).0 (less k g b).0 off;
         }
 
-    moved_machine : (f next : InFlight) → kept_at v.flights slot ≡ Some f → DbStepContract store meant v.db f Moved db next → ((q : ℕ) → kept_at gs q ≡ put_at (kept_at v.flights) slot (Some next) q) → IsMachine after gs v.slots_given
-    moved_machine f next there flies e =
+    -- .. and the call has more to do
+    going_machine : (f next : InFlight) (went : Went) → HasMore went → kept_at v.flights slot ≡ Some f → DbStepContract store meant v.db f went db next → ((q : ℕ) → kept_at gs q ≡ put_at (kept_at v.flights) slot (Some next) q) → IsMachine after gs v.slots_given
+    going_machine f next went more there flies e =
         let cases = other_or_new v.flights gs slot next e in record {
           given = λ j h k. elim (cases j h k) [
             | inl s ↦ subst (λ z. z ≤ v.slots_given) (sym s.0) (im.given slot f there)
             | inr o ↦ im.given j h o.1
           ];
           known = λ j h k. elim (cases j h k) [
-            | inl s ↦ subst (λ z. IsKnown after z) (sym s.1) (flies.knows.goes_on refl).1
-            | inr o ↦ (kept f next Moved there flies j h o.0 o.1).0
+            | inl s ↦ subst (λ z. IsKnown after z) (sym s.1) (flies.knows.goes_on more).1
+            | inr o ↦ (kept f next went there flies j h o.0 o.1).0
           ];
           apart = λ j k h g a b off. elim (cases j h a) [
             | inl s ↦ elim (cases k g b) [
               | inl t ↦ absurd (off (s.0 ∙ sym t.0))
-              | inr t ↦ subst (λ z. AreApart z g) (sym s.1) ((kept f next Moved there flies k g t.0 t.1).1 refl)
+              | inr t ↦ subst (λ z. AreApart z g) (sym s.1) ((kept f next went there flies k g t.0 t.1).1 more)
             ]
             | inr s ↦ elim (cases k g b) [
-              | inl t ↦ subst (λ z. AreApart h z) (sym t.1) (let z = (kept f next Moved there flies j h s.0 s.1).1 refl in record { off = λ q x y. z.off q y x })
+              | inl t ↦ subst (λ z. AreApart h z) (sym t.1) (let z = (kept f next went there flies j h s.0 s.1).1 more in record { off = λ q x y. z.off q y x })
               | inr t ↦ im.apart j k h g s.1 t.1 off
             ]
           ];
         }
 
     pub stepped_as : (f next : InFlight) (went : Went) → kept_at v.flights slot ≡ Some f → DbStepContract store meant v.db f went db next → ((q : ℕ) → kept_at gs q ≡ put_at (kept_at v.flights) slot (flight_after went next) q) → MachineStepContract store number meant v (step.Step slot) (outcome_of went) (record v { db = db; flights = gs }) × IsMachine after gs v.slots_given
-    stepped_as f next Moved there flies e = (reach f next Moved there flies (Some next) refl refl e (further f next there flies e) (λ w is. owns f (Some next) there e w (flies.leaves w is)), moved_machine f next there flies e)
+    stepped_as f next Moved there flies e = (reach f next Moved there flies (Some next) refl refl e (further f next there flies e) (λ w is. owns f (Some next) there e w (flies.leaves w is)), going_machine f next Moved tt there flies e)
+    stepped_as f next (Yielded key value) there flies e = (reach f next (Yielded key value) there flies (Some next) refl refl e tt (λ w is. owns f (Some next) there e w (flies.leaves w is)), going_machine f next (Yielded key value) tt there flies e)
     stepped_as f next (Decided reply) there flies e = (reach f next (Decided reply) there flies None refl refl e tt (λ w is. owns f None there e w (flies.leaves w is)), ended_machine f next (Decided reply) there flies e)
     stepped_as f next (Refused r) there flies e = (reach f next (Refused r) there flies None refl refl e tt tt, ended_machine f next (Refused r) there flies e)
 
@@ -313,7 +329,7 @@ module _ {P M : Type 0} (store : P → Store) (number : P → ℕ) (meant : M �
     pub begin_caused : (e : Error) → cause_of (state_of store meant v.db (slots_of v.flights) v.slots_given) (store v.db.pages) (store v.db.pages) (ToBegin tree call) e → MachineStepContract store number meant v (step.Begin tree call) (outcome.Refused e) v
     begin_caused e cause = begin_refused tree call e (record { is = subst (λ o. may_refuse_as o (state_of store meant v.db (slots_of v.flights) v.slots_given) (store v.db.pages) (store v.db.pages) (ToBegin tree call) e) (sym must) cause })
 
-    module _ (f : InFlight) (is : f ≡ record { job = record { tree = tree; call = call }; aim = OwnKey; stage = Root; turns = 0 }) (slot : ℕ) (next : slot ≡ v.slots_given + 1) (gs : List (ℕ × InFlight)) (added : (q : ℕ) → kept_at gs q ≡ put_at (kept_at v.flights) slot (Some f) q) where
+    module _ (f : InFlight) (is : f ≡ record { job = record { tree = tree; call = call }; aim = Own; stage = Root; turns = 0 }) (slot : ℕ) (next : slot ≡ v.slots_given + 1) (gs : List (ℕ × InFlight)) (added : (q : ℕ) → kept_at gs q ≡ put_at (kept_at v.flights) slot (Some f) q) where
       pub begun_call : MachineStepContract store number meant v (step.Begin tree call) (outcome.Begun slot) (record v { flights = gs; slots_given = slot })
       begun_call = record {
         step = idle (step.Begin tree call) (outcome.Begun slot) (record v { flights = gs; slots_given = slot }) refl
@@ -322,7 +338,7 @@ module _ {P M : Type 0} (store : P → Store) (number : P → ℕ) (meant : M �
                 record {
                   free = must;
                   next = next;
-                  is = ap (λ z. state_of store meant v.db z slot) (slots_put v.flights gs slot (Some f) added ∙ ap (λ z. put_at (slots_of v.flights) slot (Some (call_in_flight_of z))) is);
+                  is = ap (λ z. state_of store meant v.db z slot) (slots_put v.flights gs slot (Some f) added ∙ ap (λ z. put_at (slots_of v.flights) slot (Some z)) (ap call_in_flight_of is ∙ begun_flying tree call));
                 },
                 refl,
               );
@@ -440,6 +456,23 @@ module _ {P M : Type 0} (store : P → Store) (number : P → ℕ) (meant : M �
       (subst (λ k. MachineStepContract store number meant old (step.Step k) (outcome_of went) (record inside { db = db; flights = gs })) same
       (subst (λ z. MachineStepContract store number meant z (step.Step n) (outcome_of went) (record inside { db = db; flights = gs })) e (stepped_as store number meant inside im n db gs f next went there flies are).0))
 
+  pub job_as : (r : Option (Bor Job)) (o : Option InFlight) → option_copied r ≡ option_map (λ (f : InFlight). f.job) o → kept_at inside.flights n ≡ o → option_map job_lent r ≡ option_map job_of_call (slots_of old.flights slot)
+  job_as r o shown there =
+      subst (λ s. option_map job_lent r ≡ option_map job_of_call (slots_of old.flights s)) same
+      (subst (λ (m : MachineValue P M). option_map job_lent r ≡ option_map job_of_call (slots_of m.flights n)) e
+      (of_copy r ∙ ap (option_map kept_job) shown ∙ as_flying o ∙ sym (ap (λ x. option_map job_of_call (option_map call_in_flight_of x)) there)))
+    where
+      kept_job : Job → Tree × Call
+      kept_job job = (job.tree, job.call)
+
+      of_copy : (r : Option (Bor Job)) → option_map job_lent r ≡ option_map kept_job (option_copied r)
+      of_copy None = refl
+      of_copy (Some job) = refl
+
+      as_flying : (o : Option InFlight) → option_map kept_job (option_map (λ (f : InFlight). f.job) o) ≡ option_map job_of_call (option_map call_in_flight_of o)
+      as_flying None = refl
+      as_flying (Some f) = refl
+
   pub turns_as : (o : Option InFlight) → kept_at inside.flights n ≡ o → option_map (λ (f : InFlight). f.turns) o ≡ option_map (λ (z : CallInFlight). z.turns) (slots_of old.flights slot)
   turns_as o there =
       subst (λ s. option_map (λ (f : InFlight). f.turns) o ≡ option_map (λ (z : CallInFlight). z.turns) (slots_of old.flights s)) same
@@ -461,14 +494,14 @@ module _ {P M : Type 0} (store : P → Store) (number : P → ℕ) (meant : M �
   tested_inside tree call must = subst (λ (z : MachineValue P M). must_refuse (db_state store meant z.db) (ToBegin tree call) ≡ None) (sym e) must
 
   -- .. where the list has room, and so may be another one
-  pub begun_as : (tree copy : Tree) (call : Call) → copy ≡ tree → must_refuse (db_state store meant old.db) (ToBegin tree call) ≡ None → (f : InFlight) → f ≡ record { job = record { tree = copy; call = call }; aim = OwnKey; stage = Root; turns = 0 }
+  pub begun_as : (tree copy : Tree) (call : Call) → copy ≡ tree → must_refuse (db_state store meant old.db) (ToBegin tree call) ≡ None → (f : InFlight) → f ≡ record { job = record { tree = copy; call = call }; aim = Own; stage = Root; turns = 0 }
       → (slot : ℕ) → slot ≡ inside.slots_given + 1 → (gs : List (ℕ × InFlight)) → ((q : ℕ) → kept_at gs q ≡ put_at (kept_at inside.flights) slot (Some f) q) → MachineStepContract store number meant old (step.Begin tree call) (outcome.Begun slot) (record inside { flights = gs; slots_given = slot })
   begun_as tree copy call c must f is slot next gs g = subst (λ z. MachineStepContract store number meant z (step.Begin tree call) (outcome.Begun slot) (record inside { flights = gs; slots_given = slot })) e
-      (begun_call store number meant inside im tree call (tested_inside tree call must) f (is ∙ ap (λ t. record { job = record { tree = t; call = call }; aim = OwnKey; stage = Root; turns = 0 }) c) slot next gs g)
+      (begun_call store number meant inside im tree call (tested_inside tree call must) f (is ∙ ap (λ t. record { job = record { tree = t; call = call }; aim = Own; stage = Root; turns = 0 }) c) slot next gs g)
 
-  pub begun_machine_as : (tree copy : Tree) (call : Call) → copy ≡ tree → must_refuse (db_state store meant old.db) (ToBegin tree call) ≡ None → (f : InFlight) → f ≡ record { job = record { tree = copy; call = call }; aim = OwnKey; stage = Root; turns = 0 }
+  pub begun_machine_as : (tree copy : Tree) (call : Call) → copy ≡ tree → must_refuse (db_state store meant old.db) (ToBegin tree call) ≡ None → (f : InFlight) → f ≡ record { job = record { tree = copy; call = call }; aim = Own; stage = Root; turns = 0 }
       → (slot : ℕ) → slot ≡ inside.slots_given + 1 → (gs : List (ℕ × InFlight)) → ((q : ℕ) → kept_at gs q ≡ put_at (kept_at inside.flights) slot (Some f) q) → IsMachine (snapshot_of_db store inside.db) gs slot
-  begun_machine_as tree copy call c must f is slot next gs g = begun_machine store number meant inside im tree call (tested_inside tree call must) f (is ∙ ap (λ t. record { job = record { tree = t; call = call }; aim = OwnKey; stage = Root; turns = 0 }) c) slot next gs g
+  begun_machine_as tree copy call c must f is slot next gs g = begun_machine store number meant inside im tree call (tested_inside tree call must) f (is ∙ ap (λ t. record { job = record { tree = t; call = call }; aim = Own; stage = Root; turns = 0 }) c) slot next gs g
 
   pub flushed_as : (db : DbValue P M) (n : ℕ) → FlushesDb store number meant inside.db n db → MachineStepContract store number meant old (step.Whole Flush) (outcome.Decided (Number n)) (record inside { db = db })
   flushed_as db n f = subst (λ z. MachineStepContract store number meant z (step.Whole Flush) (outcome.Decided (Number n)) (record inside { db = db })) e (flushed_all store number meant inside im db n f)

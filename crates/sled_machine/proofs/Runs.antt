@@ -4,7 +4,7 @@ use Rattle.sled_store.specs.Store.{Store, now}
 use Rattle.sled_model.specs.Maps.{Maps, Merge}
 use Rattle.sled_model.specs.State.{maps_of}
 use Rattle.sled_model.specs.Transition.{Transition}
-use Rattle.sled_model.specs.theory.Runs.{RunsBy, NoSteps, OneMore}
+use Rattle.sled_model.specs.Runs.{RunsBy, NoSteps, OneMore}
 use Rattle.sled_model.specs.declared.outcome.Outcome.{Outcome}
 use Rattle.sled_model.specs.declared.outcome.Step.{Step}
 use Rattle.tree_laws.specs.Contents.{trees_of}

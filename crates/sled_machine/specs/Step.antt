@@ -2,10 +2,11 @@
 use Rattle.std.specs.Prelude.{◌≡◌, ◌≢◌, ℕ, suc, ◌<◌, Bool, List, [], length, Option, Some, None}
 use Rattle.sled_store.specs.Store.{Store, now}
 use Rattle.sled_nodes.specs.Order.{Key}
+use Rattle.sled_batch.specs.Batch.{Writes}
 use Rattle.sled_model.specs.Maps.{Map, Maps, Merge, IsLeast, IsGreatest}
 use Rattle.sled_model.specs.Answer.{answer_of}
 use Rattle.sled_model.specs.Refusal.{ToCall, ToStep, must_refuse, turns_limit}
-use Rattle.sled_model.specs.State.{State, NamedTree, CallInFlight, maps_of}
+use Rattle.sled_model.specs.State.{State, NamedTree, CallInFlight, maps_of, range_of}
 use Rattle.sled_model.specs.Collections.{Content, contents_of}
 use Rattle.sled_model.specs.Imports.{parts_of}
 use Rattle.sled_model.specs.Transition.{Transition, Kind, Flushing, kind_of}
@@ -17,25 +18,24 @@ use Rattle.sled_model.specs.declared.tree.Tree.{Tree}
 use Rattle.sled_model.specs.declared.outcome.Step.{Step}
 use Rattle.sled_model.specs.declared.outcome.Step.TheVariants as step
 use Rattle.sled_model.specs.declared.outcome.Outcome.{Outcome}
-use Rattle.sled_model.specs.declared.outcome.Outcome.TheVariants.{Begun, Moved, Decided, Refused, NoSuchSlot}
+use Rattle.sled_model.specs.declared.outcome.Outcome.TheVariants.{Begun, Moved, Yielded, Decided, Refused, NoSuchSlot}
 use Rattle.sled_model.specs.declared.event.Event.{Event}
 use Rattle.tree_laws.specs.Forest.{Forest}
 use Rattle.tree_laws.specs.Snapshot.{Snapshot, HasForest}
 use Rattle.tree_laws.specs.Stages.{owned}
-use Rattle.sled_tree.specs.Follows.{FollowsOn}
 use Rattle.sled_tree.specs.StageAction.{ActsOnce, ActsAtMostOnce, LeaksNoPage}
 use Rattle.sled_tree.specs.Passing.{IsOnPath}
 use Rattle.sled_tree.specs.Course.{course_of}
-use Rattle.sled_tree.specs.declared.flight.Aim.TheVariants.{OwnKey}
+use Rattle.sled_tree.specs.declared.flight.Aim.TheVariants.{Own}
 use Rattle.sled_tree.specs.declared.flight.InFlight.{InFlight}
 use Rattle.tree_laws.specs.declared.flight.Stage.TheVariants.{Root}
 use Rattle.sled_tree.specs.declared.flight.Went.{Went}
 use Rattle.tree_reads.specs.Walk.{once, for_each}
 use Rattle.sled.specs.Sound.{IsDb}
 use Rattle.sled.specs.Values.{DbValue, db_state, snapshot_of_db}
-use Rattle.sled.specs.Flights.{IsStepRefused, KeepsTreePages, call_in_flight_of, outcome_of}
+use Rattle.sled.specs.Flights.{IsStepRefused, KeepsTreePages, call_in_flight_of, follows_as, has_path, outcome_of}
 use Rattle.sled.specs.Direct.{KeepsOrFreesTreePages, effect_of_whole, lost_of}
-use Rattle.sled.specs.Groups.{IsQuietGroup}
+use Rattle.sled.specs.Groups.{IsQuietGroup, is_loud_group}
 use Rattle.sled.specs.Drops.{DropsTree, RefusesDrop}
 use Rattle.sled.specs.Opens.{OpensBySteps, OpenRefusedBySteps}
 use Rattle.sled.specs.Pops.{GivesUpPop, PopsBySteps, PopRefusedBySteps, ClearsBySteps, ClearRefusedBySteps}
@@ -70,10 +70,11 @@ pub record DecidesBy (s : State) (slot : ℕ) (old new : Store) : Type 0 where
   pub loud : (event : Event) → BringsAt s slot (Some event) → ActsOnce old new
 
 -- What a step does to the store: a call that begins or is given up, or that no slot has, does nothing. A step of a slot does at most
--- one changing action: none where the call is refused or decided without an event, and one where it is decided with one. A fault that
--- the store counts refuses the call with `Io`
+-- one changing action: none where a scan gives a pair, or the call is refused or decided without an event, and one where it is decided
+-- with one. A fault that the store counts refuses the call with `Io`
 abbrev pub effect_of_machine_step : State → Step → Outcome → Store → Store → Type 0
 effect_of_machine_step s (step.Begin tree call) o old new = new ≡ old
+effect_of_machine_step s (step.Step slot) (Yielded key value) old new = new ≡ old
 effect_of_machine_step s (step.Step slot) (Decided reply) old new = DecidesBy s slot old new
 effect_of_machine_step s (step.Step slot) (Refused e) old new = IsStepRefused e old new
 effect_of_machine_step s (step.Step slot) NoSuchSlot old new = new ≡ old
@@ -84,13 +85,13 @@ effect_of_machine_step s (step.Whole whole) o old new = effect_of_whole (kind_of
 pub record MachineActs {P M : Type 0} (store : P → Store) (meant : M → Merge) (old : MachineValue P M) (s : Step) (o : Outcome) (new : MachineValue P M) : Type 0 where
   pub is : effect_of_machine_step (configuration_of store (λ p. 0) meant old).state s o (store old.db.pages) (store new.db.pages)
 
--- the call did what its stage is to do, and stands where that leads
+-- the call did what its stage is to do, and stands where that leads; and a scan gave the next pair, or went on from behind its leaf
 pub record FollowsAt {P M : Type 0} (store : P → Store) (old : MachineValue P M) (f : InFlight) (slot : ℕ) (o : Outcome) (new : MachineValue P M) : Type 0 where
   pub went : Went
   pub next : InFlight
   pub outcome : o ≡ outcome_of went
   pub there : kept_at new.flights slot ≡ flight_after went next
-  pub follows : FollowsOn (store old.db.pages) f went (store new.db.pages) next
+  pub follows : follows_as (range_of f.job.call) (store old.db.pages) f went (store new.db.pages) next
 
 -- a step of a slot follows from the stage of its call, where the tests pass and a turn is left
 abbrev pub follows_stage_as : {P M : Type 0} → (P → Store) → (M → Merge) → MachineValue P M → Step → Outcome → MachineValue P M → Type 0
@@ -106,9 +107,11 @@ pub record IsPathAhead {P M : Type 0} (store : P → Store) (m : MachineValue P 
   pub here : kept_at m.flights slot ≡ Some flight
   pub clean : IsOnPath (now (store m.db.pages)) (course_of flight) flight.stage path
 
--- a step of a slot that goes on along a clean path has a page less ahead of it
+-- a step of a slot that goes on along a clean path has a page less ahead of it: any step of a call on a key, and of a scan each until it
+-- has its leaf
 abbrev pub advances_on_path_as : {P M : Type 0} → (P → Store) → MachineValue P M → Step → Outcome → MachineValue P M → Type 0
-advances_on_path_as store old (step.Step slot) Moved new = (path : List ℕ) → IsPathAhead store old slot path → (rest : List ℕ) × (length path ≡ suc (length rest)) × IsPathAhead store new slot rest
+advances_on_path_as store old (step.Step slot) Moved new = (path : List ℕ) → (ahead : IsPathAhead store old slot path) → has_path (range_of ahead.flight.job.call) ahead.flight.stage
+    → (rest : List ℕ) × (length path ≡ suc (length rest)) × IsPathAhead store new slot rest
 advances_on_path_as store old s o new = Unit {0}
 
 pub record MachinePasses {P M : Type 0} (store : P → Store) (old : MachineValue P M) (s : Step) (o : Outcome) (new : MachineValue P M) : Type 0 where
@@ -123,7 +126,7 @@ slot_of s o = None
 
 -- a call that begins has yet to read its tree's root
 abbrev pub starts_as : {P M : Type 0} → Step → Outcome → MachineValue P M → Type 0
-starts_as (step.Begin tree call) (Begun slot) new = kept_at new.flights slot ≡ Some (record { job = record { tree = tree; call = call }; aim = OwnKey; stage = Root; turns = 0 })
+starts_as (step.Begin tree call) (Begun slot) new = kept_at new.flights slot ≡ Some (record { job = record { tree = tree; call = call }; aim = Own; stage = Root; turns = 0 })
 starts_as s o new = Unit {0}
 
 -- a call that begins stands in its slot; and the calls in all other slots are as they were, with what they know of the pages and what
@@ -223,6 +226,12 @@ drops_tree_as store meant old name (Decided reply) new = (dropped : Bool) × (re
 drops_tree_as store meant old name (Refused e) new = RefusesDrop store meant old name e new
 drops_tree_as store meant old name o new = Unit {0}
 
+-- a group that brings no event does nothing, and where it is decided one that brings an event was begun and sealed
+abbrev pub groups_as : {P M : Type 0} → (P → Store) → (M → Merge) → DbValue P M → List (Tree × Writes) → Outcome → DbValue P M → Type 0
+groups_as store meant old batches (Decided reply) new = IsQuietGroup store meant old batches new × is_loud_group store meant old batches new
+groups_as store meant old batches (Refused e) new = IsQuietGroup store meant old batches new
+groups_as store meant old batches o new = Unit {0}
+
 -- an import does each of its parts by the steps of an opening or of an insert, and what is refused stops at one of them
 abbrev pub imports_as : {P M : Type 0} → (P → Store) → (M → Merge) → DbValue P M → List Content → Outcome → DbValue P M → Type 0
 imports_as store meant old all (Decided reply) new = ImportsBySteps store meant old (parts_of all) new
@@ -234,7 +243,7 @@ way_of_whole store meant old Flush o new = Unit {0}
 way_of_whole store meant old (PopMin tree) o new = pops_as store meant old tree IsLeast once o new
 way_of_whole store meant old (PopMax tree) o new = pops_as store meant old tree IsGreatest for_each o new
 way_of_whole store meant old (Clear tree) o new = clears_as store meant old tree o new
-way_of_whole store meant old (Group batches) o new = IsQuietGroup store meant old batches.items new
+way_of_whole store meant old (Group batches) o new = groups_as store meant old batches.items o new
 way_of_whole store meant old (OpenTree name) o new = opens_as store old name o new
 way_of_whole store meant old (DropTree name) o new = drops_tree_as store meant old name o new
 way_of_whole store meant old GenerateId o new = Unit {0}

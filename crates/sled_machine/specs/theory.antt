@@ -1,1 +1,2 @@
 pub mod StepsInSlot
+pub mod Kept

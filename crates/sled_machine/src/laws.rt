@@ -1,7 +1,8 @@
-//! The laws of a machine: of lists of steps, of the maps that a crash may leave, and of subscribers.
+//! The laws of a machine: of lists of steps, of the maps that a crash may leave, of subscribers, and of scans.
 ghost use Rattle.sled_machine.specs.CrashMaps.{ExtendedLaw, FlushedLaw};
 ghost use Rattle.sled_machine.specs.Hears.{Hears};
 ghost use Rattle.sled_machine.specs.Run.{StepsLaw, GroupLaw};
+ghost use Rattle.sled_machine.specs.Scans.{Scans};
 
 use sled_model::MergeOperator;
 use sled_store::Pages;
@@ -11,8 +12,8 @@ pub fn law_steps<P: Pages, M: MergeOperator>()
     ensures { StepsLaw P.store P.flush_number M.meant }
 {}
 
-/// A group of a database, as that of a transaction is, is a step of the machine that has the database, so that what is said of lists of
-/// steps is said of it too.
+/// A group of a database, as that of a transaction is, is a step of the machine that has the database. So what is said of lists of steps
+/// is said of the list of this one step.
 pub fn law_group<P: Pages, M: MergeOperator>()
     ensures { GroupLaw P.store P.flush_number M.meant }
 {}
@@ -31,4 +32,11 @@ pub fn law_flushed()
 /// many it missed; and while it misses none and the database is open, a copy that it changes by them follows the map of its tree.
 pub fn law_hears<P: Pages, M: MergeOperator>()
     ensures { Hears P.store P.flush_number M.meant }
+{}
+
+/// Over every list of steps that follows its begin, whatever other calls do between its own, a scan gives pairs whose keys lie within
+/// its bounds and strictly rise or, backwards, fall; each of them was in the map of its tree at some moment since the begin; and where
+/// it ends it has given each key within its bounds that was in the map at each of its steps.
+pub fn law_scans<P: Pages, M: MergeOperator>()
+    ensures { Scans P.store P.flush_number M.meant }
 {}

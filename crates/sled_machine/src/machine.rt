@@ -9,7 +9,7 @@ ghost use Rattle.sled_model.specs.declared.call.Call.{Call};
 ghost use Rattle.sled_model.specs.declared.outcome.Outcome.TheVariants as outcome;
 ghost use Rattle.sled_model.specs.declared.outcome.Step.TheVariants as step;
 
-use crate::flights::{add, finish_in, outcome_of, remove, step_in, turns_in};
+use crate::flights::{add, finish_in, job_in, outcome_of, remove, step_in, turns_in};
 use sled::{Db, TransactionAnswer, TransactionalTree, TransactionalTrees};
 use sled_batch::Batch;
 use sled_model::{
@@ -18,7 +18,7 @@ use sled_model::{
 use sled_nodes::texts::NUMBERS_USED_UP;
 use sled_nodes::{Error, IVec, Result};
 use sled_store::Pages;
-use sled_tree::InFlight;
+use sled_tree::{InFlight, Job};
 use std::alloc::AllocError;
 use std::collections::BTreeMap;
 use std::marker::Model;
@@ -26,9 +26,9 @@ use std::marker::Model;
 /// A database and the calls in flight on it.
 #[derive(Drop)]
 pub struct Machine<P: Pages, M = Box<dyn MergeOperator + Send>> {
-    db: Db<P, M>,
+    pub(crate) db: Db<P, M>,
     // the calls in flight, by slot
-    flights: BTreeMap<u64, InFlight>,
+    pub(crate) flights: BTreeMap<u64, InFlight>,
     slots_given: u64,
 }
 
@@ -46,9 +46,9 @@ impl<P: Pages, M> Model for Machine<P, M> {
 }
 
 impl<P: Pages, M: MergeOperator> Machine<P, M> {
-    ghost use Rattle.sled_model.specs.State.{maps_of};
+    ghost use Rattle.sled_model.specs.State.{maps_of, IsOnKey};
     ghost use Rattle.sled.specs.Sound.{IsDb, MapsAscend};
-    ghost use Rattle.sled_machine.specs.Values.{slots_of};
+    ghost use Rattle.sled_machine.specs.Values.{slots_of, job_of_call, job_lent};
     ghost use Rattle.sled.specs.Values.{db_state};
     ghost use Rattle.sled.specs.Operators.{OperatorSet, OperatorNotSet};
     ghost use Rattle.sled.specs.Fetch.{Stands, FetchDecided, FetchRefused};
@@ -254,7 +254,8 @@ impl<P: Pages, M: MergeOperator> Machine<P, M> {
         Ok(Slot(slot))
     }
 
-    /// Does the next page action of the call in the slot, if there is one.
+    /// Does the next page action of the call in the slot, if there is one. A scan that has read a leaf gives the pairs that it found
+    /// there, one at a step, and stays in its slot.
     ///
     /// ```
     /// let slot = machine.begin(&tree, Call::remove(alloc, b"ulm")?)?;
@@ -293,7 +294,21 @@ impl<P: Pages, M: MergeOperator> Machine<P, M> {
         Outcome::NoSuchSlot
     }
 
-    /// How often the call in the slot went on so far, if there is one.
+    /// What the call in the slot is to do, if there is one.
+    ///
+    /// ```
+    /// let is_get = match machine.job(slot) {
+    ///     Some(job) => matches!(&job.call, Call::Get(_)), // And `job.tree` is its tree.
+    ///     None => false,
+    /// };
+    /// ```
+    pub fn job(&self, slot: Slot) -> Option<&Job>
+        ensures { option_map job_lent result ≡ option_map job_of_call (slots_of self.now.flights slot) }
+    {
+        job_in(&self.flights, slot.0)
+    }
+
+    /// How often the call in the slot went on so far, if there is one; of a scan since it gave its last pair.
     ///
     /// ```
     /// let turns = machine.turns(slot); // `Some(0)` after its begin.
@@ -317,7 +332,7 @@ impl<P: Pages, M: MergeOperator> Machine<P, M> {
         outcome
     }
 
-    fn whole_of(&mut self, whole: &Whole) -> Outcome
+    pub(crate) fn whole_of(&mut self, whole: &Whole) -> Outcome
         ensures { MachineStepContract P.store P.flush_number M.meant self.old (step.Whole whole.now) result self.new }
     {
         match whole {
@@ -447,12 +462,21 @@ impl<P: Pages, M: MergeOperator> Machine<P, M> {
         Outcome::Decided(Reply::Done)
     }
 
-    /// Does steps of the call in the slot until it ends. There are no more than its turns allow. Where no other call left
-    /// anything to repair on the way to its key, a call that begins goes on at most once for each level of its tree.
+    /// Does steps of the call in the slot until it ends; of a scan until it gives its next pair, or ends. There are no more than its
+    /// turns allow. Where no other call left anything to repair on the way to its key, a call on a key that begins goes on at most
+    /// once for each level of its tree.
     ///
     /// ```
     /// let slot = machine.begin(&tree, Call::insert(alloc, b"ulm", b"21")?)?;
     /// let outcome = machine.finish(slot); // Decided or refused, never `Moved`.
+    /// ```
+    ///
+    /// ```
+    /// let slot = machine.begin(&tree, Call::scan(alloc, Bound::Unbounded, Bound::Unbounded, false)?)?;
+    /// match machine.finish(slot) {
+    ///     Outcome::Yielded(key, value) => drop((key, value)), // The first pair. The next `finish` gives the second.
+    ///     outcome => drop(outcome), // `Decided(Reply::End)` where the tree is empty, or why not; its slot is gone.
+    /// }
     /// ```
     pub fn finish(&mut self, slot: Slot) -> Outcome
         ensures { RunsToEnd P.store P.flush_number M.meant self.old slot result self.new }
@@ -463,13 +487,15 @@ impl<P: Pages, M: MergeOperator> Machine<P, M> {
         outcome
     }
 
-    /// Does a call from its begin to its end: what `begin` does, and then `finish` of the slot. The slot is given, but nothing
-    /// is kept in it, and the tests are made once.
+    /// Does a call on a key from its begin to its end: what `begin` does, and then `finish` of the slot. The slot is given, but
+    /// nothing is kept in it, and the tests are made once. The call must be no scan, which does not end with its first pair: that it
+    /// is none is what `Call::is_on_key` tells.
     ///
     /// ```
     /// let outcome = machine.complete(&tree, Call::insert(alloc, b"ulm", b"21")?);
     /// ```
     pub fn complete(&mut self, tree: &Tree, call: Call) -> Outcome
+        requires { IsOnKey call }
         ensures { Completes P.store P.flush_number M.meant self.old tree.now call result self.new }
     {
         let tree = match self.admit(tree, &call) {

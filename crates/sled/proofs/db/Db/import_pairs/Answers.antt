@@ -8,4 +8,4 @@ pub returns-in-Err-clause-err : goal.returns-in-Err-clause-err
 returns-in-Err-clause-err g c = put_stopped g.P.Pages.store g.M.MergeOperator.meant c.args.self.now c.args.tree.now c.args.pairs.now _ c.loop-pair.self c.loop-pair.invariant c.audit.ensures.sound _ _ (pairs_left c.args.pairs.now c.loop-pair.pair-index c.pair-item.result c.loop-pair-test.true c.pair-item.is) _ _ c.in-Err.ensures.err
 
 pub loop-pair-preserved : goal.loop-pair-preserved
-loop-pair-preserved g c = put_more g.P.Pages.store g.M.MergeOperator.meant c.args.self.now c.args.tree.now c.args.pairs.now _ c.loop-pair.self c.loop-pair.invariant c.audit.ensures.sound _ _ (pairs_left c.args.pairs.now c.loop-pair.pair-index c.pair-item.result c.loop-pair-test.true c.pair-item.is) _ c.in_default.ensures.ok c.in_default.ensures.now
+loop-pair-preserved g c = put_more g.P.Pages.store g.M.MergeOperator.meant c.args.self.now c.args.tree.now c.args.pairs.now _ c.loop-pair.self c.loop-pair.invariant c.audit.ensures.sound _ _ (pairs_left c.args.pairs.now c.loop-pair.pair-index c.pair-item.result c.loop-pair-test.true c.pair-item.is) _ c.in_default.ensures.ok c.in_default.ensures.now c.saturating_add-count.result c.saturating_add-count.ensures

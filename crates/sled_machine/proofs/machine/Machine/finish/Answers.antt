@@ -1,5 +1,3 @@
-use Rattle.sled.proofs.Flying.{end_reached}
-use Rattle.sled_machine.proofs.Steps.{gone_after}
 use Rattle.sled_machine.proofs.Machines.{rests_machine}
 use Rattle.sled_machine.proofs.Finishing.{missing_finish_as, finished_all, finished_as}
 use Rattle.sled_machine.proofs.machine.Machine.finish.Goals as goal
@@ -16,9 +14,9 @@ invariant_of-self g c = rests_machine g.P.Pages.store g.P.Pages.flush_number g.M
 pub invariant_of-self-2 : goal.invariant_of-self-2
 invariant_of-self-2 g c =
     let s = c.in-Some.ensures.steps in
-    (finished_all g.P.Pages.store g.P.Pages.flush_number g.M.MergeOperator.meant (record { db = c.self.inside.db; flights = c.self.inside.flights.entries; slots_given = c.self.inside.slots_given }) c.self.invariant c.slot.inside.0 c.finish_in.new.db c.finish_in.new.flights.entries s.flight s.next s.went s.there s.flew (gone_after s (end_reached g.P.Pages.store g.M.MergeOperator.meant _ _ _ _ _ s.flew))).1
+    (finished_all g.P.Pages.store g.P.Pages.flush_number g.M.MergeOperator.meant (record { db = c.self.inside.db; flights = c.self.inside.flights.entries; slots_given = c.self.inside.slots_given }) c.self.invariant c.slot.inside.0 c.finish_in.new.db c.finish_in.new.flights.entries s.flight s.next s.went s.there s.flew s.is).1
 
 pub returns : goal.returns
 returns g c =
     let s = c.in-Some.ensures.steps in
-    finished_as g.P.Pages.store g.P.Pages.flush_number g.M.MergeOperator.meant _ _ c.self.view_is c.self.invariant _ _ c.slot.view_is c.finish_in.new.db c.finish_in.new.flights.entries _ s.flight s.next s.went s.outcome s.there s.flew (gone_after s (end_reached g.P.Pages.store g.M.MergeOperator.meant _ _ _ _ _ s.flew))
+    finished_as g.P.Pages.store g.P.Pages.flush_number g.M.MergeOperator.meant _ _ c.self.view_is c.self.invariant _ _ c.slot.view_is c.finish_in.new.db c.finish_in.new.flights.entries _ s.flight s.next s.went s.outcome s.there s.flew s.is

@@ -13,9 +13,10 @@ returns-in-Err g c =
 
 pub returns : goal.returns
 returns g c =
+    let made = subst (λ xs. GroupDecided g.P.Pages.store g.M.MergeOperator.meant c.self.inside.db xs c.apply_group.new.self) c.as_slice.ensures.value c.in_default.ensures.ok in
     whole_decided g.P.Pages.store g.P.Pages.flush_number g.M.MergeOperator.meant _ _ c.self.view_is c.self.invariant (Group c.args.batches.now) tt _ _
-    (group_whole g.P.Pages.store g.M.MergeOperator.meant c.self.inside.db c.apply_group.new.self c.args.batches.now (subst (λ xs. GroupDecided g.P.Pages.store g.M.MergeOperator.meant c.self.inside.db xs c.apply_group.new.self) c.as_slice.ensures.value c.in_default.ensures.ok))
-    (subst (λ xs. IsQuietGroup g.P.Pages.store g.M.MergeOperator.meant c.self.inside.db xs c.apply_group.new.self) c.as_slice.ensures.value c.in_default.ensures.quiet)
+    (group_whole g.P.Pages.store g.M.MergeOperator.meant c.self.inside.db c.apply_group.new.self c.args.batches.now made)
+    (subst (λ xs. IsQuietGroup g.P.Pages.store g.M.MergeOperator.meant c.self.inside.db xs c.apply_group.new.self) c.as_slice.ensures.value c.in_default.ensures.quiet, made.loud)
 
 pub invariant_of-self : goal.invariant_of-self
 invariant_of-self g c =

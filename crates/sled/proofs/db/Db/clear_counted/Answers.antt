@@ -1,5 +1,5 @@
-use Rattle.sled.proofs.Popping.{clearing_first, clearing_ends, clearing_unread, clearing_untaken, clearing_more, clearing_smaller, clearing_unread_steps, clearing_untaken_steps}
-use Rattle.sled.proofs.db.Db.clear.Goals as goal
+use Rattle.sled.proofs.Popping.{clearing_first, clearing_ends, clearing_unread, clearing_untaken, clearing_more, clearing_smaller, clearing_unread_steps, clearing_untaken_steps, clearing_parts, clearing_parts_untaken}
+use Rattle.sled.proofs.db.Db.clear_counted.Goals as goal
 
 pub parts-init : goal.parts-init
 parts-init g c = clearing_first g.P.Pages.store g.M.MergeOperator.meant _ _
@@ -14,7 +14,7 @@ pub parts-smaller : goal.parts-smaller
 parts-smaller g c = clearing_smaller g.P.Pages.store g.M.MergeOperator.meant c.args.self.now c.args.tree.now c.parts.self c.parts.invariant _ _ c.in-Ok-Some.field-0-is c.in-Ok-Some.ensures.ok _ _ c.in-Ok.ensures.ok
 
 pub parts-preserved : goal.parts-preserved
-parts-preserved g c = clearing_more g.P.Pages.store g.M.MergeOperator.meant c.args.self.now c.args.tree.now c.parts.self c.parts.invariant _ _ c.in-Ok-Some.field-0-is c.in-Ok-Some.ensures.ok _ _ c.in-Ok.ensures.ok c.audit.ensures.sound
+parts-preserved g c = clearing_more g.P.Pages.store g.M.MergeOperator.meant c.args.self.now c.args.tree.now c.parts.self c.parts.invariant _ _ c.in-Ok-Some.field-0-is c.in-Ok-Some.ensures.ok _ _ c.in-Ok.ensures.ok c.audit.ensures.sound c.saturating_add-count.result c.saturating_add-count.ensures
 
 pub returns-in-Err-point-clause-err : goal.returns-in-Err-point-clause-err
 returns-in-Err-point-clause-err g c = clearing_untaken g.P.Pages.store g.M.MergeOperator.meant c.args.self.now c.args.tree.now c.parts.self c.parts.invariant _ _ c.in-Ok-Some.field-0-is c.in-Ok-Some.ensures.ok c.audit.ensures.sound _ _ c.in-Err-point.ensures.err
@@ -27,3 +27,12 @@ returns-in-Err-clause-refused g c = clearing_unread_steps g.P.Pages.store g.M.Me
 
 pub returns-in-Err-point-clause-refused : goal.returns-in-Err-point-clause-refused
 returns-in-Err-point-clause-refused g c = clearing_untaken_steps g.P.Pages.store g.M.MergeOperator.meant c.args.self.now c.args.tree.now c.parts.self c.parts.invariant _ _ c.in-Ok-Some.field-0-is c.in-Ok-Some.ensures.ok _ _ c.in-Err-point.ensures.err
+
+pub returns-in-Ok-None-clause-parts : goal.returns-in-Ok-None-clause-parts
+returns-in-Ok-None-clause-parts g c = clearing_parts g.P.Pages.store g.M.MergeOperator.meant _ _ c.parts.self c.parts.invariant
+
+pub returns-in-Err-clause-parts : goal.returns-in-Err-clause-parts
+returns-in-Err-clause-parts g c = clearing_parts g.P.Pages.store g.M.MergeOperator.meant _ _ c.parts.self c.parts.invariant
+
+pub returns-in-Err-point-clause-parts : goal.returns-in-Err-point-clause-parts
+returns-in-Err-point-clause-parts g c = clearing_parts_untaken g.P.Pages.store g.M.MergeOperator.meant c.args.self.now c.args.tree.now c.parts.self c.parts.invariant _ _ c.in-Ok-Some.field-0-is c.in-Ok-Some.ensures.ok _ _ c.in-Err-point.ensures.err

@@ -1,0 +1,27 @@
+use Rattle.std.proofs.Common.{rules, ◌≡◌, true, false, refl}
+use Rattle.sled_store.specs.Store.{now}
+use Rattle.sled_model.specs.Collections.{contents_of, are_trees}
+use Rattle.sled.proofs.Importing.{import_closed, import_unknown, imported_first, imported_more, imported_stopped, import_stopped, contents_left, done_here, stopped_here}
+use Rattle.sled.proofs.db.Db.import_counted.Goals as goal
+
+pub returns-then-in_group-clause-err : goal.returns-then-in_group-clause-err
+returns-then-in_group-clause-err g c = import_closed g.P.Pages.store g.M.MergeOperator.meant c.args.self.now _ (search rules)
+
+pub returns-then-not-are_trees-clause-err : goal.returns-then-not-are_trees-clause-err
+returns-then-not-are_trees-clause-err g c =
+    let no_group : (now (g.P.Pages.store c.args.self.now.pages)).in_group ≡ false = search rules in
+    let off : are_trees (contents_of c.args.collections.now) ≡ false = search rules in
+    import_unknown g.P.Pages.store g.M.MergeOperator.meant c.args.self.now _ no_group off _ refl
+
+pub loop-collection-init : goal.loop-collection-init
+loop-collection-init g c = imported_first g.P.Pages.store g.M.MergeOperator.meant c.args.self.now _
+
+pub returns-in-Err-clause-err : goal.returns-in-Err-clause-err
+returns-in-Err-clause-err g c =
+    let no_group : (now (g.P.Pages.store c.args.self.now.pages)).in_group ≡ false = search rules in
+    let on : are_trees (contents_of c.args.collections.now) ≡ true = search rules in
+    import_stopped g.P.Pages.store g.M.MergeOperator.meant c.args.self.now _ no_group on _ _ _
+    (imported_stopped g.P.Pages.store g.M.MergeOperator.meant c.args.self.now (contents_of c.args.collections.now) _ c.loop-collection.self c.loop-collection.invariant c.audit.ensures.sound _ _ (contents_left c.args.collections.now c.loop-collection.collection-index c.collection-item.result c.loop-collection-test.true c.collection-item.is) _ _ c.import_collection-done.result.1 c.saturating_add-count.result (stopped_here _ c.import_collection-done.result.0 _ c.in-Err.is c.import_collection-done.ensures.err) c.saturating_add-count.ensures)
+
+pub loop-collection-preserved : goal.loop-collection-preserved
+loop-collection-preserved g c = imported_more g.P.Pages.store g.M.MergeOperator.meant c.args.self.now (contents_of c.args.collections.now) _ c.loop-collection.self c.loop-collection.invariant c.audit.ensures.sound _ _ (contents_left c.args.collections.now c.loop-collection.collection-index c.collection-item.result c.loop-collection-test.true c.collection-item.is) _ (done_here c.import_collection-done.result.0 c.in_default.not-Err c.import_collection-done.ensures.ok) c.import_collection-done.result.1 c.saturating_add-count.result (done_here c.import_collection-done.result.0 c.in_default.not-Err c.import_collection-done.ensures.all) c.saturating_add-count.ensures

@@ -1,0 +1,20 @@
+use Rattle.std.proofs.Common.{Some, sym, refl, ap, ◌∙◌, subst}
+use Rattle.sled_tree.specs.theory.Linking.{replies_with}
+use Rattle.sled.specs.theory.Watched.{TellsPrepared}
+use Rattle.sled.proofs.Watching.{at_link}
+use Rattle.sled.proofs.KeptSteps.{told_short, keeps_none}
+use Rattle.sled.proofs.step_kept.link_keeping.Goals as goal
+
+pub returns-in-Err-clause-links : goal.returns-in-Err-clause-links
+returns-in-Err-clause-links g c =
+    let at = at_link c.args.flight.now.stage c.requires.here in
+    told_short c.args.change (g.P.Pages.store c.args.pages.now) c.args.flight.now at.0 at.1 c.in-Err.e c.in-Err.ensures.err.0 c.args.queues.now c.args.queues.now refl
+
+pub returns-in-Decided-clause-links : goal.returns-in-Decided-clause-links
+returns-in-Decided-clause-links g c = subst (λ w. TellsPrepared c.args.change (g.P.Pages.store c.args.pages.now) c.args.queues.now c.args.flight.now w (g.P.Pages.store c.link_prepared.new.pages) c.link_prepared.new.queues c.link_prepared.new.flight) c.in-Decided.is c.link_prepared.ensures
+
+pub returns-in-Decided-clause-kept : goal.returns-in-Decided-clause-kept
+returns-in-Decided-clause-kept g c = ap Some (c.in-Ok.ensures.ok ∙ sym (ap (λ r. (r, r)) (subst (replies_with c.args.change.reply) c.in-Decided.is c.link_prepared.ensures.replies)))
+
+pub returns-in_default-clause-kept : goal.returns-in_default-clause-kept
+returns-in_default-clause-kept g c = keeps_none c.link_prepared.result c.in_default.not-Decided

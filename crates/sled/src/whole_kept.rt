@@ -1,0 +1,195 @@
+//! Whole calls whose reply is kept: two copies of it are made before anything changes, so that want of memory for them refuses the
+//! call before it is decided. Of the calls whose reply owns memory these are the pops and the opening of a tree.
+ghost use Rattle.std.specs.Prelude.{◌≡◌, IfOk, IfErr, OnOk, false, Option, Some};
+ghost use Rattle.sled_nodes.specs.Order.{Key};
+ghost use Rattle.sled_nodes.specs.declared.error.Error.TheVariants.{NoMemory};
+ghost use Rattle.sled_store.specs.Store.{now};
+ghost use Rattle.sled_model.specs.Maps.{IsLeast, IsGreatest};
+ghost use Rattle.sled_model.specs.Whole.{number_opened};
+ghost use Rattle.sled_model.specs.declared.call.Whole.TheVariants.{PopMin, PopMax, OpenTree};
+ghost use Rattle.sled_model.specs.declared.reply.Reply.TheVariants.{Pair};
+ghost use Rattle.tree_reads.specs.Walk.{once, for_each};
+ghost use Rattle.sled.specs.Opens.{OpensBySteps, OpenRefusedBySteps};
+
+use crate::db::Db;
+use crate::tree_list::number_of;
+use sled_model::{MergeOperator, Reply, Tree};
+use sled_nodes::texts::NUMBERS_USED_UP;
+use sled_nodes::{Error, IVec, Result};
+use sled_store::Pages;
+
+// A pop's reply with a copy of this pair. Refused with `NoMemory` alone.
+fn pair_told(pair: &(IVec, IVec)) -> Result<Reply>
+    ensures ok { IfOk result (λ told. told ≡ Pair (Some pair.now)) }
+    ensures err { IfErr result (λ e. e ≡ NoMemory) }
+{
+    let key = pair.0.clone()?;
+    match pair.1.clone() {
+        Ok(value) => Ok(Reply::Pair(Some((key, value)))),
+        Err(e) => {
+            drop(key);
+            Err(e)
+        }
+    }
+}
+
+// The same twice.
+fn pair_told_twice(pair: &(IVec, IVec)) -> Result<(Reply, Reply)>
+    ensures one { IfOk result (λ both. both.0 ≡ Pair (Some pair.now)) }
+    ensures other { IfOk result (λ both. both.1 ≡ Pair (Some pair.now)) }
+    ensures err { IfErr result (λ e. e ≡ NoMemory) }
+{
+    let one = pair_told(pair)?;
+    match pair_told(pair) {
+        Ok(other) => Ok((one, other)),
+        Err(e) => {
+            drop(one);
+            Err(e)
+        }
+    }
+}
+
+impl<P: Pages, M: MergeOperator> Db<P, M> {
+    ghost use Rattle.sled.specs.Values.{db_state};
+    ghost use Rattle.sled.specs.Direct.{WholeDecided, WholeRefused};
+    ghost use Rattle.sled.specs.Pops.{TakesOut, RefusesToTake, PopsBySteps, PopRefusedBySteps, GivesUpPop};
+
+    // Takes out a pair that was read just now. The copies of the reply are made before.
+    fn pop_pair_kept(&mut self, tree: &Tree, pair: (IVec, IVec)) -> Result<(Reply, Reply, Reply)>
+        ensures ok { OnOk result (TakesOut P.store M.meant self.old tree.now pair (Some pair) self.new) }
+        ensures told { IfOk result (λ told. told.0 ≡ Pair (Some pair)) }
+        ensures kept { IfOk result (λ told. (told.1 ≡ told.0) × (told.2 ≡ told.0)) }
+        ensures err { IfErr result (λ e. RefusesToTake P.store M.meant self.old tree.now pair e self.new) }
+    {
+        let (one, other) = match pair_told_twice(&pair) {
+            Ok(both) => both,
+            Err(e) => {
+                drop(pair);
+                return Err(e);
+            }
+        };
+        match self.pop_pair(tree, pair) {
+            Ok(found) => Ok((Reply::Pair(found), one, other)),
+            Err(e) => {
+                drop(one);
+                drop(other);
+                Err(e)
+            }
+        }
+    }
+
+    /// Takes out the pair with the least key, as `pop_min` does, and answers the call's reply (`Reply::Pair`) and two copies of it. The
+    /// copies are made once the pair is read and before it is removed. Refused as `pop_min` is; where there is no memory for the copies
+    /// then with `NoMemory`, and nothing was done.
+    ///
+    /// ```
+    /// let (reply, one, other) = db.pop_min_kept(&tree)?; // Three equal replies.
+    /// ```
+    pub fn pop_min_kept(&mut self, tree: &Tree) -> Result<(Reply, Reply, Reply)>
+        ensures ok { IfOk result (λ told. WholeDecided P.store M.meant self.old (PopMin tree.now) told.0 self.new) }
+        ensures kept { IfOk result (λ told. (told.1 ≡ told.0) × (told.2 ≡ told.0)) }
+        ensures err { IfErr result (λ e. WholeRefused P.store M.meant self.old (PopMin tree.now) e self.new) }
+        ensures gives_up { IfErr result (GivesUpPop P.store M.meant self.old tree.now IsLeast once) }
+        ensures steps { IfOk result (λ told. (found : Option (Key × Key)) × (told.0 ≡ Pair found) × PopsBySteps P.store M.meant self.old tree.now IsLeast found self.new) }
+        ensures refused { IfErr result (λ e. PopRefusedBySteps P.store M.meant self.old tree.now IsLeast once e self.new) }
+    {
+        match self.first(tree) {
+            Ok(Some(pair)) => self.pop_pair_kept(tree, pair),
+            Ok(None) => {
+                self.audit();
+                Ok((Reply::Pair(None), Reply::Pair(None), Reply::Pair(None)))
+            }
+            Err(e) => Err(e),
+        }
+    }
+
+    /// Takes out the pair with the greatest key, as `pop_max` does, and answers the call's reply and two copies of it, as `pop_min_kept`
+    /// does.
+    ///
+    /// ```
+    /// let (reply, one, other) = db.pop_max_kept(&tree)?; // Three equal replies.
+    /// ```
+    pub fn pop_max_kept(&mut self, tree: &Tree) -> Result<(Reply, Reply, Reply)>
+        ensures ok { IfOk result (λ told. WholeDecided P.store M.meant self.old (PopMax tree.now) told.0 self.new) }
+        ensures kept { IfOk result (λ told. (told.1 ≡ told.0) × (told.2 ≡ told.0)) }
+        ensures err { IfErr result (λ e. WholeRefused P.store M.meant self.old (PopMax tree.now) e self.new) }
+        ensures gives_up { IfErr result (GivesUpPop P.store M.meant self.old tree.now IsGreatest for_each) }
+        ensures steps { IfOk result (λ told. (found : Option (Key × Key)) × (told.0 ≡ Pair found) × PopsBySteps P.store M.meant self.old tree.now IsGreatest found self.new) }
+        ensures refused { IfErr result (λ e. PopRefusedBySteps P.store M.meant self.old tree.now IsGreatest for_each e self.new) }
+    {
+        match self.last(tree) {
+            Ok(Some(pair)) => self.pop_pair_kept(tree, pair),
+            Ok(None) => {
+                self.audit();
+                Ok((Reply::Pair(None), Reply::Pair(None), Reply::Pair(None)))
+            }
+            Err(e) => Err(e),
+        }
+    }
+
+    // The number that the tree of a name has, or that it gets when it is opened. The tests of an opening come first.
+    fn number_ahead(&self, name: &[u8]) -> Result<u64>
+        ensures ok { IfOk result (λ number. number ≡ number_opened ((db_state P.store M.meant self.now).trees name.now) (db_state P.store M.meant self.now)) }
+        ensures err { IfErr result (λ e. WholeRefused P.store M.meant self.now (OpenTree name.now) e self.now) }
+        ensures no_group { OnOk result ((now (P.store self.now.pages)).in_group ≡ false) }
+    {
+        if self.pages.in_group() {
+            return Err(Error::Closed);
+        }
+        if let Some(number) = number_of(self.trees.as_slice(), name) {
+            return Ok(number);
+        }
+        if self.trees_given == u64::MAX {
+            return Err(Error::Unsupported(NUMBERS_USED_UP));
+        }
+        Ok(self.trees_given + 1)
+    }
+
+    // What names the tree of this name and number, twice.
+    fn two_handles(&self, name: &[u8], number: u64) -> Result<(Tree, Tree)>
+        ensures one { IfOk result (λ both. both.0 ≡ record { database = self.now.name; name = name.now; number = number }) }
+        ensures other { IfOk result (λ both. both.1 ≡ record { database = self.now.name; name = name.now; number = number }) }
+        ensures err { IfErr result (λ e. e ≡ NoMemory) }
+    {
+        let one = self.handle_of(name, number)?;
+        match self.handle_of(name, number) {
+            Ok(other) => Ok((one, other)),
+            Err(e) => {
+                drop(one);
+                Err(e)
+            }
+        }
+    }
+
+    /// Opens the tree of a name, as `open_tree` does, and answers the call's reply (`Reply::Tree`) and two copies of it. The copies are
+    /// made before the first action. Refused as `open_tree` is; where there is no memory for the copies then with `NoMemory`, and
+    /// nothing was done.
+    ///
+    /// ```
+    /// let (reply, one, other) = db.open_tree_kept(b"orders")?; // Three equal replies.
+    /// ```
+    pub fn open_tree_kept(&mut self, name: &[u8]) -> Result<(Reply, Reply, Reply)>
+        ensures ok { IfOk result (λ told. WholeDecided P.store M.meant self.old (OpenTree name.now) told.0 self.new) }
+        ensures kept { IfOk result (λ told. (told.1 ≡ told.0) × (told.2 ≡ told.0)) }
+        ensures err { IfErr result (λ e. WholeRefused P.store M.meant self.old (OpenTree name.now) e self.new) }
+        ensures steps { OnOk result (OpensBySteps P.store name.now self.old self.new) }
+        ensures refused { IfErr result (λ e. OpenRefusedBySteps P.store name.now self.old e self.new) }
+    {
+        let number = match self.number_ahead(name) {
+            Ok(number) => number,
+            Err(e) => return Err(e),
+        };
+        let (one, other) = match self.two_handles(name, number) {
+            Ok(both) => both,
+            Err(e) => return Err(e),
+        };
+        match self.open_tree(name) {
+            Ok(tree) => Ok((Reply::Tree(tree), Reply::Tree(one), Reply::Tree(other))),
+            Err(e) => {
+                drop(one);
+                drop(other);
+                Err(e)
+            }
+        }
+    }
+}

@@ -1,0 +1,35 @@
+-- What is kept of a whole call: copies of its reply beside the one that goes to the caller, and how many parts it did.
+use Rattle.std.specs.Prelude.{◌≡◌, ℕ, List, Option, Some, None}
+use Rattle.std.specs.Option.{option_map}
+use Rattle.sled_store.specs.Store.{Store}
+use Rattle.sled_model.specs.Maps.{Merge}
+use Rattle.sled_model.specs.Collections.{Content, contents_of}
+use Rattle.sled_model.specs.declared.call.Whole.{Whole}
+use Rattle.sled_model.specs.declared.call.Whole.TheVariants.{Clear, Import, Next}
+use Rattle.sled_model.specs.declared.reply.Reply.{Reply}
+use Rattle.sled_model.specs.declared.reply.Reply.TheVariants.{Done}
+use Rattle.sled_model.specs.declared.outcome.Outcome.{Outcome}
+use Rattle.sled_model.specs.declared.outcome.Outcome.TheVariants.{Decided, Refused}
+use Rattle.sled.specs.Values.{DbValue}
+use Rattle.sled.specs.Kept.{kept_of}
+use Rattle.sled.specs.Parts.{ClearsParts, ImportsParts, ImportRefusedAfter}
+
+-- Of a whole call two copies of the reply are kept, as of a step; but what a subscriber was told next is not: `Done` stands for it
+abbrev pub kept_of_whole : Whole → Outcome → Option (Reply × Reply)
+kept_of_whole (Next subscriber) o = option_map (λ both. (Done, Done)) (kept_of o)
+kept_of_whole whole o = kept_of o
+
+-- an import did all its parts, or it was refused after so many
+abbrev pub counts_import_as : {P M : Type 0} → (P → Store) → (M → Merge) → DbValue P M → List Content → Outcome → ℕ → DbValue P M → Type 0
+counts_import_as store meant old all (Decided reply) number new = ImportsParts all number
+counts_import_as store meant old all (Refused e) number new = ImportRefusedAfter store meant old all number e new
+counts_import_as store meant old all o number new = ⊥
+
+-- A clear and an import did so many parts, decided or not; a call that is not done in parts did none
+abbrev pub counts_as : {P M : Type 0} → (P → Store) → (M → Merge) → DbValue P M → Whole → Outcome → ℕ → DbValue P M → Type 0
+counts_as store meant old (Clear tree) o number new = ClearsParts store meant old tree number new
+counts_as store meant old (Import collections) o number new = counts_import_as store meant old (contents_of collections.items) o number new
+counts_as store meant old whole o number new = number ≡ 0
+
+pub record CountsParts {P M : Type 0} (store : P → Store) (meant : M → Merge) (old : DbValue P M) (whole : Whole) (o : Outcome) (number : ℕ) (new : DbValue P M) : Type 0 where
+  pub is : counts_as store meant old whole o number new
