@@ -5,8 +5,10 @@
 mod batches;
 mod calls;
 mod nodes;
+mod step_kept;
 mod streams;
 mod transactions;
+mod whole_kept;
 
 use sled_batch::Batch;
 use std::io;
@@ -55,7 +57,9 @@ fn run(rt: &HostRuntime) -> io::Result<()> {
         "a change, taken back, made again: {:?}",
         nodes::changes(rt.alloc())
     )?;
-    calls::tell(rt)
+    calls::tell(rt)?;
+    step_kept::tell(rt)?;
+    whole_kept::tell(rt)
 }
 
 // Prints the errors of transactions, and whether their clones are the same.

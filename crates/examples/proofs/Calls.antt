@@ -17,7 +17,7 @@ use Rattle.sled_model.specs.Maps.{Maps, Merge}
 use Rattle.sled_model.specs.State.{State, NamedTree, CallInFlight, call_begun}
 use Rattle.sled_model.specs.Answer.{answer_of}
 use Rattle.sled_model.specs.Transition.{Configuration, Transition, Decide}
-use Rattle.sled_model.specs.theory.Runs.{RunsBy, NoSteps, OneMore}
+use Rattle.sled_model.specs.Runs.{RunsBy, NoSteps, OneMore}
 use Rattle.sled_model.specs.declared.call.Call.{Call}
 use Rattle.sled_model.specs.declared.call.Call.TheVariants.{Get, Insert}
 use Rattle.sled_model.specs.declared.tree.Tree.{Tree}
@@ -98,6 +98,7 @@ decides old new slot reply tree call m d =
 pub step_told : (old new : Configuration) (slot : ℕ) (o : Outcome) (maps : List Maps) (tree : Tree) (call : Call) → Means old.state.slots slot tree call → Transition old (step.Step slot) o new maps → told_as o old.state.trees new.state.trees tree call
 step_told old new slot outcome.NoSuchSlot maps tree call m s = ap (λ (z : State). z.trees) s.is.0.is
 step_told old new slot outcome.Moved maps tree call m s = ap (λ (z : State). z.trees) s.is.0.is
+step_told old new slot (outcome.Yielded key value) maps tree call m s = ap (λ (z : State). z.trees) s.is.0.is
 step_told old new slot (outcome.Decided reply) maps tree call m s = decides old.state new.state slot reply tree call m s.is.0
 step_told old new slot (outcome.Refused e) maps tree call m s = ap (λ (z : State). z.trees) s.is.0.is
 step_told old new slot (outcome.Begun i) maps tree call m s = absurd s.is
@@ -111,7 +112,14 @@ step_means old new at outcome.Moved maps slot tree call s m =
     subst (λ (z : State). Means z.slots slot tree call) (sym k.is)
     (means_after old.state.slots at _ slot tree call m (λ f e same.
     let here : old.state.slots slot ≡ Some k.flying = ap old.state.slots same ∙ k.here in
-    let is : record (k.flying) { turns = k.flying.turns + 1 } ≡ f = some_is e in
+    let is : record (k.flying) { turns = k.flying.turns + 1; waiting = k.waiting; rest = k.rest } ≡ f = some_is e in
+    (ap (λ (g : CallInFlight). g.tree) (sym is) ∙ m.tree_is k.flying here, ap (λ (g : CallInFlight). g.call) (sym is) ∙ m.call_is k.flying here)))
+step_means old new at (outcome.Yielded key value) maps slot tree call s m =
+    let k = s.is.0 in
+    subst (λ (z : State). Means z.slots slot tree call) (sym k.is)
+    (means_after old.state.slots at _ slot tree call m (λ f e same.
+    let here : old.state.slots slot ≡ Some k.flying = ap old.state.slots same ∙ k.here in
+    let is : record (k.flying) { turns = 0; waiting = k.more } ≡ f = some_is e in
     (ap (λ (g : CallInFlight). g.tree) (sym is) ∙ m.tree_is k.flying here, ap (λ (g : CallInFlight). g.call) (sym is) ∙ m.call_is k.flying here)))
 step_means old new at (outcome.Decided reply) maps slot tree call s m =
     subst (λ (z : State). Means z.slots slot tree call) (sym s.is.0.is) (means_after old.state.slots at None slot tree call m (λ f e same. none_some e))
@@ -213,6 +221,7 @@ module _ {P M : Type 0} (store : P → Store) (number : P → ℕ) (meant : M �
       go (outcome.Decided reply) off t = absurd (off reply refl)
       go (outcome.Begun i) off t = ap maps_at t
       go outcome.Moved off t = ap maps_at t
+      go (outcome.Yielded key value) off t = ap maps_at t
       go (outcome.Refused e) off t = ap maps_at t
       go outcome.Abandoned off t = ap maps_at t
       go outcome.NoSuchSlot off t = ap maps_at t
@@ -228,6 +237,7 @@ module _ {P M : Type 0} (store : P → Store) (number : P → ℕ) (meant : M �
       go (outcome.Decided reply) t = (get_reads (trees_at old) (trees_at new) tree key reply t, get_keeps (trees_at old) (trees_at new) tree key reply t)
       go (outcome.Begun i) t = (tt, ap maps_at t)
       go outcome.Moved t = (tt, ap maps_at t)
+      go (outcome.Yielded key value) t = (tt, ap maps_at t)
       go (outcome.Refused e) t = (tt, ap maps_at t)
       go outcome.Abandoned t = (tt, ap maps_at t)
       go outcome.NoSuchSlot t = (tt, ap maps_at t)
@@ -289,6 +299,7 @@ module _ {P M : Type 0} (store : P → Store) (number : P → ℕ) (meant : M �
       go (outcome.Decided reply) t = last_put start (maps_now store meant old.db) (maps_now store meant new.db) tree key first second value is_second last e l (insert_puts (trees_at old) (trees_at new) tree key value reply t)
       go (outcome.Begun i) t = same t
       go outcome.Moved t = same t
+      go (outcome.Yielded key value) t = same t
       go (outcome.Refused e) t = same t
       go outcome.Abandoned t = same t
       go outcome.NoSuchSlot t = same t
@@ -305,12 +316,13 @@ module _ {P M : Type 0} (store : P → Store) (number : P → ℕ) (meant : M �
       clean = subst (λ (s : Store). IsClean (now s) tree.name (Included key) (one.0 ∷ [])) (sym b.does.is) (one.1 key)
 
       prompt : FinishesWithin f.moves o (one.0 ∷ [])
-      prompt = f.passes (call_begun tree (Get key)) (one.0 ∷ []) here refl clean (omega arith)
+      prompt = f.passes (call_begun tree (Get key)) (one.0 ∷ []) here refl refl clean (omega arith)
 
       go : (o : Outcome) → ((e : Error) → o ≡ outcome.Refused e → TellsTurns e → ⊥) → HasTurns o
       go (outcome.Refused e) u = u e refl
       go (outcome.Decided reply) u = tt
       go (outcome.Begun i) u = tt
       go outcome.Moved u = tt
+      go (outcome.Yielded key value) u = tt
       go outcome.Abandoned u = tt
       go outcome.NoSuchSlot u = tt

@@ -2,6 +2,7 @@
 use Rattle.std.proofs.Common.{◌≡◌, ◌≢◌, ℕ, List, [], ◌∷◌, Option, None, sym, ap, ◌∙◌, subst}
 use Rattle.sled_nodes.specs.Order.{Key}
 use Rattle.sled_store.specs.Store.{Store}
+use Rattle.sled_batch.specs.Batch.{Writes}
 use Rattle.sled_model.specs.Maps.{Map, Maps, Merge, IsLeast, IsGreatest}
 use Rattle.sled_model.specs.Collections.{Content, contents_of}
 use Rattle.sled_model.specs.State.{State, maps_of}
@@ -18,9 +19,9 @@ use Rattle.sled.specs.Flights.{call_in_flight_of}
 use Rattle.sled.specs.Values.{db_state}
 use Rattle.sled_machine.specs.CrashMaps.{AreCrashMaps, crash_maps_after}
 use Rattle.sled_machine.specs.Run.{RunsWithCrashMaps, KeepsAll, KeepsMore, MachineSteps, NoCalls, OneCall}
-use Rattle.sled_machine.specs.Step.{MachineStep, MachineStepContract, effect_of_machine_step, follows_stage_as, advances_on_path_as, starts_as, leaks_no_page_at, gives_up_as, tested_as, pops_as, clears_as, opens_as, drops_tree_as, way_as, imports_as}
+use Rattle.sled_machine.specs.Step.{MachineStep, MachineStepContract, effect_of_machine_step, follows_stage_as, advances_on_path_as, starts_as, leaks_no_page_at, gives_up_as, tested_as, pops_as, clears_as, groups_as, opens_as, drops_tree_as, way_as, imports_as}
 use Rattle.sled_machine.specs.Values.{MachineValue, configuration_of, slots_of}
-use Rattle.examples.proofs.Plain.{plain, same_configuration, same_db, same_tests, plain_sound, meant_sound, plain_gives_up, plain_opens_by, plain_opens_not, plain_drops, plain_drops_not, plain_pops, plain_stops, plain_clears, plain_clear_stops, plain_quiet, plain_imports, plain_imports_not}
+use Rattle.examples.proofs.Plain.{plain, same_configuration, same_db, same_tests, plain_sound, meant_sound, plain_gives_up, plain_opens_by, plain_opens_not, plain_drops, plain_drops_not, plain_pops, plain_stops, plain_clears, plain_clear_stops, plain_quiet, plain_loud, plain_imports, plain_imports_not}
 
 module _ {P M : Type 0} (store : P → Store) (number : P → ℕ) (meant : M → Merge) where
   abbrev pub plain_machine : MachineValue P M → MachineValue P Merge
@@ -56,9 +57,10 @@ module _ {P M : Type 0} (store : P → Store) (number : P → ℕ) (meant : M �
     plain_follows (step.Whole whole) o h = h
 
     plain_passes : (s : Step) (o : Outcome) → advances_on_path_as store a s o b → advances_on_path_as store (plain_machine a) s o (plain_machine b)
-    plain_passes (step.Step slot) outcome.Moved h = λ path ahead.
-        let k = h path (record { flight = ahead.flight; here = ahead.here; clean = ahead.clean }) in
+    plain_passes (step.Step slot) outcome.Moved h = λ path ahead walks.
+        let k = h path (record { flight = ahead.flight; here = ahead.here; clean = ahead.clean }) walks in
         (k.0, k.1, record { flight = k.2.flight; here = k.2.here; clean = k.2.clean })
+    plain_passes (step.Step slot) (outcome.Yielded key value) h = h
     plain_passes (step.Step slot) (outcome.Begun i) h = h
     plain_passes (step.Step slot) (outcome.Decided reply) h = h
     plain_passes (step.Step slot) (outcome.Refused e) h = h
@@ -71,6 +73,7 @@ module _ {P M : Type 0} (store : P → Store) (number : P → ℕ) (meant : M �
     plain_starts : (s : Step) (o : Outcome) → starts_as s o b → starts_as s o (plain_machine b)
     plain_starts (step.Begin tree call) (outcome.Begun slot) h = h
     plain_starts (step.Begin tree call) outcome.Moved h = h
+    plain_starts (step.Begin tree call) (outcome.Yielded key value) h = h
     plain_starts (step.Begin tree call) (outcome.Decided reply) h = h
     plain_starts (step.Begin tree call) (outcome.Refused e) h = h
     plain_starts (step.Begin tree call) outcome.Abandoned h = h
@@ -82,6 +85,7 @@ module _ {P M : Type 0} (store : P → Store) (number : P → ℕ) (meant : M �
     plain_leaves : (s : Step) (o : Outcome) → leaks_no_page_at store a s o b → leaks_no_page_at store (plain_machine a) s o (plain_machine b)
     plain_leaves (step.Step slot) (outcome.Refused e) h = h
     plain_leaves (step.Step slot) outcome.Moved h = h
+    plain_leaves (step.Step slot) (outcome.Yielded key value) h = h
     plain_leaves (step.Step slot) (outcome.Begun i) h = h
     plain_leaves (step.Step slot) (outcome.Decided reply) h = h
     plain_leaves (step.Step slot) outcome.Abandoned h = h
@@ -105,6 +109,7 @@ module _ {P M : Type 0} (store : P → Store) (number : P → ℕ) (meant : M �
     plain_turns (step.Whole (Unsubscribe subscriber)) (outcome.Refused e) h = h
     plain_turns (step.Whole whole) (outcome.Begun slot) h = h
     plain_turns (step.Whole whole) outcome.Moved h = h
+    plain_turns (step.Whole whole) (outcome.Yielded key value) h = h
     plain_turns (step.Whole whole) (outcome.Decided reply) h = h
     plain_turns (step.Whole whole) outcome.Abandoned h = h
     plain_turns (step.Whole whole) outcome.NoSuchSlot h = h
@@ -130,6 +135,7 @@ module _ {P M : Type 0} (store : P → Store) (number : P → ℕ) (meant : M �
     plain_tested (step.Whole (Unsubscribe subscriber)) (outcome.Refused e) h = plain_untouched (ToCall (Unsubscribe subscriber)) h
     plain_tested (step.Whole whole) (outcome.Begun slot) h = h
     plain_tested (step.Whole whole) outcome.Moved h = h
+    plain_tested (step.Whole whole) (outcome.Yielded key value) h = h
     plain_tested (step.Whole whole) (outcome.Decided reply) h = h
     plain_tested (step.Whole whole) outcome.Abandoned h = h
     plain_tested (step.Whole whole) outcome.NoSuchSlot h = h
@@ -142,14 +148,25 @@ module _ {P M : Type 0} (store : P → Store) (number : P → ℕ) (meant : M �
     plain_pops_as tree is_end of (outcome.Refused e) h = plain_stops store meant a.db tree is_end of e b.db h
     plain_pops_as tree is_end of (outcome.Begun slot) h = h
     plain_pops_as tree is_end of outcome.Moved h = h
+    plain_pops_as tree is_end of (outcome.Yielded key value) h = h
     plain_pops_as tree is_end of outcome.Abandoned h = h
     plain_pops_as tree is_end of outcome.NoSuchSlot h = h
+
+    plain_groups : (batches : List (Tree × Writes)) (o : Outcome) → groups_as store meant a.db batches o b.db → groups_as store (λ m. m) (plain store meant a.db) batches o (plain store meant b.db)
+    plain_groups batches (outcome.Decided reply) h = (plain_quiet store meant batches a.db b.db h.0, plain_loud store meant batches a.db b.db h.1)
+    plain_groups batches (outcome.Refused e) h = plain_quiet store meant batches a.db b.db h
+    plain_groups batches (outcome.Begun slot) h = h
+    plain_groups batches outcome.Moved h = h
+    plain_groups batches (outcome.Yielded key value) h = h
+    plain_groups batches outcome.Abandoned h = h
+    plain_groups batches outcome.NoSuchSlot h = h
 
     plain_clears_as : (tree : Tree) (o : Outcome) → clears_as store meant a.db tree o b.db → clears_as store (λ m. m) (plain store meant a.db) tree o (plain store meant b.db)
     plain_clears_as tree (outcome.Decided reply) h = plain_clears store meant tree h
     plain_clears_as tree (outcome.Refused e) h = plain_clear_stops store meant tree a.db e b.db h
     plain_clears_as tree (outcome.Begun slot) h = h
     plain_clears_as tree outcome.Moved h = h
+    plain_clears_as tree (outcome.Yielded key value) h = h
     plain_clears_as tree outcome.Abandoned h = h
     plain_clears_as tree outcome.NoSuchSlot h = h
 
@@ -158,6 +175,7 @@ module _ {P M : Type 0} (store : P → Store) (number : P → ℕ) (meant : M �
     plain_opens_as name (outcome.Refused e) h = plain_opens_not store meant name a.db e b.db h
     plain_opens_as name (outcome.Begun slot) h = h
     plain_opens_as name outcome.Moved h = h
+    plain_opens_as name (outcome.Yielded key value) h = h
     plain_opens_as name outcome.Abandoned h = h
     plain_opens_as name outcome.NoSuchSlot h = h
 
@@ -166,6 +184,7 @@ module _ {P M : Type 0} (store : P → Store) (number : P → ℕ) (meant : M �
     plain_drops_as name (outcome.Refused e) h = plain_drops_not store meant a.db name e b.db h
     plain_drops_as name (outcome.Begun slot) h = h
     plain_drops_as name outcome.Moved h = h
+    plain_drops_as name (outcome.Yielded key value) h = h
     plain_drops_as name outcome.Abandoned h = h
     plain_drops_as name outcome.NoSuchSlot h = h
 
@@ -174,6 +193,7 @@ module _ {P M : Type 0} (store : P → Store) (number : P → ℕ) (meant : M �
     plain_imports_as all (outcome.Refused e) h = plain_imports_not store meant all a.db e b.db h
     plain_imports_as all (outcome.Begun slot) h = h
     plain_imports_as all outcome.Moved h = h
+    plain_imports_as all (outcome.Yielded key value) h = h
     plain_imports_as all outcome.Abandoned h = h
     plain_imports_as all outcome.NoSuchSlot h = h
 
@@ -182,7 +202,7 @@ module _ {P M : Type 0} (store : P → Store) (number : P → ℕ) (meant : M �
     plain_way (step.Whole (PopMin tree)) o h = plain_pops_as tree IsLeast once o h
     plain_way (step.Whole (PopMax tree)) o h = plain_pops_as tree IsGreatest for_each o h
     plain_way (step.Whole (Clear tree)) o h = plain_clears_as tree o h
-    plain_way (step.Whole (Group batches)) o h = plain_quiet store meant batches.items a.db b.db h
+    plain_way (step.Whole (Group batches)) o h = plain_groups batches.items o h
     plain_way (step.Whole (OpenTree name)) o h = plain_opens_as name o h
     plain_way (step.Whole (DropTree name)) o h = plain_drops_as name o h
     plain_way (step.Whole GenerateId) o h = h

@@ -35,7 +35,7 @@ use Rattle.sled.specs.Direct.{Conducts, PointDecided, PointRefused}
 use Rattle.sled.specs.Drops.{DropsNamed, DropsTree, MightDrop, refuses_drop_as, RefusesDrop}
 use Rattle.sled.specs.Flights.{call_in_flight_of, BringsEvent, DbStepContract, DbSteps, Ends, GoesOn, DbRunsToEnd, outcome_of, slot_after, maps_added}
 use Rattle.sled.specs.Opens.{Opens, OpensBySteps, OpenRefusedBySteps}
-use Rattle.sled.specs.Groups.{IsQuietGroup}
+use Rattle.sled.specs.Groups.{IsQuietGroup, is_loud_group}
 use Rattle.sled.specs.Imports.{PartBySteps, PartRefusedBySteps, ImportsBySteps, ImportsNone, ImportsMore, ImportStops, ImportRefused}
 use Rattle.sled.specs.Reads.{RefusesReading, refuses_reading_as}
 use Rattle.sled.specs.Pops.{TakesOut, RefusesToTake, IsAtEnd, PopsBySteps, PopRefusedBySteps, IsLongWay, GivesUpPop, ClearsBySteps, ClearsNone, ClearsMore, ClearRefusedBySteps}
@@ -308,6 +308,9 @@ module _ {P M : Type 0} (store : P → Store) (meant : M → Merge) where
 
   pub plain_quiet : (batches : List (Tree × Writes)) (old new : DbValue P M) → IsQuietGroup store meant old batches new → IsQuietGroup store (λ m. m) (plain old) batches (plain new)
   plain_quiet batches old new h = record { is = λ none. h.is (subst (λ (s : State). events_of_writes (writes_of batches) s ≡ []) (same_db old) none) }
+
+  pub plain_loud : (batches : List (Tree × Writes)) (old new : DbValue P M) → is_loud_group store meant old batches new → is_loud_group store (λ m. m) (plain old) batches (plain new)
+  plain_loud batches old new h some = h (λ none. some (subst (λ (s : State). events_of_writes (writes_of batches) s ≡ []) (sym (same_db old)) none))
 
   -- ---- pops and clears
 

@@ -84,6 +84,7 @@ one_given low high (told.Tree t) r h = omega arith
 one_given low high (told.Flag b) r h = omega arith
 one_given low high (told.Subscriber s) r h = omega arith
 one_given low high (told.Next n) r h = omega arith
+one_given low high told.End r h = omega arith
 
 whole_rises : (a b : Configuration) (w : Whole) (o : Outcome) (maps : List Maps) → transition_as a (step.Whole w) o b maps → RiseBetween a.state.greatest_id (id_of (step.Whole w) o) b.state.greatest_id
 whole_rises a b Flush (outcome.Decided reply) maps t = stays a.state b.state t.2
@@ -118,6 +119,7 @@ whole_rises a b (Next subscriber) (outcome.Refused e) maps t = absurd t
 whole_rises a b (Unsubscribe subscriber) (outcome.Refused e) maps t = absurd t
 whole_rises a b w (outcome.Begun slot) maps t = absurd t
 whole_rises a b w outcome.Moved maps t = absurd t
+whole_rises a b w (outcome.Yielded key value) maps t = absurd t
 whole_rises a b w outcome.Abandoned maps t = absurd t
 whole_rises a b w outcome.NoSuchSlot maps t = absurd t
 
@@ -126,11 +128,13 @@ step_rises a b (step.Whole w) o maps t = whole_rises a b w o maps t
 step_rises a b (step.Begin tree call) (outcome.Begun slot) maps t = at_most _ _ (ap (λ (s : State). s.greatest_id) t.0.is)
 step_rises a b (step.Begin tree call) (outcome.Refused e) maps t = stays a.state b.state t.1
 step_rises a b (step.Begin tree call) outcome.Moved maps t = absurd t
+step_rises a b (step.Begin tree call) (outcome.Yielded key value) maps t = absurd t
 step_rises a b (step.Begin tree call) (outcome.Decided reply) maps t = absurd t
 step_rises a b (step.Begin tree call) outcome.Abandoned maps t = absurd t
 step_rises a b (step.Begin tree call) outcome.NoSuchSlot maps t = absurd t
 step_rises a b (step.Step slot) outcome.NoSuchSlot maps t = stays a.state b.state t.0.is
 step_rises a b (step.Step slot) outcome.Moved maps t = at_most _ _ (ap (λ (s : State). s.greatest_id) t.0.is)
+step_rises a b (step.Step slot) (outcome.Yielded key value) maps t = at_most _ _ (ap (λ (s : State). s.greatest_id) t.0.is)
 step_rises a b (step.Step slot) (outcome.Decided reply) maps t = at_most _ _ (ap (λ (s : State). s.greatest_id) t.0.is)
 step_rises a b (step.Step slot) (outcome.Refused e) maps t = at_most _ _ (ap (λ (s : State). s.greatest_id) t.0.is)
 step_rises a b (step.Step slot) (outcome.Begun i) maps t = absurd t
@@ -139,6 +143,7 @@ step_rises a b (step.Abandon slot) outcome.NoSuchSlot maps t = stays a.state b.s
 step_rises a b (step.Abandon slot) outcome.Abandoned maps t = at_most _ _ (ap (λ (s : State). s.greatest_id) t.0.is)
 step_rises a b (step.Abandon slot) (outcome.Begun i) maps t = absurd t
 step_rises a b (step.Abandon slot) outcome.Moved maps t = absurd t
+step_rises a b (step.Abandon slot) (outcome.Yielded key value) maps t = absurd t
 step_rises a b (step.Abandon slot) (outcome.Decided reply) maps t = absurd t
 step_rises a b (step.Abandon slot) (outcome.Refused e) maps t = absurd t
 

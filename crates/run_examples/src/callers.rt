@@ -1,5 +1,5 @@
 //! Callers in `examples` where there is memory: no contract says that they do not give up.
-use crate::fresh::{Fresh, opened};
+use crate::fresh::opened;
 use examples::{Adds, insert_then_get_in_new, survive};
 use sled::{DEFAULT_TREE, empty_pages};
 use sled_machine::Machine;
@@ -9,20 +9,26 @@ use sled_pages::MemPages;
 use sled_store::Pages;
 use std::alloc::Global;
 
-// Whether a get was decided and found this value.
-fn finds(got: &Option<Outcome>, value: &[u8]) -> bool {
-    match got {
-        Some(Outcome::Decided(Reply::Value(Some(found)))) => found.as_ref() == value,
+// Whether a get was decided and found `1`.
+fn finds(got: Option<Outcome>) -> bool {
+    let is_found = match &got {
+        Some(Outcome::Decided(Reply::Value(Some(found)))) => found.as_ref() == b"1".as_slice(),
         _ => false,
-    }
+    };
+    drop(got);
+    is_found
 }
 
 // What is read at a key of a new database after `1` was inserted there.
 fn got_at(alloc: Global, key: &IVec) -> Told<Option<Outcome>> {
-    let value = IVec::from_slice(alloc, b"1")?;
-    let got = insert_then_get_in_new(alloc, b"db", key, &value);
-    drop(value);
-    got
+    match IVec::from_slice(alloc, b"1") {
+        Ok(value) => {
+            let got = insert_then_get_in_new(alloc, b"db", key, &value);
+            drop(value);
+            got
+        }
+        Err(e) => Err(e),
+    }
 }
 
 /// Whether what was inserted in a new database is read.
@@ -30,10 +36,10 @@ pub fn is_read(alloc: Global) -> Told<bool> {
     let key = IVec::from_slice(alloc, b"a")?;
     let got = got_at(alloc, &key);
     drop(key);
-    let got = got?;
-    let is_found = finds(&got, b"1");
-    drop(got);
-    Ok(is_found)
+    match got {
+        Ok(got) => Ok(finds(got)),
+        Err(e) => Err(e),
+    }
 }
 
 // What a get that was made of a borrowed key comes to, after an insert there.
@@ -45,23 +51,22 @@ fn got_after_insert(machine: &mut Machine<MemPages, Adds>, tree: &Tree) -> Told<
     Ok(machine.complete(tree, get))
 }
 
+fn got(machine: &mut Machine<MemPages, Adds>) -> Told<bool> {
+    let tree = machine.db().default_tree()?;
+    let got = got_after_insert(machine, &tree);
+    drop(tree);
+    match got {
+        Ok(got) => Ok(finds(Some(got))),
+        Err(e) => Err(e),
+    }
+}
+
 /// Whether a get that is made of a borrowed key reads what was inserted there.
 pub fn is_got(alloc: Global) -> Told<bool> {
-    let db: Fresh = opened(alloc, b"db")?;
-    let mut machine = Machine::new(db);
-    let got = match machine.db().default_tree() {
-        Ok(tree) => {
-            let got = got_after_insert(&mut machine, &tree);
-            drop(tree);
-            got
-        }
-        Err(e) => Err(e),
-    };
+    let mut machine = Machine::new(opened(alloc, b"db")?);
+    let is_got = got(&mut machine);
     drop(machine.into_db().into_pages());
-    let got = Some(got?);
-    let is_found = finds(&got, b"1");
-    drop(got);
-    Ok(is_found)
+    is_got
 }
 
 /// Whether a database that is opened has a default tree after a crash.

@@ -1,21 +1,12 @@
 //! A copy of all trees of a database in another, where there is memory.
 use crate::fresh::{Fresh, opened};
+use crate::trial::Trial;
 use examples::copy_all;
 use sled::Collection;
 use sled_nodes::Result;
-use std::alloc::Global;
-
-// Opens a second tree and inserts a pair there.
-fn fill(db: &mut Fresh) -> Result<()> {
-    let tree = db.open_tree(b"t")?;
-    let stood = db.insert(&tree, b"x", b"1");
-    drop(tree);
-    drop(stood?);
-    Ok(())
-}
 
 // Whether a database has these trees with these pairs.
-fn has_all(db: &Fresh, wanted: &[Collection]) -> Result<bool> {
+fn has_trees(db: &Fresh, wanted: &[Collection]) -> Result<bool> {
     let collections = db.export()?;
     let has = collections.as_slice() == wanted;
     drop(collections);
@@ -23,27 +14,23 @@ fn has_all(db: &Fresh, wanted: &[Collection]) -> Result<bool> {
 }
 
 // Whether the second database has what the first has.
-fn has_copy(first: &mut Fresh, second: &mut Fresh) -> Result<bool> {
-    fill(first)?;
-    copy_all(first, second)?;
+fn is_copy(first: &Fresh, second: &Fresh) -> Result<bool> {
     let collections = first.export()?;
-    let has = has_all(second, collections.as_slice());
+    let is_copy = has_trees(second, collections.as_slice());
     drop(collections);
-    has
+    is_copy
 }
 
 /// Whether all trees of a database are copied into a new one.
-pub fn copies_all(alloc: Global) -> Result<bool> {
-    let mut first = opened(alloc, b"first")?;
-    let mut second = match opened(alloc, b"second") {
-        Ok(second) => second,
-        Err(e) => {
-            drop(first.into_pages());
-            return Err(e);
+pub fn copies_all(trial: &mut Trial) {
+    trial.insert("x", "1");
+    match opened(trial.db.allocator(), b"second") {
+        Ok(second) => {
+            let mut second = second;
+            trial.seen.made(copy_all(&trial.db, &mut second));
+            trial.seen.told(is_copy(&trial.db, &second));
+            drop(second.into_pages());
         }
-    };
-    let is_copied = has_copy(&mut first, &mut second);
-    drop(first.into_pages());
-    drop(second.into_pages());
-    is_copied
+        Err(e) => trial.seen.refuse(e),
+    }
 }

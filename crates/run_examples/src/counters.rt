@@ -1,24 +1,32 @@
-//! The counters in `examples`: numbers that are added to by merges, and tickets that rise by a closure.
-use crate::fresh::{Fresh, opened};
+//! The counters in `examples`, in the first tree: numbers that are added to by merges, and tickets that rise by a closure.
+use crate::fresh::Fresh;
+use crate::trial::Trial;
 use examples::{Adds, add_to_counter, count, next_ticket};
 use sled_model::Tree;
-use sled_nodes::Result;
-use std::alloc::Global;
 
-// Whether two numbers are added to one counter, and another stands at 0.
-fn adds(db: &mut Fresh, tree: &Tree) -> Result<bool> {
-    db.set_merge_operator(tree, Adds)?;
-    add_to_counter(db, tree, b"sold", 300)?;
-    add_to_counter(db, tree, b"sold", 7)?;
-    Ok(count(db, tree, b"sold")? == 307 && count(db, tree, b"left")? == 0)
+/// Lets the merges of the first tree add.
+pub fn set_operator(trial: &mut Trial) {
+    trial
+        .seen
+        .made(trial.db.set_merge_operator(&trial.first, Adds));
 }
 
-// Whether tickets rise from 1 on, also from what was added.
-fn rises(db: &mut Fresh, tree: &Tree) -> Result<bool> {
-    let is_first = next_ticket(db, tree, b"ticket")? == 1;
-    let is_second = next_ticket(db, tree, b"ticket")? == 2;
-    let is_above = next_ticket(db, tree, b"sold")? == 308;
-    Ok(is_first && is_second && is_above)
+/// Adds a number to a counter.
+pub fn add(trial: &mut Trial, name: &str, n: u64) {
+    let added = add_to_counter(&mut trial.db, &trial.first, name.as_bytes(), n);
+    trial.seen.made(added);
+}
+
+/// Sees whether a counter stands at a number.
+pub fn stands(trial: &mut Trial, name: &str, n: u64) {
+    let count = count(&trial.db, &trial.first, name.as_bytes());
+    trial.seen.number(count, n);
+}
+
+// Takes a ticket. Whether it has this number.
+fn take_ticket(trial: &mut Trial, name: &str, n: u64) {
+    let ticket = next_ticket(&mut trial.db, &trial.first, name.as_bytes());
+    trial.seen.number(ticket, n);
 }
 
 // How often a closure is asked by a call on this tree.
@@ -33,33 +41,23 @@ fn asks(db: &mut Fresh, tree: &Tree) -> u64 {
 }
 
 // Whether a closure is asked once, and not at all for a tree that was dropped.
-fn asks_once(db: &mut Fresh) -> Result<bool> {
-    let tree = db.open_tree(b"short")?;
-    let before = asks(db, &tree);
-    let dropped = db.drop_tree(b"short");
-    let after = asks(db, &tree);
-    drop(tree);
-    Ok(dropped? && before == 1 && after == 0)
+fn asks_once(trial: &mut Trial) {
+    let before = asks(&mut trial.db, &trial.second);
+    trial.seen.told(trial.db.drop_tree(b"second"));
+    let after = asks(&mut trial.db, &trial.second);
+    trial.seen.that(before == 1 && after == 0);
 }
 
-fn counts_in(db: &mut Fresh) -> Result<bool> {
-    let tree = db.default_tree()?;
-    let is_added = adds(db, &tree);
-    let rises = match is_added {
-        Ok(true) => rises(db, &tree),
-        other => other,
-    };
-    drop(tree);
-    rises
-}
-
-/// Whether counters count, and tickets rise, in a new database, whose closures are asked once.
-pub fn counts(alloc: Global) -> Result<bool> {
-    let mut db = opened(alloc, b"shop")?;
-    let counted = match counts_in(&mut db) {
-        Ok(true) => asks_once(&mut db),
-        other => other,
-    };
-    drop(db.into_pages());
-    counted
+/// Whether two numbers are added to one counter, another stands at 0, and tickets rise from 1 on, also from what was added. Closures are
+/// asked once.
+pub fn counts(trial: &mut Trial) {
+    set_operator(trial);
+    add(trial, "sold", 300);
+    add(trial, "sold", 7);
+    stands(trial, "sold", 307);
+    stands(trial, "left", 0);
+    take_ticket(trial, "ticket", 1);
+    take_ticket(trial, "ticket", 2);
+    take_ticket(trial, "sold", 308);
+    asks_once(trial);
 }

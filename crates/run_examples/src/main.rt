@@ -4,110 +4,117 @@
 
 mod batches;
 mod callers;
+mod cases;
 mod copies;
 mod counters;
+mod crashes;
 mod endings;
 mod events;
 mod fresh;
 mod index;
-mod indexed;
 mod jobs;
+mod pairs;
+mod scans;
+mod seen;
 mod stock;
 mod stores;
 mod transfers;
+mod trial;
 mod typed;
+mod users;
 
-use batches::loads;
 use callers::{is_got, is_read, survives};
-use copies::copies_all;
-use counters::counts;
-use endings::{begins_anew, follows};
-use events::reads_events;
-use index::finds_entries;
-use indexed::{gives, keeps_in_step};
-use jobs::{keeps_jobs, takes};
-use sled_nodes::Result;
-use std::io;
+use cases::{Case, seen_of};
+use crashes::{Example, after_crashes, leaves_batches, throughout};
+use scans::gives_pairs;
+use seen::Seen;
+use std::alloc::Global;
 use std::process::ExitCode;
-use stock::{agrees, moves};
 use stores::small_store_works;
-use transfers::{keeps_sum, pays};
-use typed::reads_readings;
 
-fn answer(is: Result<bool>) -> &'static str {
-    match is {
-        Ok(true) => "yes",
-        Ok(false) => "no",
-        Err(e) => {
+// Where the lines are printed, and whether all were.
+#[derive(Drop)]
+struct Lines<'a> {
+    rt: &'a HostRuntime,
+    are_printed: bool,
+}
+
+impl Lines<'_> {
+    // Prints what was seen.
+    fn tell(&mut self, what: &str, seen: Seen) {
+        if let Err(e) = println!(self.rt; "{what}: {}", seen.word()) {
             drop(e);
-            "refused"
+            self.are_printed = false;
         }
     }
 }
 
-// Prints whether it is so.
-fn tell(rt: &HostRuntime, what: &str, is: Result<bool>) -> io::Result<()> {
-    println!(rt; "{what}: {}", answer(is))
+// The callers in `examples`, and the database over the small store.
+fn run(lines: &mut Lines, alloc: Global) {
+    lines.tell("what was inserted is read", Seen::of(is_read(alloc)));
+    let what = "a get of a borrowed key reads what was inserted";
+    lines.tell(what, Seen::of(is_got(alloc)));
+    let what = "a scan in flight gives each pair of its range";
+    lines.tell(what, Seen::of(gives_pairs(alloc)));
+    let what = "a new database survives a crash";
+    lines.tell(what, Seen::of(survives(alloc)));
+    let what = "the entries of an index under a number are found";
+    lines.tell(what, seen_of(alloc, Case::FindsEntries));
+    let what = "readings of a user's own type are read in their order";
+    lines.tell(what, seen_of(alloc, Case::ReadsReadings));
+    let what = "a database over the small store reads what it wrote and keeps what it flushed";
+    lines.tell(what, small_store_works(alloc));
+    let what = "counters count and tickets rise";
+    lines.tell(what, seen_of(alloc, Case::Counts));
+    let what = "all trees of a database are copied into a new one";
+    lines.tell(what, seen_of(alloc, Case::CopiesAll));
 }
 
-// The callers in `examples`, and the database over the small store.
-fn run(rt: &HostRuntime) -> io::Result<()> {
-    let alloc = rt.alloc();
-    tell(rt, "what was inserted is read", is_read(alloc))?;
-    tell(
-        rt,
-        "a get of a borrowed key reads what was inserted",
-        is_got(alloc),
-    )?;
-    tell(rt, "a new database survives a crash", survives(alloc))?;
-    let what = "the entries of an index under a number are found";
-    tell(rt, what, finds_entries(alloc))?;
-    let what = "readings of a user's own type are read in their order";
-    tell(rt, what, reads_readings(alloc))?;
-    let what = "a database over the small store reads what it wrote and keeps what it flushed";
-    tell(rt, what, small_store_works(alloc))?;
-    tell(rt, "counters count and tickets rise", counts(alloc))?;
-    let what = "all trees of a database are copied into a new one";
-    tell(rt, what, copies_all(alloc))?;
+// .. and those of them that came later.
+fn run_more(lines: &mut Lines, alloc: Global) {
     let what = "events of a stream are read from an id on";
-    tell(rt, what, reads_events(alloc))?;
-    tell(rt, "an index by endings follows its tree", follows(alloc))?;
+    lines.tell(what, seen_of(alloc, Case::ReadsEvents));
+    let what = "an index by endings follows its tree";
+    lines.tell(what, seen_of(alloc, Case::Follows));
     let what = "an index that missed events begins anew";
-    tell(rt, what, begins_anew(alloc))?;
-    tell(rt, "items lie where they were put last", moves(alloc))?;
+    lines.tell(what, seen_of(alloc, Case::BeginsAnew));
+    let what = "items lie where they were put last";
+    lines.tell(what, seen_of(alloc, Case::Moves));
     let what = "an index agrees with its table after each crash and each refusal";
-    tell(rt, what, agrees(alloc))?;
-    tell(rt, "a crash leaves whole batches of a load", loads(alloc))
+    lines.tell(what, throughout(alloc, Example::Stock));
+    let what = "a crash leaves whole batches of a load";
+    lines.tell(what, leaves_batches(alloc));
 }
 
 // .. and those of transactions.
-fn run_transactions(rt: &HostRuntime) -> io::Result<()> {
-    let alloc = rt.alloc();
+fn run_transactions(lines: &mut Lines, alloc: Global) {
     let what = "an amount goes from one counter to another, or nothing changes";
-    tell(rt, what, pays(alloc))?;
+    lines.tell(what, seen_of(alloc, Case::Pays));
     let what = "two counters come to the same after each crash and each refusal";
-    tell(rt, what, keeps_sum(alloc))?;
+    let seen = throughout(alloc, Example::Transfers);
+    lines.tell(what, seen.and(after_crashes(alloc, Example::OneTransfer)));
     let what = "a job is taken once, with its value";
-    tell(rt, what, takes(alloc))?;
+    lines.tell(what, seen_of(alloc, Case::Takes));
     let what = "no job is lost or in both trees after each crash and each refusal";
-    tell(rt, what, keeps_jobs(alloc))?;
+    lines.tell(what, throughout(alloc, Example::Jobs));
     let what = "users have the addresses that they were given last";
-    tell(rt, what, gives(alloc))?;
+    lines.tell(what, seen_of(alloc, Case::Gives));
     let what = "an index of addresses agrees with its table after each crash and each refusal";
-    tell(rt, what, keeps_in_step(alloc))
-}
-
-fn run_all(rt: &HostRuntime) -> io::Result<()> {
-    run(rt)?;
-    run_transactions(rt)
+    lines.tell(what, throughout(alloc, Example::Users));
 }
 
 fn main(rt: HostRuntime) -> ExitCode {
-    match run_all(&rt) {
-        Ok(()) => ExitCode::SUCCESS,
-        Err(e) => {
-            drop(e);
-            ExitCode::FAILURE
-        }
+    let mut lines = Lines {
+        rt: &rt,
+        are_printed: true,
+    };
+    let alloc = rt.alloc();
+    run(&mut lines, alloc);
+    run_more(&mut lines, alloc);
+    run_transactions(&mut lines, alloc);
+    if lines.are_printed {
+        ExitCode::SUCCESS
+    } else {
+        ExitCode::FAILURE
     }
 }

@@ -1,39 +1,33 @@
-//! The typed map in `examples`, with readings of two stations.
-use crate::fresh::{Fresh, opened};
+//! The typed map in `examples`, with readings of two stations in the first tree.
+use crate::trial::Trial;
 use examples::{Reading, TypedError, TypedResult, look_up, put, walk};
-use sled_model::Tree;
 use sled_nodes::{IVec, Result};
 use std::alloc::Global;
 use std::ops::Bound;
 
-// A station, an hour, and what was measured. Hour 300 of Ulm is measured twice.
-const READINGS: [(&str, u64, u64); 4] = [
-    ("Ulm", 300, 21),
-    ("Bern", 5, 17),
-    ("Ulm", 2, 19),
-    ("Ulm", 300, 20),
-];
-
+// What was measured at a station in an hour.
 fn reading(alloc: Global, station: &str, hour: u64) -> Result<Reading> {
-    Ok(Reading {
-        station: IVec::from_slice(alloc, station.as_bytes())?,
-        hour,
-    })
+    match IVec::from_slice(alloc, station.as_bytes()) {
+        Ok(station) => Ok(Reading { station, hour }),
+        Err(e) => Err(e),
+    }
 }
 
-fn put_all(alloc: Global, db: &mut Fresh, tree: &Tree) -> Result<()> {
-    for (station, hour, value) in &READINGS {
-        let key = reading(alloc, *station, *hour)?;
-        let done = put(db, tree, &key, value);
-        drop(key);
-        done?;
+fn put_value(trial: &mut Trial, station: &str, hour: u64, value: u64) {
+    match reading(trial.db.allocator(), station, hour) {
+        Ok(key) => {
+            let done = put(&mut trial.db, &trial.first, &key, &value);
+            drop(key);
+            trial.seen.made(done);
+        }
+        Err(e) => trial.seen.refuse(e),
     }
-    Ok(())
 }
 
 // Whether the two readings of Ulm are walked, in the order of their hours.
-fn walks_two(db: &Fresh, tree: &Tree, lo: &Reading, hi: &Reading) -> TypedResult<bool> {
-    let found: Vec<(Reading, u64)> = walk(db, tree, Bound::Included(lo), Bound::Excluded(hi))?;
+fn walks_two(trial: &Trial, lo: &Reading, hi: &Reading) -> TypedResult<bool> {
+    let (lo, hi) = (Bound::Included(lo), Bound::Excluded(hi));
+    let found: Vec<(Reading, u64)> = walk(&trial.db, &trial.first, lo, hi)?;
     let is_found = match found.as_slice() {
         [first, second] => {
             (first.0.hour, first.1) == (2, 19) && (second.0.hour, second.1) == (300, 20)
@@ -44,32 +38,29 @@ fn walks_two(db: &Fresh, tree: &Tree, lo: &Reading, hi: &Reading) -> TypedResult
     Ok(is_found)
 }
 
-fn walks(alloc: Global, db: &Fresh, tree: &Tree) -> TypedResult<bool> {
-    let lo = reading(alloc, "Ulm", 0)?;
-    let hi = match reading(alloc, "Ulm", 301) {
-        Ok(hi) => hi,
-        Err(e) => {
-            drop(lo);
-            return Err(TypedError::Refused(e));
-        }
-    };
-    let walks = walks_two(db, tree, &lo, &hi);
-    drop(lo);
+fn walks_from(trial: &Trial, lo: &Reading) -> Result<bool> {
+    let hi = reading(trial.db.allocator(), "Ulm", 301)?;
+    let walks = walks_two(trial, lo, &hi);
     drop(hi);
+    told(walks)
+}
+
+fn walks(trial: &Trial) -> Result<bool> {
+    let lo = reading(trial.db.allocator(), "Ulm", 0)?;
+    let walks = walks_from(trial, &lo);
+    drop(lo);
     walks
 }
 
 // Whether the reading of Bern is found.
-fn looks_up(alloc: Global, db: &Fresh, tree: &Tree) -> TypedResult<bool> {
-    let key = reading(alloc, "Bern", 5)?;
-    let found: TypedResult<Option<u64>> = look_up(db, tree, &key);
+fn looks_up(trial: &Trial) -> Result<bool> {
+    let key = reading(trial.db.allocator(), "Bern", 5)?;
+    let found: TypedResult<Option<u64>> = look_up(&trial.db, &trial.first, &key);
     drop(key);
-    Ok(found? == Some(17))
-}
-
-fn put_and_read(alloc: Global, db: &mut Fresh, tree: &Tree) -> TypedResult<bool> {
-    put_all(alloc, db, tree)?;
-    Ok(looks_up(alloc, db, tree)? && walks(alloc, db, tree)?)
+    match found {
+        Ok(found) => Ok(found == Some(17)),
+        Err(e) => told(Err(e)),
+    }
 }
 
 /// What a typed read told; it is not so where the tree has something foreign.
@@ -81,17 +72,14 @@ pub fn told(is: TypedResult<bool>) -> Result<bool> {
     }
 }
 
-fn fill_and_read(alloc: Global, db: &mut Fresh) -> Result<bool> {
-    let tree = db.default_tree()?;
-    let is_read = put_and_read(alloc, db, &tree);
-    drop(tree);
-    told(is_read)
-}
-
-/// Whether readings that were put into a new database are read again, in their order.
-pub fn reads_readings(alloc: Global) -> Result<bool> {
-    let mut db = opened(alloc, b"weather")?;
-    let is_read = fill_and_read(alloc, &mut db);
-    drop(db.into_pages());
-    is_read
+/// Whether readings of a station and an hour are read again, in their order. Hour 300 of Ulm is measured twice.
+pub fn reads_readings(trial: &mut Trial) {
+    put_value(trial, "Ulm", 300, 21);
+    put_value(trial, "Bern", 5, 17);
+    put_value(trial, "Ulm", 2, 19);
+    put_value(trial, "Ulm", 300, 20);
+    let is_found = looks_up(trial);
+    trial.seen.told(is_found);
+    let walks = walks(trial);
+    trial.seen.told(walks);
 }
