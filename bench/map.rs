@@ -124,7 +124,7 @@ impl Bench {
     }
 
     fn run(&mut self, workload: &str) -> Option<(u64, u64)> {
-        if workload == "scan" {
+        if workload == "scan" || workload == "steps" {
             return Some(self.taken(b"", usize::MAX));
         }
         if workload == "batches" {

@@ -27,6 +27,7 @@ import cases_prefixes
 import cases_rare
 import cases_reads
 import cases_refusals
+import cases_scans
 import cases_shapes
 import cases_sweeps
 import cases_trees

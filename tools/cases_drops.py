@@ -7,7 +7,8 @@ from oracle import GREATEST, Shell
 from script import case, crowd_case, expect, pair
 
 # Lines that make a call on the current tree, and a direct read of it.
-CALLS = ('insert x 2', 'get x', 'remove x', 'cas x 1 2', 'begin insert x 2', 'begin get x', 'begin remove x', 'begin cas x - 1', 'operator keep',
+CALLS = ('insert x 2', 'get x', 'remove x', 'cas x 1 2', 'begin insert x 2', 'begin get x', 'begin remove x', 'begin cas x - 1', 'begin scan .. ..',
+         'begin scan-back [b [a', 'operator keep',
          'merge x 1', 'begin merge x 1', 'has x', 'read x', 'lt x', 'gt x', 'first', 'last', 'len', 'empty', 'range .. ..', 'range-back [a (b',
          'range-ends .. ..', 'prefix x', 'prefix-back %', 'keys .. ..', 'keys-back .. ..', 'values .. ..', 'values-back .. ..', 'pop-min',
          'pop-max', 'clear', 'batch', 'batch x 2', 'group - x 2', 'owned batch', 'owned batch x 2', 'owned insert x 2', 'owned set x 2', 'owned remove x', 'owned del x', 'owned cas x 1 2', 'owned merge x 1',

@@ -588,6 +588,7 @@ def calls_in_flight_end_at_a_closed_database(s):
 
 # Lines that each ask a database for something.
 ASKS = ('insert a 2', 'get a', 'remove a', 'cas a 1 2', 'merge a 1', 'begin insert a 2', 'begin get a', 'begin remove a', 'begin cas a - 1', 'begin merge a 1',
+        'begin scan .. ..', 'begin scan-back [b [a',
         'operator keep', 'update a count', 'fetch a delete', 'has a', 'read a', 'lt b', 'gt %', 'first', 'last', 'len', 'empty', 'keys-back .. ..',
         'values .. ..', 'pop-min', 'pop-max', 'clear', 'batch', 'batch a 2', 'group -', 'group __sled__default a 2', 'import t', 'import __sled__default b 1',
         'import-type map t', 'tree t', 'tree __sled__default', 'drop t', 'drop __sled__default', 'names', 'id', 'watch %', 'flush', 'dump', 'pages', 'draw',

@@ -105,7 +105,7 @@ def meets_merge(s, k):
             return True
         if view.node.leaf:
             return False
-        pid, first = view.node.pointer(key)
+        pid, first = view.node.pointer((True, key))
         parent, view = view, store.read(pid)
 
 

@@ -5,9 +5,17 @@ from script import case, expect, key
 
 
 def many(s):
-    """Keys that split and merge pages, a batch, pops, and a tree that is made, filled, cleared and dropped. Every value is its key."""
+    """Keys that split and merge pages, scans of them, a batch, pops, and a tree that is made, filled, cleared and dropped. Every value is its
+    key."""
     for number in range(40):
         s.line(f'owned insert {key(number)} {key(number)}', 'old -')
+    s.begin(1, f'scan [{key(3)} ({key(20)}')
+    for number in range(3, 20):
+        s.line('finish 1', f'at {key(number)} {key(number)}')
+    s.line('finish 1', 'end')
+    s.begin(2, 'scan-back .. ..')
+    for number in range(39, 20, -1):
+        s.line('finish 2', f'at {key(number)} {key(number)}')
     for number in range(39, 9, -1):
         s.line(f'owned remove {key(number)}', f'old {key(number)}')
     s.line('owned batch' + ''.join(f' {key(number)} {key(number)}' for number in range(100, 120)), 'done')
@@ -22,7 +30,7 @@ def many(s):
 
 @case
 def many_writes(s):
-    """Keys that split and merge pages, a batch, pops, and a tree that is made, filled, cleared and dropped."""
+    """Keys that split and merge pages, scans of them, a batch, pops, and a tree that is made, filled, cleared and dropped."""
     many(s)
 
 

@@ -107,8 +107,8 @@ class Node:
     leaf: bool = True
     entries: tuple = ()             # of a leaf keys and values, of an index keys and page numbers; ascending
 
-    def ends_before(self, key):
-        return self.hi != b'' and self.hi <= key
+    def ends_within(self, target):
+        return self.hi != b'' and is_up_to(target, self.hi)
 
     def should_split(self):
         return len(self.entries) > 16 and not self.merging and self.child is None
@@ -128,9 +128,9 @@ class Node:
         above = tuple(e for e in self.entries if e[0] > key)
         return replace(self, entries=below + (() if value is None else ((key, value),)) + above)
 
-    def pointer(self, key):
-        """The last page at or below the key, and whether it is the first of all."""
-        at = max(i for i, e in enumerate(self.entries) if e[0] <= key)
+    def pointer(self, target):
+        """The last page that begins within an upper bound, and whether it is the first of all."""
+        at = max(i for i, e in enumerate(self.entries) if is_up_to(target, e[0]))
         return self.entries[at][1], at == 0
 
     def before(self, pid):
@@ -398,16 +398,47 @@ def decide(call, old):
 
 
 def fly(store, tree, call):
-    """One call in flight."""
+    """One call in flight. A scan yields the pairs that it gives."""
+    if call[0] in SCANS:
+        return (yield from scan(store, tree, call[0] == 'scan-back', *call[1:]))
     while True:
-        answer = yield from walk(store, tree, call)
+        view = yield from walk(store, tree, (True, call[1]))
+        answer = view and (yield from act(store, tree, call, view))
         if answer is not None:
             return answer
 
 
-def walk(store, tree, call):
-    """From the root to the leaf of the key; no answer where the call starts over."""
-    key = call[1]
+def is_reversed(lo, hi):
+    """Whether bounds give nothing whatever the keys: where they meet, one of both is without its key, or they pass each other."""
+    if hi is None or lo is None:
+        return lo is None and hi == (False, b'')
+    return lo[1] > hi[1] or lo[1] == hi[1] and not (lo[0] and hi[0])
+
+
+def scan(store, tree, back, lo, hi):
+    """A scan reads a leaf and gives the pairs of it that are within the bounds, each in a step of its own. Then it goes from the root to
+    where that leaf ended, or from the back to below where it began. Bounds that give nothing end it before it reads the root."""
+    target = hi if back else (True, lo[1] if lo else b'')
+    while not is_reversed(lo, hi):
+        view = yield from walk(store, tree, target)
+        if view is None:
+            continue
+        yield
+        pairs = [e for e in view.node.entries if is_from(lo, e[0]) and is_up_to(hi, e[0])]
+        yield from pairs[::-1] if back else pairs
+        edge = view.node.lo if back else view.node.hi
+        if edge == b'':
+            break
+        if back:
+            target = hi = False, edge
+        else:
+            target = lo = True, edge
+        store.notes['a scan goes on at another leaf'] += not is_reversed(lo, hi)
+    return 'end'
+
+
+def walk(store, tree, target):
+    """From the root to the leaf of the keys just within an upper bound; none where the call starts over."""
     pid, parent, first, unsplit = store.roots[tree.name], None, True, 0
     while True:
         view = store.read(pid)
@@ -416,18 +447,18 @@ def walk(store, tree, call):
             yield
             return
         node = view.node
-        assert node.lo <= key, 'no walk comes to a page above its key'
+        assert is_up_to(target, node.lo), 'no walk comes to a page above its key'
         if node.child is not None:
             yield
             yield from merge(store, view, node.child)
             return
         if node.should_split():
-            store.notes['walk passes a long page on the right of which its key lies'] += node.ends_before(key)
+            store.notes['walk passes a long page on the right of which its key lies'] += node.ends_within(target)
             store.notes['long page by next'] += unsplit > 0
             yield
             yield from split(store, view, parent, tree)
             return
-        if node.ends_before(key):
+        if node.ends_within(target):
             store.notes['next a second time, the unsplit parent kept'] += unsplit == 1
             yield
             if parent is None:
@@ -448,10 +479,15 @@ def walk(store, tree, call):
                 yield from merge(store, parent, pid)
             return
         if node.leaf:
-            break
+            return view
         yield
         parent = view
-        pid, first = node.pointer(key)
+        pid, first = node.pointer(target)
+
+
+def act(store, tree, call, view):
+    """What a call does at the leaf of its key; no answer where it starts over."""
+    node, key = view.node, call[1]
     changes, value, answer = decide(call, node.get(key))
     if not changes:
         return answer
@@ -641,7 +677,7 @@ class Range:
 
 # The shell.
 
-FORMS = """insert K V; get K; remove K; cas K OLD NEW; merge K V; begin merge K V; operator OPERATOR; begin insert K V; begin get K; begin remove K; begin cas K OLD NEW
+FORMS = """insert K V; get K; remove K; cas K OLD NEW; merge K V; begin merge K V; operator OPERATOR; begin insert K V; begin get K; begin remove K; begin cas K OLD NEW; begin scan LO HI; begin scan-back LO HI
 step N; finish N; abandon N; turns N; flush; crash N; dump; new; new refuse N ..; reopen; reopen refuse N ..
 reopen unreadable PID ..; reopen mark N; recover; recover refuse N ..; recovered; verify; root NAME PID; image; image mark N; image group; each-refusal FILE; each-crash FILE; pages; draw; draw dot; handle DATABASE NAME N; why; help; quit; exit
 has K; read K; lt K; gt K; first; last; len; empty; range LO HI; range-back LO HI; range-ends LO HI; prefix P; prefix-back P
@@ -653,7 +689,7 @@ names; tree NAME; old-tree NAME; drop NAME; id; import NAME K V ..; import-type 
 update K HOW; fetch K HOW; owned update K HOW; owned fetch K HOW
 watch P; next N; unwatch N; owned watch P; owned next N; owned unwatch N"""
 # What the program `crowd` knows beside the lines of `sledrun` and reads that take no slot: many calls at once.
-CROWD = """crowd SEED CALLS; images SEED COUNT; run STEP, ..; reads; load N MOST ALL; find N PAGES; overtake N COUNT; pages; turns N; new; drop NAME; why
+CROWD = """crowd SEED CALLS; images SEED COUNT; scans SEED STEPS; run STEP, ..; reads; load N MOST ALL; find N PAGES; overtake N COUNT; pages; turns N; new; drop NAME; why
 insert K V; get K; remove K; cas K OLD NEW; begin insert K V; begin get K; begin remove K; begin cas K OLD NEW
 step N; finish N; abandon N; batch K NEW ..; flush; crash N; dump; tree NAME
 has K; read K; lt K; gt K; first; last; len; empty; names; range LO HI; range-back LO HI; range-ends LO HI; prefix P; prefix-back P
@@ -666,6 +702,7 @@ def forms_of(text):
 
 FORMS, CROWD = forms_of(FORMS), forms_of(CROWD)
 POINT = ('insert', 'get', 'remove', 'cas', 'merge')
+SCANS = ('scan', 'scan-back')
 POPS = ('pop-min', 'pop-max', 'clear')
 ON_TREES = ('begin', 'operator', 'pages', 'draw', 'watch', 'update', 'fetch')
 LOOKS = ('has', 'read', 'lt', 'gt', 'first', 'last', 'len', 'empty', 'range', 'prefix', 'keys', 'values')
@@ -955,6 +992,8 @@ class Shell:
             return [f'agreed {words[1]}']
         if name == 'images':
             return [f'images {words[1]}, accepted a third or more, all as read']
+        if name == 'scans':
+            return [f'scans {words[1]}, as seen']
         if name == 'reads':
             return [f'reads {self.reads()}']
         if name == 'run':
@@ -1278,12 +1317,13 @@ class Shell:
         except Refused:
             del self.slots[number]
             raise
-        if answer != 'moved':
+        if answer != 'moved' and not answer.startswith('at '):
             del self.slots[number]
         return answer
 
     def advance(self, flight, to_its_end):
-        """Does a step of a call in flight, or all of them. A step of a call on a tree that was dropped is refused."""
+        """Does a step of a call in flight, or all of them, of a scan up to its next pair, where its turns begin again. A step of a call on
+        a tree that was dropped is refused."""
         call, answer, tree = flight[0], 'moved', flight[2]
         if self.closed:
             raise Refused(8)
@@ -1291,7 +1331,10 @@ class Shell:
             raise Refused(1)
         try:
             while answer == 'moved':
-                next(call)
+                pair = next(call)
+                if pair is not None:
+                    flight[1] = 0
+                    return f'at {word(pair[0])} {word(pair[1])}'
                 flight[1] += 1
                 if not to_its_end:
                     return 'moved'

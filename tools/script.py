@@ -7,8 +7,8 @@ answers, what each dump has, and that a crash leaves the pairs of some moment si
 import os
 import re
 import sys
-from oracle import (CROWD, DATABASE, FORMS, GREATEST, HOWS, LOOKS, ON_TREES, OPERATORS, POINT, POPS, ROOM, TREE, Shell, Tree, batches_of, collections_of, in_line, is_from, is_up_to, read_line,
-                    some_keys, word)
+from oracle import (CROWD, DATABASE, FORMS, GREATEST, HOWS, LOOKS, ON_TREES, OPERATORS, POINT, POPS, ROOM, SCANS, TREE, Shell, Tree, batches_of, collections_of, in_line, is_from, is_up_to,
+                    read_line, some_keys, value_of, word)
 
 # What a closed database serves, and the shell by itself, or a line that opens one.
 SERVED = ('next', 'unwatch', 'abandon', 'turns', 'recovered', 'why', 'handle', 'old-tree', 'new', 'recover', 'crash', 'page', 'root', 'image')
@@ -72,6 +72,38 @@ class Map:
             self.pairs[key] = value
 
 
+class Scan:
+    """A scan in flight, and what it has to give: what it gives was there at some moment since it began, and when it ends it gave what was
+    there at each of its steps before."""
+
+    def __init__(self, map, is_back, lo, hi):
+        self.map, self.is_back, self.bounds, self.given = map, is_back, (lo, hi), []
+        self.seen, self.steady = set(), None
+
+    def passes(self):
+        """The pairs are seen as they are now."""
+        self.seen.update(self.map.pairs.items())
+
+    def within(self, keys):
+        lo, hi = self.bounds
+        return {key for key in keys if is_from(lo, key) and is_up_to(hi, key)}
+
+    def steps(self, printed):
+        """A step of its own prints this."""
+        if printed == 'end':
+            steady = self.within(self.map.pairs) if self.steady is None else self.steady
+            expect(steady <= {key for key, _ in self.given}, 'what was there all the time', steady, self.given)
+            return
+        now = self.within(self.map.pairs)
+        self.steady = now if self.steady is None else self.steady & now
+        if printed != 'moved':
+            pair = tuple(value_of(text) for text in printed.removeprefix('at ').split(' '))
+            keys = [key for key, _ in self.given] + [pair[0]]
+            expect(keys == sorted(set(keys), reverse=self.is_back), 'in order', keys)
+            expect(self.within(keys) == set(keys) and pair in self.seen, 'within the bounds, and there at some moment', pair)
+            self.given.append(pair)
+
+
 class Plain:
     """The trees as dictionaries, the calls in flight, and what was changed since the last flush."""
 
@@ -83,7 +115,7 @@ class Plain:
 
     def opened(self):
         """Slots, operators, and all names but the default one are gone."""
-        self.calls, self.current, self.is_closed = {}, self.maps[TREE], False
+        self.calls, self.scans, self.current, self.is_closed = {}, {}, self.maps[TREE], False
         self.named = {TREE: (self.current, self.current)}
         for map in self.maps.values():
             map.operator, map.queues = None, []
@@ -247,6 +279,11 @@ class Plain:
 
     def meets(self, words, printed, shell):
         """Compares what a line printed with what it must."""
+        self.compares(words, printed, shell)
+        for scan in self.scans.values():
+            scan.passes()
+
+    def compares(self, words, printed, shell):
         name, last = words[0], next((line for line in printed if line.startswith('refused') and words[0] != 'run'), printed[-1] if printed else '')
         if self.is_closed and words[name == 'owned'] not in SERVED:
             wanted = ('refused E5',) if name in ('reopen', 'verify') else ('refused E8', 'no slot', 'no subscriber')
@@ -257,7 +294,7 @@ class Plain:
         if name == 'image' or self.is_foreign:
             return self.found(name, last, shell)
         if name == 'owned':
-            self.calls = {}
+            self.calls, self.scans = {}, {}
             return self.meets(in_line(words[1:]), printed, shell)
         if name in ('batch', 'group'):
             return self.groups(batches_of(*words), last, shell)
@@ -316,6 +353,10 @@ class Plain:
             expect(printed == self.look(*words), words, printed)
         elif name == 'begin':
             self.calls[int(last[5:])] = words[1:], self.current
+            if words[1] in SCANS:
+                self.scans[int(last[5:])] = Scan(self.current, words[1] == 'scan-back', *words[2:])
+        elif name in ('step', 'finish') and words[1] in self.scans and last != 'no slot':
+            self.scans[words[1]].steps(last)
         elif name in ('step', 'finish') and last not in ('moved', 'no slot'):
             expect(last == self.answer(*self.calls[words[1]]), words, last)
         elif name == 'dump':

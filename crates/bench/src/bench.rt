@@ -1,4 +1,6 @@
 //! The workloads.
+ghost use Rattle.sled_model.specs.State.{IsOnKey};
+
 use crate::pairs::{Pairs, digest};
 use sled::{Batch, Db, Iter};
 use sled_lines::input::Stopped;
@@ -32,11 +34,13 @@ pub enum Workload {
     Follows,
     /// All pairs, from the least key up, by an iterator.
     Scan,
+    /// The same by a scan in a slot, step by step.
+    Steps,
     /// Ranges of a hundred pairs, each from a key that was loaded on.
     Ranges,
 }
 
-const WORKLOADS: [(&str, Workload); 11] = [
+const WORKLOADS: [(&str, Workload); 12] = [
     ("load", Workload::Load),
     ("gets", Workload::Gets),
     ("inserts", Workload::Inserts),
@@ -47,6 +51,7 @@ const WORKLOADS: [(&str, Workload); 11] = [
     ("watches", Workload::Watches),
     ("follows", Workload::Follows),
     ("scan", Workload::Scan),
+    ("steps", Workload::Steps),
     ("ranges", Workload::Ranges),
 ];
 
@@ -89,8 +94,10 @@ impl<M: MergeOperator> Client<M> {
         }
     }
 
-    // A call from its begin to its end: what stands for its answer in a checksum.
-    fn call(&mut self, tree: &Tree, call: Call) -> Result<u64> {
+    // A call on a key from its begin to its end: what stands for its answer in a checksum.
+    fn call(&mut self, tree: &Tree, call: Call) -> Result<u64>
+        requires { IsOnKey call }
+    {
         match self {
             Client::Stepped(machine) => {
                 let outcome = machine.complete(tree, call);
@@ -147,6 +154,13 @@ impl<M: MergeOperator> Client<M> {
                 drop(call);
                 Err(Stopped)
             }
+        }
+    }
+
+    fn step(&mut self, slot: Slot) -> Result<Outcome> {
+        match self {
+            Client::Stepped(machine) => Ok(machine.step(slot)),
+            Client::Direct(_) => Err(Stopped),
         }
     }
 
@@ -230,6 +244,7 @@ impl<M: MergeOperator> Bench<M> {
         match workload {
             Workload::Slots => return Ok((calls, self.slots()?)),
             Workload::Scan => return self.scan(),
+            Workload::Steps => return self.steps(),
             Workload::Batches => return Ok((calls, self.batches()?)),
             Workload::Follows => return Ok((1, self.follow()?)),
             _ => {}
@@ -255,6 +270,7 @@ impl<M: MergeOperator> Bench<M> {
             Workload::Gets
             | Workload::Slots
             | Workload::Scan
+            | Workload::Steps
             | Workload::Batches
             | Workload::Follows => self.get(loaded),
         }
@@ -365,6 +381,27 @@ impl<M: MergeOperator> Bench<M> {
         taken(pairs, usize::MAX)
     }
 
+    // All pairs, by a scan in a slot: how many there are, and a checksum of them.
+    fn steps(&mut self) -> Result<(u64, u64)> {
+        let (alloc, lo) = (self.pairs.alloc(), Bound::Included(b"".as_slice()));
+        let slot = self.client.begin(&self.tree, Call::scan(alloc, lo, Bound::Unbounded, false)?)?;
+        let (mut count, mut sum) = (0u64, 0u64);
+        for _ in 0..u64::MAX {
+            match self.client.step(slot)? {
+                Outcome::Moved => {}
+                Outcome::Yielded(key, value) => {
+                    count = count.wrapping_add(1);
+                    sum = sum.rotate_left(1) ^ digest_of_pair((key, value));
+                }
+                outcome => {
+                    drop(outcome);
+                    break;
+                }
+            }
+        }
+        Ok((count, sum))
+    }
+
     // Counts a change, and flushes where it is time.
     fn changed(&mut self) -> Result<()> {
         self.changes = self.changes.saturating_add(1);
@@ -375,7 +412,9 @@ impl<M: MergeOperator> Bench<M> {
         self.client.flush()
     }
 
-    fn call(&mut self, call: Call) -> Result<u64> {
+    fn call(&mut self, call: Call) -> Result<u64>
+        requires { IsOnKey call }
+    {
         self.client.call(&self.tree, call)
     }
 
@@ -409,7 +448,7 @@ fn made<M: MergeOperator>(db: &mut Db<MemPages, M>, tree: &Tree, call: &Call) ->
         Call::Get(key) => db.get(tree, key.as_ref()),
         Call::Insert(key, value) => db.insert(tree, key.as_ref(), value.as_ref()),
         Call::Remove(key) => db.remove(tree, key.as_ref()),
-        Call::CompareAndSwap(..) | Call::Merge(..) => return Err(Stopped),
+        Call::CompareAndSwap(..) | Call::Merge(..) | Call::Scan { .. } => return Err(Stopped),
     };
     match answer {
         Ok(value) => {

@@ -5,12 +5,12 @@
 //!
 //! The workloads are `load`, which inserts so many pairs, and `gets`, `inserts`, `mix`, `removals` and `slots`, each of so many
 //! calls; `batches`, so many inserts of the keys of `inserts`, a hundred in a batch; `ranges`, so many ranges of a hundred pairs at
-//! most, and `scan`, which reads all pairs; `watches`, which adds so many subscribers, each to a prefix of 4 to 7 bytes that begins no
-//! key of another workload; and `follows`, which adds one subscriber to all keys. A machine makes the calls, and after the word
-//! `direct` the database itself, which has no `slots`. Keys are 8 bytes, and values SHORTEST to LONGEST bytes. After each FLUSH
-//! changes there is a flush, and none where that is 0. Each workload prints its name, how many calls it made and a checksum of their
-//! answers; and on standard error its name and the processor time that it took, in microseconds. The status is 1 for other words, and
-//! where anything failed.
+//! most, `scan`, which reads all pairs, and `steps`, which reads them by a scan in a slot; `watches`, which adds so many subscribers,
+//! each to a prefix of 4 to 7 bytes that begins no key of another workload; and `follows`, which adds one subscriber to all keys. A
+//! machine makes the calls, and after the word `direct` the database itself, which has no `slots` and no `steps`. Keys are 8 bytes, and
+//! values SHORTEST to LONGEST bytes. After each FLUSH changes there is a flush, and none where that is 0. Each workload prints its name,
+//! how many calls it made and a checksum of their answers; and on standard error its name and the processor time that it took, in
+//! microseconds. The status is 1 for other words, and where anything failed.
 #![tactic(auto)]
 
 mod bench;

@@ -1,5 +1,7 @@
 //! Images of pages in an order that looks random: whether the check accepts those that a plain reading accepts, and what becomes of
 //! these by writes and a crash.
+ghost use Rattle.std.specs.Prelude.{IfOk};
+ghost use Rattle.sled_model.specs.State.{IsOnKey};
 
 use crate::crowd::Side;
 use crate::damage::damage;
@@ -12,7 +14,7 @@ use shell_parts::tell::{Result, Told, answered, tell};
 use sled::{Collection, DEFAULT_TREE, Db, Error, verify_integrity};
 use sled_lines::input::Stopped;
 use sled_lines::print::Piece::{Number, Text};
-use sled_model::{Call, Outcome};
+use sled_model::{Call, Outcome, Slot};
 use sled_nodes::{IVec, Pid};
 use sled_pages::MemPages;
 use std::alloc::Global;
@@ -75,7 +77,9 @@ fn has_pairs(trees: &[Collection], pairs: &[(IVec, IVec)]) -> bool {
 }
 
 // A call on a key: an insert mostly, else a removal.
-fn call_of(alloc: Global, dice: &mut Dice) -> Result<Call> {
+fn call_of(alloc: Global, dice: &mut Dice) -> Result<Call>
+    ensures { IfOk result IsOnKey }
+{
     let key = bytes_of(alloc, dice.below(300))?;
     if dice.once_in(3) {
         return Ok(Call::Remove(key));
@@ -114,6 +118,17 @@ struct Course {
     maps: Vec<Pairs>,
 }
 
+// How a call comes out, of which all steps are made, or some.
+fn made(side: &mut Side, dice: &mut Dice, call: Call) -> Outcome
+    requires { IsOnKey call }
+{
+    if dice.once_in(4) {
+        stepped(side, call, dice.below(9))
+    } else {
+        side.machine.complete(&side.tree, call)
+    }
+}
+
 impl Course {
     // Notes the pairs as they are now.
     fn note(&mut self) -> Result<()> {
@@ -121,25 +136,33 @@ impl Course {
         Ok(self.maps.push(pairs)?)
     }
 
-    // Makes a call, or some of its steps: whether it came out as in the plain program.
-    fn write(&mut self, side: &mut Side, dice: &mut Dice) -> Result<bool> {
-        let call = call_of(self.alloc, dice)?;
-        let slot = answered(self.plain.begin(&call))?;
-        let outcome = if dice.once_in(4) {
-            stepped(side, call, dice.below(9))
-        } else {
-            side.machine.complete(&side.tree, call)
-        };
+    // Whether a call came out as in the plain program, which makes it now. One that goes on is given up there too.
+    fn compare(&mut self, slot: Slot, outcome: &Outcome) -> Result<bool> {
         if let Outcome::Moved = outcome {
             drop(self.plain.abandon(slot));
             return Ok(true);
         }
         let wanted = self.plain.decide(slot);
-        let is_same = are_alike(&outcome, &wanted);
-        drop(outcome);
+        let is_same = are_alike(outcome, &wanted);
         drop(wanted);
         self.note()?;
         Ok(is_same)
+    }
+
+    // Makes a call, or some of its steps: whether it came out as in the plain program.
+    fn write(&mut self, side: &mut Side, dice: &mut Dice) -> Result<bool> {
+        let call = call_of(self.alloc, dice)?;
+        let slot = match answered(self.plain.begin(&call)) {
+            Ok(slot) => slot,
+            Err(stopped) => {
+                drop(call);
+                return Err(stopped);
+            }
+        };
+        let outcome = made(side, dice, call);
+        let came = self.compare(slot, &outcome);
+        drop(outcome);
+        came
     }
 
     // Makes calls: whether each came out as in the plain program, and all pairs then.

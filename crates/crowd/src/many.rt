@@ -1,4 +1,6 @@
 //! Words that make many calls at once, or count what they read.
+ghost use Rattle.std.specs.Prelude.{IfOk};
+ghost use Rattle.sled_model.specs.State.{IsOnKey};
 
 use crate::counting::Counting;
 use shell_parts::tell::{Result, Told, answered, tell, tell_outcome, tell_turns, tell_whether};
@@ -22,12 +24,25 @@ pub fn mixed(number: u64) -> u64 {
     number ^ (number << 17)
 }
 
-/// The call that a line asks for.
-pub fn call_of(alloc: Global, line: &[Piece<'_>]) -> Result<Call> {
+// A call on a key. No line makes a scan at once.
+fn on_key(call: Call) -> Result<Call>
+    ensures { IfOk result IsOnKey }
+{
+    if call.is_on_key() {
+        return Ok(call);
+    }
+    drop(call);
+    Err(Stopped)
+}
+
+/// The call on a key that a line asks for.
+pub fn call_of(alloc: Global, line: &[Piece<'_>]) -> Result<Call>
+    ensures { IfOk result IsOnKey }
+{
     let mut text = Vec::new(alloc);
     answered(push_pieces(&mut text, line))?;
     match parse(alloc, text.as_slice()) {
-        Ok(Some(Command::Point(call))) => Ok(call),
+        Ok(Some(Command::Point(call))) => on_key(call),
         other => {
             drop(other);
             Err(Stopped)

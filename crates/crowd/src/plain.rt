@@ -20,11 +20,11 @@ pub fn copied(alloc: Global, pairs: &[(IVec, IVec)]) -> Result<Pairs> {
 }
 
 // How many pairs stand before a key.
-fn count_before(pairs: &[(IVec, IVec)], key: &IVec) -> usize
+fn count_before(pairs: &[(IVec, IVec)], key: &[u8]) -> usize
     ensures { result ≤ length pairs.now }
 {
     for (place, pair) in pairs.iter().enumerate() {
-        if *key <= pair.0 {
+        if key <= pair.0.as_ref() {
             return place;
         }
     }
@@ -32,27 +32,27 @@ fn count_before(pairs: &[(IVec, IVec)], key: &IVec) -> usize
 }
 
 // The value at a key, and its place among the pairs.
-fn value_at(pairs: &[(IVec, IVec)], key: &IVec) -> Result<Option<IVec>> {
+fn value_at(pairs: &[(IVec, IVec)], key: &[u8]) -> Result<Option<IVec>> {
     match pairs.get(count_before(pairs, key)) {
-        Some(pair) if *key == pair.0 => Ok(Some(pair.1.clone()?)),
+        Some(pair) if key == pair.0.as_ref() => Ok(Some(pair.1.clone()?)),
         _ => Ok(None),
     }
 }
 
 // Takes the pair of a key out, if there is one.
-fn take_out(pairs: &mut Pairs, key: &IVec) {
-    pairs.retain(|pair| *key != pair.0);
+fn take_out(pairs: &mut Pairs, key: &[u8]) {
+    pairs.retain(|pair| key != pair.0.as_ref());
 }
 
 // Does to the pairs what a call was decided to do at its key.
-fn apply(pairs: &mut Pairs, key: &IVec, effect: Effect) -> Result<()> {
+fn apply(alloc: Global, pairs: &mut Pairs, call: &Call, effect: Effect) -> Result<()> {
     match effect {
         Effect::Nothing => {}
-        Effect::Remove => take_out(pairs, key),
+        Effect::Remove => take_out(pairs, call.key()),
         Effect::Set(value) => {
-            take_out(pairs, key);
-            let place = count_before(pairs.as_slice(), key);
-            pairs.insert(place, (key.clone()?, value))?;
+            take_out(pairs, call.key());
+            let place = count_before(pairs.as_slice(), call.key());
+            pairs.insert(place, (call.clone_key(alloc)?, value))?;
         }
     }
     Ok(())
@@ -62,7 +62,7 @@ fn apply(pairs: &mut Pairs, key: &IVec, effect: Effect) -> Result<()> {
 fn decide(alloc: Global, pairs: &mut Pairs, call: &Call) -> Result<Outcome> {
     let value = value_at(pairs.as_slice(), call.key())?;
     let Decision { effect, reply } = call.at_link(alloc, value, None::<&NoOperator>)?;
-    match apply(pairs, call.key(), effect) {
+    match apply(alloc, pairs, call, effect) {
         Ok(()) => Ok(Outcome::Decided(reply)),
         Err(error) => {
             drop(reply);

@@ -2,9 +2,10 @@
 
 use crate::tell::{Result, Told, tell_refused, tell_shown};
 use sled_lines::command::Command;
+use sled_lines::input::Stopped;
 use sled_lines::print::Shown;
 use sled_lines::session::{Act, Session, write_trees};
-use sled_model::{MergeOperator, Outcome};
+use sled_model::{Call, MergeOperator, Outcome};
 use sled_store::Pages;
 use std::io::Write;
 
@@ -32,6 +33,19 @@ fn dump<P: Pages, M: MergeOperator, W: Write>(
     }
 }
 
+// A call from its begin to its end. No line makes a scan so.
+fn point<P: Pages, M: MergeOperator>(
+    session: &mut Session<P, M>,
+    call: Call,
+    out: &mut Told,
+) -> Result<()> {
+    if !call.is_on_key() {
+        drop(call);
+        return Err(Stopped);
+    }
+    show(out, session.point(call))
+}
+
 /// Runs a line, and adds how that came out. A crash ends the session, so it is passed over.
 pub fn tell_known<P: Pages, M: MergeOperator, W: Write>(
     session: &mut Session<P, M>,
@@ -40,7 +54,7 @@ pub fn tell_known<P: Pages, M: MergeOperator, W: Write>(
     out: &mut Told,
 ) -> Result<()> {
     match line {
-        Command::Point(call) => show(out, session.point(call)),
+        Command::Point(call) => point(session, call, out),
         Command::Begin(call) => {
             let begun = session.begin(call)?;
             show(out, begun)
@@ -54,6 +68,7 @@ pub fn tell_known<P: Pages, M: MergeOperator, W: Write>(
         }
         Command::Flush => show(out, (Shown::Value, session.flush())),
         Command::Dump => dump(session, output, out),
-        line => session.run(line, output, &mut out.text),
+        Command::OpenTree(name) => session.run(Command::OpenTree(name), output, &mut out.text),
+        Command::Crash(_) => Ok(()),
     }
 }

@@ -3,6 +3,7 @@ mod Numbers
 mod Lines
 mod Shortest
 mod Reading
+mod Running
 mod Printing
 mod Obeying
 mod Living

@@ -7,7 +7,7 @@ use Rattle.sled_nodes.specs.declared.error.Error.{Error}
 use Rattle.sled_nodes.specs.declared.error.Error.TheVariants.{CollectionNotFound, Unsupported, ReportableBug, Io, Corruption, NoMemory, Closed}
 use Rattle.sled_model.specs.Maps.{Map}
 use Rattle.sled_model.specs.declared.call.Call.{Call}
-use Rattle.sled_model.specs.declared.call.Call.TheVariants.{Get, Insert, Remove, CompareAndSwap, Merge}
+use Rattle.sled_model.specs.declared.call.Call.TheVariants.{Get, Insert, Remove, CompareAndSwap, Merge, Scan}
 use Rattle.sled_model.specs.declared.call.Whole.{Whole}
 use Rattle.sled_model.specs.declared.call.Whole.TheVariants.{GenerateId}
 use Rattle.sled_model.specs.declared.event.Event.{Event}
@@ -19,7 +19,7 @@ use Rattle.sled_model.specs.declared.reply.Reply.TheVariants.{Value, Swapped, Nu
 use Rattle.sled_model.specs.declared.reply.Reply.TheVariants as reply
 use Rattle.sled_model.specs.declared.reply.CompareAndSwapError.{CompareAndSwapError}
 use Rattle.sled_model.specs.declared.outcome.Outcome.{Outcome}
-use Rattle.sled_model.specs.declared.outcome.Outcome.TheVariants.{Begun, Moved, Decided, Refused, Abandoned, NoSuchSlot}
+use Rattle.sled_model.specs.declared.outcome.Outcome.TheVariants.{Begun, Moved, Yielded, Decided, Refused, Abandoned, NoSuchSlot}
 use Rattle.sled_lines.specs.Words.{printed, word_of}
 use Rattle.sled_lines.specs.declared.print.Piece.{Piece}
 use Rattle.sled_lines.specs.declared.print.Piece.TheVariants as piece
@@ -35,13 +35,15 @@ piece_text (piece.Text text) = text.now
 piece_text (piece.Number n) = decimal n
 piece_text (piece.Word bytes) = printed bytes.now
 
--- a get shows the value that stands and a merge the new one, an insert and a removal the one that stood; a swap replies no such value
+-- a get shows the value that stands and a merge the new one, an insert and a removal the one that stood; a swap and a scan reply no such
+-- value
 abbrev pub shown_of : Call → Shown
 shown_of (Get key) = shown.Value
 shown_of (Insert key value) = shown.Old
 shown_of (Remove key) = shown.Old
 shown_of (CompareAndSwap key old new) = shown.Value
 shown_of (Merge key bytes) = shown.Value
+shown_of (Scan lo hi back) = shown.Value
 
 -- the number in the reply to a whole call is an id, or counts what a flush made durable
 abbrev pub shown_of_whole : Whole → Shown
@@ -62,6 +64,10 @@ conflict_line conflict = codes "conflict " ++ word_of conflict.current ++ codes 
 
 abbrev pub found_line : Key → Key → List ℕ
 found_line key value = codes "found " ++ printed key ++ codes " " ++ printed value ++ end
+
+-- a pair that a scan gave
+abbrev pub at_line : Key → Key → List ℕ
+at_line key value = codes "at " ++ printed key ++ codes " " ++ printed value ++ end
 
 abbrev pub tree_line : Key → List ℕ
 tree_line name = codes "tree " ++ printed name ++ end
@@ -84,6 +90,7 @@ reply_line show (Value bytes) = name_of show ++ word_of bytes ++ end
 reply_line show (Swapped (Ok done)) = codes "swapped" ++ end
 reply_line show (Swapped (Err conflict)) = conflict_line conflict
 reply_line show (Number n) = number_name_of show ++ decimal n ++ end
+reply_line show reply.End = codes "end" ++ end
 reply_line show Done = codes "done" ++ end
 reply_line show (Pair (Some pair)) = found_line pair.0 pair.1
 reply_line show (Pair None) = codes "found -" ++ end
@@ -112,6 +119,7 @@ slot_line n = codes "slot " ++ decimal n ++ end
 abbrev pub outcome_line : Shown → Outcome → List ℕ
 outcome_line show (Begun slot) = slot_line slot
 outcome_line show Moved = codes "moved" ++ end
+outcome_line show (Yielded key value) = at_line key value
 outcome_line show (Decided reply) = reply_line show reply
 outcome_line show (Refused e) = refused_line e
 outcome_line show Abandoned = codes "abandoned" ++ end

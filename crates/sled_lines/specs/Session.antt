@@ -5,6 +5,7 @@ use Rattle.sled_batch.specs.Batch.{Writes}
 use Rattle.sled_store.specs.Store.{Store, now}
 use Rattle.sled_nodes.specs.declared.error.Error.{Error}
 use Rattle.sled_model.specs.Maps.{Merge}
+use Rattle.sled_model.specs.State.{IsOnKey}
 use Rattle.sled_model.specs.declared.call.Call.{Call}
 use Rattle.sled_model.specs.declared.call.Whole.TheVariants as whole
 use Rattle.sled_model.specs.declared.outcome.Step.TheVariants as step
@@ -54,6 +55,11 @@ acts_on store flush_number meant old act.Abandon slot o new = MachineStepContrac
 abbrev pub acts_at : {P M : Type 0} → (P → Store) → (P → ℕ) → (M → Merge) → MachineValue P M → Act → Option (ℕ × Shown) → Shown → Outcome → MachineValue P M → Type 0
 acts_at store flush_number meant old act None shown o new = (o ≡ NoSuchSlot) × (new ≡ old)
 acts_at store flush_number meant old act (Some at) shown o new = (shown ≡ at.1) × acts_on store flush_number meant old act at.0 o new
+
+-- a call that comes to its end at once is one on a key: a scan has a pair to give before it ends
+abbrev pub CanRun : Command → Type 0
+CanRun (command.Point call) = IsOnKey call
+CanRun c = Unit {0}
 
 -- the writes of a batch are made in a tree, as a group of it alone
 pub record AppliesBatch {P M : Type 0} (store : P → Store) (flush_number : P → ℕ) (meant : M → Merge) (old : MachineValue P M) (tree : Tree) (writes : Writes) (o : Outcome) (new : MachineValue P M) : Type 0 where

@@ -15,13 +15,13 @@ use std::alloc::Global;
 /// What a line asks for.
 #[derive(Drop)]
 pub enum Command {
-    /// A call on the current tree, begun and finished at once.
+    /// A call on a key of the current tree, begun and finished at once.
     Point(Call),
     /// A call on the current tree, begun in a slot.
     Begin(Call),
     /// One step of the call of this number.
     Step(u64),
-    /// Steps of the call of this number to its end.
+    /// Steps of the call of this number to its end, or of a scan to its next pair.
     Finish(u64),
     /// The end of the call of this number.
     Abandon(u64),

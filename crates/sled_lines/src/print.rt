@@ -6,7 +6,7 @@ ghost use Rattle.std.specs.List.{flat_map};
 ghost use Rattle.sled_nodes.specs.declared.error.Error.TheVariants.{NoMemory};
 ghost use Rattle.sled_model.specs.declared.event.Event.TheVariants.{Insert, Remove};
 ghost use Rattle.sled_lines.specs.Words.{word_of};
-ghost use Rattle.sled_lines.specs.Print.{end, piece_text, shown_of, shown_of_whole, name_of, number_name_of, conflict_line, found_line, tree_line, subscriber_line, event_line, next_line, reply_line, error_number, refused_line, slot_line, outcome_line, pair_line, end_line, recovered_line, bad_line};
+ghost use Rattle.sled_lines.specs.Print.{end, piece_text, shown_of, shown_of_whole, name_of, number_name_of, conflict_line, found_line, at_line, tree_line, subscriber_line, event_line, next_line, reply_line, error_number, refused_line, slot_line, outcome_line, pair_line, end_line, recovered_line, bad_line};
 
 use crate::words::push_word;
 use sled_model::{Call, CompareAndSwapError, Event, Next, Outcome, Reply, Whole};
@@ -30,8 +30,9 @@ impl Shown {
         ensures { result ≡ shown_of call.now }
     {
         match call {
-            Call::Get(_) | Call::CompareAndSwap(_, _, _) | Call::Merge(_, _) => Shown::Value,
             Call::Insert(_, _) | Call::Remove(_) => Shown::Old,
+            Call::Get(_) | Call::CompareAndSwap(_, _, _) | Call::Merge(_, _) | Call::Scan { .. } =>
+                Shown::Value,
         }
     }
 
@@ -142,6 +143,23 @@ fn push_found<'a>(out: &mut Vec<u8>, key: &'a [u8], value: &'a [u8]) -> Result<(
         out,
         &[
             Piece::Text(b"found "),
+            Piece::Word(key),
+            Piece::Text(b" "),
+            Piece::Word(value),
+            Piece::Text(b"\n"),
+        ],
+    )
+}
+
+// Adds the line of a pair that a scan gave.
+fn push_at<'a>(out: &mut Vec<u8>, key: &'a [u8], value: &'a [u8]) -> Result<()>
+    ensures ok { OnOk result (out.new.items ≡ out.old.items ++ at_line key.now value.now) }
+    ensures err { IfErr result (λ e. e ≡ NoMemory) }
+{
+    push_pieces(
+        out,
+        &[
+            Piece::Text(b"at "),
             Piece::Word(key),
             Piece::Text(b" "),
             Piece::Word(value),
@@ -264,6 +282,7 @@ fn push_reply(out: &mut Vec<u8>, shown: Shown, reply: &Reply) -> Result<()>
         Reply::Swapped(Ok(())) => push_text(out, b"swapped\n"),
         Reply::Swapped(Err(conflict)) => push_conflict(out, conflict),
         Reply::Number(number) => push_numbered(out, number_name_of(shown), *number),
+        Reply::End => push_text(out, b"end\n"),
         Reply::Done => push_text(out, b"done\n"),
         Reply::Pair(Some(pair)) => push_found(out, pair.0.as_ref(), pair.1.as_ref()),
         Reply::Pair(None) => push_text(out, b"found -\n"),
@@ -313,6 +332,7 @@ pub fn push_outcome(out: &mut Vec<u8>, shown: Shown, outcome: &Outcome) -> Resul
     match outcome {
         Outcome::Begun(slot) => push_slot(out, slot.0),
         Outcome::Moved => push_text(out, b"moved\n"),
+        Outcome::Yielded(key, value) => push_at(out, key.as_ref(), value.as_ref()),
         Outcome::Decided(reply) => push_reply(out, shown, reply),
         Outcome::Refused(error) => push_refused(out, error),
         Outcome::Abandoned => push_text(out, b"abandoned\n"),

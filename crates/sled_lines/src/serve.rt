@@ -7,8 +7,8 @@ ghost use Rattle.tree_laws.specs.Crashes.{IsValid, IsCrashConsistent};
 ghost use Rattle.sled_lines.specs.Print.{Prints, bad_line};
 ghost use Rattle.sled_lines.specs.declared.serve.End.TheVariants.{BadLine};
 ghost use Rattle.sled_lines.specs.Serve.{IsStatus, bad_left, crash_of, recovered_text, Served, served_as};
-ghost use Rattle.sled_lines.specs.Session.{Obeys};
-ghost use Rattle.sled_lines.specs.theory.Serve.{Reads, Takes, IsToDo, Ends, LivesFrom, LivedFrom, ServesFrom, place, Ran};
+ghost use Rattle.sled_lines.specs.Session.{CanRun, Obeys};
+ghost use Rattle.sled_lines.specs.theory.Serve.{Reads, Takes, IsToDo, CanDo, Ends, LivesFrom, LivedFrom, ServesFrom, place, Ran};
 
 use crate::command::{Command, parse};
 use crate::input::{Stopped, read_line, without_end};
@@ -91,6 +91,7 @@ fn next_line<R: BufRead, W: Write>(
 ) -> Result<Line, Stopped>
     ensures bad { IfOk result (Reads (bad_left buffers.old.number (R.remaining input.old)) (bad_left buffers.new.number (R.remaining input.new)) buffers.new.number) }
     ensures takes { IfOk result (Takes (R.remaining input.old) (R.remaining input.new) buffers.old.number buffers.new.number) }
+    ensures runs { IfOk result CanDo }
     ensures same { OnOk result (buffers.new.out.items ≡ buffers.old.out.items) }
     ensures output { Keeps (W.contents output.old) (W.contents output.new) }
 {
@@ -132,6 +133,7 @@ fn answer<P: Pages, M: MergeOperator, W: Write>(
     output: &mut W,
     out: &mut Vec<u8>,
 ) -> Result<(), Stopped>
+    requires { CanRun command }
     ensures obeys { OnOk result (Obeys P.store P.flush_number M.meant session.old command session.new (W.contents output.old) out.old.items (W.contents output.new) out.new.items) }
     ensures written { OnOk result (out.new.items ≡ []) }
 {

@@ -15,13 +15,13 @@ ghost use Rattle.sled_machine.specs.Step.{MachineStepContract};
 ghost use Rattle.sled_machine.specs.Run.{MachineRun, MachineSteps};
 ghost use Rattle.sled_machine.specs.Finish.{Completes};
 ghost use Rattle.sled.specs.Calls.{IsHandle, RefusesHandle};
-ghost use Rattle.sled_model.specs.State.{default_name};
+ghost use Rattle.sled_model.specs.State.{default_name, IsOnKey};
 ghost use Rattle.sled_lines.specs.Print.{shown_of, shown_of_whole, outcome_line, pair_line, collection_lines, dump_text, Prints};
 ghost use Rattle.sled_lines.specs.declared.command.Command.TheVariants as command;
 ghost use Rattle.sled_lines.specs.declared.print.Shown.{Shown};
 ghost use Rattle.sled_lines.specs.declared.print.Shown.TheVariants as shown;
 ghost use Rattle.sled_lines.specs.declared.session.Act.TheVariants as act;
-ghost use Rattle.sled_lines.specs.Session.{slot_at, turns_at, begins_as, acts_at, AppliesBatch, opened_or, Obeys};
+ghost use Rattle.sled_lines.specs.Session.{slot_at, turns_at, begins_as, acts_at, AppliesBatch, CanRun, opened_or, Obeys};
 ghost use Rattle.sled_lines.specs.theory.Session.{ActsAndShows, Shows};
 
 use crate::command::Command;
@@ -45,7 +45,7 @@ const GATHERED: usize = 4096;
 pub enum Act {
     /// One step.
     Step,
-    /// All steps to its end.
+    /// All steps to its end, or of a scan to its next pair.
     Finish,
     /// It is given up.
     Abandon,
@@ -160,8 +160,9 @@ impl<P: Pages, M: MergeOperator> Session<P, M> {
         self.slots.get(place).copied()
     }
 
-    /// A call on the current tree from its begin to its end.
+    /// A call on a key of the current tree from its begin to its end.
     pub fn complete(&mut self, call: Call) -> Outcome
+        requires { IsOnKey call }
         ensures completes { Completes P.store P.flush_number M.meant self.old.machine self.old.tree call result self.new.machine }
         ensures tree { self.new.tree ≡ self.old.tree }
         ensures slots { self.new.slots ≡ self.old.slots }
@@ -289,8 +290,9 @@ impl<P: Pages, M: MergeOperator> Session<P, M> {
         self.machine.run(steps)
     }
 
-    /// A call from its begin to its end, and what the value in its reply is.
+    /// A call on a key from its begin to its end, and what the value in its reply is.
     pub fn point(&mut self, call: Call) -> (Shown, Outcome)
+        requires { IsOnKey call }
         ensures shown { result.0 ≡ shown_of call }
         ensures completes { Completes P.store P.flush_number M.meant self.old.machine self.old.tree call result.1 self.new.machine }
         ensures tree { self.new.tree ≡ self.old.tree }
@@ -385,8 +387,9 @@ impl<P: Pages, M: MergeOperator> Session<P, M> {
         show(out, self.act(number, act))
     }
 
-    // A call from its begin to its end, and adds the line of how that came out.
+    // A call on a key from its begin to its end, and adds the line of how that came out.
     fn point_and_show(&mut self, call: Call, out: &mut Vec<u8>) -> Result<(), Stopped>
+        requires { IsOnKey call }
         ensures { OnOk result (Shows P.store P.flush_number M.meant self.old (command.Point call) self.new out.old.items out.new.items) }
     {
         show(out, self.point(call))
@@ -426,6 +429,7 @@ impl<P: Pages, M: MergeOperator> Session<P, M> {
         output: &mut W,
         out: &mut Vec<u8>,
     ) -> Result<(), Stopped>
+        requires { CanRun command }
         ensures { OnOk result (Obeys P.store P.flush_number M.meant self.old command self.new (W.contents output.old) out.old.items (W.contents output.new) out.new.items) }
     {
         match command {

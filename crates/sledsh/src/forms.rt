@@ -9,7 +9,7 @@ use crate::pops::Pop;
 use crate::subscribers::Listen;
 use hostile_lines::image::Image;
 use hostile_lines::sweeps::Sweep;
-use shell_parts::look::{Look, Side};
+use shell_parts::look::{Look, Side, read_bound};
 use shell_parts::tell::{Told, tell};
 use sled_draw::draw::Drawing;
 use sled_lines::command::{self, parse};
@@ -31,6 +31,8 @@ pub enum Verb {
     Merge,
     /// A merge that begins in a slot.
     BeginMerge,
+    /// A scan that begins in a slot, from the back or not.
+    BeginScan(bool),
     Operator,
     Turns,
     Crash,
@@ -138,7 +140,7 @@ const KEYS: [Form; 8] = [
 ];
 
 // Calls in flight, step by step.
-const FLIGHTS: [Form; 9] = [
+const FLIGHTS: [Form; 11] = [
     (
         "begin insert",
         "K V",
@@ -165,6 +167,18 @@ const FLIGHTS: [Form; 9] = [
         "begins a merge in a slot",
     ),
     (
+        "begin scan",
+        "LO HI",
+        Verb::BeginScan(false),
+        "begins a scan in a slot, which gives the pairs within two bounds, as those of `range`, one at a step",
+    ),
+    (
+        "begin scan-back",
+        "LO HI",
+        Verb::BeginScan(true),
+        "begins a scan from the back in a slot",
+    ),
+    (
         "step",
         "N",
         Verb::Line,
@@ -174,14 +188,14 @@ const FLIGHTS: [Form; 9] = [
         "finish",
         "N",
         Verb::Line,
-        "does the steps of the call in a slot to its end",
+        "does the steps of the call in a slot to its end, or of a scan to its next pair",
     ),
     ("abandon", "N", Verb::Line, "gives the call in a slot up"),
     (
         "turns",
         "N",
         Verb::Turns,
-        "prints how often the call in a slot went on so far",
+        "prints how often the call in a slot went on so far, and a scan since its last pair",
     ),
 ];
 
@@ -905,6 +919,30 @@ fn merge_of(alloc: Global, words: Option<&[u8]>) -> Result<Option<Call>> {
     }
 }
 
+// The scan between two bounds.
+fn scan_of(alloc: Global, words: Option<&[u8]>, back: bool) -> Result<Option<Call>> {
+    let (lo, hi) = first_word(words.unwrap_or(b""));
+    let Some(lo) = read_bound(alloc, lo)? else {
+        return Ok(None);
+    };
+    match read_bound(alloc, hi.unwrap_or(b"")) {
+        Ok(Some(hi)) => Ok(Some(Call::Scan { lo, hi, back })),
+        Ok(None) => {
+            drop(lo);
+            Ok(None)
+        }
+        Err(error) => {
+            drop(lo);
+            Err(error)
+        }
+    }
+}
+
+// The words of a line behind the two of the command's own.
+fn words_of(line: &[u8]) -> Option<&[u8]> {
+    first_word(first_word(line).1.unwrap_or(b"")).1
+}
+
 // What a line asks for that has the words of a command.
 fn command_of(alloc: Global, line: &[u8], verb: Verb) -> Result<Option<Command>> {
     match verb {
@@ -914,7 +952,11 @@ fn command_of(alloc: Global, line: &[u8], verb: Verb) -> Result<Option<Command>>
             Ok(call.map(|call| Command::Line(command::Command::Point(call))))
         }
         Verb::BeginMerge => {
-            let call = merge_of(alloc, first_word(first_word(line).1.unwrap_or(b"")).1)?;
+            let call = merge_of(alloc, words_of(line))?;
+            Ok(call.map(|call| Command::Line(command::Command::Begin(call))))
+        }
+        Verb::BeginScan(back) => {
+            let call = scan_of(alloc, words_of(line), back)?;
             Ok(call.map(|call| Command::Line(command::Command::Begin(call))))
         }
         verb => Ok(Some(Command::Own(verb))),

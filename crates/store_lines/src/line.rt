@@ -2,6 +2,7 @@
 use crate::text::Text;
 use sled_nodes::{IVec, Pid};
 use std::alloc::Global;
+use std::ops::Bound;
 
 /// A line that is read word by word, and what it prints. A word that is missing, or is not what is asked for, is taken for an
 /// empty one, and then the line cannot be read. Who acts asks `is_read` first.
@@ -177,6 +178,23 @@ impl Line {
         let string = IVec::from_slice(self.alloc(), bytes.as_slice());
         drop(bytes);
         self.out.kept(string)
+    }
+
+    /// The bound that a word is: `[K`, `(K` or `..`.
+    pub fn bound(&mut self) -> Option<Bound<IVec>> {
+        if self.takes("..") {
+            return Some(Bound::Unbounded);
+        }
+        let is_included = self.takes_mark('[');
+        if !is_included && !self.takes_mark('(') {
+            self.fail();
+        }
+        let key = self.string();
+        if is_included {
+            key.map(Bound::Included)
+        } else {
+            key.map(Bound::Excluded)
+        }
     }
 
     pub fn read<W: Word>(&mut self) -> Option<W> {

@@ -69,6 +69,7 @@ get NODE K                            value V, or value -
 pointer NODE BOUND                    first P, or later P, or none
 pointer-before NODE P                 pointer P, or none
 successor NODE BOUND, predecessor NODE BOUND    pair K V, or none
+within NODE BOUND BOUND               pairs K V .., those within both bounds; with -back behind the word from the back
 
 Keys of several parts. PART is # and a number, or a byte string, in which a # in front is written %23. SHAPE has a letter for each
 part, n for a number and t for a byte string; it is % where there is none.
@@ -78,9 +79,9 @@ parts SHAPE K                         parts PART .., or none
 Values, separated by a comma and a space. Each of them prints a line: its text or its name, and for each of the values `=` where
 it equals a copy of that one, < or > where there is an order, and else /. OLD and NEW are byte strings or -. An error is a
 number from 1 to 8, of which 1 has a name K behind it. TREE is the database's name, the tree's own and its number, `K K N`. CALL
-is `get K`, `insert K V`, `remove K`, `cas K OLD NEW` or `merge K V`. WHOLE is `flush`, `pop-min TREE`, `pop-max TREE`,
-`clear TREE`, `group TREE K NEW ..`, `tree K`, `drop K`, `id`, `import TYPE NAME K V`, `watch TREE K`, `next N` or
-`unwatch N`.
+is `get K`, `insert K V`, `remove K`, `cas K OLD NEW`, `merge K V`, `scan BOUND BOUND` or `scan-back BOUND BOUND`. WHOLE is
+`flush`, `pop-min TREE`, `pop-max TREE`, `clear TREE`, `group TREE K NEW ..`, `tree K`, `drop K`, `id`, `import TYPE NAME K V`,
+`watch TREE K`, `next N` or `unwatch N`.
 strings K, ..
 events K NEW, ..                      an insert, or a removal where NEW is -
 conflicts OLD NEW, ..                 why a value was not swapped

@@ -44,6 +44,8 @@ pub enum Search {
     Pointer,
     Successor,
     Predecessor,
+    Within,
+    WithinBack,
 }
 
 /// What a line does with nodes.
@@ -311,6 +313,8 @@ fn find_in(search: Search, node: &Node, line: &mut Line) {
     match search {
         Search::Get => find_value(node, line),
         Search::PointerBefore => find_before(node, line),
+        Search::Within => find_between(node, false, line),
+        Search::WithinBack => find_between(node, true, line),
         _ => find_within(search, node, line),
     }
 }
@@ -338,27 +342,32 @@ fn find_before(node: &Node, line: &mut Line) {
     }
 }
 
-// Finds what a word bounds: `[K`, `(K` or `..`.
-fn find_within(search: Search, node: &Node, line: &mut Line) {
-    if line.takes("..") {
-        return find_from(search, node, Bound::Unbounded, line);
+// A bound, lent.
+fn lend(bound: &Bound<IVec>) -> Bound<&[u8]> {
+    match bound {
+        Bound::Included(key) => Bound::Included(key.as_ref()),
+        Bound::Excluded(key) => Bound::Excluded(key.as_ref()),
+        Bound::Unbounded => Bound::Unbounded,
     }
-    let is_included = line.takes_mark('[');
-    if !is_included && !line.takes_mark('(') {
-        line.fail();
-    }
-    let key = line.bytes();
-    if is_included {
-        find_from(search, node, Bound::Included(key.as_slice()), line);
-    } else {
-        find_from(search, node, Bound::Excluded(key.as_slice()), line);
-    }
-    drop(key);
 }
 
-fn find_from(search: Search, node: &Node, bound: Bound<&[u8]>, line: &mut Line) {
-    if line.is_read() {
-        find_at(search, node, bound, &mut line.out);
+// Finds what a word bounds.
+fn find_within(search: Search, node: &Node, line: &mut Line) {
+    let bound = line.bound();
+    if let Some(bound) = line.whole(bound) {
+        find_at(search, node, lend(&bound), &mut line.out);
+        drop(bound);
+    }
+}
+
+// Finds the pairs within two bounds.
+fn find_between(node: &Node, back: bool, line: &mut Line) {
+    let lo = line.bound();
+    let bounds = lo.zip(line.bound());
+    if let Some((lo, hi)) = line.whole(bounds) {
+        push_within(&mut line.out, node, lend(&lo), lend(&hi), back);
+        drop(lo);
+        drop(hi);
     }
 }
 
@@ -490,6 +499,18 @@ fn push_pair(out: &mut Text, found: Result<Option<(IVec, IVec)>>) {
         }
         Some(None) => out.push("none"),
         None => {}
+    }
+}
+
+// Adds the pairs within two bounds, place by place.
+fn push_within(out: &mut Text, node: &Node, lo: Bound<&[u8]>, hi: Bound<&[u8]>, back: bool) {
+    out.push("pairs");
+    for place in 0..usize::MAX {
+        let Some(Some(pair)) = out.kept(node.pair_within(lo, hi, back, place)) else {
+            break;
+        };
+        pair.print(out);
+        drop(pair);
     }
 }
 

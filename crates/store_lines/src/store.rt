@@ -59,7 +59,7 @@ enum Call {
     Parts,
 }
 
-const CALLS: [(&str, Call); 44] = [
+const CALLS: [(&str, Call); 46] = [
     ("roots", Call::Alone(Alone::Roots)),
     ("begin", Call::Alone(Alone::Begin)),
     ("seal", Call::Alone(Alone::Seal)),
@@ -108,6 +108,8 @@ const CALLS: [(&str, Call); 44] = [
     ("pointer", Call::Node(Act::Find(Search::Pointer))),
     ("successor", Call::Node(Act::Find(Search::Successor))),
     ("predecessor", Call::Node(Act::Find(Search::Predecessor))),
+    ("within", Call::Node(Act::Find(Search::Within))),
+    ("within-back", Call::Node(Act::Find(Search::WithinBack))),
     ("spell", Call::Spell),
     ("parts", Call::Parts),
 ];

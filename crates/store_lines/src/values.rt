@@ -217,14 +217,18 @@ enum Point {
     Remove,
     Swap,
     Merge,
+    Scan,
+    ScanBack,
 }
 
-const CALLS: [(&str, Point); 5] = [
+const CALLS: [(&str, Point); 7] = [
     ("get", Point::Get),
     ("insert", Point::Insert),
     ("remove", Point::Remove),
     ("cas", Point::Swap),
     ("merge", Point::Merge),
+    ("scan", Point::Scan),
+    ("scan-back", Point::ScanBack),
 ];
 
 fn read_insert(line: &mut Line) -> Option<Call> {
@@ -242,6 +246,12 @@ fn read_swap(line: &mut Line) -> Option<Call> {
     Some(Call::CompareAndSwap(key, old, new))
 }
 
+fn read_scan(line: &mut Line, back: bool) -> Option<Call> {
+    let lo = line.bound();
+    let (lo, hi) = lo.zip(line.bound())?;
+    Some(Call::Scan { lo, hi, back })
+}
+
 impl Sample for Call {
     fn sample(line: &mut Line) -> Option<Call> {
         match line.named(&CALLS)? {
@@ -250,6 +260,8 @@ impl Sample for Call {
             Point::Remove => line.read().map(Call::Remove),
             Point::Swap => read_swap(line),
             Point::Merge => read_merge(line),
+            Point::Scan => read_scan(line, false),
+            Point::ScanBack => read_scan(line, true),
         }
     }
 
@@ -258,7 +270,7 @@ impl Sample for Call {
     }
 
     fn show(&self, out: &mut Text) {
-        out.push_word(self.key().as_ref());
+        out.push_word(self.key());
     }
 }
 

@@ -5,6 +5,7 @@ use Rattle.sled_model.specs.Maps.{Merge}
 use Rattle.sled_lines.specs.Command.{command_of}
 use Rattle.sled_lines.specs.Print.{Prints}
 use Rattle.sled_lines.specs.Serve.{lines_of, crash_of, Lives, LivesOver, Serves}
+use Rattle.sled_lines.specs.Session.{CanRun}
 use Rattle.sled_lines.specs.declared.command.Command.{Command}
 use Rattle.sled_lines.specs.declared.command.Command.TheVariants as command
 use Rattle.sled_lines.specs.declared.serve.Buffers.{Buffers}
@@ -58,6 +59,11 @@ IsToDo read line.NoLine = ⊥
 IsToDo read line.BadLine = read ≡ None
 IsToDo read (line.Crash keep) = read ≡ Some (command.Crash keep)
 IsToDo read (line.Command c) = (read ≡ Some c) × (crash_of c ≡ None)
+
+-- what is read can be run
+abbrev pub CanDo : Line → Type 0
+CanDo (line.Command c) = CanRun c
+CanDo l = Unit {0}
 
 -- where a run stands: how many lines were read, what the reader has left, what the writer holds, and what is gathered for it
 pub record Place : Type 0 where
