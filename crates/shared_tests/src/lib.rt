@@ -1,0 +1,20 @@
+//! Tests of a database that threads share. Each ends by itself, and comes out the same whatever the schedule.
+//!
+//! A `replay` makes the calls of a gathered history again, on a plain map.
+#![tactic(auto)]
+
+mod adds;
+#[cfg(test)]
+mod counter_tests;
+#[cfg(test)]
+mod gate_tests;
+#[cfg(test)]
+mod gather_tests;
+#[cfg(test)]
+mod handover_tests;
+mod replay;
+mod start;
+
+pub use adds::{Adds, number_of};
+pub use replay::replays;
+pub use start::{Fresh, Shared, Way, new_database};

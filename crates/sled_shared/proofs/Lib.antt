@@ -1,0 +1,4 @@
+pub mod Legal
+pub mod Noted
+pub mod Opening
+pub mod Once

@@ -1,0 +1,48 @@
+-- Histories that one caller could have made.
+use Rattle.std.specs.Prelude.{◌≡◌, ℕ, nat_eq, List, [], ◌∷◌, Option, Some, None, map, filter, if◌then◌else◌}
+use Rattle.std.specs.FinMap.Entries.{find}
+use Rattle.std.specs.Str.{bytes_eq}
+use Rattle.sled_nodes.specs.Order.{Key, key_cmp}
+use Rattle.sled_store.specs.Update.{put_name}
+use Rattle.sled_model.specs.Maps.{Map, Maps}
+use Rattle.sled_model.specs.Answer.{key_of, decision_of, decision_of_write, map_after}
+use Rattle.sled_model.specs.Collections.{Content}
+use Rattle.sled_model.specs.declared.call.Call.{Call}
+use Rattle.sled_model.specs.declared.call.Call.TheVariants.{Merge}
+use Rattle.sled_model.specs.declared.decision.Decision.{Decision}
+use Rattle.sled_model.specs.declared.reply.Reply.{Reply}
+use Rattle.sled_model.specs.declared.tree.Tree.{Tree}
+use Rattle.sled_shared.specs.Made.{MadeValue, PointMade, EntryValue}
+
+-- the maps of these collections by name
+abbrev pub maps_from : List Content → Maps
+maps_from [] name = None
+maps_from (c ∷ cs) name = if bytes_eq name c.1 then Some c.2 else maps_from cs name
+
+-- What a call may come to where this value stands: a merge writes what its reply tells, and all others come to what they do by whatever
+-- operator
+abbrev pub comes_to : Call → Option Key → Decision → Type 0
+comes_to (Merge k bytes) value d = (new : Option Key) × (d ≡ decision_of_write new)
+comes_to call value d = d ≡ decision_of None call value
+
+-- a call on a key, made at these maps, replies so and leaves those
+pub record MakesPoint (old : Maps) (tree : Tree) (call : Call) (reply : Reply) (new : Maps) : Type 0 where
+  pub map : Map
+  pub there : old tree.name ≡ Some map
+  pub decision : Decision
+  pub comes : comes_to call (find key_cmp (key_of call) map) decision
+  pub replies : reply ≡ decision.reply
+  pub is : new ≡ put_name old tree.name (Some (map_after decision.effect (key_of call) map))
+
+-- what was made at these maps leaves those
+abbrev pub makes_as : Maps → MadeValue → Maps → Type 0
+makes_as old (PointMade tree call reply) new = MakesPoint old tree call reply new
+
+-- From the old maps on each entry is what its call makes there, and the maps after the last are the new ones
+pub data IsLegal : Maps → List EntryValue → Maps → Type 0 where
+  NoEntries : {m : Maps} → IsLegal m [] m
+  OneEntry : {a m b : Maps} {e : EntryValue} {es : List EntryValue} → makes_as a e.made m → IsLegal m es b → IsLegal a (e ∷ es) b
+
+-- what the caller of this number made, in order
+abbrev pub made_by : ℕ → List EntryValue → List MadeValue
+made_by n es = map (λ e. e.made) (filter (λ e. nat_eq e.by n) es)

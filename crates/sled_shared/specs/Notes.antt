@@ -1,0 +1,41 @@
+-- What a step notes: an entry in the history, and the same in the list of its caller.
+use Rattle.std.specs.Prelude.{◌≡◌, ℕ, List, [], ◌∷◌, ◌++◌, map, Option, Some, None}
+use Rattle.sled_nodes.specs.Ranges.{Range}
+use Rattle.sled_model.specs.State.{CallInFlight, range_of}
+use Rattle.sled_model.specs.declared.outcome.Outcome.{Outcome}
+use Rattle.sled_model.specs.declared.outcome.Outcome.TheVariants.{Decided}
+use Rattle.sled_model.specs.declared.call.Call.{Call}
+use Rattle.sled_model.specs.declared.tree.Tree.{Tree}
+use Rattle.sled_model.specs.declared.reply.Reply.{Reply}
+use Rattle.sled_model.specs.declared.reply.Reply.TheVariants.{End}
+use Rattle.sled_shared.specs.Made.{MadeValue, PointMade, EntryValue}
+
+-- a call on a key that is decided is noted with its reply, and a scan is not
+abbrev pub noted_as : Option Range → Tree → Call → Reply → List MadeValue
+noted_as None tree call reply = PointMade tree call reply ∷ []
+noted_as (Some range) tree call reply = []
+
+-- what a step notes of the call in its slot: nothing, unless it is decided
+abbrev pub noted_in : Outcome → Option CallInFlight → List MadeValue
+noted_in (Decided reply) (Some f) = noted_as (range_of f.call) f.tree f.call reply
+noted_in (Decided reply) None = []
+noted_in o slot = []
+
+-- the same as entries of the caller of this number
+abbrev pub entries_of : ℕ → List MadeValue → List EntryValue
+entries_of n made = map (λ m. record { by = n; made = m }) made
+
+-- what is noted of this call on a key: the call with its reply where it is decided, and else nothing
+abbrev pub noted_of : Outcome → Tree → Call → List MadeValue
+noted_of (Decided reply) tree call = PointMade tree call reply ∷ []
+noted_of o tree call = []
+
+-- a reply, but that of a scan that has ended, comes to the end of a list with some call
+abbrev pub AddsReply : Reply → List MadeValue → List MadeValue → Type 0
+AddsReply End made more = more ≡ made
+AddsReply reply made more = (tree : Tree) × (call : Call) × (more ≡ made ++ PointMade tree call reply ∷ [])
+
+-- a step that tells a reply adds it to a list, and any other adds nothing
+abbrev pub AddsStep : Outcome → List MadeValue → List MadeValue → Type 0
+AddsStep (Decided reply) made more = AddsReply reply made more
+AddsStep o made more = more ≡ made

@@ -1,0 +1,29 @@
+-- What holds whenever the lock is free, beside what holds of the machine.
+use Rattle.std.specs.Prelude.{◌≡◌, ℕ, ◌+◌, ◌≤◌, true, not, List, length, None}
+use Rattle.sled_store.specs.Store.{Store, now}
+use Rattle.sled_model.specs.Maps.{Maps}
+use Rattle.sled_model.specs.Collections.{Content}
+use Rattle.sled_model.specs.State.{maps_of}
+use Rattle.sled.specs.Values.{db_state}
+use Rattle.sled_machine.specs.Values.{MachineValue}
+use Rattle.sled_shared.specs.Made.{EntryValue}
+use Rattle.sled_shared.specs.History.{IsLegal, maps_from}
+
+-- the database is open
+abbrev pub IsOpen : {P M : Type 0} → (P → Store) → MachineValue P M → Type 0
+IsOpen store m = not (now (store m.db.pages)).in_group ≡ true
+
+-- the maps of a machine now. No operator is asked for them
+abbrev pub maps_now : {P M : Type 0} → (P → Store) → MachineValue P M → Maps
+maps_now {P = P} {M = M} store m = maps_of (db_state store (λ (o : M) k value bytes. None) m.db)
+
+-- while the database is open the history is legal, from the opening to the maps now; and each entry is counted
+pub record IsState {P M : Type 0} (store : P → Store) (m : MachineValue P M) (opening : List Content) (history : List EntryValue) (total : ℕ) : Type 0 where
+  pub legal : IsOpen store m → IsLegal (maps_from opening) history (maps_now store m)
+  pub counted : length history ≡ total
+
+-- so many parts of the ledger are left for the callers that have no handle, and one more, and they count nothing
+pub record HasParts (callers given parts amount : ℕ) : Type 0 where
+  pub few : given ≤ callers
+  pub left : parts + given ≡ callers + 1
+  pub none : amount ≡ 0

@@ -1,0 +1,21 @@
+-- What contracts see of a state, of its callers, and of a database that is shared.
+use Rattle.std.specs.Prelude.{ℕ, List}
+use Rattle.sled_model.specs.Collections.{Content}
+use Rattle.sled_machine.specs.Values.{MachineValue}
+use Rattle.sled_shared.specs.Made.{MadeValue, EntryValue}
+
+-- the machine, the collections that its database began with, and what was made since, in order
+pub record StateValue (P M : Type 0) : Type 0 where
+  pub machine : MachineValue P M
+  pub opening : List Content
+  pub history : List EntryValue
+
+-- a caller: its number, and what it made, in order
+pub record CallerValue : Type 0 where
+  pub number : ℕ
+  pub made : List MadeValue
+
+-- how many callers there may be, and how many of them have a handle
+pub record SharedValue : Type 0 where
+  pub callers : ℕ
+  pub given : ℕ

@@ -1,0 +1,151 @@
+//! A database that is shared.
+ghost use Rattle.std.specs.Prelude.{◌≡◌, ◌+◌, ◌<◌, [], IfOk, IfErr, OnOk, OnErr};
+ghost use Rattle.sled.specs.Export.{RefusesExport};
+ghost use Rattle.sled_model.specs.Collections.{contents_of};
+ghost use Rattle.sled_shared.specs.History.{maps_from};
+ghost use Rattle.sled_shared.specs.Gathered.{RefusesHandle};
+ghost use Rattle.sled_shared.specs.Sound.{maps_now};
+
+use crate::caller::Caller;
+use crate::handle::Handle;
+use crate::state::State;
+use sled::Db as Owned;
+use sled_machine::Machine;
+use sled_model::{Collection, MergeOperator};
+use sled_nodes::texts::NUMBERS_USED_UP;
+use sled_nodes::{Error, Result};
+use sled_store::Pages;
+use std::alloc::Global;
+use std::marker::Model;
+use std::sync::ledger::{Blank, Book, Ledger, Share};
+use std::sync::{Arc, Mutex, Wait};
+
+/// A database that several callers share: a machine under a lock, with the history of what they made. `L` marks the ledger that counts
+/// their calls, a part for each caller and one that stays here.
+#[derive(Drop)]
+pub struct Db<P: Pages, L: Ledger, M = Box<dyn MergeOperator + Send>> {
+    pub(crate) lock: Arc<Mutex<Option<State<P, L, M>>>>,
+    pub(crate) callers: u64,
+    pub(crate) given: u64,
+    // the parts of the callers that have no handle, and one more
+    rest: Share<L>,
+}
+
+impl<P: Pages, L: Ledger, M> Model for Db<P, L, M> {
+    ghost use Rattle.sled_shared.specs.Values.{SharedValue};
+
+    ghost Value = { SharedValue };
+
+    ghost use Rattle.sled_shared.specs.Sound.{HasParts};
+
+    ghost view = { λ d. record { callers = d.callers; given = d.given } };
+
+    ghost invariant = { λ d. HasParts d.callers d.given d.rest.parts d.rest.amount };
+}
+
+// The first state of a database, which began with these collections.
+fn first_state<P: Pages, L: Ledger, M: MergeOperator>(
+    alloc: Global,
+    db: Owned<P, M>,
+    opening: Vec<Collection>,
+    calls: Book<L>,
+) -> State<P, L, M>
+    requires opening { (machine : _) → machine.db ≡ db → maps_from (contents_of opening.items) ≡ maps_now P.store machine }
+    requires none { calls.total ≡ 0 }
+{
+    let machine = Machine::new(db);
+    State {
+        machine,
+        opening,
+        history: Vec::new(alloc),
+        calls,
+    }
+}
+
+impl<P: Pages, L: Ledger, M: MergeOperator> Db<P, L, M> {
+    /// Shares a database among so many callers. Its ledger is the one that is handed in unopened, with a part for each caller and one more.
+    /// Refused as an export is, with the database given back as it was: with `Closed`, with `Io` where a page cannot be read, and with
+    /// `NoMemory`.
+    ///
+    /// ```
+    /// let blank = std::sync::ledger::Blank::new(3); // For two callers.
+    /// let shared = sled_shared::Db::<MemPages, std::marker::Brand>::new(rt, alloc, db, blank, 2);
+    /// ```
+    pub fn new(
+        rt: &impl Wait,
+        alloc: Global,
+        db: Owned<P, M>,
+        blank: Blank,
+        callers: u64,
+    ) -> std::result::Result<Db<P, L, M>, (Owned<P, M>, Error)>
+        requires name { blank.name ≡ L.name }
+        requires parts { blank.parts ≡ L.parts }
+        requires each { blank.parts ≡ callers + 1 }
+        ensures ok { IfOk result (λ shared. shared ≡ record { callers = callers; given = 0 }) }
+        ensures same { IfErr result (λ e. e.0 ≡ db) }
+        ensures err { IfErr result (λ e. RefusesExport (P.store db.pages) e.1) }
+    {
+        let opening = match db.export() {
+            Ok(opening) => opening,
+            Err(e) => {
+                drop(blank);
+                return Err((db, e));
+            }
+        };
+        let lock = match Arc::new(alloc, Mutex::new(None)) {
+            Ok(lock) => lock,
+            Err(failed) => {
+                drop(failed);
+                drop(opening);
+                drop(blank);
+                return Err((db, Error::NoMemory));
+            }
+        };
+        db.audit();
+        let (calls, rest) = blank.open::<L>();
+        fill(rt, &lock, first_state(alloc, db, opening, calls));
+        Ok(Db {
+            lock,
+            callers,
+            given: 0,
+            rest,
+        })
+    }
+
+    /// A handle for one caller more, whose number is the next, from 1. Refused with `Unsupported` (`numbers used up`) where all callers
+    /// have one, and with `NoMemory`; nothing changes then.
+    ///
+    /// ```
+    /// let one = shared.handle(alloc)?; // For one thread,
+    /// let two = shared.handle(alloc)?; // and for another.
+    /// ```
+    pub fn handle(&mut self, alloc: Global) -> Result<Handle<P, L, M>>
+        ensures ok { IfOk result (λ h. h ≡ record { number = self.old.given + 1; made = [] }) }
+        ensures next { OnOk result (self.new ≡ record (self.old) { given = self.old.given + 1 }) }
+        ensures all { OnOk result (self.old.given < self.old.callers) }
+        ensures err { OnErr result (self.new ≡ self.old) }
+        ensures cause { IfErr result (RefusesHandle self.old) }
+    {
+        if self.given == self.callers {
+            return Err(Error::Unsupported(NUMBERS_USED_UP));
+        }
+        let Ok(lock) = Arc::try_clone(&self.lock) else {
+            return Err(Error::NoMemory);
+        };
+        let share = self.rest.split_off(1, 0);
+        self.given += 1;
+        let me = Caller::new(Vec::new(alloc), self.given, share);
+        Ok(Handle::new(lock, me))
+    }
+}
+
+// Puts a state under its lock.
+fn fill<P: Pages, L: Ledger, M: MergeOperator>(
+    rt: &impl Wait,
+    lock: &Mutex<Option<State<P, L, M>>>,
+    state: State<P, L, M>,
+) {
+    let mut guard = lock.lock(rt);
+    let slot = &mut *guard;
+    *slot = Some(state);
+}

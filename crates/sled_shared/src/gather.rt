@@ -1,0 +1,99 @@
+//! The state, out of its lock.
+ghost use Rattle.std.specs.Prelude.{◌≡◌, true, All, IfOk, IfErr, IfSome, length, vec_len};
+ghost use Rattle.sled_shared.specs.History.{IsLegal, maps_from};
+ghost use Rattle.sled_shared.specs.Sound.{IsOpen, maps_now};
+ghost use Rattle.sled_shared.specs.Gathered.{EachOnce, IsMadeIn, IsOfGiven};
+
+use crate::compare::{all_agree, are_all, has_no_others};
+use crate::db::Db;
+use crate::handle::Handle;
+use crate::state::State;
+use sled_model::MergeOperator;
+use sled_store::Pages;
+use std::sync::Wait;
+use std::sync::ledger::Ledger;
+
+// Whether each list is that of its caller's entries, and there are no others.
+fn agrees_with<P: Pages, L: Ledger, M: MergeOperator>(
+    state: &State<P, L, M>,
+    handles: &[Handle<P, L, M>],
+    given: u64,
+) -> bool
+    ensures made { result ≡ true → All (IsMadeIn state.now.history) handles.now }
+    ensures others { result ≡ true → All (IsOfGiven given) state.now.history }
+{
+    let history = state.history();
+    has_no_others(history, given) && all_agree(history, handles)
+}
+
+impl<P: Pages, L: Ledger, M: MergeOperator> Db<P, L, M> {
+    /// Takes the state out, once all callers are done. All handles that were made must be handed in, in any order; where none was made the
+    /// empty list is all. Each handle's list is compared with the history: it must be that of the entries with its number, in order, and
+    /// the history must have no others. Where it is not so, all is given back as it was. The history of the state is legal, while its
+    /// database is open.
+    ///
+    /// ```
+    /// match shared.gather(rt, handles) {
+    ///     Ok(state) => drop(state.into_machine()),
+    ///     Err((shared, handles)) => drop((shared, handles)), // Some handle is missing.
+    /// }
+    /// ```
+    pub fn gather(
+        self,
+        rt: &impl Wait,
+        handles: Vec<Handle<P, L, M>>,
+    ) -> std::result::Result<State<P, L, M>, (Db<P, L, M>, Vec<Handle<P, L, M>>)>
+        ensures count { IfOk result (λ s. vec_len handles ≡ self.given) }
+        ensures numbers { IfOk result (λ s. EachOnce self.given handles.items) }
+        ensures made { IfOk result (λ s. All (IsMadeIn s.history) handles.items) }
+        ensures others { IfOk result (λ s. All (IsOfGiven self.given) s.history) }
+        ensures legal { IfOk result (λ s. IsOpen P.store s.machine → IsLegal (maps_from s.opening) s.history (maps_now P.store s.machine)) }
+        ensures err { IfErr result (λ e. (e.0 ≡ self) × (e.1 ≡ handles)) }
+    {
+        match self.take_if(rt, handles.as_slice()) {
+            Some(state) => {
+                state.audit();
+                drop(handles);
+                drop(self);
+                Ok(state)
+            }
+            None => Err((self, handles)),
+        }
+    }
+
+    // The state, where all handles are there and agree with it; else it stays.
+    fn take_if(&self, rt: &impl Wait, handles: &[Handle<P, L, M>]) -> Option<State<P, L, M>>
+        ensures count { IfSome result (λ s. length handles.now ≡ self.now.given) }
+        ensures numbers { IfSome result (λ s. EachOnce self.now.given handles.now) }
+        ensures made { IfSome result (λ s. All (IsMadeIn s.history) handles.now) }
+        ensures others { IfSome result (λ s. All (IsOfGiven self.now.given) s.history) }
+    {
+        if !are_all(handles, self.given) {
+            return None;
+        }
+        let mut guard = self.lock.lock(rt);
+        take_agreeing(&mut *guard, handles, self.given)
+    }
+}
+
+// The state, where it agrees with the handles; else it stays.
+fn take_agreeing<P: Pages, L: Ledger, M: MergeOperator>(
+    slot: &mut Option<State<P, L, M>>,
+    handles: &[Handle<P, L, M>],
+    given: u64,
+) -> Option<State<P, L, M>>
+    ensures made { IfSome result (λ s. All (IsMadeIn s.history) handles.now) }
+    ensures others { IfSome result (λ s. All (IsOfGiven given) s.history) }
+{
+    match slot.take() {
+        None => None,
+        Some(state) => {
+            if agrees_with(&state, handles, given) {
+                Some(state)
+            } else {
+                *slot = Some(state);
+                None
+            }
+        }
+    }
+}

@@ -1,0 +1,292 @@
+//! Callers' ways to a database that is shared.
+ghost use Rattle.std.specs.Prelude.{◌≡◌, ◌++◌};
+ghost use Rattle.std.specs.Option.{option_copied};
+ghost use Rattle.sled_model.specs.State.{IsOnKey};
+ghost use Rattle.sled_model.specs.declared.call.Call.TheVariants.{Get, Insert, Remove, CompareAndSwap, Merge};
+ghost use Rattle.sled_shared.specs.Made.{made_values};
+ghost use Rattle.sled_shared.specs.Notes.{AddsStep, noted_of};
+
+use crate::caller::Caller;
+use crate::entry::Made;
+use crate::state::State;
+use sled_model::{Call, MergeOperator, Outcome, Slot, Tree};
+use sled_nodes::{Error, Result};
+use sled_store::Pages;
+use std::alloc::Global;
+use std::marker::Model;
+use std::sync::ledger::Ledger;
+use std::sync::{Arc, Mutex, Wait};
+
+/// What is called between two steps of a call, while the lock is free.
+pub trait Gate {
+    /// Is called after each step that went on.
+    fn between(&self);
+}
+
+/// A gate that does nothing.
+pub struct NoGate;
+
+impl Gate for NoGate {
+    fn between(&self) {}
+}
+
+/// A caller's way to a database that is shared. It goes to a thread by value, and comes back to `gather`.
+#[derive(Drop)]
+pub struct Handle<P: Pages, L: Ledger, M = Box<dyn MergeOperator + Send>> {
+    lock: Arc<Mutex<Option<State<P, L, M>>>>,
+    me: Caller<L>,
+}
+
+impl<P: Pages, L: Ledger, M> Model for Handle<P, L, M> {
+    ghost use Rattle.sled_shared.specs.Values.{CallerValue};
+
+    ghost Value = { CallerValue };
+
+    ghost view = { λ h. h.me };
+}
+
+impl<P: Pages, L: Ledger, M> Handle<P, L, M> {
+    // A caller's way to what is under the lock.
+    pub(crate) fn new(lock: Arc<Mutex<Option<State<P, L, M>>>>, me: Caller<L>) -> Handle<P, L, M>
+        ensures { result ≡ me }
+    {
+        Handle { lock, me }
+    }
+
+    /// The caller's number: handles are numbered from 1, in order of the calls that made them.
+    ///
+    /// ```
+    /// let number = handle.number(); // As each of its entries in the history has it.
+    /// ```
+    pub fn number(&self) -> u64
+        ensures { result ≡ self.now.number }
+    {
+        self.me.number
+    }
+
+    /// What this caller made, in order: each of its calls on a key that was decided, with its reply.
+    ///
+    /// ```
+    /// let count = handle.made().len();
+    /// ```
+    pub fn made(&self) -> &[Made]
+        ensures { made_values result.now ≡ self.now.made }
+    {
+        self.me.made.as_slice()
+    }
+}
+
+impl<P: Pages, L: Ledger, M: MergeOperator> Handle<P, L, M> {
+    /// Begins a call on a tree, which takes a slot. Refused as `begin` of the machine is.
+    ///
+    /// ```
+    /// let slot = handle.begin(rt, &tree, Call::get(alloc, b"ulm")?)?;
+    /// ```
+    pub fn begin(&mut self, rt: &impl Wait, tree: &Tree, call: Call) -> Result<Slot>
+        ensures { self.new ≡ self.old }
+    {
+        let mut guard = self.lock.lock(rt);
+        match &mut *guard {
+            None => {
+                drop(call);
+                Err(Error::Closed)
+            }
+            Some(state) => state.begin(tree, call),
+        }
+    }
+
+    /// One step of the call in the slot, whoever began it. A call on a key that it decides becomes this caller's.
+    ///
+    /// ```
+    /// let outcome = handle.step(rt, slot);
+    /// ```
+    pub fn step(&mut self, rt: &impl Wait, slot: Slot) -> Outcome
+        ensures made { AddsStep result self.old.made self.new.made }
+        ensures number { self.new.number ≡ self.old.number }
+    {
+        let mut guard = self.lock.lock(rt);
+        match &mut *guard {
+            None => Outcome::Refused(Error::Closed),
+            Some(state) => state.step_adding(&mut self.me, slot),
+        }
+    }
+
+    /// Gives the call in the slot up, whoever began it.
+    ///
+    /// ```
+    /// let outcome = handle.abandon(rt, slot); // `Abandoned`, or `NoSuchSlot`.
+    /// ```
+    pub fn abandon(&mut self, rt: &impl Wait, slot: Slot) -> Outcome
+        ensures { self.new ≡ self.old }
+    {
+        let mut guard = self.lock.lock(rt);
+        match &mut *guard {
+            None => Outcome::Refused(Error::Closed),
+            Some(state) => state.abandon(slot),
+        }
+    }
+
+    // One step of the call in the slot, if it is this one.
+    fn step_of(&mut self, rt: &impl Wait, slot: Slot, tree: &Tree, call: &Call) -> Outcome
+        requires { IsOnKey call.now }
+        ensures made { self.new.made ≡ self.old.made ++ noted_of result tree.now call.now }
+        ensures number { self.new.number ≡ self.old.number }
+    {
+        let mut guard = self.lock.lock(rt);
+        match &mut *guard {
+            None => Outcome::Refused(Error::Closed),
+            Some(state) => state.step_of(&mut self.me, slot, tree, call),
+        }
+    }
+
+    // Steps of the call in the slot until one does not go on. After each that does the gate is called.
+    fn steps(
+        &mut self,
+        rt: &impl Wait,
+        slot: Slot,
+        tree: &Tree,
+        call: &Call,
+        gate: &impl Gate,
+    ) -> Outcome
+        requires { IsOnKey call.now }
+        ensures made { self.new.made ≡ self.old.made ++ noted_of result tree.now call.now }
+        ensures number { self.new.number ≡ self.old.number }
+    {
+        for _ in rt.forever() {
+            match self.step_of(rt, slot, tree, call) {
+                Outcome::Moved => gate.between(),
+                other => return other,
+            }
+        }
+        unreachable!()
+    }
+
+    /// Makes a call on a key of a tree, step by step until a reply. The lock is taken for each step and is free between two, where the
+    /// gate is called. A call that is decided comes to the end of this caller's list, with its reply. It must be no scan: that it is
+    /// none is what `Call::is_on_key` tells. Where another caller ended the slot the answer is `NoSuchSlot`, and nothing comes to the
+    /// list.
+    ///
+    /// ```
+    /// let outcome = handle.call(rt, &tree, Call::insert(alloc, b"ulm", b"21")?, &NoGate);
+    /// ```
+    pub fn call(&mut self, rt: &impl Wait, tree: &Tree, call: Call, gate: &impl Gate) -> Outcome
+        requires { IsOnKey call }
+        ensures made { self.new.made ≡ self.old.made ++ noted_of result tree.now call }
+        ensures number { self.new.number ≡ self.old.number }
+    {
+        let again = match call.clone() {
+            Ok(again) => again,
+            Err(e) => {
+                drop(call);
+                return Outcome::Refused(e);
+            }
+        };
+        let slot = match self.begin(rt, tree, call) {
+            Ok(slot) => slot,
+            Err(e) => {
+                drop(again);
+                return Outcome::Refused(e);
+            }
+        };
+        let outcome = self.steps(rt, slot, tree, &again, gate);
+        drop(again);
+        outcome
+    }
+
+    /// Asks for the value at a key, as `call` does without a gate. Want of memory for the call is `Refused` too, as in the next four.
+    ///
+    /// ```
+    /// let outcome = handle.get(rt, alloc, &tree, b"ulm");
+    /// ```
+    pub fn get(&mut self, rt: &impl Wait, alloc: Global, tree: &Tree, key: &[u8]) -> Outcome
+        ensures made { self.new.made ≡ self.old.made ++ noted_of result tree.now (Get key.now) }
+        ensures number { self.new.number ≡ self.old.number }
+    {
+        match Call::get(alloc, key) {
+            Ok(call) => self.call(rt, tree, call, &NoGate),
+            Err(e) => Outcome::Refused(e),
+        }
+    }
+
+    /// Sets the value at a key, and replies with the value that stood there.
+    ///
+    /// ```
+    /// let outcome = handle.insert(rt, alloc, &tree, b"ulm", b"21");
+    /// ```
+    pub fn insert(
+        &mut self,
+        rt: &impl Wait,
+        alloc: Global,
+        tree: &Tree,
+        key: &[u8],
+        value: &[u8],
+    ) -> Outcome
+        ensures made { self.new.made ≡ self.old.made ++ noted_of result tree.now (Insert key.now value.now) }
+        ensures number { self.new.number ≡ self.old.number }
+    {
+        match Call::insert(alloc, key, value) {
+            Ok(call) => self.call(rt, tree, call, &NoGate),
+            Err(e) => Outcome::Refused(e),
+        }
+    }
+
+    /// Takes a key out, and replies with the value that stood there.
+    ///
+    /// ```
+    /// let outcome = handle.remove(rt, alloc, &tree, b"ulm");
+    /// ```
+    pub fn remove(&mut self, rt: &impl Wait, alloc: Global, tree: &Tree, key: &[u8]) -> Outcome
+        ensures made { self.new.made ≡ self.old.made ++ noted_of result tree.now (Remove key.now) }
+        ensures number { self.new.number ≡ self.old.number }
+    {
+        match Call::remove(alloc, key) {
+            Ok(call) => self.call(rt, tree, call, &NoGate),
+            Err(e) => Outcome::Refused(e),
+        }
+    }
+
+    /// Where the first value stands at a key it becomes the second one; `None` is no value.
+    ///
+    /// ```
+    /// let outcome = handle.compare_and_swap(rt, alloc, &tree, b"ulm", Some(b"21"), None); // Takes the key out where `21` stands.
+    /// ```
+    pub fn compare_and_swap(
+        &mut self,
+        rt: &impl Wait,
+        alloc: Global,
+        tree: &Tree,
+        key: &[u8],
+        old: Option<&[u8]>,
+        new: Option<&[u8]>,
+    ) -> Outcome
+        ensures made { self.new.made ≡ self.old.made ++ noted_of result tree.now (CompareAndSwap key.now (option_copied old.entry) (option_copied new.entry)) }
+        ensures number { self.new.number ≡ self.old.number }
+    {
+        match Call::compare_and_swap(alloc, key, old, new) {
+            Ok(call) => self.call(rt, tree, call, &NoGate),
+            Err(e) => Outcome::Refused(e),
+        }
+    }
+
+    /// Joins bytes to the value at a key, by the merge operator of the tree, and replies with the new value.
+    ///
+    /// ```
+    /// let outcome = handle.merge(rt, alloc, &tree, b"visits", &1u64.to_be_bytes());
+    /// ```
+    pub fn merge(
+        &mut self,
+        rt: &impl Wait,
+        alloc: Global,
+        tree: &Tree,
+        key: &[u8],
+        bytes: &[u8],
+    ) -> Outcome
+        ensures made { self.new.made ≡ self.old.made ++ noted_of result tree.now (Merge key.now bytes.now) }
+        ensures number { self.new.number ≡ self.old.number }
+    {
+        match Call::merge(alloc, key, bytes) {
+            Ok(call) => self.call(rt, tree, call, &NoGate),
+            Err(e) => Outcome::Refused(e),
+        }
+    }
+}

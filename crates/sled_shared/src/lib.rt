@@ -1,0 +1,34 @@
+//! One database for many callers, with the history of what they made.
+//!
+//! A `Db` holds a machine under a lock, and each caller has a `Handle` to it. The lock is taken for one step of one call, and is free
+//! between two steps, so the calls of several threads go on side by side. Each call on a key that is decided is noted: at the end of
+//! the history, with the number of the caller whose step decided it, and at the end of that caller's own list.
+//!
+//! Whenever the lock is free the history is legal, as long as no group was refused midway: from the collections that the database began
+//! with, each call replied and wrote what it would have, made alone at its place, and the maps after the last are the maps now
+//! (`specs/History`, `specs/Sound`). A caller's list is no longer than its share of the entries, which a ledger counts. At the end `gather`
+//! takes all handles back and compares: each list is that of its caller's entries, and the history has no others.
+//!
+//! ```
+//! // For two callers: a ledger with a part for each, and one more. At `Err` the database is given back.
+//! let blank = std::sync::ledger::Blank::new(3);
+//! let shared = sled_shared::Db::<MemPages, std::marker::Brand>::new(rt, alloc, db, blank, 2);
+//! ```
+#![tactic(auto)]
+
+mod caller;
+mod compare;
+mod db;
+mod entry;
+mod gather;
+mod handle;
+mod kept;
+mod noting;
+mod state;
+mod steps;
+
+pub use caller::Caller;
+pub use db::Db;
+pub use entry::{Entry, Made};
+pub use handle::{Gate, Handle, NoGate};
+pub use state::State;

@@ -1,0 +1,195 @@
+//! Steps that are noted, over the parts of a state.
+ghost use Rattle.std.specs.Prelude.{◌≡◌, ◌<◌, ◌+◌, ◌++◌, ◌∷◌, [], true, IfOk, IfSome, OnOk, Some, vec_len, vec_capacity, length};
+ghost use Rattle.std.specs.Option.{option_map};
+ghost use Rattle.sled_machine.specs.Values.{slots_of, job_of_call};
+ghost use Rattle.sled_shared.specs.Made.{PointMade, made_value, made_values, entry_values};
+ghost use Rattle.sled_shared.specs.Notes.{entries_of, noted_in};
+ghost use Rattle.sled_shared.specs.Steps.{SlotStep};
+ghost use Rattle.sled_shared.specs.theory.Noting.{first_noted, is_on_key_in, second_noted};
+
+use crate::entry::{Entry, Made};
+use crate::kept::{refuse_step, step, step_kept};
+use sled_machine::{Job, Machine};
+use sled_model::{MergeOperator, Outcome, Reply, Slot};
+use sled_nodes::{Error, Result};
+use sled_store::Pages;
+use std::sync::ledger::{Book, Ledger, Share};
+
+// The same job.
+fn copy_of(job: &Job) -> Result<Job>
+    ensures { IfOk result (λ copy. copy ≡ job.now) }
+{
+    let tree = job.tree.clone()?;
+    match job.call.clone() {
+        Ok(call) => Ok(Job { tree, call }),
+        Err(e) => {
+            drop(tree);
+            Err(e)
+        }
+    }
+}
+
+// The same job, twice.
+fn copies_of(job: &Job) -> Result<(Job, Job)>
+    ensures first { IfOk result (λ both. both.0 ≡ job.now) }
+    ensures second { IfOk result (λ both. both.1 ≡ both.0) }
+{
+    let first = copy_of(job)?;
+    match copy_of(job) {
+        Ok(second) => Ok((first, second)),
+        Err(e) => {
+            drop(first);
+            Err(e)
+        }
+    }
+}
+
+// What the call in the slot is to do, twice.
+fn jobs_in<P: Pages, M: MergeOperator>(machine: &Machine<P, M>, slot: Slot) -> Result<(Job, Job)>
+    ensures first { IfOk result (λ both. option_map job_of_call (slots_of machine.now.flights slot) ≡ Some (both.0.tree, both.0.call)) }
+    ensures second { IfOk result (λ both. both.1 ≡ both.0) }
+{
+    match machine.job(slot) {
+        Some(job) => copies_of(job),
+        None => Err(Error::NoMemory),
+    }
+}
+
+// Whether the slot has a call on a key.
+fn is_on_key_in<P: Pages, M: MergeOperator>(machine: &Machine<P, M>, slot: Slot) -> bool
+    ensures { result ≡ is_on_key_in (slots_of machine.now.flights slot) }
+{
+    match machine.job(slot) {
+        Some(job) => job.call.is_on_key(),
+        None => false,
+    }
+}
+
+// Room for one more in both lists.
+fn make_room(history: &mut Vec<Entry>, made: &mut Vec<Made>) -> Result<()>
+    ensures history { history.new.items ≡ history.old.items }
+    ensures made { made.new.items ≡ made.old.items }
+    ensures room { OnOk result (vec_len history.new < vec_capacity history.new) }
+    ensures room_there { OnOk result (vec_len made.new < vec_capacity made.new) }
+{
+    history.reserve(1)?;
+    made.reserve(1)?;
+    Ok(())
+}
+
+// A call on a key with its reply, twice.
+fn twice(jobs: (Job, Job), one: Reply, two: Reply) -> (Made, Made)
+    requires jobs { jobs.1 ≡ jobs.0 }
+    requires replies { two ≡ one }
+    ensures first { made_value result.0 ≡ PointMade jobs.0.tree jobs.0.call one }
+    ensures second { made_value result.1 ≡ PointMade jobs.0.tree jobs.0.call one }
+{
+    let (first, second) = jobs;
+    (
+        Made::Point(first.tree, first.call, one),
+        Made::Point(second.tree, second.call, two),
+    )
+}
+
+// A step of a call on a key, whose job comes twice; and what is to be noted of it, twice.
+fn step_of_jobs<P: Pages, M: MergeOperator>(
+    machine: &mut Machine<P, M>,
+    slot: Slot,
+    jobs: (Job, Job),
+) -> (Outcome, Option<(Made, Made)>)
+    requires key { is_on_key_in (slots_of machine.old.flights slot) ≡ true }
+    requires first { option_map job_of_call (slots_of machine.old.flights slot) ≡ Some (jobs.0.tree, jobs.0.call) }
+    requires second { jobs.1 ≡ jobs.0 }
+    ensures step { SlotStep P.store P.flush_number M.meant machine.old slot result.0 machine.new }
+    ensures noted { first_noted result.1 ≡ noted_in result.0 (slots_of machine.old.flights slot) }
+    ensures again { second_noted result.1 ≡ first_noted result.1 }
+{
+    let (outcome, kept) = step_kept(machine, slot);
+    match kept {
+        None => {
+            drop(jobs);
+            (outcome, None)
+        }
+        Some((one, two)) => (outcome, Some(twice(jobs, one, two))),
+    }
+}
+
+// A step of a slot, and what is to be noted of it, twice, with room for it in both lists. Room and copies are made before the step, and
+// want of memory for them refuses it.
+fn step_noting<P: Pages, M: MergeOperator>(
+    machine: &mut Machine<P, M>,
+    history: &mut Vec<Entry>,
+    made: &mut Vec<Made>,
+    slot: Slot,
+) -> (Outcome, Option<(Made, Made)>)
+    ensures step { SlotStep P.store P.flush_number M.meant machine.old slot result.0 machine.new }
+    ensures noted { first_noted result.1 ≡ noted_in result.0 (slots_of machine.old.flights slot) }
+    ensures again { second_noted result.1 ≡ first_noted result.1 }
+    ensures history { history.new.items ≡ history.old.items }
+    ensures made { made.new.items ≡ made.old.items }
+    ensures room { IfSome result.1 (λ both. vec_len history.new < vec_capacity history.new) }
+    ensures room_there { IfSome result.1 (λ both. vec_len made.new < vec_capacity made.new) }
+{
+    if !is_on_key_in(machine, slot) {
+        return (step(machine, slot), None);
+    }
+    if let Err(e) = make_room(history, made) {
+        drop(e);
+        return (refuse_step(machine, slot), None);
+    }
+    match jobs_in(machine, slot) {
+        Ok(jobs) => step_of_jobs(machine, slot, jobs),
+        Err(e) => {
+            drop(e);
+            (refuse_step(machine, slot), None)
+        }
+    }
+}
+
+// What was made comes to the end of the history, with the number of its caller, and of the caller's list.
+fn note(history: &mut Vec<Entry>, made: &mut Vec<Made>, number: u64, both: (Made, Made))
+    requires room { vec_len history.old < vec_capacity history.old }
+    requires room_there { vec_len made.old < vec_capacity made.old }
+    ensures history { entry_values history.new.items ≡ entry_values history.old.items ++ entries_of number (made_value both.0 ∷ []) }
+    ensures made { made_values made.new.items ≡ made_values made.old.items ++ made_value both.1 ∷ [] }
+    ensures longer { length history.new.items ≡ length history.old.items + 1 }
+    ensures longer_there { length made.new.items ≡ length made.old.items + 1 }
+{
+    let (one, two) = both;
+    history.push_reserved(Entry {
+        by: number,
+        made: one,
+    });
+    made.push_reserved(two);
+}
+
+// A step of a slot, over the parts of a state and of a caller. A call on a key that it decides is noted, and counted.
+pub(crate) fn step_in<P: Pages, L: Ledger, M: MergeOperator>(
+    machine: &mut Machine<P, M>,
+    history: &mut Vec<Entry>,
+    calls: &mut Book<L>,
+    number: u64,
+    made: &mut Vec<Made>,
+    share: &mut Share<L>,
+    slot: Slot,
+) -> Outcome
+    requires part { share.old.parts ≡ 1 }
+    requires counted { length history.old.items ≡ calls.old.total }
+    requires shared { share.old.amount ≡ length made.old.items }
+    ensures step { SlotStep P.store P.flush_number M.meant machine.old slot result machine.new }
+    ensures history { entry_values history.new.items ≡ entry_values history.old.items ++ entries_of number (noted_in result (slots_of machine.old.flights slot)) }
+    ensures made { made_values made.new.items ≡ made_values made.old.items ++ noted_in result (slots_of machine.old.flights slot) }
+    ensures part { share.new.parts ≡ 1 }
+    ensures counted { length history.new.items ≡ calls.new.total }
+    ensures shared { share.new.amount ≡ length made.new.items }
+{
+    let (outcome, noted) = step_noting(machine, history, made, slot);
+    match noted {
+        None => outcome,
+        Some(both) => {
+            note(history, made, number, both);
+            calls.add(share, 1);
+            outcome
+        }
+    }
+}

@@ -1,0 +1,186 @@
+//! What callers do to a state.
+ghost use Rattle.std.specs.Prelude.{◌≡◌, true, ◌++◌, Some, IfOk, IfErr};
+ghost use Rattle.std.specs.Option.{option_map};
+ghost use Rattle.sled_model.specs.Collections.{contents_of};
+ghost use Rattle.sled_model.specs.State.{IsOnKey};
+ghost use Rattle.sled_model.specs.declared.outcome.Step.TheVariants as step;
+ghost use Rattle.sled_model.specs.declared.outcome.Outcome.TheVariants as outcome;
+ghost use Rattle.sled_machine.specs.Step.{MachineStepContract};
+ghost use Rattle.sled_machine.specs.Values.{slots_of, job_of_call};
+ghost use Rattle.sled_shared.specs.History.{IsLegal, maps_from};
+ghost use Rattle.sled_shared.specs.Made.{entry_values};
+ghost use Rattle.sled_shared.specs.Notes.{AddsStep, entries_of, noted_in, noted_of};
+ghost use Rattle.sled_shared.specs.Sound.{IsOpen, maps_now};
+ghost use Rattle.sled_shared.specs.Steps.{SlotStep};
+ghost use Rattle.sled_shared.specs.theory.Noting.{job_pair};
+
+use crate::caller::Caller;
+use crate::entry::Entry;
+use crate::noting::step_in;
+use crate::state::State;
+use sled_machine::{Job, Machine};
+use sled_model::{Call, Collection, MergeOperator, Outcome, Slot, Tree};
+use sled_nodes::Result;
+use sled_store::Pages;
+use std::sync::ledger::Ledger;
+
+// Whether the job is this call.
+fn is_job(job: &Job, tree: &Tree, call: &Call) -> bool
+    ensures { result ≡ true → (job.now.tree ≡ tree.now) × (job.now.call ≡ call.now) }
+{
+    job.tree == *tree && job.call == *call
+}
+
+// Whether the slot has this call.
+fn has_job<P: Pages, M: MergeOperator>(
+    machine: &Machine<P, M>,
+    slot: Slot,
+    tree: &Tree,
+    call: &Call,
+) -> bool
+    ensures { result ≡ true → option_map job_of_call (slots_of machine.now.flights slot) ≡ Some (job_pair tree.now call.now) }
+{
+    match machine.job(slot) {
+        Some(job) => is_job(job, tree, call),
+        None => false,
+    }
+}
+
+impl<P: Pages, L: Ledger, M: MergeOperator> State<P, L, M> {
+    /// Begins a call on a tree, as `begin` of the machine does. Nothing is noted.
+    ///
+    /// ```
+    /// let slot = state.begin(&tree, Call::get(alloc, b"ulm")?)?;
+    /// ```
+    pub fn begin(&mut self, tree: &Tree, call: Call) -> Result<Slot>
+        ensures ok { IfOk result (λ slot. MachineStepContract P.store P.flush_number M.meant self.old.machine (step.Begin tree.now call) (outcome.Begun slot) self.new.machine) }
+        ensures err { IfErr result (λ e. MachineStepContract P.store P.flush_number M.meant self.old.machine (step.Begin tree.now call) (outcome.Refused e) self.new.machine) }
+        ensures history { self.new.history ≡ self.old.history }
+        ensures opening { self.new.opening ≡ self.old.opening }
+    {
+        self.machine.begin(tree, call)
+    }
+
+    /// One step of the call in the slot, as `step` of the machine does it. A call on a key that is decided is noted as this caller's:
+    /// the history and the caller's list are longer by it and its reply. A scan is never noted. Room and copies are made before the
+    /// step: where there is no memory for them the call is refused with `NoMemory`, and its slot is gone.
+    ///
+    /// ```
+    /// let outcome = state.step(&mut me, slot);
+    /// ```
+    pub fn step(&mut self, me: &mut Caller<L>, slot: Slot) -> Outcome
+        ensures step { SlotStep P.store P.flush_number M.meant self.old.machine slot result self.new.machine }
+        ensures history { self.new.history ≡ self.old.history ++ entries_of me.old.number (noted_in result (slots_of self.old.machine.flights slot)) }
+        ensures made { me.new.made ≡ me.old.made ++ noted_in result (slots_of self.old.machine.flights slot) }
+        ensures number { me.new.number ≡ me.old.number }
+        ensures opening { self.new.opening ≡ self.old.opening }
+    {
+        let Caller {
+            number,
+            made,
+            share,
+        } = me;
+        step_in(
+            &mut self.machine,
+            &mut self.history,
+            &mut self.calls,
+            *number,
+            made,
+            share,
+            slot,
+        )
+    }
+
+    // The same, where what comes to the caller's list is told by the outcome alone.
+    pub(crate) fn step_adding(&mut self, me: &mut Caller<L>, slot: Slot) -> Outcome
+        ensures made { AddsStep result me.old.made me.new.made }
+        ensures number { me.new.number ≡ me.old.number }
+    {
+        self.step(me, slot)
+    }
+
+    // The same, if the slot has this call on a key. Without the call in it no step is made, and there is no such slot for the caller.
+    pub(crate) fn step_of(
+        &mut self,
+        me: &mut Caller<L>,
+        slot: Slot,
+        tree: &Tree,
+        call: &Call,
+    ) -> Outcome
+        requires { IsOnKey call.now }
+        ensures made { me.new.made ≡ me.old.made ++ noted_of result tree.now call.now }
+        ensures number { me.new.number ≡ me.old.number }
+    {
+        if !has_job(&self.machine, slot, tree, call) {
+            return Outcome::NoSuchSlot;
+        }
+        self.step(me, slot)
+    }
+
+    /// Gives the call in the slot up, as `abandon` of the machine does. Nothing is noted.
+    ///
+    /// ```
+    /// let outcome = state.abandon(slot); // `Abandoned`, or `NoSuchSlot`.
+    /// ```
+    pub fn abandon(&mut self, slot: Slot) -> Outcome
+        ensures step { MachineStepContract P.store P.flush_number M.meant self.old.machine (step.Abandon slot) result self.new.machine }
+        ensures history { self.new.history ≡ self.old.history }
+        ensures opening { self.new.opening ≡ self.old.opening }
+    {
+        self.machine.abandon(slot)
+    }
+
+    /// The collections that the database began with, as its export gave them.
+    ///
+    /// ```
+    /// let collections = state.opening(); // Of each tree its name and its pairs.
+    /// ```
+    pub fn opening(&self) -> &[Collection]
+        ensures { contents_of result.now ≡ self.now.opening }
+    {
+        self.opening.as_slice()
+    }
+
+    /// What callers made, in the order of the steps that decided it.
+    ///
+    /// ```
+    /// let made = state.history().len(); // As many as all callers made.
+    /// ```
+    pub fn history(&self) -> &[Entry]
+        ensures { entry_values result.now ≡ self.now.history }
+    {
+        self.history.as_slice()
+    }
+
+    /// What holds of every state: while its database is open, the history is legal. From the opening on each entry's call replied and wrote
+    /// what it would have, made alone at its place, and the maps after the last entry are the maps now. It does nothing.
+    ///
+    /// ```
+    /// state.audit(); // From here on a proof knows that the history is legal.
+    /// ```
+    pub fn audit(&self)
+        ensures { IsOpen P.store self.now.machine → IsLegal (maps_from self.now.opening) self.now.history (maps_now P.store self.now.machine) }
+    {
+        let _history = &self.history;
+    }
+
+    /// The machine. The history is let go.
+    ///
+    /// ```
+    /// let db = state.into_machine().into_db();
+    /// ```
+    pub fn into_machine(self) -> Machine<P, M>
+        ensures { result ≡ self.machine }
+    {
+        let State {
+            machine,
+            opening,
+            history,
+            calls,
+        } = self;
+        drop(opening);
+        drop(history);
+        drop(calls);
+        machine
+    }
+}
