@@ -34,7 +34,7 @@ use Rattle.sled_shared.specs.Sound.{IsOpen, maps_now, IsState}
 no_some : {X : Type 0} {x : X} {P : Type 0} → None ≡ Some x → P
 no_some e = cc
 
-legal_end : {a m b : Maps} {es : List EntryValue} (e : EntryValue) → IsLegal a es m → makes_as m e.made b → IsLegal a (es ++ e ∷ []) b
+pub legal_end : {a m b : Maps} {es : List EntryValue} (e : EntryValue) → IsLegal a es m → makes_as m e.made b → IsLegal a (es ++ e ∷ []) b
 legal_end e NoEntries h = OneEntry h NoEntries
 legal_end e (OneEntry x rest) h = OneEntry x (legal_end e rest h)
 
@@ -80,7 +80,7 @@ point old slot reply new d = record {
     go false t o = refl
 
 -- the maps are the same by whatever operators
-maps_same : {P M : Type 0} (store : P → Store) (meant : M → Merge) (m : MachineValue P M) (number : P → ℕ) → maps_of (configuration_of store number meant m).state ≡ maps_now store m
+pub maps_same : {P M : Type 0} (store : P → Store) (meant : M → Merge) (m : MachineValue P M) (number : P → ℕ) → maps_of (configuration_of store number meant m).state ≡ maps_now store m
 maps_same store meant m number = fun_ext (λ name. go (numbers_of m.db.trees name) (trees_of (now (store m.db.pages)) name) _ _)
   where
     go : (o : Option ℕ) (t : Option Map) (f g : ℕ → Option Merge) → option_map (λ (t : NamedTree). t.map) (named o t f) ≡ option_map (λ (t : NamedTree). t.map) (named o t g)
@@ -96,7 +96,7 @@ module _ {P M : Type 0} (store : P → Store) (number : P → ℕ) (meant : M �
   quiet opening history opens same h o = subst (λ m. IsLegal (maps_from opening) history m) (sym (maps_same store meant a number) ∙ sym same ∙ maps_same store meant b number) (h (sym opens ∙ o))
 
   -- .. and notes nothing
-  silent : (opening : List Content) (history more : List EntryValue) → more ≡ history ++ [] → (configuration_of store number meant b).state.is_open ≡ (configuration_of store number meant a).state.is_open
+  pub silent : (opening : List Content) (history more : List EntryValue) → more ≡ history ++ [] → (configuration_of store number meant b).state.is_open ≡ (configuration_of store number meant a).state.is_open
       → maps_of (configuration_of store number meant b).state ≡ maps_of (configuration_of store number meant a).state
       → (IsOpen store a → IsLegal (maps_from opening) history (maps_now store a)) → IsOpen store b → IsLegal (maps_from opening) more (maps_now store b)
   silent opening history more none opens same h o = subst (λ l. IsLegal (maps_from opening) l (maps_now store b)) (sym (none ∙ append-nil history)) (quiet opening history opens same h o)

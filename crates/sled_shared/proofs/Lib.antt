@@ -2,3 +2,8 @@ pub mod Legal
 pub mod Noted
 pub mod Opening
 pub mod Once
+pub mod Equal
+pub mod WholeMakes
+pub mod WholeTests
+pub mod WholeLegal
+pub mod WholeAdds

@@ -12,7 +12,8 @@ use Rattle.sled_model.specs.declared.call.Call.TheVariants.{Merge}
 use Rattle.sled_model.specs.declared.decision.Decision.{Decision}
 use Rattle.sled_model.specs.declared.reply.Reply.{Reply}
 use Rattle.sled_model.specs.declared.tree.Tree.{Tree}
-use Rattle.sled_shared.specs.Made.{MadeValue, PointMade, EntryValue}
+use Rattle.sled_shared.specs.Made.{MadeValue, PointMade, WholeMade, PartsMade, EntryValue}
+use Rattle.sled_shared.specs.WholeMade.{makes_whole_as, makes_parts_as}
 
 -- the maps of these collections by name
 abbrev pub maps_from : List Content → Maps
@@ -37,6 +38,8 @@ pub record MakesPoint (old : Maps) (tree : Tree) (call : Call) (reply : Reply) (
 -- what was made at these maps leaves those
 abbrev pub makes_as : Maps → MadeValue → Maps → Type 0
 makes_as old (PointMade tree call reply) new = MakesPoint old tree call reply new
+makes_as old (WholeMade whole reply) new = makes_whole_as old whole reply new
+makes_as old (PartsMade whole number) new = makes_parts_as old whole number new
 
 -- From the old maps on each entry is what its call makes there, and the maps after the last are the new ones
 pub data IsLegal : Maps → List EntryValue → Maps → Type 0 where

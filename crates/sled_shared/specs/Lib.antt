@@ -1,8 +1,11 @@
+pub mod Wholes
 pub mod Made
 pub mod Values
+pub mod WholeMade
 pub mod History
 pub mod Sound
 pub mod Steps
 pub mod Notes
+pub mod WholeNotes
 pub mod Gathered
 pub mod theory

@@ -1,18 +1,24 @@
 //! What callers made.
-use sled_model::{Call, Reply, Tree};
+use sled_model::{Call, Reply, Tree, Whole};
 
-/// A call that was decided, with its reply. Two are equal where they are the same call on the same tree with the same reply.
+/// What a caller made: a call that was decided, with its reply, or parts of one that was refused after them. Two are equal where they are
+/// the same call with the same reply, or as many parts of it.
 #[derive(Drop, PartialEq, Eq)]
 pub enum Made {
     /// A call on a key of a tree.
     Point(Tree, Call, Reply),
+    /// A whole call. Of `Next` the reply is noted as `Done`, since what a subscriber is told is told once.
+    Whole(Whole, Reply),
+    /// So many parts, at least one, of a `Clear` or an `Import` that was refused after them: keys that it took out, or trees that it opened
+    /// and pairs that it put in. `u64::MAX` stands for as many or more.
+    Parts(Whole, u64),
 }
 
-/// A call that was decided, and who made it.
+/// What was made, and who made it.
 #[derive(Drop, PartialEq, Eq)]
 pub struct Entry {
     /// The number of the caller whose step decided the call.
     pub by: u64,
-    /// The call, with its reply.
+    /// What was made.
     pub made: Made,
 }

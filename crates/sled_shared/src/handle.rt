@@ -5,11 +5,12 @@ ghost use Rattle.sled_model.specs.State.{IsOnKey};
 ghost use Rattle.sled_model.specs.declared.call.Call.TheVariants.{Get, Insert, Remove, CompareAndSwap, Merge};
 ghost use Rattle.sled_shared.specs.Made.{made_values};
 ghost use Rattle.sled_shared.specs.Notes.{AddsStep, noted_of};
+ghost use Rattle.sled_shared.specs.WholeNotes.{AddsWhole};
 
 use crate::caller::Caller;
 use crate::entry::Made;
 use crate::state::State;
-use sled_model::{Call, MergeOperator, Outcome, Slot, Tree};
+use sled_model::{Call, MergeOperator, Outcome, Slot, Tree, Whole};
 use sled_nodes::{Error, Result};
 use sled_store::Pages;
 use std::alloc::Global;
@@ -64,7 +65,8 @@ impl<P: Pages, L: Ledger, M> Handle<P, L, M> {
         self.me.number
     }
 
-    /// What this caller made, in order: each of its calls on a key that was decided, with its reply.
+    /// What this caller made, in order: each of its calls on a key and of its whole calls that was decided, with its reply, and the parts of
+    /// those that were refused after some.
     ///
     /// ```
     /// let count = handle.made().len();
@@ -123,6 +125,28 @@ impl<P: Pages, L: Ledger, M: MergeOperator> Handle<P, L, M> {
         match &mut *guard {
             None => Outcome::Refused(Error::Closed),
             Some(state) => state.abandon(slot),
+        }
+    }
+
+    /// Does a whole call, in one step under the lock. One that is decided becomes this caller's, with its reply; of `Next`, which tells each
+    /// event once, the reply is noted as `Done`. A `Clear` or an `Import` that is refused midway becomes this caller's with the parts that
+    /// it did, if it did any.
+    ///
+    /// ```
+    /// let outcome = handle.whole(rt, Whole::PopMin(tree)); // `Decided(Reply::Pair(..))`, or why not.
+    /// ```
+    #[tactic(auto, using(crate::proofs::WholeAdds::adds_refused))]
+    pub fn whole(&mut self, rt: &impl Wait, whole: Whole) -> Outcome
+        ensures made { AddsWhole whole result self.old.made self.new.made }
+        ensures number { self.new.number ≡ self.old.number }
+    {
+        let mut guard = self.lock.lock(rt);
+        match &mut *guard {
+            None => {
+                drop(whole);
+                Outcome::Refused(Error::Closed)
+            }
+            Some(state) => state.whole_adding(&mut self.me, whole),
         }
     }
 

@@ -1,8 +1,9 @@
 //! One database for many callers, with the history of what they made.
 //!
-//! A `Db` holds a machine under a lock, and each caller has a `Handle` to it. The lock is taken for one step of one call, and is free
-//! between two steps, so the calls of several threads go on side by side. Each call on a key that is decided is noted: at the end of
-//! the history, with the number of the caller whose step decided it, and at the end of that caller's own list.
+//! A `Db` holds a machine under a lock, and each caller has a `Handle` to it. The lock is taken for one step of one call, and is free between
+//! two steps, so the calls of several threads go on side by side. Each call on a key and each whole call that is decided is noted: at the
+//! end of the history, with the number of the caller whose step decided it, and at the end of that caller's own list. A `Clear` or an
+//! `Import` that is refused midway is noted with the parts that it did.
 //!
 //! Whenever the lock is free the history is legal, as long as no group was refused midway: from the collections that the database began
 //! with, each call replied and wrote what it would have, made alone at its place, and the maps after the last are the maps now
@@ -24,8 +25,11 @@ mod gather;
 mod handle;
 mod kept;
 mod noting;
+mod same_whole;
 mod state;
 mod steps;
+mod whole_tests;
+mod wholes;
 
 pub use caller::Caller;
 pub use db::Db;

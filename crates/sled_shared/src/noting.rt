@@ -66,7 +66,7 @@ fn is_on_key_in<P: Pages, M: MergeOperator>(machine: &Machine<P, M>, slot: Slot)
 }
 
 // Room for one more in both lists.
-fn make_room(history: &mut Vec<Entry>, made: &mut Vec<Made>) -> Result<()>
+pub(crate) fn make_room(history: &mut Vec<Entry>, made: &mut Vec<Made>) -> Result<()>
     ensures history { history.new.items ≡ history.old.items }
     ensures made { made.new.items ≡ made.old.items }
     ensures room { OnOk result (vec_len history.new < vec_capacity history.new) }
@@ -147,7 +147,7 @@ fn step_noting<P: Pages, M: MergeOperator>(
 }
 
 // What was made comes to the end of the history, with the number of its caller, and of the caller's list.
-fn note(history: &mut Vec<Entry>, made: &mut Vec<Made>, number: u64, both: (Made, Made))
+pub(crate) fn note(history: &mut Vec<Entry>, made: &mut Vec<Made>, number: u64, both: (Made, Made))
     requires room { vec_len history.old < vec_capacity history.old }
     requires room_there { vec_len made.old < vec_capacity made.old }
     ensures history { entry_values history.new.items ≡ entry_values history.old.items ++ entries_of number (made_value both.0 ∷ []) }

@@ -13,13 +13,15 @@ ghost use Rattle.sled_shared.specs.Notes.{AddsStep, entries_of, noted_in, noted_
 ghost use Rattle.sled_shared.specs.Sound.{IsOpen, maps_now};
 ghost use Rattle.sled_shared.specs.Steps.{SlotStep};
 ghost use Rattle.sled_shared.specs.theory.Noting.{job_pair};
+ghost use Rattle.sled_shared.specs.WholeNotes.{AddsWhole, NotesWhole};
 
 use crate::caller::Caller;
 use crate::entry::Entry;
 use crate::noting::step_in;
 use crate::state::State;
+use crate::wholes::whole_in;
 use sled_machine::{Job, Machine};
-use sled_model::{Call, Collection, MergeOperator, Outcome, Slot, Tree};
+use sled_model::{Call, Collection, MergeOperator, Outcome, Slot, Tree, Whole};
 use sled_nodes::Result;
 use sled_store::Pages;
 use std::sync::ledger::Ledger;
@@ -128,6 +130,43 @@ impl<P: Pages, L: Ledger, M: MergeOperator> State<P, L, M> {
         ensures opening { self.new.opening ≡ self.old.opening }
     {
         self.machine.abandon(slot)
+    }
+
+    /// Does a whole call, as `whole` of the machine does it. Where it is decided it is noted as this caller's: the history and the caller's
+    /// list are longer by it and its reply; of `Next` the reply is noted as `Done`. A `Clear` or an `Import` that is refused midway is noted
+    /// with the parts that it did, if it did any. Room and copies are made before the call: where there is no memory for them a test that
+    /// would refuse it does, and else it is refused with `NoMemory`; nothing changes then.
+    ///
+    /// ```
+    /// let outcome = state.whole(&mut me, Whole::PopMin(tree));
+    /// ```
+    pub fn whole(&mut self, me: &mut Caller<L>, whole: Whole) -> Outcome
+        ensures whole { NotesWhole P.store P.flush_number M.meant self.old.machine self.old.history me.old.number me.old.made whole result self.new.machine self.new.history me.new.made }
+        ensures number { me.new.number ≡ me.old.number }
+        ensures opening { self.new.opening ≡ self.old.opening }
+    {
+        let Caller {
+            number,
+            made,
+            share,
+        } = me;
+        whole_in(
+            &mut self.machine,
+            &mut self.history,
+            &mut self.calls,
+            *number,
+            made,
+            share,
+            whole,
+        )
+    }
+
+    // The same, where what comes to the caller's list is told by the outcome alone.
+    pub(crate) fn whole_adding(&mut self, me: &mut Caller<L>, whole: Whole) -> Outcome
+        ensures made { AddsWhole whole result me.old.made me.new.made }
+        ensures number { me.new.number ≡ me.old.number }
+    {
+        self.whole(me, whole)
     }
 
     /// The collections that the database began with, as its export gave them.
