@@ -45,7 +45,9 @@ fn add<L: Ledger, R: Wait + Abort>(rt: &R, alloc: Global, tree: &Tree, handle: W
 fn count_up(history: &[Entry]) -> bool {
     let mut last: u64 = 0;
     for entry in history {
-        let Made::Point(_, _, reply) = &entry.made;
+        let Made::Point(_, _, reply) = &entry.made else {
+            return false;
+        };
         if number_told(reply) != last.wrapping_add(1) {
             return false;
         }

@@ -7,13 +7,19 @@ mod adds;
 #[cfg(test)]
 mod counter_tests;
 #[cfg(test)]
+mod dropping_tests;
+#[cfg(test)]
 mod gate_tests;
 #[cfg(test)]
 mod gather_tests;
 #[cfg(test)]
 mod handover_tests;
+#[cfg(test)]
+mod lagging_tests;
 mod replay;
 mod start;
+#[cfg(test)]
+mod whole_tests;
 
 pub use adds::{Adds, number_of};
 pub use replay::replays;

@@ -66,13 +66,20 @@ fn makes(map: &mut Plain, call: &Call, reply: &Reply) -> Result<bool> {
     }
 }
 
+// The same of what was made. Of whole calls the map makes none.
+fn makes_made(map: &mut Plain, made: &Made) -> Result<bool> {
+    match made {
+        Made::Point(_, call, reply) => makes(map, call, reply),
+        _ => Ok(false),
+    }
+}
+
 /// Whether a plain map, empty at first, makes each call of the history with the same reply. All calls are on one tree.
 pub fn replays(alloc: Global, history: &[Entry]) -> Result<bool> {
     let mut map = BTreeMap::new(alloc);
     let mut same = true;
     for entry in history {
-        let Made::Point(_, call, reply) = &entry.made;
-        same = same && makes(&mut map, call, reply)?;
+        same = same && makes_made(&mut map, &entry.made)?;
     }
     drop(map);
     Ok(same)
