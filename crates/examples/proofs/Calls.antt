@@ -27,14 +27,14 @@ use Rattle.sled_model.specs.declared.outcome.Outcome.{Outcome}
 use Rattle.sled_model.specs.declared.outcome.Outcome.TheVariants as outcome
 use Rattle.sled_model.specs.declared.outcome.Step.TheVariants as step
 use Rattle.sled.specs.Values.{db_state}
-use Rattle.sled_machine.specs.Values.{MachineValue, configuration_of, slots_of}
-use Rattle.sled_machine.specs.Step.{MachineStep, MachineStepContract}
-use Rattle.sled_machine.specs.Finish.{RunsToEnd, FinishesWithin, steps_of, outcomes_of}
+use Rattle.sled_calls.specs.Values.{MachineValue, configuration_of, slots_of}
+use Rattle.sled_calls.specs.Step.{MachineStep, MachineStepContract}
+use Rattle.sled_calls.specs.Finish.{RunsToEnd, FinishesWithin, steps_of, outcomes_of}
 use Rattle.sled.specs.Opens.{IsOnePage}
 use Rattle.tree_laws.specs.Paths.{IsClean}
 use Rattle.sled_model.specs.Refusal.{TellsTurns}
 use Rattle.sled_nodes.specs.declared.error.Error.{Error}
-use Rattle.sled_machine.proofs.Runs.{model_run}
+use Rattle.sled_calls.proofs.Runs.{model_run}
 use Rattle.examples.specs.Reads.{ReadsAs, HasTurns, PutsOne, found_in, maps_now, later}
 use Rattle.examples.proofs.Keys.{insert_here, insert_there}
 

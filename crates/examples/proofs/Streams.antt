@@ -30,12 +30,12 @@ use Rattle.sled.specs.Ids.{GivesId, RefusesId}
 use Rattle.sled.specs.Opens.{or_empty, with_tree}
 use Rattle.sled.specs.Values.{DbValue, db_state}
 use Rattle.examples.specs.Events.{Event, pairs_of, HasEvents, KeepsStreams, OpensStream, Appends, ReadsFrom}
-use Rattle.examples.specs.Ids.{RiseBetween}
+use Rattle.sled_calls.specs.Ids.{RiseBetween}
 use Rattle.examples.specs.Reads.{maps_now}
 use Rattle.examples.specs.Typed.{Spelling, by_parts, as_it_is, pairs_in, IsTyped, Walks, IsForeign}
 use Rattle.examples.specs.theory.Spelling.{number_order}
 use Rattle.examples.proofs.Queueing.{inserted}
-use Rattle.examples.proofs.Rising.{rise_on}
+use Rattle.sled_calls.proofs.Rising.{rise_on}
 
 -- ---- ids and their bytes
 

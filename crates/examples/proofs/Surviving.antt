@@ -14,9 +14,9 @@ use Rattle.tree_laws.specs.Contents.{trees_of}
 use Rattle.tree_laws.specs.Crashes.{Stutters, StutterEquivalent}
 use Rattle.sled.specs.Values.{DbValue}
 use Rattle.sled.specs.Opens.{Opens}
-use Rattle.sled_machine.specs.CrashMaps.{AreCrashMaps}
-use Rattle.sled_machine.specs.Run.{MachineRun, MachineSteps}
-use Rattle.sled_machine.specs.Values.{MachineValue}
+use Rattle.sled_calls.specs.CrashMaps.{AreCrashMaps}
+use Rattle.sled_calls.specs.Run.{MachineRun, MachineSteps}
+use Rattle.sled_calls.specs.Values.{MachineValue}
 use Rattle.examples.specs.Survive.{machine_over, SurvivesEach}
 use Rattle.examples.proofs.Plain.{plain, plain_opens}
 use Rattle.examples.proofs.Meant.{plain_machine, plain_run, plain_all}

@@ -9,7 +9,7 @@ use Rattle.sled_model.specs.Maps.{Map, Merge}
 use Rattle.sled_model.specs.declared.tree.Tree.{Tree}
 use Rattle.sled.specs.Opens.{with_tree}
 use Rattle.sled.specs.Values.{DbValue}
-use Rattle.examples.specs.Ids.{RiseBetween}
+use Rattle.sled_calls.specs.Ids.{RiseBetween}
 use Rattle.examples.specs.Reads.{maps_now}
 
 -- its id, and its bytes

@@ -1,35 +1,16 @@
 -- The ids of a run.
-use Rattle.std.specs.Prelude.{ℕ, ◌<◌, ◌≤◌, List, [], ◌∷◌, ◌++◌}
+use Rattle.std.specs.Prelude.{ℕ, List, ◌++◌}
 use Rattle.sled_nodes.specs.Order.{Key}
 use Rattle.sled_store.specs.Store.{Store}
 use Rattle.sled_store.specs.Crash.{Crashes}
 use Rattle.sled_model.specs.Maps.{Merge}
-use Rattle.sled_model.specs.declared.call.Whole.TheVariants.{GenerateId}
 use Rattle.sled_model.specs.declared.outcome.Step.{Step}
-use Rattle.sled_model.specs.declared.outcome.Step.TheVariants as step
 use Rattle.sled_model.specs.declared.outcome.Outcome.{Outcome}
-use Rattle.sled_model.specs.declared.outcome.Outcome.TheVariants.{Decided}
-use Rattle.sled_model.specs.declared.reply.Reply.TheVariants.{Number}
 use Rattle.sled.specs.Sound.{IsDb}
 use Rattle.sled.specs.Opens.{Opens}
-use Rattle.sled_machine.specs.Run.{MachineSteps}
-use Rattle.sled_machine.specs.Values.{MachineValue}
-
--- the id that a step gave, if it gave one
-abbrev pub id_of : Step → Outcome → List ℕ
-id_of (step.Whole GenerateId) (Decided (Number id)) = id ∷ []
-id_of s o = []
-
--- the ids that steps gave, in their order
-abbrev pub ids_of : List Step → List Outcome → List ℕ
-ids_of [] outcomes = []
-ids_of (s ∷ steps) [] = []
-ids_of (s ∷ steps) (o ∷ outcomes) = id_of s o ++ ids_of steps outcomes
-
--- each of these numbers is above those before it; they are above the one and at most the other
-abbrev pub RiseBetween : ℕ → List ℕ → ℕ → Type 0
-RiseBetween low [] high = low ≤ high
-RiseBetween low (id ∷ ids) high = (low < id) × RiseBetween id ids high
+use Rattle.sled_calls.specs.Ids.{ids_of, RiseBetween}
+use Rattle.sled_calls.specs.Run.{MachineSteps}
+use Rattle.sled_calls.specs.Values.{MachineValue}
 
 -- each of these numbers is above all before it
 pub record Rise (ids : List ℕ) : Type 0 where

@@ -12,8 +12,8 @@ use Rattle.sled_model.specs.declared.outcome.Outcome.{Outcome}
 use Rattle.tree_laws.specs.Contents.{trees_of}
 use Rattle.sled.specs.Opens.{with_default, Opens}
 use Rattle.sled.specs.Values.{DbValue}
-use Rattle.sled_machine.specs.Run.{KeepsCrashMaps, MachineSteps}
-use Rattle.sled_machine.specs.Values.{MachineValue}
+use Rattle.sled_calls.specs.Run.{KeepsCrashMaps, MachineSteps}
+use Rattle.sled_calls.specs.Values.{MachineValue}
 
 -- a machine over this database, on which no call is in flight
 abbrev pub machine_over : {P M : Type 0} → DbValue P M → MachineValue P M

@@ -10,11 +10,11 @@ ghost use Rattle.sled_model.specs.declared.outcome.Outcome.TheVariants as outcom
 ghost use Rattle.sled_model.specs.declared.outcome.Step.TheVariants as step;
 ghost use Rattle.sled_model.specs.State.{default_name};
 ghost use Rattle.sled.specs.Opens.{IsOnePage};
-ghost use Rattle.sled_machine.specs.Step.{MachineStepContract};
+ghost use Rattle.sled_calls.specs.Step.{MachineStepContract};
 ghost use Rattle.examples.specs.Reads.{ReadsAs, HasTurns, PutsOne, maps_now, later, found_in};
 
 use sled::{Db, crash_pages, empty_pages};
-use sled_machine::Machine;
+use sled_calls::Machine;
 use sled_model::{Call, MergeOperator, Outcome, Slot, Tree};
 use sled_nodes::{Error, IVec, Result};
 use sled_pages::MemPages;

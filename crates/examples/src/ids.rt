@@ -3,10 +3,11 @@ ghost use Rattle.std.specs.Prelude.{◌≡◌, ◌++◌, false, IfOk};
 ghost use Rattle.sled_store.specs.Store.{now};
 ghost use Rattle.sled_pages.specs.Memory.{store_of};
 ghost use Rattle.tree_laws.specs.Crashes.{IsValid};
-ghost use Rattle.examples.specs.Ids.{ids_of, Rise, IdsLaw};
+ghost use Rattle.sled_calls.specs.Ids.{ids_of};
+ghost use Rattle.examples.specs.Ids.{Rise, IdsLaw};
 
 use sled::{Db, crash_pages};
-use sled_machine::Machine;
+use sled_calls::Machine;
 use sled_model::{MergeOperator, Outcome, Step};
 use sled_nodes::Result;
 use sled_pages::MemPages;

@@ -6,7 +6,7 @@ ghost use Rattle.tree_laws.specs.Crashes.{IsValid};
 ghost use Rattle.examples.specs.Survive.{Survives, SurvivesEach};
 
 use sled::{Db, crash_pages};
-use sled_machine::Machine;
+use sled_calls::Machine;
 use sled_model::{Outcome, Step};
 use sled_nodes::Result;
 use sled_pages::MemPages;

@@ -2,7 +2,7 @@
 use crate::fresh::opened;
 use examples::{Adds, insert_then_get_in_new, survive};
 use sled::{DEFAULT_TREE, empty_pages};
-use sled_machine::Machine;
+use sled_calls::Machine;
 use sled_model::{Call, Outcome, Reply, Tree};
 use sled_nodes::{IVec, Result as Told};
 use sled_pages::MemPages;

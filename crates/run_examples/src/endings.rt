@@ -49,6 +49,11 @@ fn finds_again(trial: &mut Trial, index: &mut Endings) {
     trial.seen.that(index.is_lost());
     has_both(trial, index, "6");
     change_often(trial);
+    follows_on(trial, index);
+}
+
+// .. which is once before it was told, and once more as it follows again.
+fn follows_on(trial: &mut Trial, index: &mut Endings) {
     trial.insert("src/lib.rs", "7");
     has_both(trial, index, "7");
     trial.insert("src/lib.rs", "8");

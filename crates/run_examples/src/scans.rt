@@ -2,7 +2,7 @@
 use crate::fresh::{Fresh, opened};
 use examples::Adds;
 use sled::Tree;
-use sled_machine::Machine;
+use sled_calls::Machine;
 use sled_model::{Call, Outcome, Reply, Slot};
 use sled_nodes::Result;
 use sled_pages::MemPages;

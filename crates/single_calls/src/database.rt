@@ -16,7 +16,7 @@ ghost use Rattle.sled.specs.Opens.{Opens};
 ghost use Rattle.sled.specs.Values.{db_state, snapshot_of_db};
 
 use sled::{Collection, Db, empty_pages};
-use sled_machine::Machine;
+use sled_calls::Machine;
 use sled_model::{MergeOperator, Tree};
 use sled_nodes::Result;
 use sled_store::Pages;

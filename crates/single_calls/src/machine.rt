@@ -7,14 +7,14 @@ ghost use Rattle.sled_model.specs.declared.outcome.Outcome.TheVariants as outcom
 ghost use Rattle.sled_model.specs.declared.outcome.Step.TheVariants as step;
 ghost use Rattle.sled_model.specs.State.{IsOnKey};
 ghost use Rattle.sled.specs.Kept.{kept_of};
-ghost use Rattle.sled_machine.specs.Values.{slots_of};
-ghost use Rattle.sled_machine.specs.Step.{MachineStep, MachineSound, MachineActs, MachineFollows, MachinePasses, MachineSlots, MachineKeepsTreePages, MachineLeaksNoPage, MachineStepContract};
-ghost use Rattle.sled_machine.specs.Kept.{kept_of_whole, CountsParts};
-ghost use Rattle.sled_machine.specs.Run.{MachineRun, MachineSteps};
-ghost use Rattle.sled_machine.specs.Finish.{RunsToEnd, Completes};
+ghost use Rattle.sled_calls.specs.Values.{slots_of};
+ghost use Rattle.sled_calls.specs.Step.{MachineStep, MachineSound, MachineActs, MachineFollows, MachinePasses, MachineSlots, MachineKeepsTreePages, MachineLeaksNoPage, MachineStepContract};
+ghost use Rattle.sled_calls.specs.Kept.{kept_of_whole, CountsParts};
+ghost use Rattle.sled_calls.specs.Run.{MachineRun, MachineSteps};
+ghost use Rattle.sled_calls.specs.Finish.{RunsToEnd, Completes};
 
 use sled::Db;
-use sled_machine::Machine;
+use sled_calls::Machine;
 use sled_model::{Call, MergeOperator, Outcome, Reply, Slot, Step, Tree, Whole};
 use sled_nodes::{IVec, Result};
 use sled_store::Pages;

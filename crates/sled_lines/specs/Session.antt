@@ -16,9 +16,9 @@ use Rattle.sled_model.specs.declared.tree.Tree.{Tree}
 use Rattle.tree_laws.specs.Contents.{trees_of}
 use Rattle.sled.specs.Values.{DbValue}
 use Rattle.sled.specs.Export.{collections, RefusesExport}
-use Rattle.sled_machine.specs.Step.{MachineStepContract}
-use Rattle.sled_machine.specs.Finish.{RunsToEnd, Completes}
-use Rattle.sled_machine.specs.Values.{MachineValue, slots_of}
+use Rattle.sled_calls.specs.Step.{MachineStepContract}
+use Rattle.sled_calls.specs.Finish.{RunsToEnd, Completes}
+use Rattle.sled_calls.specs.Values.{MachineValue, slots_of}
 use Rattle.sled_lines.specs.Print.{Prints, shown_of, shown_of_whole, outcome_line, refused_line, dump_text}
 use Rattle.sled_lines.specs.declared.command.Command.{Command}
 use Rattle.sled_lines.specs.declared.command.Command.TheVariants as command

@@ -1,22 +1,13 @@
-//! The machine: a database and the calls in flight on it. One step does at most one page action of one call. A scan gives its pairs one
-//! at a step, and what it gives over all of them is a law (`specs/Scans`).
+//! The machine of a database: for one thread that steps its calls in flight, and in `shared` for several threads.
 //!
-//! Each call of a machine is one step of the model, in whatever order calls are stepped, and says what it adds to the maps
-//! that a crash may leave. Over a list of steps those are the maps at the last flush and after each decided call since
-//! (`specs/Step`, `specs/CrashMaps`, `specs/Run`). Between two steps all that the calls in flight know of the pages is true (`specs/Sound`).
+//! `Machine` and its calls stand in `sled_calls`, which is all that a program needs where one thread has the machine. What several threads
+//! share stands in `sled_shared`. Both are named again here.
 #![tactic(auto)]
 
-mod flights;
-mod laws;
-mod machine;
-mod step_kept;
-mod whole_kept;
+pub mod shared;
 
-pub use laws::{law_extended, law_flushed, law_group, law_hears, law_scans, law_steps};
-pub use machine::Machine;
-pub use sled_batch::Batch;
-pub use sled_model::{
-    Call, Collection, CompareAndSwapError, Event, MergeOperator, Outcome, Reply, Slot, Step,
-    Subscriber, Tree, Whole,
+pub use sled_calls::{
+    Batch, Call, Collection, CompareAndSwapError, Event, Job, Machine, MergeOperator, Outcome,
+    Reply, Slot, Step, Subscriber, Tree, Whole, law_extended, law_flushed, law_group, law_hears,
+    law_scans, law_steps,
 };
-pub use sled_tree::Job;

@@ -1,6 +1,6 @@
 use Rattle.std.proofs.Common.{refl, sym, ap, subst, cond}
 use Rattle.sled_model.specs.declared.call.Call.TheVariants.{Insert}
-use Rattle.sled_machine.specs.Values.{slots_of}
+use Rattle.sled_calls.specs.Values.{slots_of}
 use Rattle.examples.specs.Reads.{maps_now}
 use Rattle.examples.proofs.Calls.{Means, LastPut, last_none, races_begin, steps_mean, races}
 use Rattle.examples.proofs.callers.race.Goals as goal

@@ -1,5 +1,5 @@
 use Rattle.sled_model.specs.declared.call.Call.TheVariants.{Insert}
-use Rattle.sled_machine.specs.Values.{slots_of}
+use Rattle.sled_calls.specs.Values.{slots_of}
 use Rattle.examples.specs.Reads.{maps_now}
 use Rattle.examples.proofs.Calls.{Means, LastPut}
 use Rattle.examples.proofs.callers.race.Given as goal

@@ -1,0 +1,11 @@
+pub mod Steps
+pub mod Machines
+pub mod Runs
+pub mod Rising
+pub mod Wholes
+pub mod Keeping
+pub mod Fetched
+pub mod Finishing
+pub mod Hearing
+pub mod Scanning
+pub mod Transacted

@@ -1,0 +1,12 @@
+pub mod Values
+pub mod CrashMaps
+pub mod StepsInSlot
+pub mod Step
+pub mod Kept
+pub mod Run
+pub mod Ids
+pub mod Hears
+pub mod Scans
+pub mod Finish
+pub mod Sound
+pub mod theory
