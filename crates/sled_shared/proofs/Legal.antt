@@ -24,12 +24,13 @@ use Rattle.sled_model.specs.declared.outcome.Outcome.TheVariants as outcome
 use Rattle.sled_model.specs.declared.outcome.Step.TheVariants as step
 use Rattle.sled.specs.Values.{named, numbers_of}
 use Rattle.tree_laws.specs.Contents.{trees_of}
-use Rattle.sled_machine.specs.Values.{MachineValue, configuration_of, slots_of}
-use Rattle.sled_machine.specs.Step.{MachineStepContract}
+use Rattle.sled_calls.specs.Values.{MachineValue, configuration_of, slots_of}
+use Rattle.sled_calls.specs.Step.{MachineStepContract}
 use Rattle.sled_shared.specs.Made.{EntryValue, PointMade}
 use Rattle.sled_shared.specs.History.{comes_to, MakesPoint, makes_as, IsLegal, NoEntries, OneEntry, maps_from}
 use Rattle.sled_shared.specs.Notes.{entries_of, noted_as, noted_in}
 use Rattle.sled_shared.specs.Sound.{IsOpen, maps_now, IsState}
+use Rattle.sled_shared.proofs.Ids.{begun_risen, abandoned_risen, none_risen}
 
 no_some : {X : Type 0} {x : X} {P : Type 0} → None ≡ Some x → P
 no_some e = cc
@@ -148,8 +149,8 @@ module _ {P M : Type 0} (store : P → Store) (number : P → ℕ) (meant : M �
   pub begin_state : (opening : List Content) (history : List EntryValue) (total : ℕ) (tree : Tree) (call : Call) (r : Result ℕ Error)
       → IfOk r (λ slot. MachineStepContract store number meant a (step.Begin tree call) (outcome.Begun slot) b) → IfErr r (λ e. MachineStepContract store number meant a (step.Begin tree call) (outcome.Refused e) b)
       → IsState store a opening history total → IsState store b opening history total
-  begin_state opening history total tree call (Ok slot) ok err h = record { legal = begun_legal opening history tree call slot _ ok.step.step.is h.legal; counted = h.counted }
-  begin_state opening history total tree call (Err x) ok err h = record { legal = unbegun_legal opening history tree call x _ err.step.step.is h.legal; counted = h.counted }
+  begin_state opening history total tree call (Ok slot) ok err h = record { legal = begun_legal opening history tree call slot _ ok.step.step.is h.legal; ids = begun_risen store number meant a b tree call (outcome.Begun slot) ok.step.maps history ok.step.step.is h.ids; counted = h.counted }
+  begin_state opening history total tree call (Err x) ok err h = record { legal = unbegun_legal opening history tree call x _ err.step.step.is h.legal; ids = begun_risen store number meant a b tree call (outcome.Refused x) err.step.maps history err.step.step.is h.ids; counted = h.counted }
 
   -- and after a call was given up
   abandoned_legal : (opening : List Content) (history : List EntryValue) (slot : ℕ) (o : Outcome) (maps : List Maps)
@@ -165,11 +166,12 @@ module _ {P M : Type 0} (store : P → Store) (number : P → ℕ) (meant : M �
 
   pub abandon_state : (opening : List Content) (history : List EntryValue) (total slot : ℕ) (o : Outcome)
       → MachineStepContract store number meant a (step.Abandon slot) o b → IsState store a opening history total → IsState store b opening history total
-  abandon_state opening history total slot o c h = record { legal = abandoned_legal opening history slot o _ c.step.step.is h.legal; counted = h.counted }
+  abandon_state opening history total slot o c h = record { legal = abandoned_legal opening history slot o _ c.step.step.is h.legal; ids = abandoned_risen store number meant a b slot o c.step.maps history c.step.step.is h.ids; counted = h.counted }
 
 -- what holds of a state before anything was made
 pub first_is : {P M : Type 0} (store : P → Store) (m : MachineValue P M) (opening : List Content) (history : List EntryValue) (total : ℕ) → maps_from opening ≡ maps_now store m → history ≡ [] → total ≡ 0 → IsState store m opening history total
 first_is store m opening history total same none zero = record {
   legal = λ o. subst (λ l. IsLegal (maps_from opening) l (maps_now store m)) (sym none) (subst (λ x. IsLegal (maps_from opening) [] x) same NoEntries);
+  ids = none_risen m.db.greatest_id history none;
   counted = ap length none ∙ sym zero;
 }

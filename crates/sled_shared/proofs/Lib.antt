@@ -1,3 +1,4 @@
+pub mod Ids
 pub mod Legal
 pub mod Noted
 pub mod Opening

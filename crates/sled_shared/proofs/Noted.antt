@@ -17,7 +17,7 @@ use Rattle.sled_model.specs.declared.reply.Reply.TheVariants as told
 use Rattle.sled_model.specs.declared.outcome.Outcome.{Outcome}
 use Rattle.sled_model.specs.declared.outcome.Outcome.TheVariants as outcome
 use Rattle.sled_model.specs.declared.outcome.Step.TheVariants as step
-use Rattle.sled_machine.specs.Values.{MachineValue, configuration_of, slots_of}
+use Rattle.sled_calls.specs.Values.{MachineValue, configuration_of, slots_of}
 use Rattle.sled_shared.specs.Made.{MadeValue, PointMade}
 use Rattle.sled_shared.specs.Notes.{noted_as, noted_in, AddsReply, AddsStep}
 use Rattle.sled_shared.specs.Steps.{SlotStep}

@@ -18,7 +18,7 @@ use Rattle.tree_laws.proofs.Order.{key_same, key_total}
 use Rattle.sled.specs.Export.{collections}
 use Rattle.sled.specs.Sound.{IsDb}
 use Rattle.sled.specs.Values.{DbValue, named, numbers_of}
-use Rattle.sled_machine.specs.Values.{MachineValue}
+use Rattle.sled_calls.specs.Values.{MachineValue}
 use Rattle.sled_shared.specs.History.{maps_from}
 use Rattle.sled_shared.specs.Sound.{maps_now}
 

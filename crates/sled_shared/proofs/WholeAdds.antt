@@ -1,24 +1,25 @@
 -- What whole calls add to the list of their caller, told by their outcomes alone.
-use Rattle.std.proofs.Common.{◌≡◌, ◌≢◌, ◌∙◌, ℕ, List, [], ◌++◌, append-nil, refl, sym, ap, ◌⊎◌, inl, inr}
+use Rattle.std.proofs.Common.{◌≡◌, ◌≢◌, ◌∙◌, ℕ, List, [], ◌++◌, append-nil, refl, sym, ap, subst, ◌⊎◌, inl, inr}
 use Rattle.sled_nodes.specs.declared.error.Error.{Error}
 use Rattle.sled_nodes.specs.declared.error.Error.TheVariants.{NoMemory}
 use Rattle.sled_store.specs.Store.{Store}
-use Rattle.sled_model.specs.Maps.{Merge}
-use Rattle.sled_model.specs.Transition.{kind_of, InParts}
+use Rattle.sled_model.specs.Maps.{Maps, Merge}
+use Rattle.sled_model.specs.Transition.{Configuration, transition_as, kind_of, InParts}
 use Rattle.sled_model.specs.declared.call.Whole.{Whole}
 use Rattle.sled_model.specs.declared.call.Whole.TheVariants.{Flush, PopMin, PopMax, Clear, Group, OpenTree, DropTree, GenerateId, Import, Watch, Next, Unsubscribe}
 use Rattle.sled_model.specs.declared.outcome.Outcome.{Outcome}
 use Rattle.sled_model.specs.declared.outcome.Outcome.TheVariants as outcome
+use Rattle.sled_model.specs.declared.outcome.Step.TheVariants as step
 use Rattle.sled.specs.Values.{DbValue}
-use Rattle.sled_machine.specs.Kept.{counts_as, kept_of_whole}
-use Rattle.sled_machine.specs.Values.{MachineValue}
+use Rattle.sled_calls.specs.Kept.{counts_as, kept_of_whole}
+use Rattle.sled_calls.specs.Values.{MachineValue}
 use Rattle.sled_shared.specs.Made.{EntryValue, MadeValue, whole_value}
-use Rattle.sled_shared.specs.WholeNotes.{noted_with, noted_whole, ComesToWhole, NotesWhole, AddsWhole}
+use Rattle.sled_shared.specs.WholeNotes.{noted_with, noted_whole, ComesToWhole, NotesWhole, IsAnswer, AddsWhole}
 use Rattle.sled_shared.proofs.WholeTests.{refused_kept}
 
 -- a refused call that did no part adds nothing
 pub adds_refused : (w : Whole) (x : Error) (made : List MadeValue) → AddsWhole w (outcome.Refused x) made made
-adds_refused w x made = record { number = 0; parts = λ h. refl; adds = sym (append-nil made) ∙ ap (λ k. made ++ noted_with (whole_value w) k 0) (sym (refused_kept w x)) }
+adds_refused w x made = record { answers = tt; number = 0; parts = λ h. refl; adds = sym (append-nil made) ∙ ap (λ k. made ++ noted_with (whole_value w) k 0) (sym (refused_kept w x)) }
 
 no_parts : {P M : Type 0} (store : P → Store) (meant : M → Merge) (a b : DbValue P M) (w : Whole) (o : Outcome) (n : ℕ) → counts_as store meant a w o n b → kind_of w ≢ InParts → n ≡ 0
 no_parts store meant a b Flush o n c h = c
@@ -34,10 +35,19 @@ no_parts store meant a b (Watch tree prefix) o n c h = c
 no_parts store meant a b (Next subscriber) o n c h = c
 no_parts store meant a b (Unsubscribe subscriber) o n c h = c
 
+answers : (a b : Configuration) (w : Whole) (o : Outcome) (maps : List Maps) → transition_as a (step.Whole w) o b maps → IsAnswer o
+answers a b w (outcome.Decided reply) maps t = tt
+answers a b w (outcome.Refused x) maps t = tt
+answers a b w (outcome.Begun i) maps t = absurd t
+answers a b w outcome.Moved maps t = absurd t
+answers a b w (outcome.Yielded key value) maps t = absurd t
+answers a b w outcome.NoSuchSlot maps t = absurd t
+answers a b w outcome.Abandoned maps t = absurd t
+
 came : {P M : Type 0} (store : P → Store) (number : P → ℕ) (meant : M → Merge) (a b : MachineValue P M) (w : Whole) (o : Outcome) (made noted : List MadeValue) → ComesToWhole store number meant a w o b noted → AddsWhole w o made (made ++ noted)
-came store number meant a b w o made noted (inl d) = record { number = d.number; parts = no_parts store meant a.db b.db w o d.number d.counts.is; adds = ap (λ l. made ++ l) d.notes }
-came store number meant a b w o made noted (inr c) = record { number = 0; parts = λ h. refl; adds = ap (λ l. made ++ l) (c.none ∙ sym (ap (λ k. noted_with (whole_value w) k 0) (ap (kept_of_whole w) c.refused ∙ refused_kept w NoMemory))) }
+came store number meant a b w o made noted (inl d) = record { answers = answers _ _ w o d.step.step.maps d.step.step.step.is; number = d.number; parts = no_parts store meant a.db b.db w o d.number d.counts.is; adds = ap (λ l. made ++ l) d.notes }
+came store number meant a b w o made noted (inr c) = record { answers = subst IsAnswer (sym c.refused) tt; number = 0; parts = λ h. refl; adds = ap (λ l. made ++ l) (c.none ∙ sym (ap (λ k. noted_with (whole_value w) k 0) (ap (kept_of_whole w) c.refused ∙ refused_kept w NoMemory))) }
 
 pub whole_adds : {P M : Type 0} (store : P → Store) (number : P → ℕ) (meant : M → Merge) (a b : MachineValue P M) (history longer : List EntryValue) (n : ℕ) (made more : List MadeValue) (w : Whole) (o : Outcome)
     → NotesWhole store number meant a history n made w o b longer more → AddsWhole w o made more
-whole_adds store number meant a b history longer n made more w o t = let r = came store number meant a b w o made t.noted t.comes in record { number = r.number; parts = r.parts; adds = t.adds_there ∙ r.adds }
+whole_adds store number meant a b history longer n made more w o t = let r = came store number meant a b w o made t.noted t.comes in record { answers = r.answers; number = r.number; parts = r.parts; adds = t.adds_there ∙ r.adds }

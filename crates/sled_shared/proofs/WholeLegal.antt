@@ -21,8 +21,8 @@ use Rattle.sled_model.specs.declared.outcome.Step.TheVariants as step
 use Rattle.sled.specs.Imports.{ImportStops}
 use Rattle.sled.specs.Parts.{most_parts, told_parts, parts_before, ClearsParts, ImportRefusedAfter}
 use Rattle.sled.specs.Values.{DbValue, db_state, state_of}
-use Rattle.sled_machine.specs.Kept.{counts_as, CountsParts}
-use Rattle.sled_machine.specs.Values.{MachineValue, configuration_of, slots_of}
+use Rattle.sled_calls.specs.Kept.{counts_as, CountsParts}
+use Rattle.sled_calls.specs.Values.{MachineValue, configuration_of, slots_of}
 use Rattle.sled_shared.specs.Made.{EntryValue, MadeValue, WholeMade, PartsMade, whole_value}
 use Rattle.sled_shared.specs.Wholes.{WholeValue}
 use Rattle.sled_shared.specs.Wholes as value
@@ -92,7 +92,7 @@ module _ {P M : Type 0} (store : P → Store) (number : P → ℕ) (meant : M �
 
     clear_stops : (tree : Tree) (k : ℕ) (c : ClearsParts store meant a.db tree k b.db) → Legal (noted_with (value.Clear tree) None k)
     clear_stops tree zero c = nothing_between (removes_none (c.removes (slots_of a.flights) a.slots_given) (told_none c.parts c.told))
-    clear_stops tree (suc k) c = let r = c.removes (slots_of a.flights) a.slots_given in parts_entry (value.Clear tree) (suc k) (removes_open r) (record { parts = c.parts; told = c.told; takes = removes r })
+    clear_stops tree (suc k) c = let r = c.removes (slots_of a.flights) a.slots_given in parts_entry (value.Clear tree) (suc k) (removes_open r) (record { parts = c.parts; told = c.told; some = λ e. suc_zero e; takes = removes r })
 
     module _ (all : List Content) (x : Error) where
       same_between : b.db ≡ a.db → C ≡ A
@@ -110,7 +110,7 @@ module _ {P M : Type 0} (store : P → Store) (number : P → ℕ) (meant : M �
           go : (k : ℕ) → k ≡ told_parts (length s.stop.done) → Legal (noted_with (value.Import all) None k)
           go zero e = nothing_between (stays ∙ parts_none (s.state (slots_of a.flights) a.slots_given).does (told_none (length s.stop.done) e))
           go (suc k) e = parts_entry (value.Import all) (suc k) (ap (λ (s : State). s.is_open) stays ∙ parts_open (s.state (slots_of a.flights) a.slots_given).does)
-              (record { done = s.stop.done; left = s.stop.next ∷ s.stop.later; all_parts = (s.state (slots_of a.flights) a.slots_given).all_parts; told = e; makes = subst (λ (z : State). MakesParts (maps_of A) s.stop.done (maps_of z)) (sym stays) (parts (s.state (slots_of a.flights) a.slots_given).does) })
+              (record { done = s.stop.done; next = s.stop.next; later = s.stop.later; trees = (s.state (slots_of a.flights) a.slots_given).trees; all_parts = (s.state (slots_of a.flights) a.slots_given).all_parts; told = e; some = λ z. suc_zero z; makes = subst (λ (z : State). MakesParts (maps_of A) s.stop.done (maps_of z)) (sym stays) (parts (s.state (slots_of a.flights) a.slots_given).does) })
 
       import_refused : (k : ℕ) (maps : List Maps) (r : (refuses_import_as (must_refuse_of (db_state store meant a.db) []) all x × (b.db ≡ a.db) × (maps ≡ [])) ⊎ ImportStops store meant a.db all x b.db maps)
           → k ≡ told_parts (parts_before store meant r) → Legal (noted_with (value.Import all) None k)

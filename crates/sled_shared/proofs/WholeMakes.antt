@@ -1,5 +1,6 @@
 -- What the model says of a whole call, as what it makes of the maps.
-use Rattle.std.proofs.Common.{◌≡◌, ◌∙◌, ℕ, ◌+◌, zero, suc, Bool, true, false, not, cond, List, [], ◌∷◌, ◌++◌, length, Option, Some, None, option_map, is_some, sym, refl, ap, subst, ◌⊎◌, inl, inr}
+use Rattle.std.proofs.Common.{◌≡◌, ◌∙◌, ℕ, ◌+◌, zero, suc, Bool, true, false, not, cond, List, [], ◌∷◌, ◌++◌, length, Option, Some, None, option_map, is_some, All, sym, refl, ap, subst, ◌⊎◌, inl, inr}
+use Rattle.std.proofs.lemmas.List.Elements.{All-nil, All-cons, All-head, All-tail}
 use Rattle.std.proofs.Math.Path.{fun_ext}
 use Rattle.std.specs.FinMap.Entries.{put, find}
 use Rattle.std.specs.Str.{bytes_eq}
@@ -13,7 +14,9 @@ use Rattle.sled_model.specs.Groups.{Write, writes_of, call_with, after_write, af
 use Rattle.sled_model.specs.Imports.{Part, OpensName, Puts, parts_of, does_part_as, DoesParts, NoPart, OnePart}
 use Rattle.sled_model.specs.State.{State, NamedTree, maps_of, after_decision_on}
 use Rattle.sled_model.specs.Transition.{Configuration, WholeDecides}
-use Rattle.sled_model.specs.Whole.{Pops, Clears, RemovesLeast, RemovesNone, RemovesOne, after_pop, state_opened, state_dropped, OpensTree, DropsTreeOf}
+use Rattle.sled_batch.specs.Batch.{Writes}
+use Rattle.sled_model.specs.Refusal.{is_number}
+use Rattle.sled_model.specs.Whole.{number_opened, Pops, Clears, RemovesLeast, RemovesNone, RemovesOne, after_pop, state_opened, state_dropped, OpensTree, DropsTreeOf}
 use Rattle.sled_model.specs.declared.call.Call.TheVariants.{Remove, Insert}
 use Rattle.sled_model.specs.declared.call.Whole.{Whole}
 use Rattle.sled_model.specs.declared.call.Whole.TheVariants.{Flush, PopMin, PopMax, Clear, Group, OpenTree, DropTree, GenerateId, Import, Watch, Next, Unsubscribe}
@@ -21,7 +24,8 @@ use Rattle.sled_model.specs.declared.tree.Tree.{Tree}
 use Rattle.sled_model.specs.declared.reply.Reply.{Reply}
 use Rattle.sled_model.specs.declared.reply.Reply.TheVariants.{Flag, Done}
 use Rattle.sled_shared.specs.Made.{whole_value}
-use Rattle.sled_shared.specs.WholeMade.{map_with, map_popped, MakesPop, MakesClear, maps_with_write, maps_with_writes, maps_opened, TakesLeast, TakesNone, TakesOne, MakesPut, makes_part_as, MakesParts, MakesNone, MakesOne, makes_whole_as}
+use Rattle.sled_shared.proofs.WholeTests.{BatchPasses, own, pass_each}
+use Rattle.sled_shared.specs.WholeMade.{HasMap, map_with, map_popped, MakesPop, MakesClear, maps_with_write, maps_with_writes, maps_opened, TakesLeast, TakesNone, TakesOne, MakesPut, makes_part_as, MakesParts, MakesNone, MakesOne, makes_whole_as}
 
 -- to put a map where it stands changes nothing
 pub put_same : (maps : Maps) (name : Key) (o : Option Map) → maps name ≡ o → put_name maps name o ≡ maps
@@ -111,6 +115,15 @@ dropped : (o : Option NamedTree) (s : State) (name : Key) → s.trees name ≡ o
 dropped (Some t) s name e = fun_ext (λ q. put_maps s.trees name None q)
 dropped None s name e = sym (put_same (maps_of s) name None (ap (λ o. option_map (λ (t : NamedTree). t.map) o) e))
 
+has_number : (o : Option NamedTree) (n : ℕ) → is_number n o ≡ true → is_some (option_map (λ (t : NamedTree). t.map) o) ≡ true
+has_number None n e = e
+has_number (Some t) n e = refl
+
+-- the trees of a group that passes the tests have maps
+have_maps : (s : State) (bs : List (Tree × Writes)) → All (BatchPasses s) bs → All (HasMap (maps_of s)) bs
+have_maps s [] h = All-nil (HasMap (maps_of s))
+have_maps s (b ∷ bs) h = All-cons (HasMap (maps_of s)) b bs (has_number (s.trees b.0.name) b.0.number (own s b.0 (All-head (BatchPasses s) b bs h)).1) (have_maps s bs (All-tail (BatchPasses s) b bs h))
+
 has_map : (o : Option NamedTree) → is_some o ≡ is_some (option_map (λ (t : NamedTree). t.map) o)
 has_map None = refl
 has_map (Some t) = refl
@@ -172,17 +185,22 @@ stays_open a (Watch tree prefix) reply b maps t = open_of _ b t.2.is
 stays_open a (Next subscriber) reply b maps t = open_of _ b t.2.is
 stays_open a (Unsubscribe subscriber) reply b maps t = open_of _ b t.1.is
 
+-- the reply that is noted: of what a subscriber was told `Done`
+abbrev pub noted_reply : Whole → Reply → Reply
+noted_reply (Next subscriber) reply = Done
+noted_reply w reply = reply
+
 -- .. and makes of the maps what its entry tells
-pub makes : (a : Configuration) (w : Whole) (reply : Reply) (b : State) (maps : List Maps) → WholeDecides a w reply b maps → makes_whole_as (maps_of a.state) (whole_value w) reply (maps_of b)
-makes a Flush reply b maps t = ap maps_of t.2
+pub makes : (a : Configuration) (w : Whole) (reply : Reply) (b : State) (maps : List Maps) → WholeDecides a w reply b maps → makes_whole_as (maps_of a.state) (whole_value w) (noted_reply w reply) (maps_of b)
+makes a Flush reply b maps t = ((a.flush_number, t.1), ap maps_of t.2)
 makes a (PopMin tree) reply b maps t = pop IsLeast a.state (PopMin tree) tree reply b maps t
 makes a (PopMax tree) reply b maps t = pop IsGreatest a.state (PopMax tree) tree reply b maps t
 makes a (Clear tree) reply b maps t = clear a.state tree reply b maps t.0 t.1
-makes a (Group batches) reply b maps t = (t.replies, ap maps_of t.is ∙ writes (writes_of batches.items) a.state)
-makes a (OpenTree name) reply b maps t = ap maps_of t.is ∙ opened (a.state.trees name) a.state name
-makes a (DropTree name) reply b maps t = (t.replies ∙ ap Flag (has_map (a.state.trees name)), ap maps_of t.is ∙ dropped (a.state.trees name) a.state name refl)
-makes a GenerateId reply b maps t = ap maps_of t.is
-makes a (Import collections) reply b maps t = (t.0, parts t.1.does)
-makes a (Watch tree prefix) reply b maps t = ap maps_of t.2.is
-makes a (Next subscriber) reply b maps t = ap maps_of t.2.is
-makes a (Unsubscribe subscriber) reply b maps t = ap maps_of t.1.is
+makes a (Group batches) reply b maps t = (t.replies, have_maps a.state batches.items (pass_each a.state batches.items t.free), ap maps_of t.is ∙ writes (writes_of batches.items) a.state)
+makes a (OpenTree name) reply b maps t = ((a.state.name, number_opened (a.state.trees name) a.state, t.replies), ap maps_of t.is ∙ opened (a.state.trees name) a.state name)
+makes a (DropTree name) reply b maps t = (t.off, t.replies ∙ ap Flag (has_map (a.state.trees name)), ap maps_of t.is ∙ dropped (a.state.trees name) a.state name refl)
+makes a GenerateId reply b maps t = ((a.state.greatest_id + 1, t.replies), ap maps_of t.is)
+makes a (Import collections) reply b maps t = (t.1.trees, t.0, parts t.1.does)
+makes a (Watch tree prefix) reply b maps t = ((t.0, t.1), ap maps_of t.2.is)
+makes a (Next subscriber) reply b maps t = (refl, ap maps_of t.2.is)
+makes a (Unsubscribe subscriber) reply b maps t = (t.0, ap maps_of t.1.is)

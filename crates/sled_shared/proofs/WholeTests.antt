@@ -25,9 +25,9 @@ use Rattle.sled.specs.Kept.{kept_of}
 use Rattle.sled.specs.Parts.{ImportRefusedAfter, ClearsParts, told_parts}
 use Rattle.sled.specs.Imports.{ImportRefused, ImportStops}
 use Rattle.sled.specs.Values.{DbValue, db_state, state_of}
-use Rattle.sled_machine.specs.Kept.{kept_of_whole, CountsParts}
-use Rattle.sled_machine.specs.Step.{MachineStepContract}
-use Rattle.sled_machine.specs.Values.{MachineValue, configuration_of, slots_of}
+use Rattle.sled_calls.specs.Kept.{kept_of_whole, CountsParts}
+use Rattle.sled_calls.specs.Step.{MachineStepContract}
+use Rattle.sled_calls.specs.Values.{MachineValue, configuration_of, slots_of}
 use Rattle.sled_shared.specs.Made.{MadeValue, PartsMade, whole_value}
 use Rattle.sled_shared.specs.Wholes.{WholeValue}
 use Rattle.sled_shared.specs.Wholes as value
@@ -173,7 +173,7 @@ PassesAlone s t = must_refuse_of s (t ∷ []) ≡ None
 abbrev pub BatchPasses : State → Tree × Writes → Type 0
 BatchPasses s b = PassesAlone s b.0
 
-own : (s : State) (t : Tree) → PassesAlone s t → (bytes_eq t.database s.name ≡ true) × (is_number t.number (s.trees t.name) ≡ true)
+pub own : (s : State) (t : Tree) → PassesAlone s t → (bytes_eq t.database s.name ≡ true) × (is_number t.number (s.trees t.name) ≡ true)
 own s t e =
     let closed : Option MustRefuse = if s.is_open then None else Some IsClosed in
     let foreign : Option MustRefuse = foreign_test s.name (t ∷ []) in

@@ -1,5 +1,5 @@
 -- Histories that one caller could have made.
-use Rattle.std.specs.Prelude.{◌≡◌, ℕ, nat_eq, List, [], ◌∷◌, Option, Some, None, map, filter, if◌then◌else◌}
+use Rattle.std.specs.Prelude.{◌≡◌, ℕ, nat_eq, List, [], ◌∷◌, ◌++◌, Option, Some, None, map, filter, if◌then◌else◌}
 use Rattle.std.specs.FinMap.Entries.{find}
 use Rattle.std.specs.Str.{bytes_eq}
 use Rattle.sled_nodes.specs.Order.{Key, key_cmp}
@@ -11,7 +11,9 @@ use Rattle.sled_model.specs.declared.call.Call.{Call}
 use Rattle.sled_model.specs.declared.call.Call.TheVariants.{Merge}
 use Rattle.sled_model.specs.declared.decision.Decision.{Decision}
 use Rattle.sled_model.specs.declared.reply.Reply.{Reply}
+use Rattle.sled_model.specs.declared.reply.Reply.TheVariants.{Number}
 use Rattle.sled_model.specs.declared.tree.Tree.{Tree}
+use Rattle.sled_shared.specs.Wholes.{GenerateId}
 use Rattle.sled_shared.specs.Made.{MadeValue, PointMade, WholeMade, PartsMade, EntryValue}
 use Rattle.sled_shared.specs.WholeMade.{makes_whole_as, makes_parts_as}
 
@@ -45,6 +47,16 @@ makes_as old (PartsMade whole number) new = makes_parts_as old whole number new
 pub data IsLegal : Maps → List EntryValue → Maps → Type 0 where
   NoEntries : {m : Maps} → IsLegal m [] m
   OneEntry : {a m b : Maps} {e : EntryValue} {es : List EntryValue} → makes_as a e.made m → IsLegal m es b → IsLegal a (e ∷ es) b
+
+-- the id that was given, if one was
+abbrev pub id_made : MadeValue → List ℕ
+id_made (WholeMade GenerateId (Number id)) = id ∷ []
+id_made m = []
+
+-- the ids that were given, in order
+abbrev pub ids_made : List EntryValue → List ℕ
+ids_made [] = []
+ids_made (e ∷ es) = id_made e.made ++ ids_made es
 
 -- what the caller of this number made, in order
 abbrev pub made_by : ℕ → List EntryValue → List MadeValue

@@ -5,9 +5,10 @@ use Rattle.sled_model.specs.Maps.{Maps}
 use Rattle.sled_model.specs.Collections.{Content}
 use Rattle.sled_model.specs.State.{maps_of}
 use Rattle.sled.specs.Values.{db_state}
-use Rattle.sled_machine.specs.Values.{MachineValue}
+use Rattle.sled_calls.specs.Ids.{RiseBetween}
+use Rattle.sled_calls.specs.Values.{MachineValue}
 use Rattle.sled_shared.specs.Made.{EntryValue}
-use Rattle.sled_shared.specs.History.{IsLegal, maps_from}
+use Rattle.sled_shared.specs.History.{IsLegal, maps_from, ids_made}
 
 -- the database is open
 abbrev pub IsOpen : {P M : Type 0} → (P → Store) → MachineValue P M → Type 0
@@ -17,9 +18,11 @@ IsOpen store m = not (now (store m.db.pages)).in_group ≡ true
 abbrev pub maps_now : {P M : Type 0} → (P → Store) → MachineValue P M → Maps
 maps_now {P = P} {M = M} store m = maps_of (db_state store (λ (o : M) k value bytes. None) m.db)
 
--- while the database is open the history is legal, from the opening to the maps now; and each entry is counted
+-- While the database is open the history is legal, from the opening to the maps now. The ids in it rise, up to the greatest that was given;
+-- and each entry is counted
 pub record IsState {P M : Type 0} (store : P → Store) (m : MachineValue P M) (opening : List Content) (history : List EntryValue) (total : ℕ) : Type 0 where
   pub legal : IsOpen store m → IsLegal (maps_from opening) history (maps_now store m)
+  pub ids : RiseBetween 0 (ids_made history) m.db.greatest_id
   pub counted : length history ≡ total
 
 -- so many parts of the ledger are left for the callers that have no handle, and one more, and they count nothing

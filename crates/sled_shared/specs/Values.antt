@@ -1,7 +1,7 @@
 -- What contracts see of a state, of its callers, and of a database that is shared.
 use Rattle.std.specs.Prelude.{ℕ, List}
 use Rattle.sled_model.specs.Collections.{Content}
-use Rattle.sled_machine.specs.Values.{MachineValue}
+use Rattle.sled_calls.specs.Values.{MachineValue}
 use Rattle.sled_shared.specs.Made.{MadeValue, EntryValue}
 
 -- the machine, the collections that its database began with, and what was made since, in order
@@ -15,7 +15,8 @@ pub record CallerValue : Type 0 where
   pub number : ℕ
   pub made : List MadeValue
 
--- how many callers there may be, and how many of them have a handle
+-- how many callers there may be, how many of them have a handle, and the collections that the database began with
 pub record SharedValue : Type 0 where
   pub callers : ℕ
   pub given : ℕ
+  pub opening : List Content

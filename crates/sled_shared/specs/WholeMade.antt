@@ -1,19 +1,21 @@
 -- What whole calls make of the maps.
-use Rattle.std.specs.Prelude.{◌≡◌, ℕ, zero, suc, List, [], ◌∷◌, ◌++◌, length, Option, Some, None, is_some}
+use Rattle.std.specs.Prelude.{◌≡◌, ◌≢◌, ℕ, true, All, zero, suc, List, [], ◌∷◌, ◌++◌, length, Option, Some, None, is_some}
 use Rattle.std.specs.FinMap.Entries.{put, find}
 use Rattle.sled_nodes.specs.Order.{Key, key_cmp}
 use Rattle.sled_batch.specs.Batch.{Writes}
 use Rattle.sled_store.specs.Update.{put_name}
 use Rattle.sled_model.specs.Maps.{Map, Maps, IsLeast, IsGreatest}
 use Rattle.sled_model.specs.Answer.{answer_of}
-use Rattle.sled_model.specs.Collections.{Content}
+use Rattle.sled_model.specs.Collections.{Content, are_trees}
 use Rattle.sled_model.specs.Groups.{Write, writes_of, call_of_write}
 use Rattle.sled_model.specs.Imports.{Part, OpensName, Puts, parts_of}
 use Rattle.sled_model.specs.declared.call.Call.{Call}
 use Rattle.sled_model.specs.declared.call.Call.TheVariants.{Remove}
 use Rattle.sled_model.specs.declared.tree.Tree.{Tree}
 use Rattle.sled_model.specs.declared.reply.Reply.{Reply}
-use Rattle.sled_model.specs.declared.reply.Reply.TheVariants.{Pair, Flag, Done}
+use Rattle.sled_model.specs.State.{default_name}
+use Rattle.sled_model.specs.declared.reply.Reply.TheVariants.{Pair, Flag, Number, Done}
+use Rattle.sled_model.specs.declared.reply.Reply.TheVariants as told
 use Rattle.sled.specs.Parts.{told_parts}
 use Rattle.sled_shared.specs.Wholes.{WholeValue, Flush, PopMin, PopMax, Clear, Group, OpenTree, DropTree, GenerateId, Import, Watch, Next, Unsubscribe}
 
@@ -41,6 +43,10 @@ pub record MakesClear (old : Maps) (tree : Tree) (reply : Reply) (new : Maps) : 
   pub there : old tree.name ≡ Some map
   pub replies : reply ≡ Done
   pub is : new ≡ put_name old tree.name (Some [])
+
+-- the tree of a batch has a map
+abbrev pub HasMap : Maps → Tree × Writes → Type 0
+HasMap old batch = is_some (old batch.0.name) ≡ true
 
 -- a write is made in the map of its tree, as its insert or its removal would be
 abbrev pub maps_with_write : Option Map → Write → Maps → Maps
@@ -80,34 +86,49 @@ pub data MakesParts : Maps → List Part → Maps → Type 0 where
   MakesNone : {a : Maps} → MakesParts a [] a
   MakesOne : {a m b : Maps} {part : Part} {parts : List Part} → makes_part_as a part m → MakesParts m parts b → MakesParts a (part ∷ parts) b
 
--- A whole call, made at these maps, replies so and leaves those. An import does all its parts, and a dropped name has no map. What tells
--- something, and what is about subscribers, leaves the maps as they were
+-- replies of which a history fixes the kind alone: a number, a tree of this name, and a subscriber
+abbrev pub TellsNumber : Reply → Type 0
+TellsNumber reply = (number : ℕ) × (reply ≡ Number number)
+
+abbrev pub TellsTree : Key → Reply → Type 0
+TellsTree name reply = (database : Key) × (number : ℕ) × (reply ≡ told.Tree (record { database = database; name = name; number = number }))
+
+abbrev pub TellsSubscriber : Reply → Type 0
+TellsSubscriber reply = (number : ℕ) × (reply ≡ told.Subscriber number)
+
+-- A whole call, made at these maps, replies so and leaves those. A group is one of trees that are there, an import is one of trees and
+-- does all its parts, and a name that is dropped is not the default tree's and has no map then. What tells something, and what is about
+-- subscribers, leaves the maps as they were; what a subscriber was told is not noted
 abbrev pub makes_whole_as : Maps → WholeValue → Reply → Maps → Type 0
-makes_whole_as old Flush reply new = new ≡ old
+makes_whole_as old Flush reply new = TellsNumber reply × (new ≡ old)
 makes_whole_as old (PopMin tree) reply new = MakesPop IsLeast old tree reply new
 makes_whole_as old (PopMax tree) reply new = MakesPop IsGreatest old tree reply new
 makes_whole_as old (Clear tree) reply new = MakesClear old tree reply new
-makes_whole_as old (Group batches) reply new = (reply ≡ Done) × (new ≡ maps_with_writes (writes_of batches) old)
-makes_whole_as old (OpenTree name) reply new = new ≡ maps_opened (old name) name old
-makes_whole_as old (DropTree name) reply new = (reply ≡ Flag (is_some (old name))) × (new ≡ put_name old name None)
-makes_whole_as old GenerateId reply new = new ≡ old
-makes_whole_as old (Import all) reply new = (reply ≡ Done) × MakesParts old (parts_of all) new
-makes_whole_as old (Watch tree prefix) reply new = new ≡ old
-makes_whole_as old (Next subscriber) reply new = new ≡ old
-makes_whole_as old (Unsubscribe subscriber) reply new = new ≡ old
+makes_whole_as old (Group batches) reply new = (reply ≡ Done) × All (HasMap old) batches × (new ≡ maps_with_writes (writes_of batches) old)
+makes_whole_as old (OpenTree name) reply new = TellsTree name reply × (new ≡ maps_opened (old name) name old)
+makes_whole_as old (DropTree name) reply new = (name ≢ default_name) × (reply ≡ Flag (is_some (old name))) × (new ≡ put_name old name None)
+makes_whole_as old GenerateId reply new = TellsNumber reply × (new ≡ old)
+makes_whole_as old (Import all) reply new = (are_trees all ≡ true) × (reply ≡ Done) × MakesParts old (parts_of all) new
+makes_whole_as old (Watch tree prefix) reply new = TellsSubscriber reply × (new ≡ old)
+makes_whole_as old (Next subscriber) reply new = (reply ≡ Done) × (new ≡ old)
+makes_whole_as old (Unsubscribe subscriber) reply new = (reply ≡ Done) × (new ≡ old)
 
 -- a clear that is refused has removed so many keys, from the least up
 pub record MakesClearParts (old : Maps) (tree : Tree) (number : ℕ) (new : Maps) : Type 0 where
   pub parts : ℕ
   pub told : number ≡ told_parts parts
+  pub some : number ≢ 0
   pub takes : TakesLeast tree.name old parts new
 
--- an import that is refused has done so many of its parts, and others are left
+-- an import of trees that is refused has done so many of its parts, and not the next
 pub record MakesImportParts (old : Maps) (all : List Content) (number : ℕ) (new : Maps) : Type 0 where
   pub done : List Part
-  pub left : List Part
-  pub all_parts : parts_of all ≡ done ++ left
+  pub next : Part
+  pub later : List Part
+  pub trees : are_trees all ≡ true
+  pub all_parts : parts_of all ≡ done ++ next ∷ later
   pub told : number ≡ told_parts (length done)
+  pub some : number ≢ 0
   pub makes : MakesParts old done new
 
 -- so many parts of a whole call are done, and no other call is done in parts

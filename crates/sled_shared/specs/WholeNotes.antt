@@ -9,13 +9,13 @@ use Rattle.sled_model.specs.Transition.{kind_of, InParts}
 use Rattle.sled_model.specs.declared.call.Whole.{Whole}
 use Rattle.sled_model.specs.declared.call.Whole.TheVariants.{Next, Unsubscribe}
 use Rattle.sled_model.specs.declared.outcome.Outcome.{Outcome}
-use Rattle.sled_model.specs.declared.outcome.Outcome.TheVariants.{Refused}
+use Rattle.sled_model.specs.declared.outcome.Outcome.TheVariants.{Decided, Refused}
 use Rattle.sled_model.specs.declared.outcome.Step.TheVariants as step
 use Rattle.sled_model.specs.declared.reply.Reply.{Reply}
 use Rattle.sled.specs.Values.{db_state}
-use Rattle.sled_machine.specs.Kept.{kept_of_whole, CountsParts}
-use Rattle.sled_machine.specs.Step.{MachineStepContract}
-use Rattle.sled_machine.specs.Values.{MachineValue}
+use Rattle.sled_calls.specs.Kept.{kept_of_whole, CountsParts}
+use Rattle.sled_calls.specs.Step.{MachineStepContract}
+use Rattle.sled_calls.specs.Values.{MachineValue}
 use Rattle.sled_shared.specs.Wholes.{WholeValue}
 use Rattle.sled_shared.specs.Made.{MadeValue, WholeMade, PartsMade, EntryValue, whole_value}
 use Rattle.sled_shared.specs.Notes.{entries_of}
@@ -61,8 +61,15 @@ module _ {P M : Type 0} (store : P → Store) (flush_number : P → ℕ) (meant 
     pub adds : longer ≡ history ++ entries_of n noted
     pub adds_there : more ≡ made ++ noted
 
+-- a whole call is decided or refused
+abbrev pub IsAnswer : Outcome → Type 0
+IsAnswer (Decided reply) = Unit {0}
+IsAnswer (Refused e) = Unit {0}
+IsAnswer o = ⊥
+
 -- A whole call that came out so adds to a list what is noted of it. None but a call that is done in parts did some
 pub record AddsWhole (whole : Whole) (o : Outcome) (made more : List MadeValue) : Type 0 where
+  pub answers : IsAnswer o
   pub number : ℕ
   pub parts : kind_of whole ≢ InParts → number ≡ 0
   pub adds : more ≡ made ++ noted_whole whole o number

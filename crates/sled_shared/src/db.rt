@@ -1,6 +1,8 @@
 //! A database that is shared.
-ghost use Rattle.std.specs.Prelude.{◌≡◌, ◌+◌, ◌<◌, [], IfOk, IfErr, OnOk, OnErr};
-ghost use Rattle.sled.specs.Export.{RefusesExport};
+ghost use Rattle.std.specs.Prelude.{◌≡◌, ◌+◌, ◌<◌, false, [], IfOk, IfErr, OnOk, OnErr};
+ghost use Rattle.sled_store.specs.Store.{now};
+ghost use Rattle.tree_laws.specs.Contents.{trees_of};
+ghost use Rattle.sled.specs.Export.{RefusesExport, collections};
 ghost use Rattle.sled_model.specs.Collections.{contents_of};
 ghost use Rattle.sled_shared.specs.History.{maps_from};
 ghost use Rattle.sled_shared.specs.Gathered.{RefusesHandle};
@@ -10,7 +12,7 @@ use crate::caller::Caller;
 use crate::handle::Handle;
 use crate::state::State;
 use sled::Db as Owned;
-use sled_machine::Machine;
+use sled_calls::Machine;
 use sled_model::{Collection, MergeOperator};
 use sled_nodes::texts::NUMBERS_USED_UP;
 use sled_nodes::{Error, Result};
@@ -29,6 +31,8 @@ pub struct Db<P: Pages, L: Ledger, M = Box<dyn MergeOperator + Send>> {
     pub(crate) given: u64,
     // the parts of the callers that have no handle, and one more
     rest: Share<L>,
+    // what the state has as its own
+    pub(crate) opening: Arc<Vec<Collection>>,
 }
 
 impl<P: Pages, L: Ledger, M> Model for Db<P, L, M> {
@@ -36,21 +40,67 @@ impl<P: Pages, L: Ledger, M> Model for Db<P, L, M> {
 
     ghost Value = { SharedValue };
 
+    ghost use Rattle.sled_model.specs.Collections.{contents_of};
     ghost use Rattle.sled_shared.specs.Sound.{HasParts};
 
-    ghost view = { λ d. record { callers = d.callers; given = d.given } };
+    ghost view = { λ d. record { callers = d.callers; given = d.given; opening = contents_of d.opening.value.items } };
 
     ghost invariant = { λ d. HasParts d.callers d.given d.rest.parts d.rest.amount };
+}
+
+// The same collections, for two owners.
+fn share_opening(
+    alloc: Global,
+    opening: Vec<Collection>,
+) -> Result<(Arc<Vec<Collection>>, Arc<Vec<Collection>>)>
+    ensures first { IfOk result (λ both. contents_of both.0.value.items ≡ contents_of opening.items) }
+    ensures second { IfOk result (λ both. contents_of both.1.value.items ≡ contents_of opening.items) }
+{
+    let one = match Arc::new(alloc, opening) {
+        Ok(one) => one,
+        Err(failed) => {
+            drop(failed);
+            return Err(Error::NoMemory);
+        }
+    };
+    match Arc::try_clone(&one) {
+        Ok(other) => Ok((one, other)),
+        Err(failed) => {
+            drop(failed);
+            drop(one);
+            Err(Error::NoMemory)
+        }
+    }
+}
+
+// The collections of a database, for two owners.
+fn export_of<P: Pages, M: MergeOperator>(
+    alloc: Global,
+    db: &Owned<P, M>,
+) -> Result<(Arc<Vec<Collection>>, Arc<Vec<Collection>>)>
+    ensures first { IfOk result (λ both. contents_of both.0.value.items ≡ collections (trees_of (now (P.store db.now.pages))) db.now.trees) }
+    ensures second { IfOk result (λ both. contents_of both.1.value.items ≡ collections (trees_of (now (P.store db.now.pages))) db.now.trees) }
+    ensures open { OnOk result ((now (P.store db.now.pages)).in_group ≡ false) }
+    ensures err { IfErr result (RefusesExport (P.store db.now.pages)) }
+{
+    let opening = db.export()?;
+    match share_opening(alloc, opening) {
+        Ok(both) => Ok(both),
+        Err(e) => {
+            drop(e);
+            Err(Error::NoMemory)
+        }
+    }
 }
 
 // The first state of a database, which began with these collections.
 fn first_state<P: Pages, L: Ledger, M: MergeOperator>(
     alloc: Global,
     db: Owned<P, M>,
-    opening: Vec<Collection>,
+    opening: Arc<Vec<Collection>>,
     calls: Book<L>,
 ) -> State<P, L, M>
-    requires opening { (machine : _) → machine.db ≡ db → maps_from (contents_of opening.items) ≡ maps_now P.store machine }
+    requires opening { (machine : _) → machine.db ≡ db → maps_from (contents_of opening.value.items) ≡ maps_now P.store machine }
     requires none { calls.total ≡ 0 }
 {
     let machine = Machine::new(db);
@@ -81,22 +131,25 @@ impl<P: Pages, L: Ledger, M: MergeOperator> Db<P, L, M> {
         requires name { blank.name ≡ L.name }
         requires parts { blank.parts ≡ L.parts }
         requires each { blank.parts ≡ callers + 1 }
-        ensures ok { IfOk result (λ shared. shared ≡ record { callers = callers; given = 0 }) }
+        ensures ok { IfOk result (λ shared. shared ≡ record { callers = callers; given = 0; opening = collections (trees_of (now (P.store db.pages))) db.trees }) }
+        ensures open { OnOk result ((now (P.store db.pages)).in_group ≡ false) }
         ensures same { IfErr result (λ e. e.0 ≡ db) }
         ensures err { IfErr result (λ e. RefusesExport (P.store db.pages) e.1) }
     {
-        let opening = match db.export() {
-            Ok(opening) => opening,
+        let both = match export_of(alloc, &db) {
+            Ok(both) => both,
             Err(e) => {
                 drop(blank);
                 return Err((db, e));
             }
         };
+        let (opening, kept) = both;
         let lock = match Arc::new(alloc, Mutex::new(None)) {
             Ok(lock) => lock,
             Err(failed) => {
                 drop(failed);
                 drop(opening);
+                drop(kept);
                 drop(blank);
                 return Err((db, Error::NoMemory));
             }
@@ -109,6 +162,7 @@ impl<P: Pages, L: Ledger, M: MergeOperator> Db<P, L, M> {
             callers,
             given: 0,
             rest,
+            opening: kept,
         })
     }
 

@@ -1,5 +1,6 @@
 //! The state, out of its lock.
 ghost use Rattle.std.specs.Prelude.{◌≡◌, true, All, IfOk, IfErr, IfSome, length, vec_len};
+ghost use Rattle.sled_model.specs.Collections.{contents_of};
 ghost use Rattle.sled_shared.specs.History.{IsLegal, maps_from};
 ghost use Rattle.sled_shared.specs.Sound.{IsOpen, maps_now};
 ghost use Rattle.sled_shared.specs.Gathered.{EachOnce, IsMadeIn, IsOfGiven};
@@ -7,8 +8,9 @@ ghost use Rattle.sled_shared.specs.Gathered.{EachOnce, IsMadeIn, IsOfGiven};
 use crate::compare::{all_agree, are_all, has_no_others};
 use crate::db::Db;
 use crate::handle::Handle;
+use crate::same_whole::are_same_collections;
 use crate::state::State;
-use sled_model::MergeOperator;
+use sled_model::{Collection, MergeOperator};
 use sled_store::Pages;
 use std::sync::Wait;
 use std::sync::ledger::Ledger;
@@ -26,10 +28,20 @@ fn agrees_with<P: Pages, L: Ledger, M: MergeOperator>(
     has_no_others(history, given) && all_agree(history, handles)
 }
 
+// Whether the state began with these collections.
+fn began_with<P: Pages, L: Ledger, M: MergeOperator>(
+    state: &State<P, L, M>,
+    opening: &[Collection],
+) -> bool
+    ensures { result ≡ true → state.now.opening ≡ contents_of opening.now }
+{
+    are_same_collections(state.opening(), opening)
+}
+
 impl<P: Pages, L: Ledger, M: MergeOperator> Db<P, L, M> {
     /// Takes the state out, once all callers are done. All handles that were made must be handed in, in any order; where none was made the
     /// empty list is all. Each handle's list is compared with the history: it must be that of the entries with its number, in order, and
-    /// the history must have no others. Where it is not so, all is given back as it was. The history of the state is legal, while its
+    /// the history must have no others; and what the state began with must be what the database had when it was shared. Where it is not so, all is given back as it was. The history of the state is legal, while its
     /// database is open.
     ///
     /// ```
@@ -47,6 +59,7 @@ impl<P: Pages, L: Ledger, M: MergeOperator> Db<P, L, M> {
         ensures numbers { IfOk result (λ s. EachOnce self.given handles.items) }
         ensures made { IfOk result (λ s. All (IsMadeIn s.history) handles.items) }
         ensures others { IfOk result (λ s. All (IsOfGiven self.given) s.history) }
+        ensures opening { IfOk result (λ s. s.opening ≡ self.opening) }
         ensures legal { IfOk result (λ s. IsOpen P.store s.machine → IsLegal (maps_from s.opening) s.history (maps_now P.store s.machine)) }
         ensures err { IfErr result (λ e. (e.0 ≡ self) × (e.1 ≡ handles)) }
     {
@@ -67,12 +80,13 @@ impl<P: Pages, L: Ledger, M: MergeOperator> Db<P, L, M> {
         ensures numbers { IfSome result (λ s. EachOnce self.now.given handles.now) }
         ensures made { IfSome result (λ s. All (IsMadeIn s.history) handles.now) }
         ensures others { IfSome result (λ s. All (IsOfGiven self.now.given) s.history) }
+        ensures opening { IfSome result (λ s. s.opening ≡ self.now.opening) }
     {
         if !are_all(handles, self.given) {
             return None;
         }
         let mut guard = self.lock.lock(rt);
-        take_agreeing(&mut *guard, handles, self.given)
+        take_agreeing(&mut *guard, handles, self.given, self.opening.as_slice())
     }
 }
 
@@ -81,14 +95,16 @@ fn take_agreeing<P: Pages, L: Ledger, M: MergeOperator>(
     slot: &mut Option<State<P, L, M>>,
     handles: &[Handle<P, L, M>],
     given: u64,
+    opening: &[Collection],
 ) -> Option<State<P, L, M>>
     ensures made { IfSome result (λ s. All (IsMadeIn s.history) handles.now) }
     ensures others { IfSome result (λ s. All (IsOfGiven given) s.history) }
+    ensures opening { IfSome result (λ s. s.opening ≡ contents_of opening.now) }
 {
     match slot.take() {
         None => None,
         Some(state) => {
-            if agrees_with(&state, handles, given) {
+            if began_with(&state, opening) && agrees_with(&state, handles, given) {
                 Some(state)
             } else {
                 *slot = Some(state);

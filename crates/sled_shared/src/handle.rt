@@ -1,8 +1,9 @@
 //! Callers' ways to a database that is shared.
-ghost use Rattle.std.specs.Prelude.{◌≡◌, ◌++◌};
+ghost use Rattle.std.specs.Prelude.{◌≡◌, ◌≢◌, ◌++◌};
 ghost use Rattle.std.specs.Option.{option_copied};
 ghost use Rattle.sled_model.specs.State.{IsOnKey};
 ghost use Rattle.sled_model.specs.declared.call.Call.TheVariants.{Get, Insert, Remove, CompareAndSwap, Merge};
+ghost use Rattle.sled_model.specs.declared.outcome.Outcome.TheVariants.{Moved};
 ghost use Rattle.sled_shared.specs.Made.{made_values};
 ghost use Rattle.sled_shared.specs.Notes.{AddsStep, noted_of};
 ghost use Rattle.sled_shared.specs.WholeNotes.{AddsWhole};
@@ -175,6 +176,7 @@ impl<P: Pages, L: Ledger, M: MergeOperator> Handle<P, L, M> {
         requires { IsOnKey call.now }
         ensures made { self.new.made ≡ self.old.made ++ noted_of result tree.now call.now }
         ensures number { self.new.number ≡ self.old.number }
+        ensures ends { result ≢ Moved }
     {
         for _ in rt.forever() {
             match self.step_of(rt, slot, tree, call) {
@@ -197,6 +199,7 @@ impl<P: Pages, L: Ledger, M: MergeOperator> Handle<P, L, M> {
         requires { IsOnKey call }
         ensures made { self.new.made ≡ self.old.made ++ noted_of result tree.now call }
         ensures number { self.new.number ≡ self.old.number }
+        ensures ends { result ≢ Moved }
     {
         let again = match call.clone() {
             Ok(again) => again,
@@ -225,6 +228,7 @@ impl<P: Pages, L: Ledger, M: MergeOperator> Handle<P, L, M> {
     pub fn get(&mut self, rt: &impl Wait, alloc: Global, tree: &Tree, key: &[u8]) -> Outcome
         ensures made { self.new.made ≡ self.old.made ++ noted_of result tree.now (Get key.now) }
         ensures number { self.new.number ≡ self.old.number }
+        ensures ends { result ≢ Moved }
     {
         match Call::get(alloc, key) {
             Ok(call) => self.call(rt, tree, call, &NoGate),
@@ -247,6 +251,7 @@ impl<P: Pages, L: Ledger, M: MergeOperator> Handle<P, L, M> {
     ) -> Outcome
         ensures made { self.new.made ≡ self.old.made ++ noted_of result tree.now (Insert key.now value.now) }
         ensures number { self.new.number ≡ self.old.number }
+        ensures ends { result ≢ Moved }
     {
         match Call::insert(alloc, key, value) {
             Ok(call) => self.call(rt, tree, call, &NoGate),
@@ -262,6 +267,7 @@ impl<P: Pages, L: Ledger, M: MergeOperator> Handle<P, L, M> {
     pub fn remove(&mut self, rt: &impl Wait, alloc: Global, tree: &Tree, key: &[u8]) -> Outcome
         ensures made { self.new.made ≡ self.old.made ++ noted_of result tree.now (Remove key.now) }
         ensures number { self.new.number ≡ self.old.number }
+        ensures ends { result ≢ Moved }
     {
         match Call::remove(alloc, key) {
             Ok(call) => self.call(rt, tree, call, &NoGate),
@@ -285,6 +291,7 @@ impl<P: Pages, L: Ledger, M: MergeOperator> Handle<P, L, M> {
     ) -> Outcome
         ensures made { self.new.made ≡ self.old.made ++ noted_of result tree.now (CompareAndSwap key.now (option_copied old.entry) (option_copied new.entry)) }
         ensures number { self.new.number ≡ self.old.number }
+        ensures ends { result ≢ Moved }
     {
         match Call::compare_and_swap(alloc, key, old, new) {
             Ok(call) => self.call(rt, tree, call, &NoGate),
@@ -307,6 +314,7 @@ impl<P: Pages, L: Ledger, M: MergeOperator> Handle<P, L, M> {
     ) -> Outcome
         ensures made { self.new.made ≡ self.old.made ++ noted_of result tree.now (Merge key.now bytes.now) }
         ensures number { self.new.number ≡ self.old.number }
+        ensures ends { result ≢ Moved }
     {
         match Call::merge(alloc, key, bytes) {
             Ok(call) => self.call(rt, tree, call, &NoGate),

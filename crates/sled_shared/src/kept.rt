@@ -4,13 +4,13 @@ ghost use Rattle.sled_nodes.specs.declared.error.Error.TheVariants.{NoMemory};
 ghost use Rattle.sled_model.specs.Refusal.{ToPoint, must_refuse};
 ghost use Rattle.sled_model.specs.declared.outcome.Outcome.TheVariants.{Refused};
 ghost use Rattle.sled.specs.Values.{db_state};
-ghost use Rattle.sled_machine.specs.Values.{slots_of};
+ghost use Rattle.sled_calls.specs.Values.{slots_of};
 ghost use Rattle.sled.specs.Kept.{kept_of};
 ghost use Rattle.sled_shared.specs.Notes.{noted_in};
 ghost use Rattle.sled_shared.specs.Steps.{SlotStep};
 ghost use Rattle.sled_shared.specs.theory.Noting.{CanStep};
 
-use sled_machine::Machine;
+use sled_calls::Machine;
 use sled_model::{Call, MAX_LOOPS, MergeOperator, Outcome, Reply, Slot, Tree};
 use sled_nodes::Error;
 use sled_store::Pages;

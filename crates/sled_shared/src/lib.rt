@@ -5,9 +5,9 @@
 //! end of the history, with the number of the caller whose step decided it, and at the end of that caller's own list. A `Clear` or an
 //! `Import` that is refused midway is noted with the parts that it did.
 //!
-//! Whenever the lock is free the history is legal, as long as no group was refused midway: from the collections that the database began
-//! with, each call replied and wrote what it would have, made alone at its place, and the maps after the last are the maps now
-//! (`specs/History`, `specs/Sound`). A caller's list is no longer than its share of the entries, which a ledger counts. At the end `gather`
+//! Whenever the lock is free the history is legal, as long as no group was refused midway: from the collections that the database had when
+//! it was shared, each call replied and wrote what it would have, made alone at its place, and the maps after the last are the maps now
+//! (`specs/History`, `specs/Sound`). A merge wrote what its reply tells. A caller's list is no longer than its share of the entries, which a ledger counts. At the end `gather`
 //! takes all handles back and compares: each list is that of its caller's entries, and the history has no others.
 //!
 //! ```

@@ -1,7 +1,7 @@
 //! Steps that are noted, over the parts of a state.
 ghost use Rattle.std.specs.Prelude.{◌≡◌, ◌<◌, ◌+◌, ◌++◌, ◌∷◌, [], true, IfOk, IfSome, OnOk, Some, vec_len, vec_capacity, length};
 ghost use Rattle.std.specs.Option.{option_map};
-ghost use Rattle.sled_machine.specs.Values.{slots_of, job_of_call};
+ghost use Rattle.sled_calls.specs.Values.{slots_of, job_of_call};
 ghost use Rattle.sled_shared.specs.Made.{PointMade, made_value, made_values, entry_values};
 ghost use Rattle.sled_shared.specs.Notes.{entries_of, noted_in};
 ghost use Rattle.sled_shared.specs.Steps.{SlotStep};
@@ -9,7 +9,7 @@ ghost use Rattle.sled_shared.specs.theory.Noting.{first_noted, is_on_key_in, sec
 
 use crate::entry::{Entry, Made};
 use crate::kept::{refuse_step, step, step_kept};
-use sled_machine::{Job, Machine};
+use sled_calls::{Job, Machine};
 use sled_model::{MergeOperator, Outcome, Reply, Slot};
 use sled_nodes::{Error, Result};
 use sled_store::Pages;

@@ -42,7 +42,8 @@ fn is_same_collection(a: &Collection, b: &Collection) -> bool
     has_same_bytes(&a.0, &b.0) && has_same_bytes(&a.1, &b.1) && has_same_pairs(&a.2, &b.2)
 }
 
-fn are_same_collections(a: &[Collection], b: &[Collection]) -> bool
+// Whether both hold the same, collection by collection.
+pub(crate) fn are_same_collections(a: &[Collection], b: &[Collection]) -> bool
     ensures { result ≡ true → contents_of a.now ≡ contents_of b.now }
 {
     if a.len() != b.len() {

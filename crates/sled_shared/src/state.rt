@@ -1,17 +1,19 @@
 //! What lies under the lock.
 use crate::entry::Entry;
-use sled_machine::Machine;
+use sled_calls::Machine;
 use sled_model::{Collection, MergeOperator};
 use sled_store::Pages;
 use std::marker::Model;
+use std::sync::Arc;
 use std::sync::ledger::{Book, Ledger};
 
-/// A machine, the collections that its database began with, and what callers made since, in order. As long as the database is open the
+/// A machine, the collections that its database had when it was shared, and what callers made since, in order. As long as the database is open the
 /// history is legal, which `audit` tells.
 #[derive(Drop)]
 pub struct State<P: Pages, L: Ledger, M = Box<dyn MergeOperator + Send>> {
     pub(crate) machine: Machine<P, M>,
-    pub(crate) opening: Vec<Collection>,
+    // shared with the database, which compares at the end
+    pub(crate) opening: Arc<Vec<Collection>>,
     pub(crate) history: Vec<Entry>,
     // as many as the history has entries
     pub(crate) calls: Book<L>,
@@ -26,7 +28,7 @@ impl<P: Pages, L: Ledger, M> Model for State<P, L, M> {
     ghost use Rattle.sled_shared.specs.Made.{entry_values};
     ghost use Rattle.sled_shared.specs.Sound.{IsState};
 
-    ghost view = { λ s. record { machine = s.machine; opening = contents_of s.opening.items; history = entry_values s.history.items } };
+    ghost view = { λ s. record { machine = s.machine; opening = contents_of s.opening.value.items; history = entry_values s.history.items } };
 
-    ghost invariant = { λ s. IsState P.store s.machine (contents_of s.opening.items) (entry_values s.history.items) s.calls.total };
+    ghost invariant = { λ s. IsState P.store s.machine (contents_of s.opening.value.items) (entry_values s.history.items) s.calls.total };
 }

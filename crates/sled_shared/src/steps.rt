@@ -5,9 +5,10 @@ ghost use Rattle.sled_model.specs.Collections.{contents_of};
 ghost use Rattle.sled_model.specs.State.{IsOnKey};
 ghost use Rattle.sled_model.specs.declared.outcome.Step.TheVariants as step;
 ghost use Rattle.sled_model.specs.declared.outcome.Outcome.TheVariants as outcome;
-ghost use Rattle.sled_machine.specs.Step.{MachineStepContract};
-ghost use Rattle.sled_machine.specs.Values.{slots_of, job_of_call};
-ghost use Rattle.sled_shared.specs.History.{IsLegal, maps_from};
+ghost use Rattle.sled_calls.specs.Step.{MachineStepContract};
+ghost use Rattle.sled_calls.specs.Values.{slots_of, job_of_call};
+ghost use Rattle.sled_calls.specs.Ids.{RiseBetween};
+ghost use Rattle.sled_shared.specs.History.{IsLegal, ids_made, maps_from};
 ghost use Rattle.sled_shared.specs.Made.{entry_values};
 ghost use Rattle.sled_shared.specs.Notes.{AddsStep, entries_of, noted_in, noted_of};
 ghost use Rattle.sled_shared.specs.Sound.{IsOpen, maps_now};
@@ -20,7 +21,7 @@ use crate::entry::Entry;
 use crate::noting::step_in;
 use crate::state::State;
 use crate::wholes::whole_in;
-use sled_machine::{Job, Machine};
+use sled_calls::{Job, Machine};
 use sled_model::{Call, Collection, MergeOperator, Outcome, Slot, Tree, Whole};
 use sled_nodes::Result;
 use sled_store::Pages;
@@ -169,7 +170,7 @@ impl<P: Pages, L: Ledger, M: MergeOperator> State<P, L, M> {
         self.whole(me, whole)
     }
 
-    /// The collections that the database began with, as its export gave them.
+    /// The collections that the database had when it was shared, as its export gave them.
     ///
     /// ```
     /// let collections = state.opening(); // Of each tree its name and its pairs.
@@ -192,13 +193,15 @@ impl<P: Pages, L: Ledger, M: MergeOperator> State<P, L, M> {
     }
 
     /// What holds of every state: while its database is open, the history is legal. From the opening on each entry's call replied and wrote
-    /// what it would have, made alone at its place, and the maps after the last entry are the maps now. It does nothing.
+    /// what it would have, made alone at its place, and the maps after the last entry are the maps now. The ids in it rise, and none is
+    /// above the greatest that the database gave. It does nothing.
     ///
     /// ```
     /// state.audit(); // From here on a proof knows that the history is legal.
     /// ```
     pub fn audit(&self)
-        ensures { IsOpen P.store self.now.machine → IsLegal (maps_from self.now.opening) self.now.history (maps_now P.store self.now.machine) }
+        ensures legal { IsOpen P.store self.now.machine → IsLegal (maps_from self.now.opening) self.now.history (maps_now P.store self.now.machine) }
+        ensures ids { RiseBetween 0 (ids_made self.now.history) self.now.machine.db.greatest_id }
     {
         let _history = &self.history;
     }

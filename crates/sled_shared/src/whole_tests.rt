@@ -5,7 +5,7 @@ ghost use Rattle.sled.specs.Values.{db_state};
 ghost use Rattle.sled_shared.specs.WholeNotes.{whole_test};
 
 use sled_batch::Batch;
-use sled_machine::Machine;
+use sled_calls::Machine;
 use sled_model::{MergeOperator, Tree, Whole};
 use sled_store::Pages;
 

@@ -2,8 +2,8 @@
 ghost use Rattle.std.specs.Prelude.{◌≡◌, ◌≢◌, ◌<◌, ◌++◌, [], None, IfOk, IfSome, OnOk, vec_len, vec_capacity, length};
 ghost use Rattle.sled_model.specs.declared.outcome.Step.TheVariants as step;
 ghost use Rattle.sled.specs.Values.{db_state};
-ghost use Rattle.sled_machine.specs.Kept.{kept_of_whole, CountsParts};
-ghost use Rattle.sled_machine.specs.Step.{MachineStepContract};
+ghost use Rattle.sled_calls.specs.Kept.{kept_of_whole, CountsParts};
+ghost use Rattle.sled_calls.specs.Step.{MachineStepContract};
 ghost use Rattle.sled_shared.specs.Made.{WholeMade, made_value, made_values, entry_values, whole_value};
 ghost use Rattle.sled_shared.specs.Notes.{entries_of};
 ghost use Rattle.sled_shared.specs.theory.Noting.{first_noted, second_noted};
@@ -12,7 +12,7 @@ ghost use Rattle.sled_shared.specs.WholeNotes.{ComesToWhole, DoesWhole, NotesWho
 use crate::entry::{Entry, Made};
 use crate::noting::{make_room, note};
 use crate::whole_tests::passes_whole;
-use sled_machine::Machine;
+use sled_calls::Machine;
 use sled_model::{MergeOperator, Outcome, Reply, Whole};
 use sled_nodes::{Error, Result};
 use sled_store::Pages;

@@ -7,7 +7,7 @@ use Rattle.sled_model.specs.Refusal.{ToStep, must_refuse, turns_limit}
 use Rattle.sled_model.specs.declared.call.Call.{Call}
 use Rattle.sled_model.specs.declared.tree.Tree.{Tree}
 use Rattle.sled.specs.Values.{db_state}
-use Rattle.sled_machine.specs.Values.{MachineValue, slots_of}
+use Rattle.sled_calls.specs.Values.{MachineValue, slots_of}
 use Rattle.sled_shared.specs.declared.entry.Made.{Made}
 use Rattle.sled_shared.specs.Made.{MadeValue, made_value}
 
