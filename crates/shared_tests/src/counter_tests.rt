@@ -2,10 +2,11 @@
 ghost use Rattle.std.specs.Prelude.{◌≡◌};
 
 use crate::adds::{Adds, number_of};
+use crate::callers::{both, gathered, handle_of, put, share, share_by_two};
 use crate::replay::replays;
 use crate::start::{Fresh, Shared, Way, new_database};
+use sled_machine::shared::{Entry, Made};
 use sled_model::{Outcome, Reply, Tree};
-use sled_shared::{Entry, Made};
 use std::alloc::Global;
 use std::marker::Brand;
 use std::process::Abort;
@@ -76,9 +77,7 @@ fn check_all<L: Ledger, R: Wait + Abort>(
     for handle in &handles {
         assert_eq!(rt; handle.made().len() as u64, TIMES);
     }
-    let Ok(state) = shared.gather(rt, handles) else {
-        panic!(rt; "not gathered")
-    };
+    let state = gathered(rt, shared, handles);
     assert_eq!(rt; state.history().len(), count);
     assert!(rt; count_up(state.history()), "the replies count up");
     assert!(rt;
@@ -99,20 +98,14 @@ where
     requires each { blank.parts ≡ 3 }
 {
     let (db, tree) = new_counter(rt, alloc);
-    let Ok(mut shared) = Shared::<L>::new(rt, alloc, db, blank, 2) else {
-        panic!(rt; "not shared")
-    };
-    let one = shared.handle(alloc).expect(rt, "a handle");
-    let other = shared.handle(alloc).expect(rt, "a handle");
+    let (shared, one, other) = share_by_two::<L, R>(rt, alloc, db, blank);
     let (one, other) = join(
         rt,
         || add(rt, alloc, &tree, one),
         || add(rt, alloc, &tree, other),
     );
     drop(tree);
-    let mut handles = Vec::with_capacity(alloc, 2).expect(rt, "memory");
-    handles.push(one).ok().expect(rt, "memory");
-    handles.push(other).ok().expect(rt, "memory");
+    let handles = both(rt, alloc, one, other);
     check_all(rt, alloc, shared, handles, 2000);
 }
 
@@ -142,24 +135,20 @@ where
     requires each { blank.parts ≡ 5 }
 {
     let (db, tree) = new_counter(rt, alloc);
-    let Ok(mut shared) = Shared::<L>::new(rt, alloc, db, blank, 4) else {
-        panic!(rt; "not shared")
-    };
-    let a = shared.handle(alloc).expect(rt, "a handle");
-    let b = shared.handle(alloc).expect(rt, "a handle");
-    let c = shared.handle(alloc).expect(rt, "a handle");
-    let d = shared.handle(alloc).expect(rt, "a handle");
+    let mut shared = share::<L, R>(rt, alloc, db, blank, 4);
+    let a = handle_of(rt, alloc, &mut shared);
+    let b = handle_of(rt, alloc, &mut shared);
+    let c = handle_of(rt, alloc, &mut shared);
+    let d = handle_of(rt, alloc, &mut shared);
     let ((a, b), (c, d)) = join(
         rt,
         || add_by_two(rt, alloc, &tree, a, b),
         || add_by_two(rt, alloc, &tree, c, d),
     );
     drop(tree);
-    let mut handles = Vec::with_capacity(alloc, 4).expect(rt, "memory");
-    handles.push(d).ok().expect(rt, "memory");
-    handles.push(b).ok().expect(rt, "memory");
-    handles.push(a).ok().expect(rt, "memory");
-    handles.push(c).ok().expect(rt, "memory");
+    let mut handles = both(rt, alloc, d, b);
+    put(rt, &mut handles, a);
+    put(rt, &mut handles, c);
     check_all(rt, alloc, shared, handles, 4000);
 }
 

@@ -1,10 +1,11 @@
 //! A thread that inserts into a tree until another one drops it.
 ghost use Rattle.std.specs.Prelude.{◌≡◌};
 
+use crate::callers::{both, gathered, share_by_two};
 use crate::start::{Shared, Way, new_database};
+use sled_machine::shared::{Entry, Made};
 use sled_model::{Outcome, Reply, Tree, Whole};
 use sled_nodes::{Error, IVec};
-use sled_shared::{Entry, Made};
 use std::alloc::Global;
 use std::marker::Brand;
 use std::process::Abort;
@@ -103,12 +104,8 @@ fn check_all<L: Ledger, R: Wait + Abort>(
     other: Way<L>,
     count: u64,
 ) {
-    let mut handles = Vec::with_capacity(alloc, 2).expect(rt, "memory");
-    handles.push(one).ok().expect(rt, "memory");
-    handles.push(other).ok().expect(rt, "memory");
-    let Ok(state) = shared.gather(rt, handles) else {
-        panic!(rt; "not gathered")
-    };
+    let handles = both(rt, alloc, one, other);
+    let state = gathered(rt, shared, handles);
     assert!(rt; count > 0 && count < KEYS);
     assert_eq!(rt; state.history().len() as u64, count + 1);
     assert!(rt; ends_with_drop(state.history()));
@@ -127,11 +124,7 @@ where
 {
     let mut db = new_database(alloc).expect(rt, "a database");
     let tree = db.open_tree(b"t").expect(rt, "a tree");
-    let Ok(mut shared) = Shared::<L>::new(rt, alloc, db, blank, 2) else {
-        panic!(rt; "not shared")
-    };
-    let one = shared.handle(alloc).expect(rt, "a handle");
-    let other = shared.handle(alloc).expect(rt, "a handle");
+    let (shared, one, other) = share_by_two::<L, R>(rt, alloc, db, blank);
     let begun = AtomicU64::new(0);
     let ((one, count), other) = join(
         rt,

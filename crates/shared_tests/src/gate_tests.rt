@@ -1,10 +1,11 @@
 //! Two threads at one key: the second makes its call while the first stands between two steps, with the lock free.
 ghost use Rattle.std.specs.Prelude.{◌≡◌};
 
+use crate::callers::{both, gathered, share_by_two};
 use crate::replay::replays;
 use crate::start::{Shared, Way, new_database};
+use sled_machine::shared::Gate;
 use sled_model::{Call, Outcome, Reply, Tree};
-use sled_shared::Gate;
 use std::alloc::Global;
 use std::marker::Brand;
 use std::process::Abort;
@@ -92,6 +93,34 @@ fn insert_second<L: Ledger, R: Wait + Abort>(
     (two, value)
 }
 
+// What a `get` finds afterwards.
+fn found<L: Ledger, R: Wait>(rt: &R, alloc: Global, tree: &Tree, handle: &mut Way<L>) -> u8 {
+    let found = handle.get(rt, alloc, tree, b"a");
+    let value = told(&found);
+    drop(found);
+    value
+}
+
+// The first thread made one call and the second two, and a plain map makes the same of them.
+fn check_all<L: Ledger, R: Wait + Abort>(
+    rt: &R,
+    alloc: Global,
+    shared: Shared<L>,
+    one: Way<L>,
+    two: Way<L>,
+) {
+    assert_eq!(rt; one.made().len(), 1);
+    assert_eq!(rt; two.made().len(), 2);
+    let handles = both(rt, alloc, one, two);
+    let state = gathered(rt, shared, handles);
+    assert_eq!(rt; state.history().len(), 3);
+    assert!(rt;
+        replays(alloc, state.history()).expect(rt, "memory"),
+        "the same on a plain map"
+    );
+    drop(state);
+}
+
 fn meet<L: Ledger + Send + Sync, R: Threads + Wait + Abort + Sync>(
     rt: &R,
     alloc: Global,
@@ -104,11 +133,7 @@ where
 {
     let db = new_database(alloc).expect(rt, "a database");
     let tree = db.default_tree().expect(rt, "a tree");
-    let Ok(mut shared) = Shared::<L>::new(rt, alloc, db, blank, 2) else {
-        panic!(rt; "not shared")
-    };
-    let one = shared.handle(alloc).expect(rt, "a handle");
-    let two = shared.handle(alloc).expect(rt, "a handle");
+    let (shared, one, two) = share_by_two::<L, R>(rt, alloc, db, blank);
     let signals = Signals {
         read: AtomicU64::new(0),
         answered: AtomicU64::new(0),
@@ -124,24 +149,9 @@ where
     assert_eq!(rt; signals.passed.load(Ordering::SeqCst), 3);
     drop(signals);
     let mut two = two;
-    let found = two.get(rt, alloc, &tree, b"a");
-    assert_eq!(rt; told(&found), b'1');
-    drop(found);
+    assert_eq!(rt; found(rt, alloc, &tree, &mut two), b'1');
     drop(tree);
-    assert_eq!(rt; one.made().len(), 1);
-    assert_eq!(rt; two.made().len(), 2);
-    let mut handles = Vec::with_capacity(alloc, 2).expect(rt, "memory");
-    handles.push(one).ok().expect(rt, "memory");
-    handles.push(two).ok().expect(rt, "memory");
-    let Ok(state) = shared.gather(rt, handles) else {
-        panic!(rt; "not gathered")
-    };
-    assert_eq!(rt; state.history().len(), 3);
-    assert!(rt;
-        replays(alloc, state.history()).expect(rt, "memory"),
-        "the same on a plain map"
-    );
-    drop(state);
+    check_all(rt, alloc, shared, one, two);
 }
 
 #[test]

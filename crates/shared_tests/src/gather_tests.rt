@@ -1,8 +1,10 @@
 //! Two callers, and a state that is taken out only when both are back.
 ghost use Rattle.std.specs.Prelude.{◌≡◌};
 
+use crate::callers::{gathered, not_gathered, put, share_by_two};
 use crate::start::{Shared, Way, new_database};
-use sled_model::{Outcome, Reply, Tree};
+use sled_machine::shared::Made;
+use sled_model::{Call, Outcome, Reply, Tree};
 use std::alloc::Global;
 use std::marker::Brand;
 use std::process::Abort;
@@ -21,6 +23,41 @@ fn insert_new<L: Ledger, R: Wait + Abort>(
     drop(outcome);
 }
 
+// Whether a caller made one insert of this key, which had no value.
+fn is_insert(made: &[Made], key: &[u8]) -> bool {
+    match made {
+        [Made::Point(_, Call::Insert(new, _), Reply::Value(None))] => new.as_ref() == key,
+        _ => false,
+    }
+}
+
+// No handle comes for a third caller.
+fn is_refused_another<L: Ledger>(alloc: Global, shared: &mut Shared<L>) -> bool {
+    let third = shared.handle(alloc);
+    let refused = third.is_err();
+    drop(third);
+    refused
+}
+
+// With one handle all is given back, and with both there is the state.
+fn gather_twice<L: Ledger, R: Wait + Abort>(
+    rt: &R,
+    alloc: Global,
+    shared: Shared<L>,
+    one: Way<L>,
+    two: Way<L>,
+) {
+    let mut handles = Vec::new(alloc);
+    put(rt, &mut handles, one);
+    let (shared, handles) = not_gathered(rt, shared, handles);
+    assert_eq!(rt; handles.len(), 1);
+    let mut handles = handles;
+    put(rt, &mut handles, two);
+    let state = gathered(rt, shared, handles);
+    assert_eq!(rt; state.history().len(), 2);
+    drop(state);
+}
+
 fn gather_late<L: Ledger, R: Wait + Abort>(rt: &R, alloc: Global, blank: Blank)
 where
     requires name { blank.name ≡ L.name }
@@ -29,31 +66,15 @@ where
 {
     let db = new_database(alloc).expect(rt, "a database");
     let tree = db.default_tree().expect(rt, "a tree");
-    let Ok(mut shared) = Shared::<L>::new(rt, alloc, db, blank, 2) else {
-        panic!(rt; "not shared")
-    };
-    let mut one = shared.handle(alloc).expect(rt, "a handle");
-    let mut two = shared.handle(alloc).expect(rt, "a handle");
-    let third = shared.handle(alloc);
-    assert!(rt; third.is_err(), "a third caller");
-    drop(third);
+    let (shared, one, two) = share_by_two::<L, R>(rt, alloc, db, blank);
+    let (mut shared, mut one, mut two) = (shared, one, two);
+    assert!(rt; is_refused_another(alloc, &mut shared), "a third caller");
     insert_new(rt, alloc, &tree, &mut one, b"a");
     insert_new(rt, alloc, &tree, &mut two, b"b");
     drop(tree);
-    assert_eq!(rt; one.made().len(), 1);
-    assert_eq!(rt; two.made().len(), 1);
-    let mut handles = Vec::with_capacity(alloc, 2).expect(rt, "memory");
-    handles.push(one).ok().expect(rt, "memory");
-    let Err((shared, mut handles)) = shared.gather(rt, handles) else {
-        panic!(rt; "gathered too early")
-    };
-    assert_eq!(rt; handles.len(), 1);
-    handles.push(two).ok().expect(rt, "memory");
-    let Ok(state) = shared.gather(rt, handles) else {
-        panic!(rt; "not gathered")
-    };
-    assert_eq!(rt; state.history().len(), 2);
-    drop(state);
+    assert!(rt; is_insert(one.made(), b"a"), "the first caller's insert");
+    assert!(rt; is_insert(two.made(), b"b"), "the second caller's insert");
+    gather_twice(rt, alloc, shared, one, two);
 }
 
 #[test]

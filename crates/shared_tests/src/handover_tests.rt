@@ -1,6 +1,7 @@
 //! Calls that one thread leaves half done, which another finishes, or makes again once they are given up.
 ghost use Rattle.std.specs.Prelude.{◌≡◌};
 
+use crate::callers::{both, gathered, share_by_two};
 use crate::start::{Fresh, Shared, Way, new_database};
 use sled_model::{Call, Outcome, Reply, Slot, Tree};
 use sled_nodes::Result;
@@ -18,15 +19,25 @@ const MOVES: u64 = 11;
 // So often a number is looked at. Then the test fails, since the other thread gave none.
 const LOOKS: u64 = 100_000_000;
 
+fn put_key(db: &mut Fresh, tree: &Tree, key: u8) -> Result<()> {
+    let old = db.insert(tree, &[key], &[key])?;
+    drop(old);
+    Ok(())
+}
+
+fn take_key(db: &mut Fresh, tree: &Tree, key: u8) -> Result<()> {
+    let old = db.remove(tree, &[key])?;
+    drop(old);
+    Ok(())
+}
+
 // Two leaves, with the keys 0 to 7 and 8 to 10.
 fn fill(db: &mut Fresh, tree: &Tree) -> Result<()> {
     for key in 0..18u8 {
-        let old = db.insert(tree, &[key], &[key])?;
-        drop(old);
+        put_key(db, tree, key)?;
     }
     for key in 0..7u8 {
-        let old = db.remove(tree, &[17 - key])?;
-        drop(old);
+        take_key(db, tree, 17 - key)?;
     }
     Ok(())
 }
@@ -120,6 +131,36 @@ fn end_removal<L: Ledger, R: Wait + Abort>(
     (two, MOVES + 1)
 }
 
+// A database whose default tree has two leaves, and the tree.
+fn two_leaves<R: Abort>(rt: &R, alloc: Global) -> (Fresh, Tree) {
+    let mut db = new_database(alloc).expect(rt, "a database");
+    let tree = db.default_tree().expect(rt, "a tree");
+    fill(&mut db, &tree).expect(rt, "memory");
+    (db, tree)
+}
+
+// The removal is the second caller's alone, and these calls stand as they were left.
+fn check_all<L: Ledger, R: Wait + Abort>(
+    rt: &R,
+    alloc: Global,
+    shared: Shared<L>,
+    one: Way<L>,
+    two: Way<L>,
+    left: &[Slot],
+) {
+    let handles = both(rt, alloc, one, two);
+    let state = gathered(rt, shared, handles);
+    assert_eq!(rt; state.history().len(), 1);
+    for entry in state.history() {
+        assert_eq!(rt; entry.by, 2);
+    }
+    let machine = state.into_machine();
+    for slot in left {
+        assert_eq!(rt; machine.turns(*slot), Some(0));
+    }
+    drop(machine);
+}
+
 fn hand_over<L: Ledger + Send + Sync, R: Threads + Wait + Abort + Sync>(
     rt: &R,
     alloc: Global,
@@ -132,14 +173,8 @@ where
     requires parts { blank.parts ≡ L.parts }
     requires each { blank.parts ≡ 3 }
 {
-    let mut db = new_database(alloc).expect(rt, "a database");
-    let tree = db.default_tree().expect(rt, "a tree");
-    fill(&mut db, &tree).expect(rt, "memory");
-    let Ok(mut shared) = Shared::<L>::new(rt, alloc, db, blank, 2) else {
-        panic!(rt; "not shared")
-    };
-    let one = shared.handle(alloc).expect(rt, "a handle");
-    let two = shared.handle(alloc).expect(rt, "a handle");
+    let (db, tree) = two_leaves(rt, alloc);
+    let (shared, one, two) = share_by_two::<L, R>(rt, alloc, db, blank);
     let handed = AtomicU64::new(0);
     let ((one, before, after), (two, more)) = join(
         rt,
@@ -147,20 +182,7 @@ where
         || end_removal(rt, alloc, &tree, two, gives_up, &handed),
     );
     drop(tree);
-    let mut handles = Vec::with_capacity(alloc, 2).expect(rt, "memory");
-    handles.push(one).ok().expect(rt, "memory");
-    handles.push(two).ok().expect(rt, "memory");
-    let Ok(state) = shared.gather(rt, handles) else {
-        panic!(rt; "not gathered")
-    };
-    assert_eq!(rt; state.history().len(), 1);
-    for entry in state.history() {
-        assert_eq!(rt; entry.by, 2);
-    }
-    let machine = state.into_machine();
-    assert_eq!(rt; machine.turns(before), Some(0));
-    assert_eq!(rt; machine.turns(after), Some(0));
-    drop(machine);
+    check_all(rt, alloc, shared, one, two, &[before, after]);
     more
 }
 

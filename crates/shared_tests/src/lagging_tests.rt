@@ -1,9 +1,10 @@
 //! Two threads that insert under a subscriber, which nobody asks meanwhile: it is told the latest events, and how many it missed.
 ghost use Rattle.std.specs.Prelude.{◌≡◌};
 
+use crate::callers::{both, gathered, share_by_two};
 use crate::start::{Shared, Way, new_database};
+use crate::watching::watch;
 use sled_model::{Next, Outcome, Reply, Subscriber, Tree, Whole};
-use sled_nodes::IVec;
 use std::alloc::Global;
 use std::marker::Brand;
 use std::process::Abort;
@@ -32,24 +33,6 @@ fn insert_all<L: Ledger, R: Wait + Abort>(
         drop(outcome);
     }
     handle
-}
-
-// A subscriber to all keys of a tree.
-fn watch<L: Ledger, R: Wait + Abort>(
-    rt: &R,
-    alloc: Global,
-    tree: &Tree,
-    handle: &mut Way<L>,
-) -> u64 {
-    let same = tree.clone().expect(rt, "memory");
-    let prefix = IVec::from_slice(alloc, b"").expect(rt, "memory");
-    let outcome = handle.whole(rt, Whole::Watch(same, prefix));
-    let number = match &outcome {
-        Outcome::Decided(Reply::Subscriber(subscriber)) => subscriber.0,
-        _ => 0,
-    };
-    drop(outcome);
-    number
 }
 
 // What a subscriber is told next, as the numbers of events and of missed ones; none where nothing waits.
@@ -90,12 +73,8 @@ fn check_all<L: Ledger, R: Wait + Abort>(
     let (events, missed) = count_told(rt, &mut one, number);
     assert_eq!(rt; events, WAITING);
     assert_eq!(rt; missed, 2 * TIMES - WAITING);
-    let mut handles = Vec::with_capacity(alloc, 2).expect(rt, "memory");
-    handles.push(one).ok().expect(rt, "memory");
-    handles.push(other).ok().expect(rt, "memory");
-    let Ok(state) = shared.gather(rt, handles) else {
-        panic!(rt; "not gathered")
-    };
+    let handles = both(rt, alloc, one, other);
+    let state = gathered(rt, shared, handles);
     assert_eq!(rt;
         state.history().len() as u64,
         1 + 2 * TIMES + 1 + WAITING + 1
@@ -115,11 +94,8 @@ where
 {
     let db = new_database(alloc).expect(rt, "a database");
     let tree = db.default_tree().expect(rt, "a tree");
-    let Ok(mut shared) = Shared::<L>::new(rt, alloc, db, blank, 2) else {
-        panic!(rt; "not shared")
-    };
-    let mut one = shared.handle(alloc).expect(rt, "a handle");
-    let other = shared.handle(alloc).expect(rt, "a handle");
+    let (shared, one, other) = share_by_two::<L, R>(rt, alloc, db, blank);
+    let mut one = one;
     let number = watch(rt, alloc, &tree, &mut one);
     let (one, other) = join(
         rt,

@@ -5,6 +5,8 @@
 
 mod adds;
 #[cfg(test)]
+mod callers;
+#[cfg(test)]
 mod counter_tests;
 #[cfg(test)]
 mod dropping_tests;
@@ -19,8 +21,14 @@ mod lagging_tests;
 mod replay;
 mod start;
 #[cfg(test)]
+mod state_tests;
+#[cfg(test)]
+mod taking_tests;
+#[cfg(test)]
+mod watching;
+#[cfg(test)]
 mod whole_tests;
 
 pub use adds::{Adds, number_of};
 pub use replay::replays;
-pub use start::{Fresh, Shared, Way, new_database};
+pub use start::{Fresh, Gathered, Shared, Way, new_database};

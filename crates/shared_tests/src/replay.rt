@@ -1,7 +1,7 @@
 //! The calls of a history, made again on a plain map.
+use sled_machine::shared::{Entry, Made};
 use sled_model::{Call, Reply};
 use sled_nodes::{Error, IVec, Result};
-use sled_shared::{Entry, Made};
 use std::alloc::Global;
 use std::collections::BTreeMap;
 

@@ -1,6 +1,7 @@
 //! A database to begin with. Its merge operators add.
 use crate::adds::Adds;
 use sled::{Db, MemPages, empty_pages};
+use sled_machine::shared;
 use sled_nodes::Result;
 use std::alloc::Global;
 
@@ -8,10 +9,13 @@ use std::alloc::Global;
 pub type Fresh = Db<MemPages, Adds>;
 
 /// A database in memory that is shared.
-pub type Shared<L> = sled_shared::Db<MemPages, L, Adds>;
+pub type Shared<L> = shared::Db<MemPages, L, Adds>;
 
 /// A caller's way to it.
-pub type Way<L> = sled_shared::Handle<MemPages, L, Adds>;
+pub type Way<L> = shared::Handle<MemPages, L, Adds>;
+
+/// What lies under its lock.
+pub type Gathered<L> = shared::State<MemPages, L, Adds>;
 
 /// A new database.
 pub fn new_database(alloc: Global) -> Result<Fresh> {

@@ -1,9 +1,10 @@
 //! Whole calls of two callers, and the entries of them.
 ghost use Rattle.std.specs.Prelude.{◌≡◌};
 
+use crate::callers::{both, gathered, share_by_two};
 use crate::start::{Shared, Way, new_database};
+use sled_machine::shared::{Entry, Made};
 use sled_model::{Outcome, Reply, Tree, Whole};
-use sled_shared::{Entry, Made};
 use std::alloc::Global;
 use std::marker::Brand;
 use std::process::Abort;
@@ -50,6 +51,24 @@ fn is_clear(entry: &Entry) -> bool {
     entry.by == 2 && matches!(&entry.made, Made::Whole(Whole::Clear(_), Reply::Done))
 }
 
+// The first caller made three calls and the second two; the pop and the clear are told by their entries.
+fn check_all<L: Ledger, R: Wait + Abort>(
+    rt: &R,
+    alloc: Global,
+    shared: Shared<L>,
+    one: Way<L>,
+    two: Way<L>,
+) {
+    assert_eq!(rt; one.made().len(), 3);
+    assert_eq!(rt; two.made().len(), 2);
+    let handles = both(rt, alloc, one, two);
+    let state = gathered(rt, shared, handles);
+    assert_eq!(rt; state.history().len(), 5);
+    assert!(rt; state.history().iter().any(is_pop));
+    assert!(rt; state.history().iter().any(is_clear));
+    drop(state);
+}
+
 fn make_wholes<L: Ledger, R: Wait + Abort>(rt: &R, alloc: Global, blank: Blank)
 where
     requires name { blank.name ≡ L.name }
@@ -58,27 +77,12 @@ where
 {
     let db = new_database(alloc).expect(rt, "a database");
     let tree = db.default_tree().expect(rt, "a tree");
-    let Ok(mut shared) = Shared::<L>::new(rt, alloc, db, blank, 2) else {
-        panic!(rt; "not shared")
-    };
-    let mut one = shared.handle(alloc).expect(rt, "a handle");
-    let mut two = shared.handle(alloc).expect(rt, "a handle");
+    let (shared, one, two) = share_by_two::<L, R>(rt, alloc, db, blank);
+    let (mut one, mut two) = (one, two);
     fill_and_pop(rt, alloc, &tree, &mut one);
     clear_and_count(rt, &tree, &mut two);
     drop(tree);
-    assert_eq!(rt; one.made().len(), 3);
-    assert_eq!(rt; two.made().len(), 2);
-    let mut handles = Vec::with_capacity(alloc, 2).expect(rt, "memory");
-    handles.push(one).ok().expect(rt, "memory");
-    handles.push(two).ok().expect(rt, "memory");
-    let Ok(state) = shared.gather(rt, handles) else {
-        panic!(rt; "not gathered")
-    };
-    let history = state.history();
-    assert_eq!(rt; history.len(), 5);
-    assert!(rt; history.iter().any(is_pop));
-    assert!(rt; history.iter().any(is_clear));
-    drop(state);
+    check_all(rt, alloc, shared, one, two);
 }
 
 #[test]
