@@ -1,0 +1,9 @@
+pub mod Keys
+pub mod Standing
+pub mod Leaving
+pub mod Merging
+pub mod Swapping
+pub mod Sharing
+pub mod Attempts
+pub mod Taking
+pub mod Noting

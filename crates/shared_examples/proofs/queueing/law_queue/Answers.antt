@@ -1,0 +1,5 @@
+use Rattle.shared_examples.proofs.Taking.{queue_law}
+use Rattle.shared_examples.proofs.queueing.law_queue.Goals as goal
+
+pub returns : goal.returns
+returns c = queue_law

@@ -1,0 +1,4 @@
+pub mod Places
+pub mod Counting
+pub mod Raising
+pub mod Queueing

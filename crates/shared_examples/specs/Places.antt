@@ -1,0 +1,59 @@
+-- What stands at a key of a tree, and what leaves it there.
+use Rattle.std.specs.Prelude.{◌≡◌, ◌≢◌, ◌⊎◌, ◌&&◌, Bool, List, map, Option, Some, None}
+use Rattle.std.specs.FinMap.Entries.{find}
+use Rattle.std.specs.Str.{bytes_eq}
+use Rattle.sled_nodes.specs.Order.{Key, key_cmp}
+use Rattle.sled_model.specs.Answer.{key_of}
+use Rattle.sled_model.specs.Maps.{Map, Maps}
+use Rattle.sled_model.specs.declared.call.Call.{Call}
+use Rattle.sled_model.specs.declared.call.Call.TheVariants.{Get}
+use Rattle.sled_model.specs.declared.tree.Tree.{Tree}
+use Rattle.sled_shared.specs.History.{makes_as}
+use Rattle.sled_shared.specs.Made.{MadeValue, PointMade, WholeMade, PartsMade, EntryValue}
+use Rattle.sled_shared.specs.Wholes.{WholeValue, PopMin, PopMax, Clear, Group, DropTree, Import}
+
+-- the value at a key of a map, if there are the map and the key
+abbrev pub found_in : Option Map → Key → Option Key
+found_in None key = None
+found_in (Some map) key = find key_cmp key map
+
+-- the value at a key of the tree of this name
+abbrev pub value_at : Maps → Key → Key → Option Key
+value_at maps tree key = found_in (maps tree) key
+
+-- what was made in a history, in order
+abbrev pub made_in : List EntryValue → List MadeValue
+made_in history = map (λ e. e.made) history
+
+-- this is the key, in the tree of this name
+abbrev pub is_at : Key → Key → Tree → Key → Bool
+is_at tree key t k = bytes_eq t.name tree && bytes_eq k key
+
+-- made at whatever maps, it leaves what stands at the key
+abbrev pub Leaves : Key → Key → MadeValue → Type 0
+Leaves tree key m = (old new : Maps) → makes_as old m new → value_at new tree key ≡ value_at old tree key
+
+-- a read, or a call on another key or of another tree
+abbrev pub point_passes : Key → Key → Tree → Call → Type 0
+point_passes tree key t (Get k) = Unit {0}
+point_passes tree key t call = (t.name ≢ tree) ⊎ (key_of call ≢ key)
+
+-- a whole call that changes no pair, or those of another tree alone
+abbrev pub whole_passes : Key → WholeValue → Type 0
+whole_passes tree (PopMin t) = t.name ≢ tree
+whole_passes tree (PopMax t) = t.name ≢ tree
+whole_passes tree (Clear t) = t.name ≢ tree
+whole_passes tree (DropTree name) = name ≢ tree
+whole_passes tree (Group batches) = ⊥
+whole_passes tree (Import all) = ⊥
+whole_passes tree whole = Unit {0}
+
+-- a call that passes the key by. Of groups and imports, and of calls that were refused after some parts, none is said to
+abbrev pub passes_by : Key → Key → MadeValue → Type 0
+passes_by tree key (PointMade t call reply) = point_passes tree key t call
+passes_by tree key (WholeMade whole reply) = whole_passes tree whole
+passes_by tree key (PartsMade whole number) = ⊥
+
+-- what passes a key by leaves what stands there
+abbrev pub LeavesLaw : Type 0
+LeavesLaw = (tree key : Key) (m : MadeValue) → passes_by tree key m → Leaves tree key m

@@ -1,0 +1,97 @@
+-- A number at a key that threads raise by one: each reads it, and swaps it for the next.
+use Rattle.std.specs.Prelude.{◌≡◌, ◌⊎◌, ℕ, ◌+◌, ◌≤◌, length, sum_by, List, [], ◌∷◌, ◌++◌, map, Option, Some, None, Ok, All, if◌then◌else◌}
+use Rattle.std.specs.List.{AllByRecursion}
+use Rattle.std.specs.Option.{option_to_list}
+use Rattle.sled_nodes.specs.Order.{Key}
+use Rattle.sled_model.specs.Maps.{Maps}
+use Rattle.sled_model.specs.declared.call.Call.TheVariants.{Get, CompareAndSwap}
+use Rattle.sled_model.specs.declared.outcome.Outcome.{Outcome}
+use Rattle.sled_model.specs.declared.outcome.Outcome.TheVariants.{Decided}
+use Rattle.sled_model.specs.declared.reply.Reply.TheVariants.{Swapped}
+use Rattle.sled_model.specs.declared.tree.Tree.{Tree}
+use Rattle.sled_shared.specs.Gathered.{IsMadeIn, IsOfGiven, EachOnce}
+use Rattle.sled_shared.specs.History.{IsLegal}
+use Rattle.sled_shared.specs.Made.{MadeValue, PointMade, EntryValue}
+use Rattle.sled_shared.specs.Values.{CallerValue}
+use Rattle.shared_examples.specs.Places.{value_at, made_in, is_at, Leaves}
+use Rattle.shared_examples.specs.Counting.{number_in}
+use Rattle.shared_examples.specs.declared.raising.Raised.{Raised}
+use Rattle.shared_examples.specs.declared.raising.Raised.TheVariants.{To, Overtaken}
+
+-- a swap at the key, whatever it replied
+abbrev pub IsSwapAt : Key → Key → MadeValue → Type 0
+IsSwapAt tree key (PointMade t (CompareAndSwap k old new) reply) = (t.name ≡ tree) × (k ≡ key)
+IsSwapAt tree key m = ⊥
+
+-- a swap at the key that succeeded: the value that it found, and the one that it wrote
+abbrev pub swapped_by : Key → Key → MadeValue → List (Option Key × Option Key)
+swapped_by tree key (PointMade t (CompareAndSwap k old new) (Swapped (Ok done))) = if is_at tree key t k then ((old, new) ∷ []) else []
+swapped_by tree key m = []
+
+-- the swaps at the key that succeeded, in order
+abbrev pub swapped : Key → Key → List MadeValue → List (Option Key × Option Key)
+swapped tree key [] = []
+swapped tree key (m ∷ made) = swapped_by tree key m ++ swapped tree key made
+
+-- each found what the one before it wrote, the first found this value, and that is what the last wrote
+abbrev pub Follow : Option Key → List (Option Key × Option Key) → Option Key → Type 0
+Follow first [] last = last ≡ first
+Follow first (swap ∷ swaps) last = (swap.0 ≡ first) × Follow swap.1 swaps last
+
+-- No update is lost, of a legal history in which each call is a swap at the key, or leaves what stands there
+abbrev pub SwapsLaw : Type 0
+SwapsLaw = (old new : Maps) (tree key : Key) (history : List EntryValue) → IsLegal old history new
+    → AllByRecursion (λ m. IsSwapAt tree key m ⊎ Leaves tree key m) (made_in history) → Follow (value_at old tree key) (swapped tree key (made_in history)) (value_at new tree key)
+
+-- a number for the one above it
+abbrev pub IsRaise : Option Key × Option Key → Type 0
+IsRaise swap = number_in swap.1 ≡ number_in swap.0 + 1
+
+-- .. and where each of those that succeeded raised a number by one, the number stands higher by as many as there were
+abbrev pub RaisesLaw : Type 0
+RaisesLaw = (old new : Maps) (tree key : Key) (history : List EntryValue) → IsLegal old history new
+    → AllByRecursion (λ m. IsSwapAt tree key m ⊎ Leaves tree key m) (made_in history) → AllByRecursion IsRaise (swapped tree key (made_in history))
+    → number_in (value_at new tree key) ≡ number_in (value_at old tree key) + length (swapped tree key (made_in history))
+
+-- so many swaps of a caller at the key succeeded
+abbrev pub swaps_of : Key → Key → CallerValue → ℕ
+swaps_of tree key c = length (swapped tree key c.made)
+
+-- the swaps in a history are those of all callers that were gathered
+abbrev pub SharesLaw : Type 0
+SharesLaw = (tree key : Key) (history : List EntryValue) (given : ℕ) (callers : List CallerValue) → All (IsMadeIn history) callers → EachOnce given callers → All (IsOfGiven given) history
+    → length (swapped tree key (made_in history)) ≡ sum_by (swaps_of tree key) callers
+
+-- a part of a raise: a read of the key, or a swap of a number there for the one above it, whatever they replied
+abbrev pub is_part : Tree → Key → MadeValue → Type 0
+is_part tree key (PointMade t (Get k) reply) = (t ≡ tree) × (k ≡ key)
+is_part tree key (PointMade t (CompareAndSwap k old new) reply) = (t ≡ tree) × (k ≡ key) × IsRaise (old, new)
+is_part tree key m = ⊥
+
+-- the number that was written, if one was
+abbrev pub raised_to : Raised → Option ℕ
+raised_to (To n) = Some n
+raised_to r = None
+
+-- the number that a swap for it wrote, if it succeeded
+abbrev pub swap_wrote : Outcome → ℕ → Option ℕ
+swap_wrote (Decided (Swapped (Ok done))) n = Some n
+swap_wrote o n = None
+
+-- Parts of raises came to a list. Where this number was written one of the swaps succeeded, and wrote it, and else none did
+pub record Raises (tree : Tree) (key : Key) (n : Option ℕ) (made more : List MadeValue) : Type 0 where
+  pub added : List MadeValue
+  pub adds : more ≡ made ++ added
+  pub parts : AllByRecursion (is_part tree key) added
+  pub wrote : map (λ s. number_in s.1) (swapped tree.name key added) ≡ option_to_list n
+
+-- where all attempts were overtaken, a list is longer by so many calls, and else by so many at most
+abbrev pub calls_made : Raised → ℕ → List MadeValue → List MadeValue → Type 0
+calls_made Overtaken n made more = length more ≡ length made + n
+calls_made r n made more = length more ≤ length made + n
+
+-- a swap that was overtaken was decided
+abbrev pub overtaken_by : Outcome → Raised → Type 0
+overtaken_by (Decided reply) r = Unit {0}
+overtaken_by o Overtaken = ⊥
+overtaken_by o r = Unit {0}

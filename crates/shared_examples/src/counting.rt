@@ -1,0 +1,85 @@
+//! A number at a key, to which threads add one by merges. The operator of the tree is the caller's; a legal history has the reply of a merge as it
+//! was told, and says nothing of operators. So the laws say that what a merge replied is what stands, and not that each reply is one above the
+//! one before; `raising` has a number of which that is known.
+ghost use Rattle.std.specs.Prelude.{◌≡◌, ◌++◌, Some, IfOk, IfErr};
+ghost use Rattle.std.specs.Int.{w64, to_be_bytes};
+ghost use Rattle.std.specs.Option.{option_copied};
+ghost use Rattle.sled_model.specs.declared.call.Call.TheVariants.{Merge};
+ghost use Rattle.sled_shared.specs.Notes.{noted_of};
+ghost use Rattle.shared_examples.specs.Counting.{AddsOne, MergesLaw, number_in};
+
+use sled_machine::shared::Handle;
+use sled_model::{MergeOperator, Outcome, Reply, Tree};
+use sled_nodes::IVec;
+use sled_store::Pages;
+use std::alloc::Global;
+use std::sync::Wait;
+use std::sync::ledger::Ledger;
+
+// The number in these bytes.
+fn number_of(bytes: Option<&[u8]>) -> u64
+    ensures { result ≡ number_in (option_copied bytes.entry) }
+{
+    let Some(bytes) = bytes else {
+        return 0;
+    };
+    if bytes.len() != 8 {
+        return 0;
+    }
+    match bytes.first_chunk::<8>() {
+        Some(number) => u64::from_be_bytes(*number),
+        None => 0,
+    }
+}
+
+/// The number in this value: eight bytes, the highest first. None, and any other count of bytes, are 0.
+pub fn number_at(value: &Option<IVec>) -> u64
+    ensures { result ≡ number_in value.now }
+{
+    match value {
+        Some(value) => number_of(Some(value.as_ref())),
+        None => 0,
+    }
+}
+
+/// Adds one to the number at a key, by a merge of the eight bytes of 1, the highest first, and answers the number that the merge replied. That this
+/// is one above the number before is the work of the tree's operator, and is not promised here. The merge comes to the end of the handle's list, with
+/// that reply. Where it was not decided it answers how it came out, and nothing comes to the list.
+///
+/// ```
+/// match add_one(rt, alloc, &mut handle, &tree, b"visits") {
+///     Ok(number) => drop(number), // What stands there after it.
+///     Err(outcome) => drop(outcome), // As `Refused`, where the tree has no operator.
+/// }
+/// ```
+#[tactic(auto, using(crate::proofs::Noting::adds_one))]
+pub fn add_one<P: Pages, L: Ledger, M: MergeOperator>(
+    rt: &impl Wait,
+    alloc: Global,
+    handle: &mut Handle<P, L, M>,
+    tree: &Tree,
+    key: &[u8],
+) -> Result<u64, Outcome>
+    ensures ok { IfOk result (λ n. AddsOne tree.now key.now n handle.old.made handle.new.made) }
+    ensures err { IfErr result (λ o. handle.new.made ≡ handle.old.made ++ noted_of o tree.now (Merge key.now (to_be_bytes w64 1))) }
+    ensures number { handle.new.number ≡ handle.old.number }
+{
+    match handle.merge(rt, alloc, tree, key, &1u64.to_be_bytes()) {
+        Outcome::Decided(Reply::Value(value)) => {
+            let number = number_at(&value);
+            drop(value);
+            Ok(number)
+        }
+        other => Err(other),
+    }
+}
+
+/// Of a legal history in which each call is a merge at a key, or leaves what stands there: at the end the key has what the last merge replied,
+/// and each read of it replied what the last merge before it did.
+///
+/// ```
+/// law_merges(); // From here on a proof knows it.
+/// ```
+pub fn law_merges()
+    ensures { MergesLaw }
+{}

@@ -1,0 +1,165 @@
+//! A queue of work in a tree that threads share. A job is put in at the key of an id that the database gives, and taken out from the front. No job
+//! is taken twice.
+ghost use Rattle.std.specs.Prelude.{◌≡◌, ◌++◌, ◌∷◌, [], IfSome, IfOk, IfErr, OnOk, OnErr};
+ghost use Rattle.sled_model.specs.declared.reply.Reply.TheVariants.{Number, Pair};
+ghost use Rattle.sled_shared.specs.Made.{WholeMade};
+ghost use Rattle.sled_shared.specs.Wholes as value;
+ghost use Rattle.shared_examples.specs.Queueing.{Pushes, PushesNone, Puts, QueueLaw, noted_of_whole};
+
+use sled_machine::shared::Handle;
+use sled_model::{MergeOperator, Outcome, Reply, Tree, Whole};
+use sled_nodes::IVec;
+use sled_store::Pages;
+use std::alloc::Global;
+use std::sync::Wait;
+use std::sync::ledger::Ledger;
+
+// Asks for an id.
+fn ask_id<P: Pages, L: Ledger, M: MergeOperator>(
+    rt: &impl Wait,
+    handle: &mut Handle<P, L, M>,
+) -> Outcome
+    ensures made { handle.new.made ≡ handle.old.made ++ noted_of_whole result value.GenerateId }
+    ensures number { handle.new.number ≡ handle.old.number }
+{
+    handle.whole(rt, Whole::GenerateId)
+}
+
+// The number in a reply.
+fn number_told(reply: &Reply) -> Option<u64>
+    ensures { IfSome result (λ number. reply.now ≡ Number number) }
+{
+    match reply {
+        Reply::Number(number) => Some(*number),
+        _ => None,
+    }
+}
+
+// The id that was given.
+#[tactic(auto, using(crate::proofs::Noting::id_or_none))]
+fn next_id<P: Pages, L: Ledger, M: MergeOperator>(
+    rt: &impl Wait,
+    handle: &mut Handle<P, L, M>,
+) -> Result<u64, Outcome>
+    ensures ok { IfOk result (λ id. handle.new.made ≡ handle.old.made ++ WholeMade value.GenerateId (Number id) ∷ []) }
+    ensures err { OnErr result (PushesNone handle.old.made handle.new.made) }
+    ensures number { handle.new.number ≡ handle.old.number }
+{
+    match ask_id(rt, handle) {
+        Outcome::Decided(reply) => match number_told(&reply) {
+            Some(id) => {
+                drop(reply);
+                Ok(id)
+            }
+            None => Err(Outcome::Decided(reply)),
+        },
+        other => Err(other),
+    }
+}
+
+// Inserts a job at an id.
+#[tactic(auto, using(crate::proofs::Noting::puts, crate::proofs::Noting::puts_none))]
+fn put<P: Pages, L: Ledger, M: MergeOperator>(
+    rt: &impl Wait,
+    alloc: Global,
+    handle: &mut Handle<P, L, M>,
+    queue: &Tree,
+    id: u64,
+    job: &[u8],
+) -> Result<(), Outcome>
+    ensures ok { OnOk result (Puts queue.now job.now id handle.old.made handle.new.made) }
+    ensures err { OnErr result (handle.new.made ≡ handle.old.made) }
+    ensures number { handle.new.number ≡ handle.old.number }
+{
+    match handle.insert(rt, alloc, queue, &id.to_be_bytes(), job) {
+        Outcome::Decided(reply) => {
+            drop(reply);
+            Ok(())
+        }
+        other => Err(other),
+    }
+}
+
+// Pops the first pair.
+fn pop<P: Pages, L: Ledger, M: MergeOperator>(
+    rt: &impl Wait,
+    handle: &mut Handle<P, L, M>,
+    queue: &Tree,
+) -> Outcome
+    ensures made { handle.new.made ≡ handle.old.made ++ noted_of_whole result (value.PopMin queue.now) }
+    ensures number { handle.new.number ≡ handle.old.number }
+{
+    match queue.clone() {
+        Ok(tree) => handle.whole(rt, Whole::PopMin(tree)),
+        Err(e) => Outcome::Refused(e),
+    }
+}
+
+/// Asks for an id, inserts the job at the eight bytes of it, the highest first, and answers the id. Both come to the handle's list. Where one of
+/// the two was not decided it answers how that came out, and nothing comes to the list but the id, if one was given.
+///
+/// ```
+/// match push(rt, alloc, &mut handle, &tree, b"paint the fence") {
+///     Ok(id) => drop(id), // The job stands at its eight bytes.
+///     Err(outcome) => drop(outcome),
+/// }
+/// ```
+#[tactic(auto, using(crate::proofs::Noting::pushes, crate::proofs::Noting::pushes_none))]
+pub fn push<P: Pages, L: Ledger, M: MergeOperator>(
+    rt: &impl Wait,
+    alloc: Global,
+    handle: &mut Handle<P, L, M>,
+    queue: &Tree,
+    job: &[u8],
+) -> Result<u64, Outcome>
+    ensures ok { IfOk result (λ id. Pushes queue.now job.now id handle.old.made handle.new.made) }
+    ensures err { OnErr result (PushesNone handle.old.made handle.new.made) }
+    ensures number { handle.new.number ≡ handle.old.number }
+{
+    let id = match next_id(rt, handle) {
+        Ok(id) => id,
+        Err(outcome) => return Err(outcome),
+    };
+    match put(rt, alloc, handle, queue, id, job) {
+        Ok(()) => Ok(id),
+        Err(outcome) => Err(outcome),
+    }
+}
+
+/// Takes the job at the front out of the queue, and answers its key and the job; or `None`, where none waits. The pop comes to the handle's list. Where
+/// it was not decided it answers how it came out, and nothing comes to the list.
+///
+/// ```
+/// match take(rt, &mut handle, &tree) {
+///     Ok(Some((key, job))) => {
+///         drop(key);
+///         drop(job);
+///     }
+///     Ok(None) => (), // No job waits.
+///     Err(outcome) => drop(outcome),
+/// }
+/// ```
+pub fn take<P: Pages, L: Ledger, M: MergeOperator>(
+    rt: &impl Wait,
+    handle: &mut Handle<P, L, M>,
+    queue: &Tree,
+) -> Result<Option<(IVec, IVec)>, Outcome>
+    ensures ok { IfOk result (λ job. handle.new.made ≡ handle.old.made ++ WholeMade (value.PopMin queue.now) (Pair job) ∷ []) }
+    ensures err { IfErr result (λ o. handle.new.made ≡ handle.old.made ++ noted_of_whole o (value.PopMin queue.now)) }
+    ensures number { handle.new.number ≡ handle.old.number }
+{
+    match pop(rt, handle, queue) {
+        Outcome::Decided(Reply::Pair(job)) => Ok(job),
+        other => Err(other),
+    }
+}
+
+/// Each job is taken at most once. Of a legal history in which each call is an insert, a pop of a first pair, or leaves all keys of the queue: what was
+/// taken had been inserted before, or stood there from the beginning; and between two takes of one key the job that the second took was inserted there.
+///
+/// ```
+/// law_queue(); // From here on a proof knows it.
+/// ```
+pub fn law_queue()
+    ensures { QueueLaw }
+{}

@@ -1,0 +1,214 @@
+//! A number at a key that threads raise by one. A thread reads it and swaps it for the next, and begins again where another one wrote between. No
+//! raise is lost, and no operator is needed.
+ghost use Rattle.std.specs.Prelude.{◌≡◌, ◌≤◌, ◌++◌, ◌+◌, ◌*◌, length, Some, None, OnOk, OnErr};
+ghost use Rattle.std.specs.Int.{w64, to_be_bytes};
+ghost use Rattle.sled_model.specs.declared.call.Call.TheVariants.{CompareAndSwap};
+ghost use Rattle.sled_model.specs.declared.outcome.Outcome.TheVariants.{Decided};
+ghost use Rattle.sled_model.specs.declared.reply.Reply.TheVariants.{Swapped};
+ghost use Rattle.sled_shared.specs.Notes.{noted_of};
+ghost use Rattle.shared_examples.specs.Counting.{number_in};
+ghost use Rattle.shared_examples.specs.Raising.{Raises, RaisesLaw, SharesLaw, SwapsLaw, calls_made, overtaken_by, raised_to, swap_wrote};
+
+use crate::counting::number_at;
+use sled_machine::shared::Handle;
+use sled_model::{CompareAndSwapError, MergeOperator, Outcome, Reply, Tree};
+use sled_nodes::texts::NUMBERS_USED_UP;
+use sled_nodes::{Error, IVec};
+use sled_store::Pages;
+use std::alloc::Global;
+use std::sync::Wait;
+use std::sync::ledger::Ledger;
+
+/// How a raise came out.
+#[derive(Drop)]
+pub enum Raised {
+    /// This number was written.
+    To(u64),
+    /// At each attempt another caller wrote between the read and the swap. Nothing was written.
+    Overtaken,
+    /// The read or the swap came out so, and nothing was written. Where the greatest `u64` stood it is `Unsupported` (`numbers used up`).
+    Stopped(Outcome),
+}
+
+// Reads the value at the key.
+#[tactic(auto, using(crate::proofs::Attempts::raises_read, crate::proofs::Attempts::one_more, crate::proofs::Attempts::one_at_most))]
+fn read<P: Pages, L: Ledger, M: MergeOperator>(
+    rt: &impl Wait,
+    alloc: Global,
+    handle: &mut Handle<P, L, M>,
+    tree: &Tree,
+    key: &[u8],
+) -> Result<Option<IVec>, Outcome>
+    ensures made { Raises tree.now key.now None handle.old.made handle.new.made }
+    ensures once { OnOk result (length handle.new.made ≡ length handle.old.made + 1) }
+    ensures at_most { OnErr result (length handle.new.made ≤ length handle.old.made + 1) }
+    ensures number { handle.new.number ≡ handle.old.number }
+{
+    match handle.get(rt, alloc, tree, key) {
+        Outcome::Decided(Reply::Value(stood)) => Ok(stood),
+        other => Err(other),
+    }
+}
+
+// Swaps what stood for the number.
+fn swap<P: Pages, L: Ledger, M: MergeOperator>(
+    rt: &impl Wait,
+    alloc: Global,
+    handle: &mut Handle<P, L, M>,
+    tree: &Tree,
+    key: &[u8],
+    stood: &Option<IVec>,
+    number: u64,
+) -> Outcome
+    ensures made { handle.new.made ≡ handle.old.made ++ noted_of result tree.now (CompareAndSwap key.now stood.now (Some (to_be_bytes w64 number))) }
+    ensures number { handle.new.number ≡ handle.old.number }
+{
+    let next = number.to_be_bytes();
+    match stood {
+        Some(value) => {
+            handle.compare_and_swap(rt, alloc, tree, key, Some(value.as_ref()), Some(&next))
+        }
+        None => handle.compare_and_swap(rt, alloc, tree, key, None, Some(&next)),
+    }
+}
+
+// How a raise came out whose swap for the number was answered so.
+fn answered(swapped: Result<(), CompareAndSwapError>, number: u64) -> Raised
+    ensures { raised_to result ≡ swap_wrote (Decided (Swapped swapped)) number }
+{
+    match swapped {
+        Ok(()) => Raised::To(number),
+        Err(conflict) => {
+            drop(conflict);
+            Raised::Overtaken
+        }
+    }
+}
+
+// .. whose swap had this reply.
+fn replied(reply: Reply, number: u64) -> Raised
+    ensures { raised_to result ≡ swap_wrote (Decided reply) number }
+{
+    match reply {
+        Reply::Swapped(swapped) => answered(swapped, number),
+        other => Raised::Stopped(Outcome::Decided(other)),
+    }
+}
+
+// .. whose swap came out so.
+fn told(came: Outcome, number: u64) -> Raised
+    ensures wrote { raised_to result ≡ swap_wrote came number }
+    ensures overtaken { overtaken_by came result }
+{
+    match came {
+        Outcome::Decided(reply) => replied(reply, number),
+        other => Raised::Stopped(other),
+    }
+}
+
+// Swaps what stood for the next number. It is overtaken where something else stands now.
+#[tactic(auto, using(crate::proofs::Attempts::swap_calls))]
+fn swap_next<P: Pages, L: Ledger, M: MergeOperator>(
+    rt: &impl Wait,
+    alloc: Global,
+    handle: &mut Handle<P, L, M>,
+    tree: &Tree,
+    key: &[u8],
+    stood: &Option<IVec>,
+    number: u64,
+) -> Raised
+    requires { number ≡ number_in stood.now + 1 }
+    ensures made { Raises tree.now key.now (raised_to result) handle.old.made handle.new.made }
+    ensures calls { calls_made result 1 handle.old.made handle.new.made }
+    ensures number { handle.new.number ≡ handle.old.number }
+{
+    let came = swap(rt, alloc, handle, tree, key, stood, number);
+    told(came, number)
+}
+
+// One attempt. It is overtaken where another caller wrote between the read and the swap.
+#[tactic(auto, using(crate::proofs::Attempts::calls_after, crate::proofs::Attempts::one_of_two, crate::proofs::Attempts::just_one_of_two))]
+fn attempt<P: Pages, L: Ledger, M: MergeOperator>(
+    rt: &impl Wait,
+    alloc: Global,
+    handle: &mut Handle<P, L, M>,
+    tree: &Tree,
+    key: &[u8],
+) -> Raised
+    ensures made { Raises tree.now key.now (raised_to result) handle.old.made handle.new.made }
+    ensures calls { calls_made result 2 handle.old.made handle.new.made }
+    ensures number { handle.new.number ≡ handle.old.number }
+{
+    let stood = match read(rt, alloc, handle, tree, key) {
+        Ok(stood) => stood,
+        Err(outcome) => return Raised::Stopped(outcome),
+    };
+    let Some(number) = number_at(&stood).checked_add(1) else {
+        drop(stood);
+        return Raised::Stopped(Outcome::Refused(Error::Unsupported(NUMBERS_USED_UP)));
+    };
+    let raised = swap_next(rt, alloc, handle, tree, key, &stood, number);
+    drop(stood);
+    raised
+}
+
+/// Raises the number at a key by one: reads it, and swaps what it read for the next number. Where another caller wrote between it begins again, up
+/// to so many attempts. Its reads and swaps come to the handle's list, at most two for each of the attempts, and just two for each where it answers
+/// `Overtaken`. Where it answers `To` just one of the swaps succeeded, and wrote this number, and else none did.
+///
+/// ```
+/// match raise(rt, alloc, &mut handle, &tree, b"visits", 100) {
+///     Raised::To(number) => drop(number), // One above what stood there.
+///     Raised::Overtaken => (),            // Others wrote each time.
+///     Raised::Stopped(outcome) => drop(outcome), // As `Refused`, or `NoSuchSlot`.
+/// }
+/// ```
+#[tactic(auto, using(crate::proofs::Attempts::raises_on, crate::proofs::Attempts::calls_on))]
+pub fn raise<P: Pages, L: Ledger, M: MergeOperator>(
+    rt: &impl Wait,
+    alloc: Global,
+    handle: &mut Handle<P, L, M>,
+    tree: &Tree,
+    key: &[u8],
+    attempts: u64,
+) -> Raised
+    ensures made { Raises tree.now key.now (raised_to result) handle.old.made handle.new.made }
+    ensures calls { calls_made result (2 * attempts) handle.old.made handle.new.made }
+    ensures number { handle.new.number ≡ handle.old.number }
+{
+    for _ in 0..attempts {
+        match attempt(rt, alloc, handle, tree, key) {
+            Raised::Overtaken => (),
+            other => return other,
+        }
+    }
+    Raised::Overtaken
+}
+
+/// No update is lost. Of a legal history in which each call is a swap at a key, or leaves what stands there: each swap that succeeded found what the
+/// one before it wrote, the first found what stood in the beginning, and what the last wrote stands at the end.
+///
+/// ```
+/// law_swaps(); // From here on a proof knows it.
+/// ```
+pub fn law_swaps()
+    ensures { SwapsLaw }
+{}
+
+/// Where each of these swaps raised the number by one, the number at the end is that in the beginning and as many more as there were.
+///
+/// ```
+/// law_raises(); // From here on a proof knows it.
+/// ```
+pub fn law_raises()
+    ensures { RaisesLaw }
+{}
+
+/// The swaps of a history that succeeded are as many as those of all callers together, once these are gathered.
+///
+/// ```
+/// law_shares(); // From here on a proof knows it.
+/// ```
+pub fn law_shares()
+    ensures { SharesLaw }
+{}
