@@ -7,16 +7,38 @@ use std::alloc::Global;
 use std::io;
 use std::ops::Bound;
 
+/// Puts a call to those that are to be made.
+pub fn add(calls: &mut Vec<Call>, call: Result<Call>) -> Result<()> {
+    calls.push(call?)?;
+    Ok(())
+}
+
 // A call of each kind at one key, and a scan from that key on.
+fn add_all(alloc: Global, calls: &mut Vec<Call>) -> Result<()> {
+    add(calls, Call::get(alloc, b"ulm"))?;
+    add(calls, Call::insert(alloc, b"ulm", b"21"))?;
+    add(calls, Call::remove(alloc, b"ulm"))?;
+    add(
+        calls,
+        Call::compare_and_swap(alloc, b"ulm", Some(b"21"), None),
+    )?;
+    add(calls, Call::merge(alloc, b"ulm", b"1"))?;
+    add(
+        calls,
+        Call::scan(alloc, Bound::Included(b"ulm"), Bound::Unbounded, false),
+    )
+}
+
+// The same in a list of their own.
 fn calls(alloc: Global) -> Result<Vec<Call>> {
     let mut calls = Vec::new(alloc);
-    calls.push(Call::get(alloc, b"ulm")?)?;
-    calls.push(Call::insert(alloc, b"ulm", b"21")?)?;
-    calls.push(Call::remove(alloc, b"ulm")?)?;
-    calls.push(Call::compare_and_swap(alloc, b"ulm", Some(b"21"), None)?)?;
-    calls.push(Call::merge(alloc, b"ulm", b"1")?)?;
-    calls.push(Call::scan(alloc, Bound::Included(b"ulm"), Bound::Unbounded, false)?)?;
-    Ok(calls)
+    match add_all(alloc, &mut calls) {
+        Ok(()) => Ok(calls),
+        Err(e) => {
+            drop(calls);
+            Err(e)
+        }
+    }
 }
 
 // What reads of a value and of none tell a call.
@@ -42,54 +64,132 @@ fn is_copied_alike(alloc: Global, call: &Call) -> Result<bool> {
     Ok(is_key && is_call)
 }
 
+// Prints a call, and what it answers at both reads.
+fn tell_call(
+    rt: &HostRuntime,
+    call: &Call,
+    reads: &(Option<Reply>, Option<Reply>),
+) -> io::Result<()> {
+    println!(rt;
+        "{:?}, on a key: {}, with an operator: {}; at a read {:?}, {:?}; copies are the same: {:?}",
+        call.key(),
+        call.is_on_key(),
+        call.needs_operator(),
+        reads.0,
+        reads.1,
+        is_copied_alike(rt.alloc(), call)
+    )
+}
+
 // Prints of each call its key, whether it is on that, whether it needs an operator, what it answers at a read of `21` and of no value,
 // and whether copies are the same.
 fn tell_calls(rt: &HostRuntime, calls: &[Call]) -> io::Result<()> {
     for call in calls {
         match reads_of(rt.alloc(), call) {
-            Ok((value, none)) => println!(rt;
-                "{:?}, on a key: {}, with an operator: {}; at a read {:?}, {:?}; copies are the same: {:?}",
-                call.key(),
-                call.is_on_key(),
-                call.needs_operator(),
-                value,
-                none,
-                is_copied_alike(rt.alloc(), call)
-            )?,
+            Ok(reads) => {
+                let told = tell_call(rt, call, &reads);
+                drop(reads);
+                told?;
+            }
             Err(e) => println!(rt; "{e}")?,
         }
     }
     Ok(())
 }
 
-// A reply of each kind.
-fn replies(alloc: Global) -> Result<Vec<Reply>> {
-    let mut replies = Vec::new(alloc);
-    replies.push(Reply::Value(None))?;
-    replies.push(Reply::Value(Some(IVec::from_slice(alloc, b"21")?)))?;
-    replies.push(Reply::Swapped(Ok(())))?;
-    replies.push(Reply::Swapped(Err(CompareAndSwapError {
+// Replies that have bytes.
+fn value(alloc: Global) -> Result<Reply> {
+    Ok(Reply::Value(Some(IVec::from_slice(alloc, b"21")?)))
+}
+
+fn conflict(alloc: Global) -> Result<Reply> {
+    Ok(Reply::Swapped(Err(CompareAndSwapError {
         current: None,
         proposed: Some(IVec::from_slice(alloc, b"21")?),
-    })))?;
-    replies.push(Reply::Number(7))?;
-    replies.push(Reply::End)?;
-    replies.push(Reply::Done)?;
-    replies.push(Reply::Pair(None))?;
+    })))
+}
+
+fn pair(alloc: Global) -> Result<Reply> {
     let key = IVec::from_slice(alloc, b"ulm")?;
-    replies.push(Reply::Pair(Some((key, IVec::from_slice(alloc, b"21")?))))?;
-    replies.push(Reply::Tree(Tree {
-        database: IVec::from_slice(alloc, b"weather")?,
-        name: IVec::from_slice(alloc, b"t")?,
-        number: 2,
-    }))?;
-    replies.push(Reply::Flag(true))?;
-    replies.push(Reply::Subscriber(Subscriber(3)))?;
-    replies.push(Reply::Next(None))?;
-    replies.push(Reply::Next(Some(Next::Missed(4))))?;
+    match IVec::from_slice(alloc, b"21") {
+        Ok(value) => Ok(Reply::Pair(Some((key, value)))),
+        Err(e) => {
+            drop(key);
+            Err(e)
+        }
+    }
+}
+
+fn tree(alloc: Global) -> Result<Reply> {
+    let database = IVec::from_slice(alloc, b"weather")?;
+    match IVec::from_slice(alloc, b"t") {
+        Ok(name) => Ok(Reply::Tree(Tree {
+            database,
+            name,
+            number: 2,
+        })),
+        Err(e) => {
+            drop(database);
+            Err(e)
+        }
+    }
+}
+
+fn event(alloc: Global) -> Result<Reply> {
     let key = IVec::from_slice(alloc, b"ulm")?;
-    replies.push(Reply::Next(Some(Next::Event(Event::Remove { key }))))?;
-    Ok(replies)
+    Ok(Reply::Next(Some(Next::Event(Event::Remove { key }))))
+}
+
+// Puts a reply to the others.
+fn add_reply(replies: &mut Vec<Reply>, reply: Result<Reply>) -> Result<()> {
+    replies.push(reply?)?;
+    Ok(())
+}
+
+// Replies of calls on keys.
+fn add_point_replies(alloc: Global, replies: &mut Vec<Reply>) -> Result<()> {
+    add_reply(replies, Ok(Reply::Value(None)))?;
+    add_reply(replies, value(alloc))?;
+    add_reply(replies, Ok(Reply::Swapped(Ok(()))))?;
+    add_reply(replies, conflict(alloc))?;
+    add_reply(replies, Ok(Reply::Number(7)))?;
+    add_reply(replies, Ok(Reply::End))
+}
+
+// Replies of whole calls.
+fn add_whole_replies(alloc: Global, replies: &mut Vec<Reply>) -> Result<()> {
+    add_reply(replies, Ok(Reply::Done))?;
+    add_reply(replies, Ok(Reply::Pair(None)))?;
+    add_reply(replies, pair(alloc))?;
+    add_reply(replies, tree(alloc))?;
+    add_reply(replies, Ok(Reply::Flag(true)))
+}
+
+// Replies about subscribers.
+fn add_told_replies(alloc: Global, replies: &mut Vec<Reply>) -> Result<()> {
+    add_reply(replies, Ok(Reply::Subscriber(Subscriber(3))))?;
+    add_reply(replies, Ok(Reply::Next(None)))?;
+    add_reply(replies, Ok(Reply::Next(Some(Next::Missed(4)))))?;
+    add_reply(replies, event(alloc))
+}
+
+// A reply of each kind.
+fn add_replies(alloc: Global, replies: &mut Vec<Reply>) -> Result<()> {
+    add_point_replies(alloc, replies)?;
+    add_whole_replies(alloc, replies)?;
+    add_told_replies(alloc, replies)
+}
+
+// The same in a list of their own.
+fn replies(alloc: Global) -> Result<Vec<Reply>> {
+    let mut replies = Vec::new(alloc);
+    match add_replies(alloc, &mut replies) {
+        Ok(()) => Ok(replies),
+        Err(e) => {
+            drop(replies);
+            Err(e)
+        }
+    }
 }
 
 // Whether a copy of a reply is the same.
@@ -100,19 +200,24 @@ fn is_replied_alike(reply: &Reply) -> Result<bool> {
     Ok(is_same)
 }
 
+fn tell_each(rt: &HostRuntime, replies: &[Reply]) -> io::Result<()> {
+    for reply in replies {
+        println!(rt;
+            "{:?}; its copy is the same: {:?}",
+            reply,
+            is_replied_alike(reply)
+        )?;
+    }
+    Ok(())
+}
+
 // Prints each reply, and whether its copy is the same.
 fn tell_replies(rt: &HostRuntime) -> io::Result<()> {
     match replies(rt.alloc()) {
         Ok(replies) => {
-            for reply in replies.as_slice() {
-                println!(rt;
-                    "{:?}; its copy is the same: {:?}",
-                    reply,
-                    is_replied_alike(reply)
-                )?;
-            }
+            let told = tell_each(rt, replies.as_slice());
             drop(replies);
-            Ok(())
+            told
         }
         Err(e) => println!(rt; "{e}"),
     }
@@ -138,16 +243,25 @@ fn tell_tests(rt: &HostRuntime, db: &Db<MemPages>, tree: &Tree, calls: &[Call]) 
     tell_test(rt, db.check_operator(tree))
 }
 
+// How many pairs a leaf has.
+fn pairs_in(content: &Data) -> Option<usize> {
+    match content {
+        Data::Leaf(leaf) => Some(leaf.len()),
+        Data::Index(_) => None,
+    }
+}
+
 // Whether the page of the tree's root is a leaf, and how many pairs it has.
 fn root_of(alloc: Global, db: &Db<MemPages>, tree: &Tree) -> Result<Option<usize>> {
     let Some(pid) = db.pages().root(tree.name().as_ref()) else {
         return Ok(None);
     };
     match db.pages().page(alloc, pid)? {
-        Some(view) => match &view.node.content {
-            Data::Leaf(leaf) => Ok(Some(leaf.len())),
-            Data::Index(_) => Ok(None),
-        },
+        Some(view) => {
+            let count = pairs_in(&view.node.content);
+            drop(view);
+            Ok(count)
+        }
         None => Ok(None),
     }
 }

@@ -1,6 +1,7 @@
 //! Steps of a machine that keep copies of the reply.
+use crate::calls::add;
 use sled::{Call, Db, MemPages, Outcome, Reply, Result, Slot, Subscriber, Tree, empty_pages};
-use sled_machine::Machine;
+use sled_calls::Machine;
 use std::alloc::Global;
 use std::io;
 use std::ops::Bound;
@@ -46,19 +47,38 @@ fn tell_steps(
 }
 
 // A call of each kind at one key, one that finds nothing to change, and a scan.
+fn add_all(alloc: Global, calls: &mut Vec<Call>) -> Result<()> {
+    add(calls, Call::insert(alloc, b"ulm", b"21"))?;
+    add(calls, Call::insert(alloc, b"ulm", b"21"))?;
+    add(calls, Call::insert(alloc, b"bern", b"17"))?;
+    add(calls, Call::get(alloc, b"ulm"))?;
+    add(
+        calls,
+        Call::compare_and_swap(alloc, b"ulm", Some(b"20"), None),
+    )?;
+    add(
+        calls,
+        Call::compare_and_swap(alloc, b"ulm", Some(b"21"), Some(b"22")),
+    )?;
+    add(calls, Call::merge(alloc, b"ulm", b"1"))?;
+    add(calls, Call::remove(alloc, b"ulm"))?;
+    add(calls, Call::remove(alloc, b"ulm"))?;
+    add(
+        calls,
+        Call::scan(alloc, Bound::Unbounded, Bound::Unbounded, false),
+    )
+}
+
+// The same in a list of their own.
 fn calls(alloc: Global) -> Result<Vec<Call>> {
     let mut calls = Vec::new(alloc);
-    calls.push(Call::insert(alloc, b"ulm", b"21")?)?;
-    calls.push(Call::insert(alloc, b"ulm", b"21")?)?;
-    calls.push(Call::insert(alloc, b"bern", b"17")?)?;
-    calls.push(Call::get(alloc, b"ulm")?)?;
-    calls.push(Call::compare_and_swap(alloc, b"ulm", Some(b"20"), None)?)?;
-    calls.push(Call::compare_and_swap(alloc, b"ulm", Some(b"21"), Some(b"22"))?)?;
-    calls.push(Call::merge(alloc, b"ulm", b"1")?)?;
-    calls.push(Call::remove(alloc, b"ulm")?)?;
-    calls.push(Call::remove(alloc, b"ulm")?)?;
-    calls.push(Call::scan(alloc, Bound::Unbounded, Bound::Unbounded, false)?)?;
-    Ok(calls)
+    match add_all(alloc, &mut calls) {
+        Ok(()) => Ok(calls),
+        Err(e) => {
+            drop(calls);
+            Err(e)
+        }
+    }
 }
 
 // Prints what a subscriber is told, until nothing waits.
@@ -72,36 +92,79 @@ fn tell_events(rt: &HostRuntime, db: &mut Db<MemPages>, subscriber: &Subscriber)
     Ok(())
 }
 
+// Prints all steps of a call like this.
+fn tell_copy(
+    rt: &HostRuntime,
+    machine: &mut Machine<MemPages>,
+    tree: &Tree,
+    call: &Call,
+) -> io::Result<()> {
+    match call.clone() {
+        Ok(call) => tell_steps(rt, machine, tree, call),
+        Err(e) => println!(rt; "{e}"),
+    }
+}
+
 // Prints all steps of all calls.
 fn tell_calls(
     rt: &HostRuntime,
     machine: &mut Machine<MemPages>,
     tree: &Tree,
-    calls: Vec<Call>,
+    calls: &[Call],
 ) -> io::Result<()> {
     for call in calls {
-        tell_steps(rt, machine, tree, call)?;
+        tell_copy(rt, machine, tree, call)?;
     }
     Ok(())
 }
 
-// The calls on a tree, and a subscriber to it.
-fn begun(alloc: Global, db: &mut Db<MemPages>) -> Result<(Tree, Subscriber, Vec<Call>)> {
-    let calls = calls(alloc)?;
-    let tree = db.default_tree()?;
-    let subscriber = db.watch_prefix(&tree, b"")?;
-    Ok((tree, subscriber, calls))
+// The same on a machine of its own. The database comes back.
+fn tell_machine(
+    rt: &HostRuntime,
+    db: Db<MemPages>,
+    tree: &Tree,
+    calls: &[Call],
+) -> (Db<MemPages>, io::Result<()>) {
+    let mut machine = Machine::new(db);
+    let told = tell_calls(rt, &mut machine, tree, calls);
+    (machine.into_db(), told)
 }
 
-fn tell_all(rt: &HostRuntime, db: Db<MemPages>) -> io::Result<()> {
+// The default tree, and a subscriber to it.
+fn watched(db: &mut Db<MemPages>) -> Result<(Tree, Subscriber)> {
+    let tree = db.default_tree()?;
+    match db.watch_prefix(&tree, b"") {
+        Ok(subscriber) => Ok((tree, subscriber)),
+        Err(e) => {
+            drop(tree);
+            Err(e)
+        }
+    }
+}
+
+fn tell_all(rt: &HostRuntime, db: Db<MemPages>, calls: &[Call]) -> io::Result<()> {
     let mut db = db;
-    match begun(rt.alloc(), &mut db) {
-        Ok((tree, subscriber, calls)) => {
-            let mut machine = Machine::new(db);
-            tell_calls(rt, &mut machine, &tree, calls)?;
-            let mut db = machine.into_db();
-            let told = tell_events(rt, &mut db, &subscriber);
+    match watched(&mut db) {
+        Ok((tree, subscriber)) => {
+            let (mut db, told) = tell_machine(rt, db, &tree, calls);
+            drop(tree);
+            let more = tell_events(rt, &mut db, &subscriber);
             drop(db.into_pages());
+            told.and(more)
+        }
+        Err(e) => {
+            drop(db.into_pages());
+            println!(rt; "{e}")
+        }
+    }
+}
+
+// The same of calls that come from a list.
+fn tell_listed(rt: &HostRuntime, db: Db<MemPages>) -> io::Result<()> {
+    match calls(rt.alloc()) {
+        Ok(calls) => {
+            let told = tell_all(rt, db, calls.as_slice());
+            drop(calls);
             told
         }
         Err(e) => {
@@ -114,7 +177,7 @@ fn tell_all(rt: &HostRuntime, db: Db<MemPages>) -> io::Result<()> {
 /// Prints how calls came out step by step, what was kept of their replies, and which events a subscriber was told.
 pub fn tell(rt: &HostRuntime) -> io::Result<()> {
     match Db::open(rt.alloc(), empty_pages(rt.alloc()), b"weather") {
-        Ok(db) => tell_all(rt, db),
+        Ok(db) => tell_listed(rt, db),
         Err((pages, e)) => {
             drop(pages);
             println!(rt; "{e}")

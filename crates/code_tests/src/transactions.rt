@@ -72,6 +72,11 @@ fn count_runs(db: &mut Db<MemPages>, tree: &Tree) -> u32 {
     count.get()
 }
 
+// Whether `ulm` is in the second tree, and no longer in the first.
+fn is_moved(db: &Db<MemPages>, from: &Tree, to: &Tree) -> Result<bool> {
+    Ok(!db.contains_key(from, b"ulm")? && db.contains_key(to, b"ulm")?)
+}
+
 // Moves the value of `ulm` from the first tree to the second: what it was, and whether it is gone from the one and in the other.
 fn move_value(db: &mut Db<MemPages>, from: &Tree, to: &Tree) -> Result<(Option<IVec>, bool)> {
     drop(db.insert(from, b"ulm", b"21")?);
@@ -81,8 +86,13 @@ fn move_value(db: &mut Db<MemPages>, from: &Tree, to: &Tree) -> Result<(Option<I
         Ok(value)
     });
     let value = ended.unwrap_or(None);
-    let is_moved = !db.contains_key(from, b"ulm")? && db.contains_key(to, b"ulm")?;
-    Ok((value, is_moved))
+    match is_moved(db, from, to) {
+        Ok(is_moved) => Ok((value, is_moved)),
+        Err(e) => {
+            drop(value);
+            Err(e)
+        }
+    }
 }
 
 // The same between the default tree and another one.

@@ -1,8 +1,8 @@
 //! Whole calls whose reply is kept, with the number of parts that they did.
 use sled::{Db, MemPages, empty_pages};
-use sled_machine::Machine;
+use sled_calls::Machine;
 use sled_model::{Collection, Outcome, Reply, Subscriber, Tree, Whole};
-use sled_nodes::{IVec, Result};
+use sled_nodes::{Error, IVec, Result};
 use std::alloc::Global;
 use std::io;
 
@@ -18,25 +18,71 @@ fn pair(alloc: Global, key: &[u8], value: &[u8]) -> Result<(IVec, IVec)> {
     }
 }
 
-// A collection of a type and a name, with these keys, each with itself as its value.
-fn collection(alloc: Global, kind: &[u8], name: &[u8], keys: &[&[u8]]) -> Result<Collection> {
+// These keys, each with itself as its value.
+fn pairs(alloc: Global, keys: &[&[u8]]) -> Result<Vec<(IVec, IVec)>> {
     let mut pairs = Vec::new(alloc);
+    match add_pairs(alloc, &mut pairs, keys) {
+        Ok(()) => Ok(pairs),
+        Err(e) => {
+            drop(pairs);
+            Err(e)
+        }
+    }
+}
+
+fn add_pairs(alloc: Global, pairs: &mut Vec<(IVec, IVec)>, keys: &[&[u8]]) -> Result<()> {
     for key in keys {
         pairs.push(pair(alloc, key, key)?)?;
     }
-    Ok((
-        Vec::from_slice(alloc, kind)?,
-        Vec::from_slice(alloc, name)?,
-        pairs,
-    ))
+    Ok(())
+}
+
+// A type and a name.
+fn labels(alloc: Global, kind: &[u8], name: &[u8]) -> Result<(Vec<u8>, Vec<u8>)> {
+    let kind = Vec::from_slice(alloc, kind)?;
+    match Vec::from_slice(alloc, name) {
+        Ok(name) => Ok((kind, name)),
+        Err(failed) => {
+            drop(failed);
+            drop(kind);
+            Err(Error::NoMemory)
+        }
+    }
+}
+
+// A collection of a type and a name, with these keys, each with itself as its value.
+fn collection(alloc: Global, kind: &[u8], name: &[u8], keys: &[&[u8]]) -> Result<Collection> {
+    let pairs = pairs(alloc, keys)?;
+    match labels(alloc, kind, name) {
+        Ok((kind, name)) => Ok((kind, name, pairs)),
+        Err(e) => {
+            drop(pairs);
+            Err(e)
+        }
+    }
 }
 
 // An import of a collection of one pair, and of another of three pairs that is of a type and a name.
 fn import(alloc: Global, kind: &[u8], name: &[u8]) -> Result<Whole> {
     let mut collections = Vec::new(alloc);
+    match add_both(alloc, &mut collections, kind, name) {
+        Ok(()) => Ok(Whole::Import(collections)),
+        Err(e) => {
+            drop(collections);
+            Err(e)
+        }
+    }
+}
+
+fn add_both(
+    alloc: Global,
+    collections: &mut Vec<Collection>,
+    kind: &[u8],
+    name: &[u8],
+) -> Result<()> {
     collections.push(collection(alloc, b"tree", b"spare", &[b"m"])?)?;
     collections.push(collection(alloc, kind, name, &[b"a", b"b", b"c"])?)?;
-    Ok(Whole::Import(collections))
+    Ok(())
 }
 
 fn watch(alloc: Global, tree: &Tree) -> Result<Whole> {

@@ -241,6 +241,31 @@ fn content_of(alloc: Global, kind: Kind, words: &[&[u8]]) -> Result<(Option<Pid>
     }
 }
 
+// A node within these bounds, with what it holds and the child that it merges.
+fn node_of(
+    alloc: Global,
+    bounds: (&[u8], &[u8]),
+    next: Option<Pid>,
+    merging: bool,
+    holds: (Option<Pid>, Data),
+) -> Result<Node> {
+    let (merging_child, content) = holds;
+    match two_of(alloc, bounds.0, bounds.1) {
+        Ok((lo, hi)) => Ok(Node {
+            lo,
+            hi,
+            next,
+            merging,
+            merging_child,
+            content,
+        }),
+        Err(stopped) => {
+            drop(content);
+            Err(stopped)
+        }
+    }
+}
+
 // The page that words spell, which were compared before.
 fn page_of(alloc: Global, words: &[&[u8]]) -> Result<(Pid, Node)> {
     let [pid, kind, lo, hi, next, state, words @ ..] = words else {
@@ -250,24 +275,14 @@ fn page_of(alloc: Global, words: &[&[u8]]) -> Result<(Pid, Node)> {
     let kind = kind_of(*kind).ok_or(Stopped)?;
     let next = page_or_none(*next).ok_or(Stopped)?;
     let merging = merging_of(*state).ok_or(Stopped)?;
-    let (merging_child, content) = content_of(alloc, kind, words)?;
-    match two_of(alloc, *lo, *hi) {
-        Ok((lo, hi)) => Ok((
-            pid,
-            Node {
-                lo,
-                hi,
-                next,
-                merging,
-                merging_child,
-                content,
-            },
-        )),
-        Err(stopped) => {
-            drop(content);
-            Err(stopped)
-        }
-    }
+    let node = node_of(
+        alloc,
+        (*lo, *hi),
+        next,
+        merging,
+        content_of(alloc, kind, words)?,
+    )?;
+    Ok((pid, node))
 }
 
 /// The pages and roots that lines noted since the last image.

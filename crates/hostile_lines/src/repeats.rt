@@ -222,22 +222,52 @@ impl<'a> Repeats<'a> {
         }
     }
 
+    // The line that begins a database, and a number behind it.
+    fn beginning(&self) -> (&'a [u8], Option<u64>) {
+        if self.is_again {
+            return (b"reopen", None);
+        }
+        match self.aim {
+            Aim::Refusing(call) => (b"new refuse ", Some(call)),
+            _ => (b"new", None),
+        }
+    }
+
+    // The line that crashes it.
+    fn crash(&self) -> (&'a [u8], Option<u64>) {
+        match self.aim {
+            Aim::Crash(keep) => (b"crash ", Some(keep)),
+            _ => (b"crash 0", None),
+        }
+    }
+
+    // The line that is asked for, and a number behind it; empty where there is none.
+    fn asked_line(&self) -> (&'a [u8], Option<u64>) {
+        match self.asked {
+            Asked::Nothing | Asked::End => (b"", None),
+            Asked::New => self.beginning(),
+            Asked::Line => (self.line, None),
+            Asked::Pop => (b"pop-min", None),
+            Asked::Recover => (b"recover", None),
+            Asked::Tree => match self.tree {
+                Some(line) => (line, None),
+                None => (b"", None),
+            },
+            Asked::Dump => (b"dump", None),
+            Asked::Flush => (b"flush", None),
+            Asked::Crash => self.crash(),
+            Asked::Verify => (b"verify", None),
+        }
+    }
+
     // Puts the line that is asked for into its place: whether there is one.
     fn put(&self, line: &mut Vec<u8>) -> sled_nodes::Result<bool> {
-        match (self.asked, self.aim) {
-            (Asked::Nothing | Asked::End, _) => return Ok(false),
-            (Asked::New, _) if self.is_again => push_text(line, b"reopen")?,
-            (Asked::New, Aim::Refusing(call)) => push_numbered(line, b"new refuse ", call)?,
-            (Asked::New, _) => push_text(line, b"new")?,
-            (Asked::Line, _) => push_text(line, self.line)?,
-            (Asked::Pop, _) => push_text(line, b"pop-min")?,
-            (Asked::Recover, _) => push_text(line, b"recover")?,
-            (Asked::Tree, _) => push_text(line, self.tree.unwrap_or(b""))?,
-            (Asked::Dump, _) => push_text(line, b"dump")?,
-            (Asked::Flush, _) => push_text(line, b"flush")?,
-            (Asked::Crash, Aim::Crash(keep)) => push_numbered(line, b"crash ", keep)?,
-            (Asked::Crash, _) => push_text(line, b"crash 0")?,
-            (Asked::Verify, _) => push_text(line, b"verify")?,
+        if matches!(self.asked, Asked::Nothing | Asked::End) {
+            return Ok(false);
+        }
+        match self.asked_line() {
+            (text, Some(number)) => push_numbered(line, text, number)?,
+            (text, None) => push_text(line, text)?,
         }
         Ok(true)
     }
@@ -259,10 +289,19 @@ fn cut(text: &[u8]) -> (&[u8], Option<&[u8]>) {
 
 // Whether a line makes another store, or names other calls to be refused.
 fn remakes(line: &[u8]) -> bool {
-    match first_word(line) {
-        (b"new" | b"crash" | b"recover" | b"image", _) => true,
-        (b"reopen", Some(words)) => words.starts_with(b"refuse "),
-        _ => false,
+    let (word, words) = first_word(line);
+    MAKES_ANOTHER.iter().any(|maker| *maker == word)
+        || word == b"reopen".as_slice() && names_calls(words)
+}
+
+// The words that make another store.
+const MAKES_ANOTHER: [&[u8]; 4] = [b"new", b"crash", b"recover", b"image"];
+
+// Whether the words behind `reopen` name calls to be refused.
+fn names_calls(words: Option<&[u8]>) -> bool {
+    match words {
+        Some(words) => words.starts_with(b"refuse "),
+        None => false,
     }
 }
 

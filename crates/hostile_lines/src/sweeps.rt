@@ -91,6 +91,16 @@ fn tell_difference(out: &mut Told, text: &[u8], wanted: &[u8]) -> Result<()> {
     tell(out, &[Text(b"nothing differs\n")])
 }
 
+// Whether what was printed is what was wanted, where this call was refused. Else adds how it differs.
+fn is_wanted(printed: &[u8], wanted: &[u8], call: u64, out: &mut Told) -> Result<bool> {
+    if printed == wanted {
+        return Ok(true);
+    }
+    tell(out, &[Text(b"call "), Number(call), Text(b": ")])?;
+    tell_difference(out, printed, wanted)?;
+    Ok(false)
+}
+
 // Refuses each call in turn, up to the first that is not made, and adds what that came to.
 fn tell_refusals<P: Sessions>(
     alloc: Global,
@@ -102,12 +112,12 @@ fn tell_refusals<P: Sessions>(
     let mut refused: u64 = 0;
     for call in 1..u64::MAX {
         let run = run_once(alloc, sessions, lines, Aim::Refusing(call))?;
-        if run.text.as_slice() != wanted {
-            tell(out, &[Text(b"call "), Number(call), Text(b": ")])?;
-            return tell_difference(out, run.text.as_slice(), wanted);
-        }
         let (is_told, is_beyond) = (run.is_told, run.is_beyond);
+        let is_same = is_wanted(run.text.as_slice(), wanted, call, out);
         drop(run);
+        if !is_same? {
+            return Ok(());
+        }
         refused = refused.saturating_add(u64::from(is_told));
         if is_beyond {
             return tell(
@@ -167,6 +177,28 @@ fn dumps_from<'a>(dumps: &'a [u8], dump: &[u8]) -> Option<&'a [u8]> {
 // What a crash and a check print before the dump.
 const WELL: &[u8] = b"recovered\nsound\n";
 
+// The dumps from the one on that a crash left which kept so many actions. Where it left none of them, adds what it left.
+fn find_dump<'a>(
+    left: &[u8],
+    dumps: &'a [u8],
+    keep: u64,
+    out: &mut Told,
+) -> Result<Option<&'a [u8]>> {
+    let Some(dump) = left.strip_prefix(WELL) else {
+        tell(out, &[Text(b"crash "), Number(keep), Text(b": ")])?;
+        tell_difference(out, left, WELL)?;
+        return Ok(None);
+    };
+    let found = dumps_from(dumps, dump);
+    if found.is_none() {
+        tell(
+            out,
+            &[Text(b"crash "), Number(keep), Text(b": no beginning\n")],
+        )?;
+    }
+    Ok(found)
+}
+
 // Has a crash keep each number of actions in turn, and adds what that came to. The dumps are those after each line.
 fn tell_crashes<P: Sessions>(
     alloc: Global,
@@ -179,20 +211,12 @@ fn tell_crashes<P: Sessions>(
     let mut rest = dumps;
     for keep in 0..actions.saturating_add(1) {
         let run = run_once(alloc, sessions, lines, Aim::Crash(keep))?;
-        let Some(dump) = run.text.as_slice().strip_prefix(WELL) else {
-            tell(out, &[Text(b"crash "), Number(keep), Text(b": ")])?;
-            return tell_difference(out, run.text.as_slice(), WELL);
-        };
-        match dumps_from(rest, dump) {
-            Some(others) => rest = others,
-            None => {
-                return tell(
-                    out,
-                    &[Text(b"crash "), Number(keep), Text(b": no beginning\n")],
-                );
-            }
-        }
+        let found = find_dump(run.text.as_slice(), rest, keep, out);
         drop(run);
+        match found? {
+            Some(others) => rest = others,
+            None => return Ok(()),
+        }
     }
     tell(
         out,
