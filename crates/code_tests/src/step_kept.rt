@@ -55,7 +55,11 @@ fn add_all(alloc: Global, calls: &mut Vec<Call>) -> Result<()> {
     add(
         calls,
         Call::compare_and_swap(alloc, b"ulm", Some(b"20"), None),
-    )?;
+    )
+}
+
+// More of them.
+fn add_more(alloc: Global, calls: &mut Vec<Call>) -> Result<()> {
     add(
         calls,
         Call::compare_and_swap(alloc, b"ulm", Some(b"21"), Some(b"22")),
@@ -69,10 +73,15 @@ fn add_all(alloc: Global, calls: &mut Vec<Call>) -> Result<()> {
     )
 }
 
+fn add_both(alloc: Global, calls: &mut Vec<Call>) -> Result<()> {
+    add_all(alloc, calls)?;
+    add_more(alloc, calls)
+}
+
 // The same in a list of their own.
 fn calls(alloc: Global) -> Result<Vec<Call>> {
     let mut calls = Vec::new(alloc);
-    match add_all(alloc, &mut calls) {
+    match add_both(alloc, &mut calls) {
         Ok(()) => Ok(calls),
         Err(e) => {
             drop(calls);
@@ -85,7 +94,11 @@ fn calls(alloc: Global) -> Result<Vec<Call>> {
 fn tell_events(rt: &HostRuntime, db: &mut Db<MemPages>, subscriber: &Subscriber) -> io::Result<()> {
     for _ in 0..STEPS {
         match db.next(subscriber) {
-            Some(next) => println!(rt; "told: {:?}", next)?,
+            Some(next) => {
+                let told = println!(rt; "told: {:?}", next);
+                drop(next);
+                told?;
+            }
             None => return Ok(()),
         }
     }

@@ -145,7 +145,11 @@ fn tell_pairs(rt: &HostRuntime, machine: &mut Machine<MemPages>, tree: &Tree) ->
     tell_call(rt, machine, pop_min(tree))?;
     tell_call(rt, machine, import(rt.alloc(), b"leaf", name))?;
     tell_call(rt, machine, import(rt.alloc(), b"tree", name))?;
-    tell_call(rt, machine, import(rt.alloc(), b"tree", name))?;
+    tell_call(rt, machine, import(rt.alloc(), b"tree", name))
+}
+
+// Those that take out what was put in.
+fn tell_pops(rt: &HostRuntime, machine: &mut Machine<MemPages>, tree: &Tree) -> io::Result<()> {
     tell_call(rt, machine, pop_min(tree))?;
     tell_call(rt, machine, pop_max(tree))?;
     tell_call(rt, machine, Ok(Whole::Next(Subscriber(1))))?;
@@ -158,7 +162,11 @@ fn tell_names(rt: &HostRuntime, machine: &mut Machine<MemPages>) -> io::Result<(
     tell_call(rt, machine, open_tree(rt.alloc(), b"other"))?;
     tell_call(rt, machine, open_tree(rt.alloc(), b"spare"))?;
     tell_call(rt, machine, drop_tree(rt.alloc(), b"spare"))?;
-    tell_call(rt, machine, Ok(Whole::GenerateId))?;
+    tell_call(rt, machine, Ok(Whole::GenerateId))
+}
+
+// .. and those that tell nothing of names.
+fn tell_others(rt: &HostRuntime, machine: &mut Machine<MemPages>) -> io::Result<()> {
     tell_call(rt, machine, Ok(Whole::Group(Vec::new(rt.alloc()))))?;
     tell_call(rt, machine, Ok(Whole::Unsubscribe(Subscriber(1))))?;
     tell_call(rt, machine, Ok(Whole::Next(Subscriber(1))))?;
@@ -170,8 +178,11 @@ fn tell_machine(rt: &HostRuntime, machine: &mut Machine<MemPages>) -> io::Result
     match machine.db().default_tree() {
         Ok(tree) => {
             let told = tell_pairs(rt, machine, &tree);
+            let popped = tell_pops(rt, machine, &tree);
             drop(tree);
-            told.and(tell_names(rt, machine))
+            told.and(popped)?;
+            tell_names(rt, machine)?;
+            tell_others(rt, machine)
         }
         Err(e) => println!(rt; "{e}"),
     }
