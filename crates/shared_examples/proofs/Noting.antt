@@ -15,7 +15,8 @@ use Rattle.sled_shared.specs.Made.{MadeValue, PointMade, WholeMade}
 use Rattle.sled_shared.specs.Notes.{noted_of}
 use Rattle.sled_shared.specs.WholeNotes.{noted_with, AddsWhole}
 use Rattle.sled_shared.specs.Wholes.{WholeValue, PopMin, GenerateId}
-use Rattle.shared_examples.specs.Counting.{number_in, AddsOne}
+use Rattle.examples.specs.Counters.{number_in}
+use Rattle.shared_examples.specs.Counting.{AddsOne}
 use Rattle.shared_examples.specs.Queueing.{noted_of_whole, Pushes, Puts, PushesNone}
 
 -- ---- a merge

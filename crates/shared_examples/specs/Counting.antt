@@ -1,6 +1,6 @@
 -- A number at a key, to which threads add one by merges.
-use Rattle.std.specs.Prelude.{◌≡◌, ◌⊎◌, ℕ, length, nat_eq, List, [], ◌∷◌, ◌++◌, Option, Some, None, if◌then◌else◌}
-use Rattle.std.specs.Int.{w64, to_be_bytes, from_be_bytes}
+use Rattle.std.specs.Prelude.{◌≡◌, ◌⊎◌, ℕ, List, [], ◌∷◌, ◌++◌, Option, Some, None, if◌then◌else◌}
+use Rattle.std.specs.Int.{w64, to_be_bytes}
 use Rattle.std.specs.List.{AllByRecursion}
 use Rattle.sled_nodes.specs.Order.{Key}
 use Rattle.sled_model.specs.Maps.{Maps}
@@ -9,12 +9,8 @@ use Rattle.sled_model.specs.declared.reply.Reply.TheVariants.{Value}
 use Rattle.sled_model.specs.declared.tree.Tree.{Tree}
 use Rattle.sled_shared.specs.History.{IsLegal}
 use Rattle.sled_shared.specs.Made.{MadeValue, PointMade, EntryValue}
+use Rattle.examples.specs.Counters.{number_in}
 use Rattle.shared_examples.specs.Places.{value_at, made_in, is_at, Leaves}
-
--- eight bytes are a number, the highest first; none, and any other count of bytes, are 0
-abbrev pub number_in : Option Key → ℕ
-number_in None = 0
-number_in (Some bytes) = if nat_eq (length bytes) 8 then (from_be_bytes w64 bytes) else 0
 
 -- a merge of one came to a list, with a reply that tells this number
 pub record AddsOne (tree : Tree) (key : Key) (n : ℕ) (made more : List MadeValue) : Type 0 where

@@ -14,7 +14,7 @@ use Rattle.sled_shared.specs.History.{IsLegal}
 use Rattle.sled_shared.specs.Made.{MadeValue, PointMade, EntryValue}
 use Rattle.sled_shared.specs.Values.{CallerValue}
 use Rattle.shared_examples.specs.Places.{value_at, made_in, is_at, Leaves}
-use Rattle.shared_examples.specs.Counting.{number_in}
+use Rattle.examples.specs.Counters.{number_in}
 use Rattle.shared_examples.specs.declared.raising.Raised.{Raised}
 use Rattle.shared_examples.specs.declared.raising.Raised.TheVariants.{To, Overtaken}
 

@@ -1,46 +1,19 @@
 //! A number at a key, to which threads add one by merges. The operator of the tree is the caller's; a legal history has the reply of a merge as it
 //! was told, and says nothing of operators. So the laws say that what a merge replied is what stands, and not that each reply is one above the
 //! one before; `raising` has a number of which that is known.
-ghost use Rattle.std.specs.Prelude.{◌≡◌, ◌++◌, Some, IfOk, IfErr};
+ghost use Rattle.std.specs.Prelude.{◌≡◌, ◌++◌, IfOk, IfErr};
 ghost use Rattle.std.specs.Int.{w64, to_be_bytes};
-ghost use Rattle.std.specs.Option.{option_copied};
 ghost use Rattle.sled_model.specs.declared.call.Call.TheVariants.{Merge};
 ghost use Rattle.sled_shared.specs.Notes.{noted_of};
-ghost use Rattle.shared_examples.specs.Counting.{AddsOne, MergesLaw, number_in};
+ghost use Rattle.shared_examples.specs.Counting.{AddsOne, MergesLaw};
 
+use examples::number_at;
 use sled_machine::shared::Handle;
 use sled_model::{MergeOperator, Outcome, Reply, Tree};
-use sled_nodes::IVec;
 use sled_store::Pages;
 use std::alloc::Global;
 use std::sync::Wait;
 use std::sync::ledger::Ledger;
-
-// The number in these bytes.
-fn number_of(bytes: Option<&[u8]>) -> u64
-    ensures { result ≡ number_in (option_copied bytes.entry) }
-{
-    let Some(bytes) = bytes else {
-        return 0;
-    };
-    if bytes.len() != 8 {
-        return 0;
-    }
-    match bytes.first_chunk::<8>() {
-        Some(number) => u64::from_be_bytes(*number),
-        None => 0,
-    }
-}
-
-/// The number in this value: eight bytes, the highest first. None, and any other count of bytes, are 0.
-pub fn number_at(value: &Option<IVec>) -> u64
-    ensures { result ≡ number_in value.now }
-{
-    match value {
-        Some(value) => number_of(Some(value.as_ref())),
-        None => 0,
-    }
-}
 
 /// Adds one to the number at a key, by a merge of the eight bytes of 1, the highest first, and answers the number that the merge replied. That this
 /// is one above the number before is the work of the tree's operator, and is not promised here. The merge comes to the end of the handle's list, with

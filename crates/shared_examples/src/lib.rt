@@ -12,7 +12,7 @@ mod places;
 mod queueing;
 mod raising;
 
-pub use counting::{add_one, law_merges, number_at};
+pub use counting::{add_one, law_merges};
 pub use places::law_leaves;
 pub use queueing::{law_queue, push, take};
 pub use raising::{Raised, law_raises, law_shares, law_swaps, raise};
