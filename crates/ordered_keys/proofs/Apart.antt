@@ -11,7 +11,8 @@ use Rattle.ordered_keys.specs.declared.part.Kind.{Kind}
 use Rattle.ordered_keys.specs.declared.part.Part.{Part}
 use Rattle.ordered_keys.specs.declared.part.Part.TheVariants.{Number, Text}
 use Rattle.ordered_keys.specs.Keys.{spelled_byte, spelled_part, spelled, part_cmp, IsOfKind, BeginsWith, IsOneToOne, KeepsPrefixes}
-use Rattle.ordered_keys.proofs.Bytes.{bytes_cmp, byte_then, end_before}
+use Rattle.sled_nodes.proofs.Fronts.{bytes_cmp}
+use Rattle.ordered_keys.proofs.Bytes.{byte_then, end_before}
 use Rattle.ordered_keys.proofs.Order.{Fits, begins_fits, part_some, part_then}
 
 then_equal : (o r : Ordering) → ordering_then o r ≡ Equal → (o ≡ Equal) × (r ≡ Equal)

@@ -12,81 +12,12 @@ use Rattle.std.specs.Cmp.Lexicographic.{slice_cmp}
 use Rattle.std.specs.declared.cmp.Ordering.{Ordering}
 use Rattle.std.specs.declared.cmp.Ordering.TheVariants.{Less, Equal, Greater}
 use Rattle.sled_nodes.specs.Order.{Key}
+use Rattle.sled_nodes.proofs.Fronts.{bytes_cmp, then_assoc, cmp_less, cmp_greater, number_then as eight_then}
 use Rattle.ordered_keys.specs.Keys.{spelled_byte, spelled_text, spelled_number}
-
-abbrev pub bytes_cmp : Key → Key → Ordering
-bytes_cmp = slice_cmp nat_cmp
-
-then_assoc : (o p q : Ordering) → ordering_then (ordering_then o p) q ≡ ordering_then o (ordering_then p q)
-then_assoc Less p q = refl
-then_assoc Equal p q = refl
-then_assoc Greater p q = refl
-
-cmp_less : (m n : ℕ) → m < n → nat_cmp m n ≡ Less
-cmp_less m n h = rw (lt-ltb m n h) refl
-
-cmp_greater : (m n : ℕ) → n < m → nat_cmp m n ≡ Greater
-cmp_greater m n h =
-    let past : n ≤ m = omega arith in
-    rw (le-ltb m n past, ne_eqb m n (λ (e : m ≡ n). omega arith)) refl
-
-cmp_same : (m n : ℕ) → m ≡ n → nat_cmp m n ≡ Equal
-cmp_same m n e = ap (nat_cmp m) (sym e) ∙ tied_itself nat_cmp_total m
-
--- two numbers compare as two others do
-cmp_like : (x y m n : ℕ) → (x < y → m < n) → (x ≡ y → m ≡ n) → (y < x → n < m) → nat_cmp m n ≡ nat_cmp x y
-cmp_like x y m n below level above =
-    elim (cases_order x y) [
-      | inl e ↦ cmp_same m n (level e) ∙ sym (cmp_same x y e)
-      | inr o ↦ elim o [ inl lt ↦ cmp_less m n (below lt) ∙ sym (cmp_less x y lt) | inr gt ↦ cmp_greater m n (above gt) ∙ sym (cmp_greater x y gt) ]
-    ]
-
--- the first digit decides, and then the rest
-digit_then : (a b r s unit : ℕ) → r < unit → s < unit → nat_cmp (a * unit + r) (b * unit + s) ≡ ordering_then (nat_cmp a b) (nat_cmp r s)
-digit_then a b r s unit p q =
-    elim (cases_order a b) [
-      | inl e ↦
-          let level : a * unit ≡ b * unit = ap (λ n. n * unit) e in
-          cmp_like r s (a * unit + r) (b * unit + s) (λ h. omega arith) (λ h. omega arith) (λ h. omega arith) ∙ sym (ap (λ o. ordering_then o (nat_cmp r s)) (cmp_same a b e))
-      | inr o ↦ elim o [
-        | inl lt ↦
-            let room : a * unit + unit ≤ b * unit = row_fits a unit b unit lt (omega arith) in
-            cmp_less (a * unit + r) (b * unit + s) (omega arith) ∙ sym (ap (λ o. ordering_then o (nat_cmp r s)) (cmp_less a b lt))
-        | inr gt ↦
-            let room : b * unit + unit ≤ a * unit = row_fits b unit a unit gt (omega arith) in
-            cmp_greater (a * unit + r) (b * unit + s) (omega arith) ∙ sym (ap (λ o. ordering_then o (nat_cmp r s)) (cmp_greater a b gt))
-      ]
-    ]
-
--- byte k and the bytes below it
-byte_on : (k n : ℕ) → byte_at k n * 256 ^ k + n % 256 ^ k ≡ n % 256 ^ suc k
-byte_on zero n = omega arith
-byte_on (suc k) n =
-    let unit = 256 ^ suc k in
-    let wider : 256 ^ suc (suc k) ≡ 256 * unit = pow-suc 256 (suc k) ∙ mul_comm unit 256 in
-    let some : 0 < unit = pow-le-pow_right {n = 256} (omega arith) {i = 0} {j = suc k} (omega arith) in
-    rw (wider, mod-mul n {m = 256} {c = unit} (omega arith) some) refl
-
--- the low k bytes of two numbers, and what follows them
-low_then : (k m n : ℕ) (x y : Key) → bytes_cmp (bytes_high_first k m ++ x) (bytes_high_first k n ++ y) ≡ ordering_then (nat_cmp (m % 256 ^ k) (n % 256 ^ k)) (bytes_cmp x y)
-low_then zero m n x y =
-    let e : m % 256 ^ 0 ≡ n % 256 ^ 0 = omega arith in
-    sym (ap (λ o. ordering_then o (bytes_cmp x y)) (cmp_same (m % 256 ^ 0) (n % 256 ^ 0) e))
-low_then (suc k) m n x y =
-    let some : 0 < 256 ^ k = pow-le-pow_right {n = 256} (omega arith) {i = 0} {j = k} (omega arith) in
-    let first = nat_cmp (byte_at k m) (byte_at k n) in
-    let then = nat_cmp (m % 256 ^ k) (n % 256 ^ k) in
-    let both : nat_cmp (m % 256 ^ suc k) (n % 256 ^ suc k) ≡ ordering_then first then =
-    ap (λ a. nat_cmp a (n % 256 ^ suc k)) (sym (byte_on k m)) ∙ (ap (λ b. nat_cmp (byte_at k m * 256 ^ k + m % 256 ^ k) b) (sym (byte_on k n))
-    ∙ digit_then (byte_at k m) (byte_at k n) (m % 256 ^ k) (n % 256 ^ k) (256 ^ k) (mod_below m (256 ^ k) some) (mod_below n (256 ^ k) some)) in
-    ap (ordering_then first) (low_then k m n x y) ∙ (sym (then_assoc first then (bytes_cmp x y)) ∙ ap (λ o. ordering_then o (bytes_cmp x y)) (sym both))
 
 pub number_then : (m n : ℕ) (x y : Key) → m < 2 ^ 64 → n < 2 ^ 64 → bytes_cmp (spelled_number m ++ x) (spelled_number n ++ y) ≡ ordering_then (nat_cmp m n) (bytes_cmp x y)
 unfolding spelled_number
-number_then m n x y p q =
-    let whole : m % 256 ^ 8 ≡ m = omega arith in
-    let entire : n % 256 ^ 8 ≡ n = omega arith in
-    low_then 8 m n x y ∙ (ap (λ a. ordering_then (nat_cmp a (n % 256 ^ 8)) (bytes_cmp x y)) whole ∙ ap (λ b. ordering_then (nat_cmp m b) (bytes_cmp x y)) entire)
+number_then m n x y p q = eight_then m n x y p q
 
 -- ---- texts
 

@@ -9,7 +9,8 @@ use Rattle.ordered_keys.specs.declared.part.Kind.TheVariants as kinds
 use Rattle.ordered_keys.specs.declared.part.Part.{Part}
 use Rattle.ordered_keys.specs.declared.part.Part.TheVariants.{Number, Text}
 use Rattle.ordered_keys.specs.Keys.{spelled_byte, spelled_text, spelled_number, spelled_part, spelled, part_cmp, parts_cmp, IsOfKind, HasShape, BeginsKey, KeepsOrder}
-use Rattle.ordered_keys.proofs.Bytes.{bytes_cmp, number_then, text_then}
+use Rattle.sled_nodes.proofs.Fronts.{bytes_cmp}
+use Rattle.ordered_keys.proofs.Bytes.{number_then, text_then}
 
 -- parts of the first kinds of the shape
 abbrev pub Fits : List Kind → List Part → Type 0

@@ -2,5 +2,6 @@ pub mod Put
 pub mod Returned
 pub mod Found
 pub mod Rising
+pub mod Fronts
 pub mod All
 pub mod Within

@@ -130,6 +130,9 @@ module _ {K : Type 0} (R : K → K → Ordering) (k : K) where
     turned : (x : K) (r : Ordering) → R x k ≡ r → R k x ≡ ordering_reverse r
     turned x r e = o.antisymm k x ∙ ap ordering_reverse e
 
+    back : (x : K) (r : Ordering) → R k x ≡ r → R x k ≡ ordering_reverse r
+    back x r e = o.antisymm x k ∙ ap ordering_reverse e
+
     at_most : (r : Ordering) → ordering_index r ≤ 2
     at_most Less = omega arith
     at_most Equal = omega arith
@@ -228,7 +231,7 @@ module _ {K X : Type 0} (R : K → K → Ordering) where
           by true e = subst (λ n. ordering_index (R (get_or es n d).0 k) ≤ ordering_index (R (get_or es j d).0 k)) (sym (eqb→eq i j (so (i == j) e))) (omega arith)
           by false e = climb R k o (get_or es i d).0 (get_or es j d).0 (rises es i j d s (grind (arith, nat_tests)) h) (R (get_or es j d).0 k) refl
 
-      hit : (es : List (K × X)) (i : ℕ) → is_sorted R es ≡ true → i < length es → ((d : K × X) → R (get_or es i d).0 k ≡ Equal) → IsHit R k es i
+      pub hit : (es : List (K × X)) (i : ℕ) → is_sorted R es ≡ true → i < length es → ((d : K × X) → R (get_or es i d).0 k ≡ Equal) → IsHit R k es i
       hit es i s h e = record {
         in_range = h;
         before = λ j d a b. sym (o.congr (get_or es i d).0 k (get_or es j d).0 (e d)) ∙ (o.antisymm (get_or es i d).0 (get_or es j d).0 ∙ ap ordering_reverse (rises es j i d s b h));
@@ -236,6 +239,32 @@ module _ {K X : Type 0} (R : K → K → Ordering) where
         after = λ j d a b. sym (o.congr (get_or es i d).0 k (get_or es j d).0 (e d)) ∙ rises es i j d s (omega (arith, a)) b;
       }
 
+      -- at a place whose key is lower, all before it are, and at one whose key is higher, all behind it are
+      pub lower_to : (es : List (K × X)) (i : ℕ) → is_sorted R es ≡ true → i < length es → ((d : K × X) → R (get_or es i d).0 k ≡ Less) → AllWithin (λ e. R e.0 k ≡ Less) es 0 (i + 1)
+      lower_to es i s h e j d a b = by (i == j) refl
+        where
+          by : (t : Bool) → (i == j) ≡ t → R (get_or es j d).0 k ≡ Less
+          by true t = subst (λ n. R (get_or es n d).0 k ≡ Less) (eqb→eq i j (so (i == j) t)) (e d)
+          by false t = o.trans (get_or es j d).0 (get_or es i d).0 k (rises es j i d s (grind (arith, nat_tests)) h) (e d)
+
+      pub higher_from : (es : List (K × X)) (i : ℕ) → is_sorted R es ≡ true → i < length es → ((d : K × X) → R (get_or es i d).0 k ≡ Greater) → AllWithin (λ e. R e.0 k ≡ Greater) es i (length es)
+      higher_from es i s h e j d a b = by (i == j) refl
+        where
+          by : (t : Bool) → (i == j) ≡ t → R (get_or es j d).0 k ≡ Greater
+          by true t = subst (λ n. R (get_or es n d).0 k ≡ Greater) (eqb→eq i j (so (i == j) t)) (e d)
+          by false t =
+              let below : R k (get_or es i d).0 ≡ Less = turned R k o (get_or es i d).0 Greater (e d) in
+              let less : R k (get_or es j d).0 ≡ Less = o.trans k (get_or es i d).0 (get_or es j d).0 below (rises es i j d s (grind (arith, nat_tests)) b) in
+              o.antisymm (get_or es j d).0 k ∙ ap ordering_reverse less
+
+      pub gap : (es : List (K × X)) (i : ℕ) → i ≤ length es → AllWithin (λ e. R e.0 k ≡ Less) es 0 i → AllWithin (λ e. R e.0 k ≡ Greater) es i (length es) → IsGap R k es i
+      gap es i h before after = record {
+        in_range = h;
+        before = λ j d a b. turned R k o (get_or es j d).0 Less (before j d a b);
+        after = λ j d a b. turned R k o (get_or es j d).0 Greater (after j d a b);
+      }
+
+      -- what a search by halves of the library finds
       pub searched : (es : List (K × X)) → is_sorted R es ≡ true → (r : Result ℕ ℕ) → IsSearchInRange r (length es) → IsBinarySearchResult (λ e. R e.0 k) es r → record { ok : IfOk r (IsHit R k es); err : IfErr r (IsGap R k es) }
       searched es s (Ok i) h e = record { ok = hit es i s h e; err = tt }
       searched es s (Err i) h e =
@@ -248,6 +277,33 @@ module _ {K X : Type 0} (R : K → K → Ordering) where
               after = λ j d a b. turned R k o (get_or es j d).0 Greater (p.1 j d a b);
             };
           }
+
+      -- how many are below the key, and how many are not above it
+      pub gap_below : (es : List (K × X)) (i : ℕ) → IsGap R k es i → IsPartitionPoint (λ e. is_lt (R e.0 k) ≡ true) (λ e. is_lt (R e.0 k) ≡ false) es i
+      gap_below es i g = (
+        λ j d a b. ap is_lt (back R k o (get_or es j d).0 Greater (g.before j d a b)),
+        λ j d a b. ap is_lt (back R k o (get_or es j d).0 Less (g.after j d a b)),
+      )
+
+      pub gap_to : (es : List (K × X)) (i : ℕ) → IsGap R k es i → IsPartitionPoint (λ e. is_gt (R e.0 k) ≡ false) (λ e. is_gt (R e.0 k) ≡ true) es i
+      gap_to es i g = (
+        λ j d a b. ap is_gt (back R k o (get_or es j d).0 Greater (g.before j d a b)),
+        λ j d a b. ap is_gt (back R k o (get_or es j d).0 Less (g.after j d a b)),
+      )
+
+      pub hit_below : (es : List (K × X)) (i : ℕ) → IsHit R k es i → IsPartitionPoint (λ e. is_lt (R e.0 k) ≡ true) (λ e. is_lt (R e.0 k) ≡ false) es i
+      hit_below es i h = (λ j d a b. ap is_lt (back R k o (get_or es j d).0 Greater (h.before j d a b)), λ j d a b. at_or_behind j d a b (i == j) refl)
+        where
+          at_or_behind : (j : ℕ) (d : K × X) → i ≤ j → j < length es → (t : Bool) → (i == j) ≡ t → is_lt (R (get_or es j d).0 k) ≡ false
+          at_or_behind j d a b true t = ap is_lt (back R k o (get_or es j d).0 Equal (subst (λ n. R k (get_or es n d).0 ≡ Equal) (eqb→eq i j (so (i == j) t)) (h.here d)))
+          at_or_behind j d a b false t = ap is_lt (back R k o (get_or es j d).0 Less (h.after j d (grind (arith, nat_tests)) b))
+
+      pub hit_to : (es : List (K × X)) (i : ℕ) → IsHit R k es i → IsPartitionPoint (λ e. is_gt (R e.0 k) ≡ false) (λ e. is_gt (R e.0 k) ≡ true) es (i + 1)
+      hit_to es i h = (λ j d a b. at_or_before j d a b (i == j) refl, λ j d a b. ap is_gt (back R k o (get_or es j d).0 Less (h.after j d a b)))
+        where
+          at_or_before : (j : ℕ) (d : K × X) → 0 ≤ j → j < i + 1 → (t : Bool) → (i == j) ≡ t → is_gt (R (get_or es j d).0 k) ≡ false
+          at_or_before j d a b true t = ap is_gt (back R k o (get_or es j d).0 Equal (subst (λ n. R k (get_or es n d).0 ≡ Equal) (eqb→eq i j (so (i == j) t)) (h.here d)))
+          at_or_before j d a b false t = ap is_gt (back R k o (get_or es j d).0 Greater (h.before j d a (grind (arith, nat_tests))))
 
   -- what follows from what was found
   module _ (k : K) where
@@ -347,3 +403,21 @@ module _ {X : Type 0} (bound : Bound Key) (es : List (Key × X)) (s : is_sorted 
 
   pub parted_from : IsPartitionedBy (λ e. not (is_from bound e.0)) es
   parted_from = parted (slice_cmp nat_cmp) nat_list_cmp_total (λ k. not (is_from bound k)) es (before_lower bound) s
+
+  -- how many keys are within a bound, by how many are below its key or up to it
+  module _ (n : ℕ) (k : Key) where
+    pub up_to_included : bound ≡ Included k → IsPartitionPoint (λ e. is_gt (slice_cmp nat_cmp e.0 k) ≡ false) (λ e. is_gt (slice_cmp nat_cmp e.0 k) ≡ true) es n → IsPartitionPoint (λ e. is_up_to bound e.0 ≡ true) (λ e. is_up_to bound e.0 ≡ false) es n
+    unfolding key_cmp
+    up_to_included is p = (λ j d a b. ap (λ c. is_up_to c (get_or es j d).0) is ∙ ap not (p.0 j d a b), λ j d a b. ap (λ c. is_up_to c (get_or es j d).0) is ∙ ap not (p.1 j d a b))
+
+    pub up_to_excluded : bound ≡ Excluded k → IsPartitionPoint (λ e. is_lt (slice_cmp nat_cmp e.0 k) ≡ true) (λ e. is_lt (slice_cmp nat_cmp e.0 k) ≡ false) es n → IsPartitionPoint (λ e. is_up_to bound e.0 ≡ true) (λ e. is_up_to bound e.0 ≡ false) es n
+    unfolding key_cmp
+    up_to_excluded is p = (λ j d a b. ap (λ c. is_up_to c (get_or es j d).0) is ∙ p.0 j d a b, λ j d a b. ap (λ c. is_up_to c (get_or es j d).0) is ∙ p.1 j d a b)
+
+    pub before_included : bound ≡ Included k → IsPartitionPoint (λ e. is_lt (slice_cmp nat_cmp e.0 k) ≡ true) (λ e. is_lt (slice_cmp nat_cmp e.0 k) ≡ false) es n → IsPartitionPoint (λ e. not (is_from bound e.0) ≡ true) (λ e. not (is_from bound e.0) ≡ false) es n
+    unfolding key_cmp
+    before_included is p = (λ j d a b. ap (λ c. not (is_from c (get_or es j d).0)) is ∙ ap (λ t. not (not t)) (p.0 j d a b), λ j d a b. ap (λ c. not (is_from c (get_or es j d).0)) is ∙ ap (λ t. not (not t)) (p.1 j d a b))
+
+    pub before_excluded : bound ≡ Excluded k → IsPartitionPoint (λ e. is_gt (slice_cmp nat_cmp e.0 k) ≡ false) (λ e. is_gt (slice_cmp nat_cmp e.0 k) ≡ true) es n → IsPartitionPoint (λ e. not (is_from bound e.0) ≡ true) (λ e. not (is_from bound e.0) ≡ false) es n
+    unfolding key_cmp
+    before_excluded is p = (λ j d a b. ap (λ c. not (is_from c (get_or es j d).0)) is ∙ ap not (p.0 j d a b), λ j d a b. ap (λ c. not (is_from c (get_or es j d).0)) is ∙ ap not (p.1 j d a b))

@@ -2,3 +2,4 @@ pub mod Pairs
 pub mod Returning
 pub mod Places
 pub mod Rising
+pub mod Fronts

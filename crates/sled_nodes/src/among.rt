@@ -7,6 +7,7 @@ ghost use Rattle.sled_nodes.specs.Ranges.{is_in_range, pairs_in};
 ghost use Rattle.sled_nodes.specs.theory.Places.{IsFirstAt, IsLastAt, IsPlaceOf};
 ghost use Rattle.sled_nodes.specs.theory.Returning.{IsOut};
 
+use crate::order::{compare, compare_to, front_of};
 use crate::{IVec, Pid};
 use std::ops::Bound;
 
@@ -15,13 +16,31 @@ use std::ops::Bound;
 /// ```
 /// let is_before = is_up_to(b"ulm", Bound::Excluded(b"weil")); // `true`.
 /// ```
+#[inline(always)]
 #[tactic(auto, unfolding(crate::specs::Order::key_cmp))]
 pub fn is_up_to(key: &[u8], bound: Bound<&[u8]>) -> bool
     ensures { result ≡ within_upper (bound_of bound.entry) key.now }
 {
     match bound {
-        Bound::Included(end) => key.cmp(end).is_le(),
-        Bound::Excluded(end) => key.cmp(end).is_lt(),
+        Bound::Included(end) => compare(key, end).is_le(),
+        Bound::Excluded(end) => compare(key, end).is_lt(),
+        Bound::Unbounded => true,
+    }
+}
+
+/// The same of a byte string, whose first bytes are taken where they lie.
+///
+/// ```
+/// let is_behind = !key_is_up_to(&node.hi, Bound::Included(b"ulm")); // The node ends behind the key.
+/// ```
+#[inline(always)]
+#[tactic(auto, unfolding(crate::specs::Order::key_cmp))]
+pub fn key_is_up_to(key: &IVec, bound: Bound<&[u8]>) -> bool
+    ensures { result ≡ within_upper (bound_of bound.entry) key.now }
+{
+    match bound {
+        Bound::Included(end) => compare_to(key, end, front_of(end)).is_le(),
+        Bound::Excluded(end) => compare_to(key, end, front_of(end)).is_lt(),
         Bound::Unbounded => true,
     }
 }
@@ -31,13 +50,14 @@ pub fn is_up_to(key: &[u8], bound: Bound<&[u8]>) -> bool
 /// ```
 /// let is_behind = is_from(b"ulm", Bound::Excluded(b"weil")); // `false`.
 /// ```
+#[inline(always)]
 #[tactic(auto, unfolding(crate::specs::Order::key_cmp))]
 pub fn is_from(key: &[u8], bound: Bound<&[u8]>) -> bool
     ensures { result ≡ within_lower (bound_of bound.entry) key.now }
 {
     match bound {
-        Bound::Included(start) => key.cmp(start).is_ge(),
-        Bound::Excluded(start) => key.cmp(start).is_gt(),
+        Bound::Included(start) => compare(key, start).is_ge(),
+        Bound::Excluded(start) => compare(key, start).is_gt(),
         Bound::Unbounded => true,
     }
 }

@@ -1,7 +1,8 @@
 //! Searches by halves, in lists that ascend by key.
-ghost use Rattle.std.specs.Prelude.{◌≡◌, true, false, IfOk, IfErr, MatchOption};
+ghost use Rattle.std.specs.Prelude.{◌≡◌, ◌≤◌, true, false, not, length, IfOk, IfErr, MatchOption};
 ghost use Rattle.std.specs.Cmp.Lexicographic.{slice_cmp};
-ghost use Rattle.std.specs.Ordering.{nat_cmp};
+ghost use Rattle.std.specs.Ordering.{nat_cmp, is_lt, is_gt};
+ghost use Rattle.std.specs.List.Sorted.{IsPartitionPoint};
 ghost use Rattle.std.specs.List.{list_any, slice_get};
 ghost use Rattle.std.specs.FinMap.{is_sorted};
 ghost use Rattle.sled_nodes.specs.Among.{bound_of, is_up_to as within_upper, is_from as within_lower};
@@ -11,6 +12,8 @@ ghost use Rattle.sled_nodes.specs.theory.Rising.{IsHit, IsGap};
 
 use crate::IVec;
 use crate::among::{is_from, is_up_to};
+use crate::order::{compare, compare_to, front_of};
+use std::cmp::Ordering;
 use std::ops::Bound;
 
 /// Whether the keys ascend.
@@ -18,7 +21,7 @@ pub fn ascends<V>(pairs: &[(IVec, V)]) -> bool
     ensures { result ≡ true → is_sorted (slice_cmp nat_cmp) pairs.now ≡ true }
 {
     for i in 1..pairs.len() {
-        if !pairs[i - 1].0.as_ref().cmp(pairs[i].0.as_ref()).is_lt() {
+        if !compare(pairs[i - 1].0.as_ref(), pairs[i].0.as_ref()).is_lt() {
             return false;
         }
     }
@@ -32,7 +35,72 @@ pub fn search<V>(pairs: &[(IVec, V)], key: &[u8]) -> std::result::Result<usize, 
     ensures ok { IfOk result (IsHit (slice_cmp nat_cmp) key.now pairs.now) }
     ensures err { IfErr result (IsGap (slice_cmp nat_cmp) key.now pairs.now) }
 {
-    pairs.binary_search_by(|pair| pair.0.as_ref().cmp(key))
+    let front = front_of(key);
+    let mut low = 0;
+    let mut high = pairs.len();
+    'halves: while low < high {
+        let middle = low + (high - low) / 2;
+        match compare_to(&pairs[middle].0, key, front) {
+            Ordering::Less => low = middle + 1,
+            Ordering::Equal => return Ok(middle),
+            Ordering::Greater => high = middle,
+        }
+    }
+    Err(low)
+}
+
+// How many keys are below a key.
+#[inline(always)]
+fn count_below<V>(pairs: &[(IVec, V)], key: &[u8]) -> usize
+    requires { is_sorted (slice_cmp nat_cmp) pairs.now ≡ true }
+    ensures bound { result ≤ length pairs.now }
+    ensures parted { IsPartitionPoint (λ e. is_lt (slice_cmp nat_cmp e.0 key.now) ≡ true) (λ e. is_lt (slice_cmp nat_cmp e.0 key.now) ≡ false) pairs.now result }
+{
+    match search(pairs, key) {
+        Ok(i) => i,
+        Err(i) => i,
+    }
+}
+
+// How many keys are below a key, or are that key.
+#[inline(always)]
+fn count_to<V>(pairs: &[(IVec, V)], key: &[u8]) -> usize
+    requires { is_sorted (slice_cmp nat_cmp) pairs.now ≡ true }
+    ensures bound { result ≤ length pairs.now }
+    ensures parted { IsPartitionPoint (λ e. is_gt (slice_cmp nat_cmp e.0 key.now) ≡ false) (λ e. is_gt (slice_cmp nat_cmp e.0 key.now) ≡ true) pairs.now result }
+{
+    match search(pairs, key) {
+        Ok(i) => i + 1,
+        Err(i) => i,
+    }
+}
+
+// How many keys are within an upper bound. All others come behind them.
+#[inline(always)]
+fn count_up_to<V>(pairs: &[(IVec, V)], bound: Bound<&[u8]>) -> usize
+    requires { is_sorted (slice_cmp nat_cmp) pairs.now ≡ true }
+    ensures bound { result ≤ length pairs.now }
+    ensures parted { IsPartitionPoint (λ e. within_upper (bound_of bound.entry) e.0 ≡ true) (λ e. within_upper (bound_of bound.entry) e.0 ≡ false) pairs.now result }
+{
+    match bound {
+        Bound::Included(end) => count_to(pairs, end),
+        Bound::Excluded(end) => count_below(pairs, end),
+        Bound::Unbounded => pairs.len(),
+    }
+}
+
+// How many keys are not within a lower bound. All others come behind them.
+#[inline(always)]
+fn count_before<V>(pairs: &[(IVec, V)], bound: Bound<&[u8]>) -> usize
+    requires { is_sorted (slice_cmp nat_cmp) pairs.now ≡ true }
+    ensures bound { result ≤ length pairs.now }
+    ensures parted { IsPartitionPoint (λ e. not (within_lower (bound_of bound.entry) e.0) ≡ true) (λ e. not (within_lower (bound_of bound.entry) e.0) ≡ false) pairs.now result }
+{
+    match bound {
+        Bound::Included(start) => count_below(pairs, start),
+        Bound::Excluded(start) => count_to(pairs, start),
+        Bound::Unbounded => 0,
+    }
 }
 
 /// The place of the last pair whose key is within an upper bound.
@@ -41,7 +109,7 @@ pub fn last_place<V>(pairs: &[(IVec, V)], bound: Bound<&[u8]>) -> Option<usize>
     requires { is_sorted (slice_cmp nat_cmp) pairs.now ≡ true }
     ensures { MatchOption result (list_any (λ e. within_upper (bound_of bound.entry) e.0) pairs.now ≡ false) (IsLastAt (λ e. within_upper (bound_of bound.entry) e.0) pairs.now) }
 {
-    let count = pairs.partition_point(|pair| is_up_to(pair.0.as_ref(), bound));
+    let count = count_up_to(pairs, bound);
     if count > 0 { Some(count - 1) } else { None }
 }
 
@@ -50,7 +118,7 @@ pub fn first_place<V>(pairs: &[(IVec, V)], bound: Bound<&[u8]>) -> Option<usize>
     requires { is_sorted (slice_cmp nat_cmp) pairs.now ≡ true }
     ensures { MatchOption result (list_any (λ e. within_lower (bound_of bound.entry) e.0) pairs.now ≡ false) (IsFirstAt (λ e. within_lower (bound_of bound.entry) e.0) pairs.now) }
 {
-    let count = pairs.partition_point(|pair| !is_from(pair.0.as_ref(), bound));
+    let count = count_before(pairs, bound);
     if count < pairs.len() {
         Some(count)
     } else {
@@ -68,7 +136,7 @@ fn place_up(
     requires { is_sorted (slice_cmp nat_cmp) pairs.now ≡ true }
     ensures { IsPlaceOf (slice_get (pairs_in (record { lo = bound_of lo.entry; hi = bound_of hi.entry; back = false }) pairs.now) place) pairs.now result }
 {
-    let start = pairs.partition_point(|pair| !is_from(pair.0.as_ref(), lo));
+    let start = count_before(pairs, lo);
     if place < pairs.len() - start && is_up_to(pairs[start + place].0.as_ref(), hi) {
         Some(start + place)
     } else {
@@ -86,7 +154,7 @@ fn place_down(
     requires { is_sorted (slice_cmp nat_cmp) pairs.now ≡ true }
     ensures { IsPlaceOf (slice_get (pairs_in (record { lo = bound_of lo.entry; hi = bound_of hi.entry; back = true }) pairs.now) place) pairs.now result }
 {
-    let end = pairs.partition_point(|pair| is_up_to(pair.0.as_ref(), hi));
+    let end = count_up_to(pairs, hi);
     if place < end && is_from(pairs[end - 1 - place].0.as_ref(), lo) {
         Some(end - 1 - place)
     } else {

@@ -1,5 +1,5 @@
 //! Byte strings: keys, values and names. Contracts see one as the list of its bytes.
-ghost use Rattle.std.specs.Prelude.{◌≡◌, length, refl, Some, IfOk, IfErr};
+ghost use Rattle.std.specs.Prelude.{◌≡◌, ◌<◌, ℕ, length, slice_index, refl, Some, IfOk, IfErr};
 ghost use Rattle.std.specs.Cmp.Lexicographic.{slice_cmp, nat_list_cmp_total, nat_list_eq_equiv, texts_ties, texts_po};
 ghost use Rattle.std.specs.Cmp;
 ghost use Rattle.std.specs.Ordering.{nat_cmp};
@@ -7,9 +7,11 @@ ghost use Rattle.std.specs.Hash as fed;
 ghost use Rattle.std.specs.Cmp.Rules.{hashing};
 ghost use Rattle.std.specs.Str.{bytes_eq};
 ghost use Rattle.std.proofs.Common.{rules};
+ghost use Rattle.sled_nodes.specs.theory.Fronts.{front};
 ghost use Rattle.sled_nodes.specs.declared.error.Error.TheVariants.{NoMemory};
 
 use crate::error::Result;
+use crate::order::{compare, first_eight, front_of};
 use std::alloc::Global;
 use std::cmp::Ordering;
 use std::fmt::{self, Debug, Formatter, Write};
@@ -23,7 +25,7 @@ const SHORT: usize = 22;
 // As many bytes lie in one block with their count of owners.
 const MIDDLE: usize = 56;
 
-// Short strings lie in place, and clones of a longer one share it.
+// Short strings lie in place, and clones of a longer one share it. In an array zeros lie behind the bytes.
 #[derive(Drop)]
 enum Bytes {
     Short(u8, [u8; 22]),
@@ -91,6 +93,19 @@ impl IVec {
             Bytes::Short(len, bytes) => &bytes[..*len as usize],
             Bytes::Middle(len, bytes) => &bytes[..*len as usize],
             Bytes::Long(bytes) => bytes.as_slice(),
+        }
+    }
+
+    // The first eight bytes as a number, the first the highest, with zeros behind a shorter string.
+    #[inline(always)]
+    pub(crate) fn front(&self) -> u64
+        ensures is { result ≡ front self.now }
+        ensures low { (i : ℕ) → slice_index self.now i < 256 }
+    {
+        match &self.bytes {
+            Bytes::Short(_, bytes) => first_eight(bytes.as_slice()),
+            Bytes::Middle(_, bytes) => first_eight(bytes.as_slice()),
+            Bytes::Long(bytes) => front_of(bytes.as_slice()),
         }
     }
 
@@ -170,7 +185,7 @@ impl Ord for IVec {
     ghost matches_eq = { texts_ties };
 
     fn cmp(&self, other: &Self) -> Ordering {
-        self.as_ref().cmp(other.as_ref())
+        compare(self.as_ref(), other.as_ref())
     }
 }
 

@@ -14,13 +14,14 @@ mod error;
 mod ivec;
 mod link;
 mod node;
+mod order;
 mod pairs;
 mod pid;
 mod ranges;
 mod shared;
 pub mod texts;
 
-pub use among::{is_from, is_up_to};
+pub use among::{is_from, is_up_to, key_is_up_to};
 pub use change::{Back, Part};
 pub use error::{Error, Fault, Result};
 pub use ivec::IVec;

@@ -1,0 +1,9 @@
+-- The front of a byte string: its first eight bytes, as a number.
+use Rattle.std.specs.Prelude.{ℕ}
+use Rattle.std.specs.Int.{from_be_bytes, w64}
+use Rattle.sled_nodes.specs.Order.{Key}
+use Rattle.sled_nodes.specs.Bytes.{padded}
+
+-- the first of them counts most, and zeros stand behind a shorter string
+unfoldable pub front : Key → ℕ
+front bytes = from_be_bytes w64 (padded 8 bytes)
