@@ -107,3 +107,8 @@ crashes keep s t log log' none n f un un' mk rc places places' nv h p e d =
       most = λ j a b c. h.back.most j a b (omega (arith, c, size));
       is = rw (e, d, p) (ap (λ (x : State). record (meaning s log n f un mk rc places nv) { base = x; recent = []; faults = 0; is_readable = λ _. true; recovered = true }) (sym (here keep s t log log' h.back)));
     }
+
+-- .. after which places of slots that are gone may go
+pub crashes_on : (keep : ℕ) (s : Table) (slots slots' : ℕ → Option Slot) (roots : Key → Option ℕ) (g : Bool) (log log' none : List Undo) (n f : ℕ) (un un' : List ℕ) (mk : ℕ) (rc : Bool) (given given' : ℕ → Bool) (nv : ℕ) →
+    TakenBack keep s log (table slots roots g) log' → slots' ≡ slots → given' ≡ given → none ≡ [] → un' ≡ [] → Crashes keep (meaning s log n f un mk rc given nv) (meaning (table slots' roots g) none n 0 un' mk true given' nv)
+crashes_on keep s slots slots' roots g log log' none n f un un' mk rc given given' nv h e p l u = rw e (crashes keep s (table slots roots g) log log' none n f un un' mk rc given given' nv h p l u)

@@ -6,6 +6,8 @@ use lib.Dec.{eqb}
 use mathlib.Core.Bool.{true≢false}
 use Rattle.sled_pages.specs.declared.memory.MemPages.{MemPages}
 use Rattle.sled_pages.specs.declared.memory.slots.Slots.{Slots}
+use Rattle.sled_pages.specs.Rows.{rows_of}
+use Rattle.sled_pages.specs.Blocks.{has_of}
 use Rattle.sled_pages.specs.Slots.{slots_of, places_of, given_of}
 use Rattle.sled_pages.specs.theory.Replay.{replay, back_name, slot_placed, placed_given}
 use mathlib.Core.List.{reverse}
@@ -20,7 +22,9 @@ use Rattle.sled_pages.specs.declared.memory.slots.Slot.{Slot}
 use Rattle.sled_pages.specs.declared.memory.undo.Undo.{Undo}
 use Rattle.sled_pages.specs.declared.memory.undo.Undo.TheVariants.{UndoSlot, UndoLink, UndoRoot, UndoGroup}
 use Rattle.sled_store.specs.State.{State, Action, PageBecomes, RootBecomes, GroupBegins, GroupEnds}
-use Rattle.sled_store.specs.Store.{Store, now, after_action, after_flush, Allocates, ActsAt}
+use Rattle.sled_store.specs.Store.{Store, IsRefused, now, after_action, after_flush, Allocates, ActsAt}
+use Rattle.sled_nodes.specs.declared.error.Error.{Error}
+use Rattle.sled_nodes.specs.declared.error.Error.TheVariants.{NoMemory}
 use Rattle.sled_store.specs.Roots.{roots_of}
 use Rattle.sled_pages.specs.Table.{Table, page_of, pages_of, state_of, undone, undoes, base_of, recent_of, has_place, IsKept, slot_given, undo_given, AreBelow}
 use Rattle.sled_pages.specs.Memory.{meaning, table_of, store_of, empty_store}
@@ -198,12 +202,12 @@ allocates slots slots' roots g log log' pid node n f un mk rc places places' nv 
           ∙ ap (λ h. record (after_action (PageBecomes pid (Some (record { version = nv; node = node }))) (meaning (with_slots roots g slots) log n f un mk rc places nv)) { pids = put_at places pid true; versions = h }) (next_version nv));
     })
 
-pub allocate_keeps : (slots slots' : ℕ → Option Slot) (roots : Key → Option ℕ) (g : Bool) (log log' : List Undo) (pid : ℕ) (slot : Option Slot) (places places' : ℕ → Bool) →
-    places pid ≡ false → ((p : ℕ) (slot : Slot) → slots p ≡ Some slot → places p ≡ true) → slots' ≡ put_at slots pid slot → places' ≡ put_at places pid true → log' ≡ log ++ UndoSlot pid None ∷ [] →
+pub allocate_keeps : (slots slots' : ℕ → Option Slot) (roots : Key → Option ℕ) (g : Bool) (log log' : List Undo) (pid : ℕ) (slot : Option Slot) (places more places' : ℕ → Bool) →
+    places pid ≡ false → ((p : ℕ) (slot : Slot) → slots p ≡ Some slot → places p ≡ true) → slots' ≡ put_at slots pid slot → ((p : ℕ) → places p ≡ true → more p ≡ true) → places' ≡ put_at more pid true → log' ≡ log ++ UndoSlot pid None ∷ [] →
     IsKept places (with_slots roots g slots) log → IsKept places' (with_slots roots g slots') log'
-allocate_keeps slots slots' roots g log log' pid slot places places' fresh placed s p l kept =
+allocate_keeps slots slots' roots g log log' pid slot places more places' fresh placed s m p l kept =
     kept_more _ _ log log' (UndoSlot pid None) places places' l (page_back slots slots' roots g pid slot None s (sym (slot_none slots places pid placed fresh)))
-    (λ q e. ap (λ f. f q) p ∙ elim (eqb q pid) as (λ b. cond b true (places q) ≡ true) [ true ↦ refl | false ↦ e ]) (ap (λ f. f pid) p ∙ put_here places pid true) kept
+    (λ q e. ap (λ f. f q) p ∙ elim (eqb q pid) as (λ b. cond b true (more q) ≡ true) [ true ↦ refl | false ↦ m q e ]) (ap (λ f. f pid) p ∙ put_here more pid true) kept
 
 pub allocate_below : (nv : ℕ) (slots slots' : ℕ → Option Slot) (log log' : List Undo) (pid : ℕ) (node : Node) → slots' ≡ put_at slots pid (Some (record { version = nv; node = node })) → log' ≡ log ++ UndoSlot pid None ∷ [] → AreBelow nv slots log → AreBelow (nv + 1) slots' log'
 allocate_below nv slots slots' log log' pid node s l h =
@@ -217,6 +221,24 @@ pub flushes : (t : Table) (log log' : List Undo) (n f : ℕ) (un : List ℕ) (mk
     meaning t log' n f un mk rc places nv ≡ after_flush (meaning t log n f un mk rc places nv)
 flushes t log log' n f un mk rc places nv e =
     ap (λ (x : List Undo). meaning t x n f un mk rc places nv) e ∙ ap (λ (x : State). record (meaning t [] n f un mk rc places nv) { base = x }) (sym (replay (reverse log) t))
+
+-- .. after which places of slots that are gone may go
+pub settles : (slots slots' : ℕ → Option Slot) (roots : Key → Option ℕ) (g : Bool) (log log' : List Undo) (n f : ℕ) (un : List ℕ) (mk : ℕ) (rc : Bool) (given given' : ℕ → Bool) (nv : ℕ) → slots' ≡ slots → given' ≡ given → log' ≡ [] →
+    meaning (with_slots roots g slots') log' n f un mk rc given' nv ≡ after_flush (meaning (with_slots roots g slots) log n f un mk rc given nv)
+settles slots slots' roots g log log' n f un mk rc given given' nv s p l = rw (s, p) (flushes (with_slots roots g slots) log log' n f un mk rc given nv l)
+
+pub settled_below : (next : ℕ) (slots slots' : ℕ → Option Slot) (log' : List Undo) → slots' ≡ slots → log' ≡ [] → ((p : ℕ) → slot_given next (slots p) ≡ true) → AreBelow next slots' log'
+settled_below next slots slots' log' s l here = rw (s, l) (record { here = here; in_log = refl })
+
+pub slots_below : (next : ℕ) (slots slots' : ℕ → Option Slot) (log : List Undo) → slots' ≡ slots → AreBelow next slots log → AreBelow next slots' log
+slots_below next slots slots' log s h = rw s h
+
+-- more places keep what fewer do
+pub kept_wider : (slots slots' : ℕ → Option Slot) (roots : Key → Option ℕ) (g : Bool) (log : List Undo) (places places' : ℕ → Bool) → slots' ≡ slots → ((p : ℕ) → places p ≡ true → places' p ≡ true) → IsKept places (with_slots roots g slots) log → IsKept places' (with_slots roots g slots') log
+kept_wider slots slots' roots g log places places' s h kept = rw s (record {
+  placed = all_weaker (has_place places) (has_place places') (place_stays places places' h) log kept.placed;
+  sealed = kept.sealed;
+})
 
 pub flush_keeps : (places : ℕ → Bool) (t : Table) (log' : List Undo) → t.in_group ≡ false → log' ≡ [] → IsKept places t log'
 flush_keeps places t log' e l = rw l (record { placed = refl; sealed = e })
@@ -236,11 +258,16 @@ group_here m = ap (λ s. s.in_group) (now_is m)
 
 -- each slot has a place
 pub placed_here : (s : Slots) (p : ℕ) (slot : Slot) → slots_of s p ≡ Some slot → places_of s p ≡ true
-placed_here s p slot e = slot_placed s.last s.foreign s.own.items p slot e
+placed_here s p slot e = slot_placed s.last s.foreign s.given (rows_of s.own.blocks.items) p slot s.unused e
 
 -- each slot has a number that was given, and one that was never given has no place
 pub given_here : (s : Slots) (p : ℕ) (slot : Slot) → slots_of s p ≡ Some slot → given_of s p ≡ true
-given_here s p slot e = placed_given s.from_image s.last s.foreign s.own.items p s.known (placed_here s p slot e)
+given_here s p slot e = placed_given s.from_image s.last s.foreign s.given (has_of s.own) p s.known (placed_here s p slot e)
 
 pub not_placed : (s : Slots) (p : ℕ) → given_of s p ≡ false → places_of s p ≡ false
-not_placed s p e = elim (places_of s p) as (λ b. places_of s p ≡ b → b ≡ false) [ true ↦ λ f. absurd (true≢false (sym (placed_given s.from_image s.last s.foreign s.own.items p s.known f) ∙ e)) | false ↦ λ f. refl ] refl
+not_placed s p e = elim (places_of s p) as (λ b. places_of s p ≡ b → b ≡ false) [ true ↦ λ f. absurd (true≢false (sym (placed_given s.from_image s.last s.foreign s.given (has_of s.own) p s.known f) ∙ e)) | false ↦ λ f. refl ] refl
+
+-- a call that is refused for want of memory, where only places may have come
+pub short : (slots slots' : ℕ → Option Slot) (roots : Key → Option ℕ) (g : Bool) (log : List Undo) (n f : ℕ) (un : List ℕ) (mk : ℕ) (rc : Bool) (given given' : ℕ → Bool) (nv : ℕ) (old : Store) (e : Error) → e ≡ NoMemory → meaning (with_slots roots g slots) log n f un mk rc given nv ≡ old → slots' ≡ slots → given' ≡ given →
+    IsRefused e old (meaning (with_slots roots g slots') log n f un mk rc given' nv)
+short slots slots' roots g log n f un mk rc given given' nv old e no_memory same s p = rw (no_memory, s, p) (record { is = same })

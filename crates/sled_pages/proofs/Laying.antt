@@ -75,13 +75,13 @@ node_names n a b c o h k next child rest = both _ _ (of_later a c (omega arith) 
     of_later a b h (Some p) f = le_later p a b h f
 
 -- numbers up to the last one of an image count as given
-up_to_given : (last p : ℕ) (own : List (Option Slot)) → nat_le p last ≡ true → given_in true last own p ≡ true
-up_to_given last p own e = ap (λ b. cond b true (nat_lt (p - last - 1) (length own))) e
+up_to_given : (last p own : ℕ) → nat_le p last ≡ true → given_in true last own p ≡ true
+up_to_given last p own e = ap (λ b. cond b true (nat_lt (p - last - 1) own)) e
 
-pub least_given : (last least p : ℕ) (own : List (Option Slot)) → least ≤ last → p ≤ least → given_in true last own p ≡ true
+pub least_given : (last least p own : ℕ) → least ≤ last → p ≤ least → given_in true last own p ≡ true
 least_given last least p own h k = up_to_given last p own (le_is p last (omega arith))
 
-pub numbers_given : (image : List (ℕ × Node)) (last : ℕ) (own : List (Option Slot)) → all_numbers (λ p. nat_le p last) image ≡ true → all_numbers (given_in true last own) image ≡ true
+pub numbers_given : (image : List (ℕ × Node)) (last own : ℕ) → all_numbers (λ p. nat_le p last) image ≡ true → all_numbers (given_in true last own) image ≡ true
 numbers_given image last own e = all_weaker (λ x. nat_le x.0 last && all_named (λ p. nat_le p last) x.1) (λ x. given_in true last own x.0 && all_named (given_in true last own) x.1)
     (λ x f. both _ _ (up_to_given last x.0 own (first _ _ f)) (named x.1 (second (nat_le x.0 last) _ f))) image e
   where
@@ -123,16 +123,16 @@ not_above : (last p : ℕ) → nat_le p last ≡ false → last < p
 not_above last p e = grind (arith, nat_tests)
 
 -- all of it
-pub laid : (image : List (ℕ × Node)) (foreign : BTreeMap ℕ (Option Slot)) (own : List (Option Slot)) (least last next p : ℕ) → own ≡ [] → Holds image foreign least last next → option_map (λ (x : Slot). x.node) (slot_in last foreign own p) ≡ node_in image p
+pub laid : (image : List (ℕ × Node)) (foreign : BTreeMap ℕ (Option Slot)) (own : ℕ → Option Slot) (least last next p : ℕ) → own ≡ (λ _. None) → Holds image foreign least last next → option_map (λ (x : Slot). x.node) (slot_in last foreign own p) ≡ node_in image p
 laid image foreign own least last next p o h = rw o (
-    elim (nat_le p last) as (λ b. nat_le p last ≡ b → option_map (λ (x : Slot). x.node) (cond b (joined (get nat_cmp foreign p)) (joined (slice_get [] (p - last - 1)))) ≡ node_in image p) [
+    elim (nat_le p last) as (λ b. nat_le p last ≡ b → option_map (λ (x : Slot). x.node) (cond b (joined (get nat_cmp foreign p)) None) ≡ node_in image p) [
       | true ↦ λ e. h.nodes p
       | false ↦ λ e. sym (h.bounded p (not_above last p e))
     ] refl)
 
-pub laid_below : (image : List (ℕ × Node)) (foreign : BTreeMap ℕ (Option Slot)) (own : List (Option Slot)) (least last next p : ℕ) → own ≡ [] → Holds image foreign least last next → slot_given next (slot_in last foreign own p) ≡ true
+pub laid_below : (image : List (ℕ × Node)) (foreign : BTreeMap ℕ (Option Slot)) (own : ℕ → Option Slot) (least last next p : ℕ) → own ≡ (λ _. None) → Holds image foreign least last next → slot_given next (slot_in last foreign own p) ≡ true
 laid_below image foreign own least last next p o h = rw o (
-    elim (nat_le p last) as (λ b. slot_given next (cond b (joined (get nat_cmp foreign p)) (joined (slice_get [] (p - last - 1)))) ≡ true) [
+    elim (nat_le p last) as (λ b. slot_given next (cond b (joined (get nat_cmp foreign p)) None) ≡ true) [
       | true ↦ h.below p
       | false ↦ refl
     ])

@@ -1,4 +1,5 @@
 pub mod Places
+pub mod Rows
 pub mod Kept
 pub mod Answered
 pub mod Linked

@@ -1,3 +1,5 @@
+pub mod Rows
+pub mod Blocks
 pub mod Slots
 pub mod Returning
 pub mod Table

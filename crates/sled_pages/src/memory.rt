@@ -17,10 +17,11 @@ ghost use Rattle.sled_store.specs.Crash.{Crashes, IsCrashState};
 ghost use Rattle.sled_pages.specs.Image.{IsImage};
 
 mod back;
+mod blocks;
 mod slots;
 mod undo;
 
-use back::{forget, greatest_root, set_root, sorted_roots, take_all_back};
+use back::{greatest_root, set_root, settle, sorted_roots, take_all_back};
 use sled_nodes::{
     Error, Fault, IVec, Link, Node, Pid, Result, Shared, Version, copy_pointers, value_at,
 };
@@ -179,7 +180,7 @@ impl MemPages {
             ..
         } = self;
         take_all_back(alloc, &mut slots, &mut roots, &mut in_group, &mut log, keep)?;
-        forget(&mut log);
+        settle(alloc, &mut slots, &mut log);
         Ok(MemPages {
             alloc,
             slots,
@@ -388,7 +389,7 @@ impl Pages for MemPages {
             drop(node);
             return Err(fault(&mut self.faults, USED_UP));
         }
-        if let Err(e) = self.slots.reserve() {
+        if let Err(e) = self.slots.reserve(self.alloc) {
             drop(node);
             return Err(e);
         }
@@ -469,7 +470,7 @@ impl Pages for MemPages {
 
     #[tactic(auto, unfolding(sled_nodes::specs::Order::key_cmp))]
     fn root(&self, name: &[u8]) -> Option<Pid> {
-        value_at(self.roots.as_slice(), name, false).copied()
+        value_at(self.roots.as_slice(), name, true).copied()
     }
 
     fn roots(&self, alloc: Global) -> Result<Vec<(IVec, Pid)>> {
@@ -526,7 +527,7 @@ impl Pages for MemPages {
             return Err(e);
         }
         let count = self.log.len();
-        forget(&mut self.log);
+        settle(self.alloc, &mut self.slots, &mut self.log);
         Ok(count)
     }
 

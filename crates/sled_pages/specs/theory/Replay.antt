@@ -1,5 +1,5 @@
 -- A log says what the state was, and how it came to what it is.
-use Rattle.std.proofs.Common.{Bool, ◌≡◌, ℕ, ◌+◌, ◌-◌, ◌<◌, ◌^◌, nat_lt, nat_le, true, false, cond, List, [], ◌∷◌, length, Option, Some, None, refl, sym, ap, ◌∙◌, arith, slice_get, is_some, if◌then◌else◌}
+use Rattle.std.proofs.Common.{Bool, ◌≡◌, ℕ, ◌+◌, ◌-◌, ◌/◌, ◌%◌, ◌<◌, ◌≤◌, ◌^◌, ◌&&◌, nat_lt, nat_le, true, false, cond, List, [], ◌∷◌, length, Option, Some, None, refl, sym, ap, ◌∙◌, arith, slice_get, is_some, if◌then◌else◌}
 use Rattle.std.specs.Option.{option_map}
 use Rattle.std.proofs.Math.Path.{fun_ext}
 use Rattle.std.proofs.lemmas.Bool.{eqb-true}
@@ -17,8 +17,9 @@ use Rattle.sled_pages.specs.declared.memory.undo.Undo.{Undo}
 use Rattle.sled_pages.specs.declared.memory.undo.Undo.TheVariants.{UndoSlot, UndoLink, UndoRoot, UndoGroup}
 use Rattle.sled_store.specs.State.{GroupBegins, GroupEnds, after, after_all}
 use Rattle.sled_pages.specs.Joined.{joined}
-use Rattle.sled_pages.specs.Slots.{slot_in, place_in, given_in}
-use Rattle.sled_pages.specs.theory.Known.{IsKnown}
+use Rattle.sled_pages.specs.Rows.{lies_in, has_in}
+use Rattle.sled_pages.specs.Slots.{slot_in, place_in, own_places, given_in}
+use Rattle.sled_pages.specs.theory.Known.{IsKnown, IsUnused}
 use Rattle.sled_pages.specs.Table.{Table, page_of, pages_of, state_of, undone, undoes, base_of, recent_of, slot_given}
 use Rattle.sled_pages.specs.Returning.{slot_back}
 use Rattle.sled_store.specs.theory.Facts.{after_last, same_name}
@@ -65,20 +66,42 @@ has_some (Some o) x e = refl
 lt_is : (a b : ℕ) → a < b → nat_lt a b ≡ true
 lt_is a b h = grind (arith, nat_tests)
 
-pub slot_placed : (last : ℕ) (foreign : BTreeMap ℕ (Option Slot)) (own : List (Option Slot)) (p : ℕ) (slot : Slot) → slot_in last foreign own p ≡ Some slot → place_in last foreign own p ≡ true
-slot_placed last foreign own p slot =
-    elim (nat_le p last) as (λ b. cond b (joined (get nat_cmp foreign p)) (joined (slice_get own (p - last - 1))) ≡ Some slot → cond b (is_some (get nat_cmp foreign p)) (nat_lt (p - last - 1) (length own)) ≡ true) [
+-- the slots, and the numbers that have a place, of which some were given
+module _ (given : ℕ) (rows : ℕ → List (Option Slot)) where
+  lies_placed : IsUnused given (lies_in rows) → (i : ℕ) (slot : Slot) → lies_in rows i ≡ Some slot → own_places given (has_in rows) i ≡ true
+  lies_placed unused i slot e = both (nat_lt i given) refl
+    where
+      none_some : None ≡ Some slot → ⊥
+      none_some f = cc
+
+      not_below : nat_lt i given ≡ false → given ≤ i
+      not_below k = grind (arith, nat_tests)
+
+      both : (b : Bool) → nat_lt i given ≡ b → (b && has_in rows i) ≡ true
+      both true k = lt_is (i % 64) (length (rows (i / 64))) (slice_get_within (rows (i / 64)) (i % 64) (Some slot) (within (slice_get (rows (i / 64)) (i % 64)) slot e))
+      both false k = absurd (none_some (sym (unused.none i (not_below k)) ∙ e))
+
+placed_below : (given : ℕ) (own : ℕ → Bool) (i : ℕ) → own_places given own i ≡ true → nat_lt i given ≡ true
+placed_below given own i = elim (nat_lt i given) as (λ b. (b && own i) ≡ true → b ≡ true) [ true ↦ λ e. refl | false ↦ λ e. e ]
+
+pub slot_placed : (last : ℕ) (foreign : BTreeMap ℕ (Option Slot)) (given : ℕ) (rows : ℕ → List (Option Slot)) (p : ℕ) (slot : Slot) → IsUnused given (lies_in rows) →
+    slot_in last foreign (lies_in rows) p ≡ Some slot → place_in last foreign (own_places given (has_in rows)) p ≡ true
+slot_placed last foreign given rows p slot unused =
+    elim (nat_le p last) as (λ b. cond b (joined (get nat_cmp foreign p)) (lies_in rows (p - last - 1)) ≡ Some slot → cond b (is_some (get nat_cmp foreign p)) (own_places given (has_in rows) (p - last - 1)) ≡ true) [
       | true ↦ λ e. has_some (get nat_cmp foreign p) slot e
-      | false ↦ λ e. lt_is (p - last - 1) (length own) (slice_get_within own (p - last - 1) (Some slot) (within (slice_get own (p - last - 1)) slot e))
+      | false ↦ λ e. lies_placed given rows unused (p - last - 1) slot e
     ]
 
 -- a number that has a place fits 64 bits
-pub place_fits : (last : ℕ) (foreign : BTreeMap ℕ (Option Slot)) (own : List (Option Slot)) (p : ℕ) → last + length own < 2 ^ 64 → place_in last foreign own p ≡ true → p < 2 ^ 64
-place_fits last foreign own p h =
-    elim (nat_le p last) as (λ b. nat_le p last ≡ b → cond b (is_some (get nat_cmp foreign p)) (nat_lt (p - last - 1) (length own)) ≡ true → p < 2 ^ 64) [
+pub place_fits : (last : ℕ) (foreign : BTreeMap ℕ (Option Slot)) (given : ℕ) (own : ℕ → Bool) (p : ℕ) → last + given < 2 ^ 64 → place_in last foreign (own_places given own) p ≡ true → p < 2 ^ 64
+place_fits last foreign given own p h =
+    elim (nat_le p last) as (λ b. nat_le p last ≡ b → cond b (is_some (get nat_cmp foreign p)) (own_places given own (p - last - 1)) ≡ true → p < 2 ^ 64) [
       | true ↦ λ e f. grind (arith, nat_tests)
-      | false ↦ λ e f. grind (arith, nat_tests)
+      | false ↦ λ e f. below (placed_below given own (p - last - 1) f) e
     ] refl
+  where
+    below : nat_lt (p - last - 1) given ≡ true → nat_le p last ≡ false → p < 2 ^ 64
+    below f e = grind (arith, nat_tests)
 
 -- the pages now, by the slots
 pub page_here : (log : List Undo) (t : Table) (p : ℕ) → (after_all (recent_of log t) (state_of (base_of log t))).pages p ≡ pages_of t.slots p
@@ -92,11 +115,11 @@ slot_of (Some slot) page e = (slot, refl, some_is (sym e))
     some_is f = cc
 
 -- each page now has a number that has a place, and a version below the next one
-pub page_placed : (t : Table) (log : List Undo) (last : ℕ) (foreign : BTreeMap ℕ (Option Slot)) (own : List (Option Slot)) (p : ℕ) (page : Page) → t.slots ≡ slot_in last foreign own →
-    (after_all (recent_of log t) (state_of (base_of log t))).pages p ≡ Some page → place_in last foreign own p ≡ true
-page_placed t log last foreign own p page e f =
+pub page_placed : (t : Table) (log : List Undo) (last : ℕ) (foreign : BTreeMap ℕ (Option Slot)) (given : ℕ) (rows : ℕ → List (Option Slot)) (p : ℕ) (page : Page) → IsUnused given (lies_in rows) → t.slots ≡ slot_in last foreign (lies_in rows) →
+    (after_all (recent_of log t) (state_of (base_of log t))).pages p ≡ Some page → place_in last foreign (own_places given (has_in rows)) p ≡ true
+page_placed t log last foreign given rows p page unused e f =
     let k = slot_of (t.slots p) page (sym (page_here log t p) ∙ f) in
-    slot_placed last foreign own p k.0 (sym (ap (λ s. s p) e) ∙ k.1)
+    slot_placed last foreign given rows p k.0 unused (sym (ap (λ s. s p) e) ∙ k.1)
 
 pub version_below : (t : Table) (log : List Undo) (next p : ℕ) (page : Page) → ((q : ℕ) → slot_given next (t.slots q) ≡ true) →
     (after_all (recent_of log t) (state_of (base_of log t))).pages p ≡ Some page → nat_lt page.version next ≡ true
@@ -105,9 +128,9 @@ version_below t log next p page below f =
     ap (λ (g : Page). nat_lt g.version next) k.2 ∙ (ap (slot_given next) (sym k.1) ∙ below p)
 
 -- a number that has a place was given
-pub placed_given : (from_image : Bool) (last : ℕ) (foreign : BTreeMap ℕ (Option Slot)) (own : List (Option Slot)) (p : ℕ) → IsKnown from_image foreign → place_in last foreign own p ≡ true → given_in from_image last own p ≡ true
-placed_given from_image last foreign own p known =
-    elim (nat_le p last) as (λ b. cond b (is_some (get nat_cmp foreign p)) (nat_lt (p - last - 1) (length own)) ≡ true → cond b from_image (nat_lt (p - last - 1) (length own)) ≡ true) [
+pub placed_given : (from_image : Bool) (last : ℕ) (foreign : BTreeMap ℕ (Option Slot)) (given : ℕ) (own : ℕ → Bool) (p : ℕ) → IsKnown from_image foreign → place_in last foreign (own_places given own) p ≡ true → given_in from_image last given p ≡ true
+placed_given from_image last foreign given own p known =
+    elim (nat_le p last) as (λ b. cond b (is_some (get nat_cmp foreign p)) (own_places given own (p - last - 1)) ≡ true → cond b from_image (nat_lt (p - last - 1) given) ≡ true) [
       | true ↦ λ e. known.known p e
-      | false ↦ λ e. e
+      | false ↦ λ e. placed_below given own (p - last - 1) e
     ]

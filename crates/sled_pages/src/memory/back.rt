@@ -3,6 +3,8 @@ ghost use Rattle.std.specs.Prelude.{◌≡◌, ℕ, nat_le, [], true, IfOk, IfEr
 ghost use Rattle.std.specs.FinMap.{is_sorted};
 ghost use Rattle.sled_nodes.specs.declared.error.Error.TheVariants.{NoMemory};
 ghost use Rattle.sled_nodes.specs.Order.{Key, key_cmp};
+ghost use Rattle.sled_nodes.specs.Node.{without};
+ghost use Rattle.sled_nodes.specs.theory.Rising.{IsHit, IsGap};
 ghost use Rattle.sled_store.specs.Update.{put_name};
 ghost use Rattle.sled_pages.specs.Slots.{slots_of, places_of, given_of};
 ghost use Rattle.sled_store.specs.Roots.{roots_of};
@@ -13,21 +15,46 @@ ghost use Rattle.std.specs.List.{list_all};
 
 use super::slots::Slots;
 use super::undo::Undo;
-use sled_nodes::{IVec, Pid, Result, put_pair, remove_key};
+use sled_nodes::{IVec, Pid, Result, put_pair};
 use std::alloc::Global;
+
+// Where the root of a name stands, or would go: it is searched by halves.
+#[tactic(auto, unfolding(sled_nodes::specs::Order::key_cmp))]
+fn place_of(roots: &[(IVec, Pid)], name: &[u8]) -> std::result::Result<usize, usize>
+    requires { is_sorted key_cmp roots.now ≡ true }
+    ensures ok { IfOk result (IsHit key_cmp name.now roots.now) }
+    ensures err { IfErr result (IsGap key_cmp name.now roots.now) }
+{
+    roots.binary_search_by(|root| root.0.as_ref().cmp(name))
+}
+
+// Takes a name out.
+fn take_root(roots: &mut Vec<(IVec, Pid)>, name: &[u8])
+    requires { is_sorted key_cmp roots.old.items ≡ true }
+    ensures { roots.new.items ≡ without name.now roots.old.items }
+{
+    match place_of(roots.as_slice(), name) {
+        Ok(i) => {
+            let (own, _) = roots.remove(i);
+            drop(own);
+        }
+        Err(_) => {}
+    }
+}
 
 // Makes another the root of a name, or takes the name out.
 #[tactic(auto, unfolding(sled_nodes::specs::Order::key_cmp))]
 pub fn set_root(roots: &mut Vec<(IVec, Pid)>, name: IVec, root: Option<Pid>) -> Result<()>
+    requires { is_sorted key_cmp roots.old.items ≡ true }
     ensures ok { OnOk result (roots_of roots.new.items ≡ put_name (roots_of roots.old.items) name root) }
     ensures err { OnErr result (roots.new.items ≡ roots.old.items) }
-    ensures ascends { is_sorted key_cmp roots.old.items ≡ true → is_sorted key_cmp roots.new.items ≡ true }
+    ensures ascends { is_sorted key_cmp roots.new.items ≡ true }
     ensures cause { IfErr result (λ e. e ≡ NoMemory) }
 {
     match root {
-        Some(pid) => put_pair(roots, name, pid, false),
+        Some(pid) => put_pair(roots, name, pid, true),
         None => {
-            remove_key(roots, &name);
+            take_root(roots, name.as_ref());
             Ok(())
         }
     }
@@ -65,11 +92,12 @@ fn take_back(
     in_group: &mut bool,
     undo: Undo,
 ) -> Result<()>
-    requires { has_place (places_of slots.old) undo ≡ true }
+    requires placed { has_place (places_of slots.old) undo ≡ true }
+    requires ascends { is_sorted key_cmp roots.old.items ≡ true }
     ensures ok { OnOk result (table (slots_of slots.new) (roots_of roots.new.items) in_group.new ≡ undone undo (table (slots_of slots.old) (roots_of roots.old.items) in_group.old)) }
     ensures places { places_of slots.new ≡ places_of slots.old }
     ensures given { given_of slots.new ≡ given_of slots.old }
-    ensures ascends { is_sorted key_cmp roots.old.items ≡ true → is_sorted key_cmp roots.new.items ≡ true }
+    ensures ascends { is_sorted key_cmp roots.new.items ≡ true }
     ensures below { (next : ℕ) → ((p : ℕ) → slot_given next (slots_of slots.old p) ≡ true) → undo_given next undo ≡ true → (p : ℕ) → slot_given next (slots_of slots.new p) ≡ true }
     ensures cause { IfErr result (λ e. e ≡ NoMemory) }
 {
@@ -97,11 +125,12 @@ pub fn take_all_back(
     log: &mut Vec<Undo>,
     keep: usize,
 ) -> Result<()>
-    requires { IsKept (places_of slots.old) (table (slots_of slots.old) (roots_of roots.old.items) in_group.old) log.old.items }
+    requires kept { IsKept (places_of slots.old) (table (slots_of slots.old) (roots_of roots.old.items) in_group.old) log.old.items }
+    requires ascends { is_sorted key_cmp roots.old.items ≡ true }
     ensures ok { OnOk result (TakenBack keep (table (slots_of slots.old) (roots_of roots.old.items) in_group.old) log.old.items (table (slots_of slots.new) (roots_of roots.new.items) in_group.new) log.new.items) }
     ensures places { places_of slots.new ≡ places_of slots.old }
     ensures given { given_of slots.new ≡ given_of slots.old }
-    ensures ascends { is_sorted key_cmp roots.old.items ≡ true → is_sorted key_cmp roots.new.items ≡ true }
+    ensures ascends { is_sorted key_cmp roots.new.items ≡ true }
     ensures below { OnOk result ((next : ℕ) → AreBelow next (slots_of slots.old) log.old.items → AreBelow next (slots_of slots.new) log.new.items) }
     ensures cause { IfErr result (λ e. e ≡ NoMemory) }
 {
@@ -114,9 +143,16 @@ pub fn take_all_back(
     Ok(())
 }
 
-// Empties a log.
-pub fn forget(log: &mut Vec<Undo>)
-    ensures { log.new.items ≡ [] }
+// Empties a log: what it would have taken back stays done, and so the places of pages that were freed can go.
+pub fn settle(alloc: Global, slots: &mut Slots, log: &mut Vec<Undo>)
+    ensures slots { slots_of slots.new ≡ slots_of slots.old }
+    ensures given { given_of slots.new ≡ given_of slots.old }
+    ensures log { log.new.items ≡ [] }
 {
+    for undo in log.iter() {
+        if let Undo::UndoSlot(pid, Some(_)) = undo {
+            slots.let_go(alloc, *pid);
+        }
+    }
     log.clear();
 }

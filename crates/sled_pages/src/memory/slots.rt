@@ -1,13 +1,15 @@
 //! Pages by number, as the store in memory keeps them.
-ghost use Rattle.std.specs.Prelude.{◌≡◌, ◌+◌, ◌^◌, ◌<◌, Some, None, true, false, IfOk, IfErr, OnOk, IsTrue, ◌↔◌, length, OnErr, is_some};
+ghost use Rattle.std.specs.Prelude.{◌≡◌, ℕ, ◌+◌, ◌^◌, ◌<◌, Some, None, true, false, IfOk, IfErr, OnOk, IsTrue, ◌↔◌, OnErr, is_some};
 ghost use Rattle.std.specs.Option.{option_copied};
 ghost use Rattle.std.specs.Vec.{vec_len, vec_capacity};
 ghost use Rattle.sled_nodes.specs.declared.error.Error.TheVariants.{NoMemory};
 ghost use Rattle.sled_store.specs.Update.{put_at};
-ghost use Rattle.sled_pages.specs.theory.Known.{IsKnown};
+ghost use Rattle.sled_pages.specs.Blocks.{lies_of};
+ghost use Rattle.sled_pages.specs.theory.Known.{IsKnown, IsUnused};
 ghost use Rattle.sled_pages.specs.Returning.{slot_back};
 ghost use Rattle.sled_pages.specs.theory.Returning.{Relinked};
 
+use super::blocks::Blocks;
 use sled_nodes::{Back, Error, Link, Node, Pid, Result, Shared, Version};
 use std::alloc::Global;
 use std::collections::BTreeMap;
@@ -19,15 +21,19 @@ pub struct Slot {
     pub node: Shared,
 }
 
-/// Slots by number. Those of an image have any numbers up to `last`; those that were added since lie in order behind.
+/// Slots by number. Those of an image have any numbers up to `last`; those that were added since lie in order behind. Numbers whose
+/// slots are gone for good lose their places, so that these take no memory.
 #[derive(Drop)]
 pub struct Slots {
     from_image: bool,
     last: u64,
     foreign: BTreeMap<u64, Option<Slot>>,
-    own: Vec<Option<Slot>>,
+    // how many numbers behind the last one of the image were given
+    given: u64,
+    own: Blocks,
     ghost known: { IsKnown from_image foreign },
-    ghost numbered: { last + length own.items < 2 ^ 64 },
+    ghost numbered: { last + given < 2 ^ 64 },
+    ghost unused: { IsUnused given (lies_of own) },
 }
 
 // Room for one item more. A full list grows by an eighth, so that a long one has little to spare.
@@ -59,7 +65,8 @@ impl Slots {
             from_image: false,
             last: 0,
             foreign: BTreeMap::new(alloc),
-            own: Vec::new(alloc),
+            given: 0,
+            own: Blocks::new(alloc),
         }
     }
 
@@ -75,7 +82,8 @@ impl Slots {
                 from_image: true,
                 last,
                 foreign,
-                own: Vec::new(alloc),
+                given: 0,
+                own: Blocks::new(alloc),
             },
             next,
         ))
@@ -116,10 +124,7 @@ impl Slots {
                 None => None,
             }
         } else {
-            match self.own.get((pid.0 - self.last - 1) as usize) {
-                Some(slot) => slot.as_ref(),
-                None => None,
-            }
+            self.own.get((pid.0 - self.last - 1) as usize)
         }
     }
 
@@ -141,7 +146,7 @@ impl Slots {
                 }
             }
         } else {
-            std::mem::replace(&mut self.own[(pid.0 - self.last - 1) as usize], slot)
+            self.own.put((pid.0 - self.last - 1) as usize, slot)
         }
     }
 
@@ -239,20 +244,19 @@ impl Slots {
     pub fn has_number(&self) -> bool
         ensures { IsTrue result ↔ HasNumber self.now }
     {
-        (self.own.len() as u64) < u64::MAX - self.last
+        self.given < u64::MAX - self.last
     }
 
     /// Makes room for one slot more. Refused with `NoMemory` alone.
-    pub fn reserve(&mut self) -> Result<()>
+    pub fn reserve(&mut self, alloc: Global) -> Result<()>
         ensures slots { slots_of self.new ≡ slots_of self.old }
-        ensures places { places_of self.new ≡ places_of self.old }
+        ensures places { (p : ℕ) → places_of self.old p ≡ true → places_of self.new p ≡ true }
         ensures given { given_of self.new ≡ given_of self.old }
         ensures number { HasNumber self.old → HasNumber self.new }
         ensures room { OnOk result (HasSlotRoom self.new) }
         ensures err { IfErr result (λ e. e ≡ NoMemory) }
     {
-        self.own.reserve(1)?;
-        Ok(())
+        self.own.make(alloc, self.given as usize)
     }
 
     /// Adds a slot under a number that never had a place.
@@ -265,8 +269,27 @@ impl Slots {
         ensures places { places_of self.new ≡ put_at (places_of self.old) result true }
         ensures given { given_of self.new ≡ put_at (given_of self.old) result true }
     {
-        let pid = Pid(self.last + self.own.len() as u64 + 1);
-        self.own.push_reserved(Some(slot));
+        let pid = Pid(self.last + self.given + 1);
+        let none = self.own.put(self.given as usize, Some(slot));
+        drop(none);
+        self.given += 1;
         pid
+    }
+
+    /// Lets the place of a number go whose page is gone for good: that of a number of an image by itself, and others together with those
+    /// that lie beside them, once all of these are gone.
+    pub fn let_go(&mut self, alloc: Global, pid: Pid)
+        ensures slots { slots_of self.new ≡ slots_of self.old }
+        ensures given { given_of self.new ≡ given_of self.old }
+    {
+        if self.get(pid).is_some() {
+            return;
+        }
+        if pid.0 <= self.last {
+            let none = self.foreign.remove(&pid.0);
+            drop(none);
+        } else {
+            self.own.let_go(alloc, (pid.0 - self.last - 1) as usize);
+        }
     }
 }

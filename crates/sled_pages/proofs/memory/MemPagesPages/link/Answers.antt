@@ -1,4 +1,5 @@
-use Rattle.std.proofs.Common.{refl}
+use Rattle.std.proofs.Common.{refl, ap, ◌∙◌}
+use Rattle.sled_pages.proofs.Kept.{kept_wider, slots_below, short}
 use Rattle.sled_pages.specs.Slots.{slots_of, places_of, given_of}
 use Rattle.sled_store.specs.Roots.{roots_of}
 use Rattle.sled_pages.proofs.Linked.{links, link_keeps, link_below}
@@ -17,3 +18,14 @@ invariant_of-self-clause-kept c = let m = c.start_version.new.self in
 pub invariant_of-self-clause-below : goal.invariant_of-self-clause-below
 invariant_of-self-clause-below c = let m = c.start_version.new.self in
     link_below m.next_version (slots_of m.slots) _ m.log.items _ c.args.link c.args.pid _ _ c.in-Ok.ensures.ok c.push_reserved.ensures.items m.below
+
+pub invariant_of-self-in-Err-change : goal.invariant_of-self-in-Err-change
+invariant_of-self-in-Err-change c = let m = c.start_version.new.self in record {
+  kept = kept_wider (slots_of m.slots) _ (roots_of m.roots.items) m.in_group m.log.items (places_of m.slots) _ c.in-Err-change.ensures.err (λ p e. ap (λ f. f p) c.change.ensures.places ∙ e) m.kept;
+  ascends = m.ascends;
+  below = slots_below m.next_version (slots_of m.slots) _ m.log.items c.in-Err-change.ensures.err m.below;
+}
+
+pub returns-in-Err-change-clause-err : goal.returns-in-Err-change-clause-err
+returns-in-Err-change-clause-err c = let m = c.start_version.new.self in
+    short (slots_of m.slots) _ (roots_of m.roots.items) m.in_group m.log.items m.actions m.faults m.unreadable.items m.mark m.recovered (given_of m.slots) _ m.next_version _ _ c.in-Err-change.ensures.cause c.in_default.ensures.same c.in-Err-change.ensures.err c.change.ensures.given

@@ -6,7 +6,7 @@ use Rattle.sled_pages.proofs.memory.back.take_all_back.Goals as goal
 use Rattle.sled_pages.proofs.memory.back.take_all_back.Goals.{then-len-keep, else-len-keep+then-in_group}
 
 pub loop-alloc-init : goal.loop-alloc-init
-loop-alloc-init c = record { kept = c.requires; places = refl; given = refl; ascends = λ h. h; below = λ next h. h; so_far = back_none _ _ _ }
+loop-alloc-init c = record { kept = c.requires.kept; places = refl; given = refl; ascends = c.requires.ascends; below = λ next h. h; so_far = back_none _ _ _ }
 
 pub loop-alloc-preserved : goal.loop-alloc-preserved
 loop-alloc-preserved c =
@@ -17,11 +17,14 @@ loop-alloc-preserved c =
       kept = kept_back _ _ _ _ _ _ _ last c.in_ok-take_back-in-Some.ensures.places back c.loop-alloc.invariant.kept;
       places = c.in_ok-take_back-in-Some.ensures.places ∙ c.loop-alloc.invariant.places;
       given = c.in_ok-take_back-in-Some.ensures.given ∙ c.loop-alloc.invariant.given;
-      ascends = λ h. c.in_ok-take_back-in-Some.ensures.ascends (c.loop-alloc.invariant.ascends h);
+      ascends = c.in_ok-take_back-in-Some.ensures.ascends;
       below = λ next h. let k = c.loop-alloc.invariant.below next h in let f = all_front (undo_given next) _ _ _ last k.in_log in record { here = c.in_ok-take_back-in-Some.ensures.below next k.here f.1; in_log = f.0 };
       so_far = back_one _ _ _ _ _ _ _ _ last back cause c.loop-alloc.invariant.so_far;
     }
 
-pub take_back-requires : goal.take_back-requires
-take_back-requires c =
+pub take_back-requires-clause-placed : goal.take_back-requires-clause-placed
+take_back-requires-clause-placed c =
     place_of_last _ _ _ c.in-Some.undo (c.pop.ensures.items ∙ ap (λ o. c.pop.new.self.items ++ option_to_list o) c.in-Some.is) c.loop-alloc.invariant.kept.placed
+
+pub returns-in_err-take_back-in-Some-clause-places : goal.returns-in_err-take_back-in-Some-clause-places
+returns-in_err-take_back-in-Some-clause-places c = c.take_back.ensures.places ∙ c.loop-alloc.invariant.places

@@ -12,7 +12,7 @@ invariant-loop-alloc l = record {
   kept : IsKept (places_of l.slots) (table (slots_of l.slots) (roots_of l.roots.items) l.in_group) l.log.items;
   places : places_of l.slots ≡ places_of l.fn.slots;
   given : given_of l.slots ≡ given_of l.fn.slots;
-  ascends : is_sorted key_cmp l.fn.roots.items ≡ true → is_sorted key_cmp l.roots.items ≡ true;
+  ascends : is_sorted key_cmp l.roots.items ≡ true;
   below : (next : ℕ) → AreBelow next (slots_of l.fn.slots) l.fn.log.items → AreBelow next (slots_of l.slots) l.log.items;
   so_far : TakesBack l.keep (table (slots_of l.fn.slots) (roots_of l.fn.roots.items) l.fn.in_group) l.fn.log.items (table (slots_of l.slots) (roots_of l.roots.items) l.in_group) l.log.items;
 }

@@ -16,3 +16,9 @@ returns-in-Ok-clause-ok c =
 pub returns-in-Err-clause-err : goal.returns-in-Err-clause-err
 returns-in-Err-clause-err c =
     unchanged c.args.pid (slots_of c.args.self.now) _ _ _ c.in-Some.slot c.change.new.self c.put.ensures.was c.in-Some.is c.put.ensures.slots c.put-none-in-Err.ensures.slots c.in-Err.ensures.err
+
+pub returns-in-Ok-clause-places : goal.returns-in-Ok-clause-places
+returns-in-Ok-clause-places c = c.put-none.ensures.places ∙ c.put.ensures.places
+
+pub returns-in-Err-clause-places : goal.returns-in-Err-clause-places
+returns-in-Err-clause-places c = c.put-none-in-Err.ensures.places ∙ c.put.ensures.places

@@ -1,0 +1,131 @@
+//! Slots by place, in blocks of 64 places. A block in which no slot lies may be let go: then it takes no memory but for its entry in the
+//! list of blocks, and has no places.
+ghost use Rattle.std.specs.Prelude.{◌≡◌, ℕ, ◌≤◌, ◌<◌, Some, None, true, false, length, OnOk, IfErr, slice_set};
+ghost use Rattle.std.specs.List.{slice_get};
+ghost use Rattle.std.specs.Option.{option_copied};
+ghost use Rattle.sled_nodes.specs.declared.error.Error.TheVariants.{NoMemory};
+ghost use Rattle.sled_store.specs.Update.{put_at};
+ghost use Rattle.sled_pages.specs.Joined.{joined};
+ghost use Rattle.sled_pages.specs.Rows.{rows_of};
+
+use super::slots::Slot;
+use sled_nodes::Result;
+use std::alloc::Global;
+
+// A block has so many places.
+const PLACES: usize = 64;
+
+/// Slots by place.
+#[derive(Drop)]
+pub struct Blocks {
+    blocks: Vec<Vec<Option<Slot>>>,
+}
+
+// Whether no slot lies in a block.
+fn is_empty(block: &[Option<Slot>]) -> bool
+    ensures { result ≡ true → (i : ℕ) → joined (slice_get block.now i) ≡ None }
+{
+    for slot in block {
+        if slot.is_some() {
+            return false;
+        }
+    }
+    true
+}
+
+// Gives a block all its places. Refused with `NoMemory` alone.
+fn fill(block: &mut Vec<Option<Slot>>) -> Result<()>
+    ensures same { (i : ℕ) → joined (slice_get block.new.items i) ≡ joined (slice_get block.old.items i) }
+    ensures longer { length block.old.items ≤ length block.new.items }
+    ensures full { OnOk result (64 ≤ length block.new.items) }
+    ensures err { IfErr result (λ e. e ≡ NoMemory) }
+{
+    block.reserve_exact(PLACES.saturating_sub(block.len()))?;
+    'fill: while block.len() < PLACES {
+        block.push(None)?;
+    }
+    Ok(())
+}
+
+// Lengthens a list of blocks to so many, by blocks without places. Refused with `NoMemory` alone.
+fn lengthen(alloc: Global, blocks: &mut Vec<Vec<Option<Slot>>>, count: usize) -> Result<()>
+    ensures same { rows_of blocks.new.items ≡ rows_of blocks.old.items }
+    ensures long { OnOk result (count ≤ length blocks.new.items) }
+    ensures err { IfErr result (λ e. e ≡ NoMemory) }
+{
+    'more: while blocks.len() < count {
+        blocks.push(Vec::new(alloc))?;
+    }
+    Ok(())
+}
+
+// Puts a slot at a place of a block, and gives back what lay there.
+#[inline(always)]
+fn put_in(block: &mut Vec<Option<Slot>>, i: usize, slot: Option<Slot>) -> Option<Slot>
+    requires { i < length block.old.items }
+    ensures was { result ≡ joined (slice_get block.old.items i) }
+    ensures set { block.new.items ≡ slice_set block.old.items i slot }
+{
+    std::mem::replace(&mut block[i], slot)
+}
+
+impl Blocks {
+    ghost use Rattle.sled_pages.specs.Blocks.{lies_of, has_of};
+
+    /// No places.
+    pub fn new(alloc: Global) -> Blocks
+        ensures slots { lies_of result ≡ λ _. None }
+        ensures places { has_of result ≡ λ _. false }
+    {
+        Blocks {
+            blocks: Vec::new(alloc),
+        }
+    }
+
+    /// The slot at a place.
+    #[inline(always)]
+    pub fn get(&self, place: usize) -> Option<&Slot>
+        ensures { option_copied result ≡ lies_of self.now place }
+    {
+        match self.blocks.get(place / PLACES) {
+            Some(block) => match block.get(place % PLACES) {
+                Some(slot) => slot.as_ref(),
+                None => None,
+            },
+            None => None,
+        }
+    }
+
+    /// Puts a slot at a place that is there, and gives back what lay there.
+    pub fn put(&mut self, place: usize, slot: Option<Slot>) -> Option<Slot>
+        requires { has_of self.old place ≡ true }
+        ensures was { result ≡ lies_of self.old place }
+        ensures slots { lies_of self.new ≡ put_at (lies_of self.old) place slot }
+        ensures places { has_of self.new ≡ has_of self.old }
+    {
+        put_in(&mut self.blocks[place / PLACES], place % PLACES, slot)
+    }
+
+    /// Sees to it that a place is there. Refused with `NoMemory` alone.
+    pub fn make(&mut self, alloc: Global, place: usize) -> Result<()>
+        ensures slots { lies_of self.new ≡ lies_of self.old }
+        ensures places { (p : ℕ) → has_of self.old p ≡ true → has_of self.new p ≡ true }
+        ensures room { OnOk result (has_of self.new place ≡ true) }
+        ensures err { IfErr result (λ e. e ≡ NoMemory) }
+    {
+        let block = place / PLACES;
+        lengthen(alloc, &mut self.blocks, block + 1)?;
+        fill(&mut self.blocks[block])
+    }
+
+    /// Lets the block of a place go where no slot lies in it.
+    pub fn let_go(&mut self, alloc: Global, place: usize)
+        ensures { lies_of self.new ≡ lies_of self.old }
+    {
+        let block = place / PLACES;
+        if block < self.blocks.len() && is_empty(self.blocks[block].as_slice()) {
+            let old = std::mem::replace(&mut self.blocks[block], Vec::new(alloc));
+            drop(old);
+        }
+    }
+}
