@@ -7,23 +7,20 @@ use Rattle.std.specs.FinMap.Entries.{find}
 use Rattle.std.specs.Map.{lookup}
 use Rattle.std.specs.Ordering.{nat_cmp, eq_by_cmp}
 use Rattle.sled_nodes.specs.Order.{Key, key_cmp}
-use Rattle.sled_nodes.specs.declared.error.Error.{Error}
-use Rattle.sled_nodes.specs.declared.error.Error.TheVariants.{CollectionNotFound, Unsupported, ReportableBug, Io, Corruption, NoMemory, Closed}
 use Rattle.sled_batch.specs.Batch.{Writes, Rises}
 use Rattle.sled_store.specs.Store.{Store}
 use Rattle.sled_model.specs.Maps.{Merge}
 use Rattle.sled_model.specs.Answer.{same_value}
 use Rattle.sled_model.specs.State.{State, NamedTree}
-use Rattle.sled_model.specs.Groups.{Write, writes_on, writes_of, call_with, after_write, after_writes}
+use Rattle.sled_model.specs.Groups.{Write, writes_on, writes_of, after_write, after_writes}
 use Rattle.sled_model.specs.Refusal.{is_number, must_refuse_of, trees_of_batches}
 use Rattle.sled_model.specs.declared.tree.Tree.{Tree}
 use Rattle.sled_tree.specs.declared.flight.InFlight.{InFlight}
-use Rattle.sled_tree.specs.declared.flight.Job.{Job}
-use Rattle.sled.specs.Direct.{begun_flight}
+use Rattle.tree_laws.specs.Snapshot.{Snapshot}
 use Rattle.sled.specs.Values.{DbValue, numbers_of, db_state}
 use Rattle.sled.specs.Sound.{IsDb}
-use Rattle.sled.specs.Reads.{RefusesReading, refuses_reading_as, stops_reading}
-use Rattle.sled.specs.theory.Groups.{jobs_of_write, jobs_of_writes, begun_flights, value_in, Stands, stands_over, unread}
+use Rattle.sled.specs.theory.Groups.{jobs_of_write, jobs_of_writes, Finds, FindsMore, value_in, Stands, stands_over}
+use Rattle.sled.proofs.Beginning.{finds_both, finds_none}
 use Rattle.sled.proofs.Trees.{current, numbered}
 use Rattle.sled.proofs.Batching.{tested_parts, tested_last, tested_among, tested_upto}
 use Rattle.sled.proofs.Written.{written_or, writes_keep, writes_of_both, made_here, made_elsewhere, still_there, job_of, brings}
@@ -102,84 +99,69 @@ module _ {P M : Type 0} (store : P → Store) (meant : M → Merge) (d : DbValue
           ∙ ap (λ bs. same_value (value_in ((after_writes (writes_of bs) (db_state store meant d)).trees tree.name) key) value) (sym (upto_next before i b h e));
     }
 
-module _ {P M : Type 0} (store : P → Store) (meant : M → Merge) (d : DbValue P M) (tree : Tree) (before : List (Tree × Writes)) (tested : must_refuse_of (db_state store meant d) (trees_of_batches before ++ tree ∷ []) ≡ None) where
-  -- a read of a tree that passes the tests is refused by none of them
-  pub unread_by : (of : ℕ → ℕ) (e : Error) → RefusesReading store meant d tree of e → unread (store d.pages) e
-  unread_by of e r = go e (subst (λ m. refuses_reading_as store meant d tree of m e) (tested_last (db_state store meant d) before tree tested) r.is)
-    where
-      go : (e : Error) → stops_reading store meant d tree of e → unread (store d.pages) e
-      go NoMemory k = k
-      go (Io fault) k = k
-      go (ReportableBug text) k = k.0
-      go (CollectionNotFound name) k = k
-      go (Unsupported text) k = k
-      go (Corruption fault) k = k
-      go Closed k = k
-
 -- ---- the writes of a batch
 
 pub jobs_of_both : (vs ws : List Write) (s : State) → jobs_of_writes (vs ++ ws) s ≡ jobs_of_writes vs s ++ jobs_of_writes ws (after_writes vs s)
 jobs_of_both [] ws s = refl
 jobs_of_both (v ∷ vs) ws s = ap (λ js. jobs_of_write (s.trees v.tree.name) v ++ js) (jobs_of_both vs ws (after_write v s)) ∙ sym (append_assoc (jobs_of_write (s.trees v.tree.name) v) (jobs_of_writes vs (after_write v s)) (jobs_of_writes ws (after_writes vs (after_write v s))))
 
-flights_of_both : (is js : List Job) → begun_flights (is ++ js) ≡ begun_flights is ++ begun_flights js
-flights_of_both [] js = refl
-flights_of_both (i ∷ is) js = ap (λ fs. begun_flight i.tree i.call ∷ fs) (flights_of_both is js)
-
 writes_on_both : (tree : Tree) (done more : Writes) → writes_on tree (done ++ more) ≡ writes_on tree done ++ writes_on tree more
 writes_on_both tree [] more = refl
 writes_on_both tree (w ∷ done) more = ap (λ ws. record { tree = tree; key = w.0; value = w.1 } ∷ ws) (writes_on_both tree done more)
 
 -- The calls of the first writes of a batch are added, and those of the others are still to come
-pub record Added (tree : Tree) (all : Writes) (s : State) (first flights : List InFlight) (left : Writes) : Type 0 where
+pub record Added (m : Snapshot) (tree : Tree) (all : Writes) (s : State) (first flights : List InFlight) (left : Writes) : Type 0 where
   pub done : Writes
   pub parts : all ≡ done ++ left
-  pub is : flights ≡ first ++ begun_flights (jobs_of_writes (writes_on tree done) s)
+  pub adds : FindsMore m (jobs_of_writes (writes_on tree done) s) first flights
 
--- the calls of one write more
-abbrev more_flights : Bool → Write → List InFlight
-more_flights stands w = begun_flights (cond stands [] (job_of w ∷ []))
+pub added_first : (m : Snapshot) (tree : Tree) (all left : Writes) (s : State) (first : List InFlight) → left ≡ all → Added m tree all s first first left
+added_first m tree all left s first e = record { done = []; parts = sym e; adds = record { more = []; is = sym (append-nil first); finds = finds_none m } }
 
 -- a write of the tree
 abbrev write_on : Tree → Key → Option Key → Write
 write_on tree key value = record { tree = tree; key = key; value = value }
 
-pub added_on : (tree : Tree) (all : Writes) (s : State) (first flights : List InFlight) (left : Writes) (key : Key) (value : Option Key) (more : Writes) (stands : Bool) (new : List InFlight)
-    → Rises all → is_some (s.trees tree.name) ≡ true → Added tree all s first flights left → left ≡ (key, value) ∷ more → Stands s tree key value stands → new ≡ flights ++ more_flights stands (write_on tree key value)
-    → Added tree all s first new more
-added_on tree all s first flights left key value more stands new rises has a e st is = record {
+-- one write more
+added_more : (m : Snapshot) (tree : Tree) (all : Writes) (s : State) (first flights : List InFlight) (key : Key) (value : Option Key) (more : Writes) (new : List InFlight) → Rises all → is_some (s.trees tree.name) ≡ true
+    → Added m tree all s first flights ((key, value) ∷ more) → FindsMore m (jobs_of_write (s.trees tree.name) (write_on tree key value)) flights new → Added m tree all s first new more
+added_more m tree all s first flights key value more new rises has a adds = record {
   done = a.done ++ (key, value) ∷ [];
-  parts = split ∙ sym (append_assoc a.done ((key, value) ∷ []) more);
-  is =
-      is
-      ∙ ap (λ fs. fs ++ more_flights stands (write_on tree key value)) a.is
-      ∙ append_assoc first (begun_flights (jobs_of_writes (writes_on tree a.done) s)) (more_flights stands (write_on tree key value))
-      ∙ ap (λ fs. first ++ fs) (sym (flights_of_both (jobs_of_writes (writes_on tree a.done) s) (cond stands [] (job_of (write_on tree key value) ∷ []))))
-      ∙ ap (λ js. first ++ begun_flights (jobs_of_writes (writes_on tree a.done) s ++ js)) jobs
-      ∙ ap (λ js. first ++ begun_flights js) (sym (jobs_of_both (writes_on tree a.done) (write_on tree key value ∷ []) s))
-      ∙ ap (λ ws. first ++ begun_flights (jobs_of_writes ws s)) (sym (writes_on_both tree a.done ((key, value) ∷ [])));
+  parts = a.parts ∙ sym (append_assoc a.done ((key, value) ∷ []) more);
+  adds = record {
+    more = a.adds.more ++ adds.more;
+    is = adds.is ∙ ap (λ fs. fs ++ adds.more) a.adds.is ∙ append_assoc first a.adds.more adds.more;
+    finds = subst (λ js. Finds m js (a.adds.more ++ adds.more)) jobs_now (finds_both m (jobs_of_writes (writes_on tree a.done) s) (jobs_of_write (s.trees tree.name) (write_on tree key value)) a.adds.more adds.more a.adds.finds adds.finds);
+  };
 }
   where
-    split : all ≡ a.done ++ (key, value) ∷ more
-    split = a.parts ∙ ap (λ l. a.done ++ l) e
-
-    jobs : cond stands [] (job_of (write_on tree key value) ∷ []) ≡ jobs_of_writes (write_on tree key value ∷ []) (after_writes (writes_on tree a.done) s)
+    jobs : jobs_of_write (s.trees tree.name) (write_on tree key value) ≡ jobs_of_writes (write_on tree key value ∷ []) (after_writes (writes_on tree a.done) s)
     jobs =
-        ap (λ b. cond b [] (job_of (write_on tree key value) ∷ [])) (st.is ∙ ap (λ o. same_value o value) (sym (still_there tree a.done key value more s (subst Rises split rises) has)))
+        brings (s.trees tree.name) (write_on tree key value) has
+        ∙ ap (λ o. cond (same_value o value) [] (job_of (write_on tree key value) ∷ [])) (sym (still_there tree a.done key value more s (subst Rises a.parts rises) has))
         ∙ sym (brings ((after_writes (writes_on tree a.done) s).trees tree.name) (write_on tree key value) (writes_keep (writes_on tree a.done) s tree.name ∙ has))
         ∙ sym (append-nil (jobs_of_write ((after_writes (writes_on tree a.done) s).trees tree.name) (write_on tree key value)))
 
--- a write that brings an event, and one that brings none
-pub added_one : (tree : Tree) (all : Writes) (s : State) (first flights : List InFlight) (left : Writes) (key : Key) (value : Option Key) (more : Writes) (stands : Bool) (new : List InFlight)
-    → Rises all → is_some (s.trees tree.name) ≡ true → Added tree all s first flights left → left ≡ (key, value) ∷ more → Stands s tree key value stands → stands ≡ false
-    → new ≡ flights ++ begun_flight tree (call_with key value) ∷ [] → Added tree all s first new more
-added_one tree all s first flights left key value more stands new rises has a e st off is =
-    added_on tree all s first flights left key value more false new rises has a e (subst (λ b. Stands s tree key value b) off st) is
+    jobs_now : jobs_of_writes (writes_on tree a.done) s ++ jobs_of_write (s.trees tree.name) (write_on tree key value) ≡ jobs_of_writes (writes_on tree (a.done ++ (key, value) ∷ [])) s
+    jobs_now =
+        ap (λ js. jobs_of_writes (writes_on tree a.done) s ++ js) jobs
+        ∙ sym (jobs_of_both (writes_on tree a.done) (write_on tree key value ∷ []) s)
+        ∙ ap (λ ws. jobs_of_writes ws s) (sym (writes_on_both tree a.done ((key, value) ∷ [])))
 
-pub added_none : (tree : Tree) (all : Writes) (s : State) (first flights : List InFlight) (left : Writes) (key : Key) (value : Option Key) (more : Writes) (stands : Bool)
-    → Rises all → is_some (s.trees tree.name) ≡ true → Added tree all s first flights left → left ≡ (key, value) ∷ more → Stands s tree key value stands → stands ≡ true → Added tree all s first flights more
-added_none tree all s first flights left key value more stands rises has a e st on =
-    added_on tree all s first flights left key value more true flights rises has a e (subst (λ b. Stands s tree key value b) on st) (sym (append-nil flights))
+pub added_on : (m : Snapshot) (tree : Tree) (all : Writes) (s : State) (first flights : List InFlight) (left : Writes) (key : Key) (value : Option Key) (more : Writes) (new : List InFlight) → Rises all → is_some (s.trees tree.name) ≡ true
+    → Added m tree all s first flights left → left ≡ (key, value) ∷ more → FindsMore m (jobs_of_write (s.trees tree.name) (write_on tree key value)) flights new → Added m tree all s first new more
+added_on m tree all s first flights left key value more new rises has a e adds = added_more m tree all s first flights key value more new rises has (subst (λ l. Added m tree all s first flights l) e a) adds
+
+-- a write that brings no event, and one that brings one
+module _ (m : Snapshot) (o : Option NamedTree) (w : Write) (has : is_some o ≡ true) (stands : Bool) (is : stands ≡ same_value (value_in o w.key) w.value) (flights : List InFlight) where
+  jobs_are : jobs_of_write o w ≡ cond stands [] (job_of w ∷ [])
+  jobs_are = brings o w has ∙ ap (λ b. cond b [] (job_of w ∷ [])) (sym is)
+
+  pub adds_none : stands ≡ true → FindsMore m (jobs_of_write o w) flights flights
+  adds_none on = record { more = []; is = sym (append-nil flights); finds = subst (λ js. Finds m js []) (sym (jobs_are ∙ ap (λ b. cond b [] (job_of w ∷ [])) on)) (finds_none m) }
+
+  pub adds_one : stands ≡ false → (call : InFlight) (new : List InFlight) → Finds m (job_of w ∷ []) (call ∷ []) → new ≡ flights ++ call ∷ [] → FindsMore m (jobs_of_write o w) flights new
+  adds_one off call new found e = record { more = call ∷ []; is = e; finds = subst (λ js. Finds m js (call ∷ [])) (sym (jobs_are ∙ ap (λ b. cond b [] (job_of w ∷ [])) off)) found }
 
 -- ---- and of all batches
 
@@ -188,16 +170,18 @@ pub there_after : (s : State) (before : List (Tree × Writes)) (tree : Tree) →
 there_after s before tree tested = writes_keep (writes_of before) s tree.name ∙ there s tree (tested_last s before tree tested)
 
 -- the calls of the batches up to one are found, and then those of it
-pub found_on : (s : State) (all : List (Tree × Writes)) (i : ℕ) (b : Tree × Writes) (flights new : List InFlight) → i < length all → b ≡ get_or all i b
-    → flights ≡ begun_flights (jobs_of_writes (writes_of (take i all)) s) → new ≡ flights ++ begun_flights (jobs_of_writes (writes_on b.0 b.1) (after_writes (writes_of (take i all)) s))
-    → new ≡ begun_flights (jobs_of_writes (writes_of (take (i + 1) all)) s)
-found_on s all i b flights new h e so is =
-    is
-    ∙ ap (λ fs. fs ++ begun_flights (jobs_of_writes (writes_on b.0 b.1) (after_writes (writes_of (take i all)) s))) so
-    ∙ sym (flights_of_both (jobs_of_writes (writes_of (take i all)) s) (jobs_of_writes (writes_on b.0 b.1) (after_writes (writes_of (take i all)) s)))
-    ∙ ap begun_flights (sym (jobs_of_both (writes_of (take i all)) (writes_on b.0 b.1) s))
-    ∙ ap (λ ws. begun_flights (jobs_of_writes ws s)) (ap (λ ws. writes_of (take i all) ++ ws) (sym (append-nil (writes_on b.0 b.1))) ∙ sym (writes_of_both (take i all) (b ∷ [])))
-    ∙ ap (λ bs. begun_flights (jobs_of_writes (writes_of bs) s)) (sym (upto_next all i b h e))
+pub found_on : (m : Snapshot) (s : State) (all : List (Tree × Writes)) (i : ℕ) (b : Tree × Writes) (flights new : List InFlight) → i < length all → b ≡ get_or all i b
+    → Finds m (jobs_of_writes (writes_of (take i all)) s) flights → FindsMore m (jobs_of_writes (writes_on b.0 b.1) (after_writes (writes_of (take i all)) s)) flights new
+    → Finds m (jobs_of_writes (writes_of (take (i + 1) all)) s) new
+found_on m s all i b flights new h e so adds =
+    subst (Finds m (jobs_of_writes (writes_of (take (i + 1) all)) s)) (sym adds.is)
+    (subst (λ js. Finds m js (flights ++ adds.more)) jobs (finds_both m (jobs_of_writes (writes_of (take i all)) s) (jobs_of_writes (writes_on b.0 b.1) (after_writes (writes_of (take i all)) s)) flights adds.more so adds.finds))
+  where
+    jobs : jobs_of_writes (writes_of (take i all)) s ++ jobs_of_writes (writes_on b.0 b.1) (after_writes (writes_of (take i all)) s) ≡ jobs_of_writes (writes_of (take (i + 1) all)) s
+    jobs =
+        sym (jobs_of_both (writes_of (take i all)) (writes_on b.0 b.1) s)
+        ∙ ap (λ ws. jobs_of_writes ws s) (ap (λ ws. writes_of (take i all) ++ ws) (sym (append-nil (writes_on b.0 b.1))) ∙ sym (writes_of_both (take i all) (b ∷ [])))
+        ∙ ap (λ bs. jobs_of_writes (writes_of bs) s) (sym (upto_next all i b h e))
 
 -- the tests of the batches up to one, with it
 pub tested_to : (s : State) (all : List (Tree × Writes)) (i : ℕ) (b : Tree × Writes) → i < length all → b ≡ get_or all i b → must_refuse_of s (trees_of_batches all) ≡ None → must_refuse_of s (trees_of_batches (take i all) ++ b.0 ∷ []) ≡ None

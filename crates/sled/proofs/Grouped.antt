@@ -10,8 +10,8 @@ use Rattle.sled_store.specs.theory.Facts.{same_name, name_itself}
 use Rattle.sled_model.specs.Maps.{Map, Merge}
 use Rattle.sled_model.specs.Answer.{answer_of, decision_of, event_of, map_after, key_of, same_value}
 use Rattle.sled_model.specs.Groups.{Write, writes_on, writes_of, call_with, call_of_write, answer_of_write, after_write_on, after_write, after_writes, events_of_write, events_of_writes}
-use Rattle.sled_model.specs.Refusal.{MustRefuse, IsClosed, IsDropped, first_of, is_number, needs_operator, dropped_test, trees_of_batches, must_refuse_of}
-use Rattle.sled_model.specs.State.{IsOnKey, State, NamedTree, CallInFlight}
+use Rattle.sled_model.specs.Refusal.{MustRefuse, IsClosed, IsDropped, first_of, is_number, dropped_test, trees_of_batches, must_refuse_of}
+use Rattle.sled_model.specs.State.{State, NamedTree, CallInFlight}
 use Rattle.sled_model.specs.declared.call.Call.{Call}
 use Rattle.sled_model.specs.declared.call.Call.TheVariants as call
 use Rattle.sled_model.specs.declared.decision.Effect.{Effect}
@@ -199,27 +199,6 @@ jobs_numbered numbers (w ∷ ws) s at c =
     go : (o : Option NamedTree) → numbers w.tree.name ≡ Some w.tree.number → AreNumbered numbers (jobs_of_writes ws (after_write w s)) → AreNumbered numbers (jobs_of_write o w ++ jobs_of_writes ws (after_write w s))
     go None is more = more
     go (Some t) is more = one (answer_of_write t w).event (jobs_of_writes ws (after_write w s)) is more
-
--- each is on a key, and needs no operator
-abbrev pub ArePlain : List Job → Type 0
-ArePlain [] = Unit {0}
-ArePlain (j ∷ js) = (IsOnKey j.call × (needs_operator j.call ≡ false)) × ArePlain js
-
-write_plain : (key : Key) (value : Option Key) → IsOnKey (call_with key value) × (needs_operator (call_with key value) ≡ false)
-write_plain key None = (refl, refl)
-write_plain key (Some v) = (refl, refl)
-
-pub jobs_plain : (ws : List Write) (s : State) → ArePlain (jobs_of_writes ws s)
-jobs_plain [] s = tt
-jobs_plain (w ∷ ws) s = go (s.trees w.tree.name) (jobs_plain ws (after_write w s))
-  where
-    one : (o : Option Event) (js : List Job) → ArePlain js → ArePlain (map (λ e. record { tree = w.tree; call = call_of_write w }) (option_to_list o) ++ js)
-    one None js more = more
-    one (Some e) js more = (write_plain w.key w.value, more)
-
-    go : (o : Option NamedTree) → ArePlain (jobs_of_writes ws (after_write w s)) → ArePlain (jobs_of_write o w ++ jobs_of_writes ws (after_write w s))
-    go None more = more
-    go (Some t) more = one (answer_of_write t w).event (jobs_of_writes ws (after_write w s)) more
 
 -- ---- the tests
 

@@ -11,15 +11,15 @@ use Rattle.sled_store.specs.State.{GroupEnds}
 use Rattle.sled_store.specs.Store.{Store, now, after_action, is_refused_as}
 use Rattle.sled_store.specs.theory.Facts.{now_acted}
 use Rattle.sled_model.specs.Maps.{Map, Maps, Merge}
-use Rattle.sled_model.specs.Groups.{Write, writes_of, after_writes, tag_of, Closes, refuses_group_as}
+use Rattle.sled_model.specs.Groups.{writes_of, after_writes, tag_of, Closes, refuses_group_as}
 use Rattle.sled_model.specs.Refusal.{MustRefuse, trees_of_batches, must_refuse_of, cause_of_group}
 use Rattle.sled_model.specs.State.{State, NamedTree, CallInFlight, maps_of}
 use Rattle.sled_model.specs.declared.call.Whole.TheVariants.{Group}
 use Rattle.sled_model.specs.declared.reply.Reply.TheVariants as told
 use Rattle.sled_model.specs.declared.tree.Tree.{Tree}
 use Rattle.sled_queues.specs.Values.{QueuesValue, queue_at}
-use Rattle.sled_queues.specs.Queues.{queues_of, IsCalm}
-use Rattle.sled_queues.specs.Laws.{delivered_all, DeliversAll}
+use Rattle.sled_queues.specs.Queues.{queues_of, IsCalm, committed}
+use Rattle.sled_queues.specs.Laws.{prepared_all, delivered_all, DeliversAll}
 use Rattle.sled_queues.proofs.Grouped.{group_law, writes_deliver}
 use Rattle.tree_laws.specs.Contents.{trees_of}
 use Rattle.tree_laws.specs.Crashes.{AddsCrashStates, IsCrashConsistent}
@@ -29,7 +29,7 @@ use Rattle.tree_laws.proofs.Crashing.{extends_same}
 use Rattle.tree_laws.proofs.Reading.{one_law}
 use Rattle.sled_tree.specs.declared.flight.InFlight.{InFlight}
 use Rattle.sled_tree.specs.declared.flight.Job.{Job}
-use Rattle.tree_groups.specs.Groups.{AreFresh, jobs_of, AreNumbered, map_after_jobs, WrittenAll, ActsInside, seals_as, KeepsForests, LeavesGroup}
+use Rattle.tree_groups.specs.Groups.{jobs_of, AreNumbered, map_after_jobs, WrittenAll, ActsInside, seals_as, KeepsForests, LeavesGroup}
 use Rattle.tree_groups.specs.Writes.{ActsOften, NoAction, OneAction, is_write_refused_as, Keeps}
 use Rattle.sled.specs.Values.{DbValue, numbers_of, given_to, named, state_of, db_state, snapshot_of_db}
 use Rattle.sled.specs.Calls.{MustBeRefused, must_be_refused_as}
@@ -37,8 +37,8 @@ use Rattle.sled.specs.Sound.{IsDb}
 use Rattle.sled.specs.Flights.{IsStepRefused}
 use Rattle.sled.specs.Direct.{effect_of_group, StaysInChainOrWent, KeepsOrFreesTreePages, LeavesAll, WholeDecided, WholeRefused}
 use Rattle.sled.specs.Groups.{GroupDecided, GroupRefused, IsQuietGroup}
-use Rattle.sled.specs.theory.Groups.{jobs_of_writes, begun_flights, unread, events_of_jobs, MakesAll, StopsAll}
-use Rattle.sled.proofs.Grouped.{AreCurrent, ArePlain, tree_after, with_slots, writes_change, writes_beside, trees_written, events_written, no_events, jobs_numbered, jobs_plain, tested_current, tested_open}
+use Rattle.sled.specs.theory.Groups.{jobs_of_writes, Finds, unread, events_of_jobs, MakesAll, StopsAll}
+use Rattle.sled.proofs.Grouped.{AreCurrent, tree_after, with_slots, writes_change, writes_beside, trees_written, events_written, no_events, jobs_numbered, tested_current, tested_open}
 use Rattle.sled.proofs.Resting.{Rests, rests_same, rests_only_faults, now_rests}
 use Rattle.sled.proofs.Testing.{first_alone}
 use Rattle.sled.proofs.Trees.{trees_at, maps_are, numbered}
@@ -51,22 +51,6 @@ use Rattle.sled.proofs.Popping.{often_faults, often_readable}
 sealed_loud : (js : List Job) (a b : Store) → (js ≡ [] → ⊥) → seals_as js a b → (last : Store) × ActsInside a last × (b ≡ after_action GroupEnds last)
 sealed_loud [] a b some acts = absurd (some refl)
 sealed_loud (j ∷ js) a b some acts = acts
-
--- ---- calls as they begin
-
-jobs_begun : (js : List Job) → jobs_of (begun_flights js) ≡ js
-jobs_begun [] = refl
-jobs_begun (j ∷ js) = ap (λ l. j ∷ l) (jobs_begun js)
-
-fresh_begun : (js : List Job) → ArePlain js → AreFresh (begun_flights js)
-fresh_begun [] plain = tt
-fresh_begun (j ∷ js) plain = ((refl, plain.0.0, plain.0.1), fresh_begun js plain.1)
-
-pub changes_fresh : (ws : List Write) (s : State) (flights : List InFlight) → flights ≡ begun_flights (jobs_of_writes ws s) → AreFresh flights
-changes_fresh ws s flights is = subst AreFresh (sym is) (fresh_begun (jobs_of_writes ws s) (jobs_plain ws s))
-
-pub changes_jobs : (ws : List Write) (s : State) (flights : List InFlight) → flights ≡ begun_flights (jobs_of_writes ws s) → jobs_of flights ≡ jobs_of_writes ws s
-changes_jobs ws s flights is = ap jobs_of is ∙ jobs_begun (jobs_of_writes ws s)
 
 -- ---- what a group leaves of the store
 
@@ -160,15 +144,15 @@ record Stopped (a b : Store) (e : Error) : Type 0 where
   why : cause_of_group a b e
   which : Rests a b ⊎ ((now b).in_group ≡ true)
 
-stopped : (js : List Job) (a b : Store) (e : Error) → ((e ≡ error.NoMemory) × (b ≡ a)) ⊎ LeavesGroup js a b e → Stopped a b e
-stopped js a b e (inl (short, same)) = record {
+stopped : (fs : List InFlight) (a b : Store) (e : Error) → ((e ≡ error.NoMemory) × (b ≡ a)) ⊎ LeavesGroup fs a b e → Stopped a b e
+stopped fs a b e (inl (short, same)) = record {
   mark = ap (λ (s : Store). s.mark) same;
   adds = subst (λ (s : Store). AddsCrashStates [] a s) (sym same) (extends_same a);
   acts = inl (subst (λ z. IsStepRefused z a b) (sym short) same);
   why = subst (λ z. cause_of_group a b z) (sym short) tt;
   which = inl (rests_same same);
 }
-stopped js a b e (inr l) = go l.acts
+stopped fs a b e (inr l) = go l.acts
   where
     go : is_refused_as e a b ⊎ ((last : Store) × ActsInside a last × is_write_refused_as e last b × ((now b).in_group ≡ true)) → Stopped a b e
     go (inl t) = record {
@@ -305,7 +289,10 @@ module _ {P M : Type 0} (store : P → Store) (meant : M → Merge) (old : DbVal
             apart : false ≡ true → ⊥
             apart e = cc
 
-    module _ (p : P) (queues : QueuesValue) where
+    module _ (flights : List InFlight) (found : Finds at jobs flights) (p : P) (queues : QueuesValue) where
+      numbered_found : AreNumbered (numbers_of old.trees) (jobs_of flights)
+      numbered_found = subst (AreNumbered (numbers_of old.trees)) (sym found.jobs) numbered_now
+
       abbrev new : DbValue P M
       new = record old { pages = p; queues = queues }
 
@@ -333,12 +320,18 @@ module _ {P M : Type 0} (store : P → Store) (meant : M → Merge) (old : DbVal
       trees_after : (v : Forest) → HasForest after v → (name : Key) → (db_state store meant new).trees name ≡ option_map (tree_with operators (contents (nodes_at after) v name)) (numbers_of old.trees name)
       trees_after v is name = named_so operators (contents (nodes_at after) v name) (numbers_of old.trees name) (trees_of (now (store p)) name) (trees_at (store p) (numbers_of old.trees) (given_to old.trees_given) v is name)
 
-      module _ (m : MakesAll jobs (store old.pages) (store p) old.queues queues) where
+      module _ (m : MakesAll flights (store old.pages) (store p) old.queues queues) where
         written : WrittenAll jobs at db.forest after
-        written = m.makes.told (numbers_of old.trees) (given_to old.trees_given) db.forest db.is numbered_now
+        written = subst (λ js. WrittenAll js at db.forest after) found.jobs (m.makes.told (numbers_of old.trees) (given_to old.trees_given) db.forest db.is numbered_found found.known)
+
+        acts_so : seals_as jobs (store old.pages) (store p)
+        acts_so = subst (λ js. seals_as js (store old.pages) (store p)) found.jobs m.makes.acts
+
+        held_so : queue_at queues ≡ committed (prepared_all (events_of_jobs jobs) (queue_at old.queues))
+        held_so = m.tells.held ∙ ap (λ js. committed (prepared_all (events_of_jobs js) (queue_at old.queues))) found.jobs
 
         seals : Sealed (store old.pages) (store p)
-        seals = sealed jobs (store old.pages) (store p) no_group_now m.makes.acts
+        seals = sealed jobs (store old.pages) (store p) no_group_now acts_so
 
         adds_now : AddsCrashStates (maps_of (db_state store meant new) ∷ []) (store old.pages) (store p)
         adds_now = subst (λ maps. AddsCrashStates (maps ∷ []) (store old.pages) (store p)) (sym (maps_are store meant new written.after written.keeps.is))
@@ -356,7 +349,7 @@ module _ {P M : Type 0} (store : P → Store) (meant : M → Merge) (old : DbVal
 
         queues_now : queues_of (queue_at queues) ≡ (after_writes (writes_of batches) before).queues
         queues_now =
-            ap queues_of m.tells.held
+            ap queues_of held_so
             ∙ delivers.shown
             ∙ ap (λ es. delivered_all es (queues_of (queue_at old.queues))) (events_written (writes_of batches) before current)
             ∙ sym (writes_deliver (writes_of batches) before)
@@ -385,27 +378,27 @@ module _ {P M : Type 0} (store : P → Store) (meant : M → Merge) (old : DbVal
             added = refl;
           };
           acts = seals.acts;
-          leaves = leaves_so written.after written.keeps seals.mark (subst IsCalm (sym m.tells.held) delivers.calm) (maps_of (db_state store meant new) ∷ []) adds_now;
+          leaves = leaves_so written.after written.keeps seals.mark (subst IsCalm (sym held_so) delivers.calm) (maps_of (db_state store meant new) ∷ []) adds_now;
           same = refl;
-          loud = λ some. sealed_loud jobs (store old.pages) (store p) (λ none. some (sym (events_written (writes_of batches) before current) ∙ ap events_of_jobs none)) m.makes.acts;
+          loud = λ some. sealed_loud jobs (store old.pages) (store p) (λ none. some (sym (events_written (writes_of batches) before current) ∙ ap events_of_jobs none)) acts_so;
         }
 
         pub made_quiet : IsQuietGroup store meant old batches new
-        made_quiet = record { is = λ none. subst (λ js. seals_as js (store old.pages) (store p)) (no_events (writes_of batches) before none) m.makes.acts }
+        made_quiet = record { is = λ none. subst (λ js. seals_as js (store old.pages) (store p)) (no_events (writes_of batches) before none) acts_so }
 
-      module _ (e : Error) (m : StopsAll jobs (store old.pages) (store p) old.queues queues e) where
+      module _ (e : Error) (m : StopsAll flights (store old.pages) (store p) old.queues queues e) where
         kept : KeepsForests at db.forest after
         kept = go m.is
           where
-            go : ((e ≡ error.NoMemory) × (store p ≡ store old.pages)) ⊎ LeavesGroup jobs (store old.pages) (store p) e → KeepsForests at db.forest after
+            go : ((e ≡ error.NoMemory) × (store p ≡ store old.pages)) ⊎ LeavesGroup flights (store old.pages) (store p) e → KeepsForests at db.forest after
             go (inl (short, same)) = record {
               after = db.forest;
               keeps = subst (λ (s : Store). Keeps at db.forest (snapshot_of s (numbers_of old.trees) (given_to old.trees_given)) db.forest) (sym same) (keeps_nothing at db.forest db.is);
             }
-            go (inr l) = l.told (numbers_of old.trees) (given_to old.trees_given) db.forest db.is numbered_now
+            go (inr l) = l.told (numbers_of old.trees) (given_to old.trees_given) db.forest db.is numbered_found found.known
 
         stops : Stopped (store old.pages) (store p) e
-        stops = stopped jobs (store old.pages) (store p) e m.is
+        stops = stopped flights (store old.pages) (store p) e m.is
 
         closes : (slots : ℕ → Option CallInFlight) (given : ℕ) → (now (store p)).in_group ≡ true → Closes (state_of store meant old slots given) (state_of store meant new slots given)
         closes slots given open_now = record {
@@ -444,49 +437,43 @@ module _ {P M : Type 0} (store : P → Store) (meant : M → Merge) (old : DbVal
         }
 
         pub stopped_quiet : IsQuietGroup store meant old batches new
-        stopped_quiet = record { is = λ none. go (no_events (writes_of batches) before none) m.is }
+        stopped_quiet = record { is = λ none. go (found.jobs ∙ no_events (writes_of batches) before none) m.is }
           where
-            go : jobs ≡ [] → ((e ≡ error.NoMemory) × (store p ≡ store old.pages)) ⊎ LeavesGroup jobs (store old.pages) (store p) e → store p ≡ store old.pages
+            go : jobs_of flights ≡ [] → ((e ≡ error.NoMemory) × (store p ≡ store old.pages)) ⊎ LeavesGroup flights (store old.pages) (store p) e → store p ≡ store old.pages
             go none (inl (short, same)) = same
             go none (inr l) = absurd (l.some none)
 
 -- ---- what a group comes to, where a method knows the database by its fields
 
-module _ {P M : Type 0} (store : P → Store) (meant : M → Merge) (inside old : DbValue P M) (view : inside ≡ old) (db : IsDb store inside) (batches : List (Tree × Writes)) (tested : must_refuse_of (db_state store meant old) (trees_of_batches batches) ≡ None) (flights : List InFlight) (changes : flights ≡ begun_flights (jobs_of_writes (writes_of batches) (db_state store meant old))) (p : P) (queues : QueuesValue) where
+module _ {P M : Type 0} (store : P → Store) (meant : M → Merge) (inside old : DbValue P M) (view : inside ≡ old) (db : IsDb store inside) (batches : List (Tree × Writes)) (tested : must_refuse_of (db_state store meant old) (trees_of_batches batches) ≡ None) (flights : List InFlight) (changes : Finds (snapshot_of_db store old) (jobs_of_writes (writes_of batches) (db_state store meant old)) flights) (p : P) (queues : QueuesValue) where
   tested_in : must_refuse_of (db_state store meant inside) (trees_of_batches batches) ≡ None
   tested_in = subst (λ (z : DbValue P M). must_refuse_of (db_state store meant z) (trees_of_batches batches) ≡ None) (sym view) tested
 
-  jobs_in : jobs_of flights ≡ jobs_of_writes (writes_of batches) (db_state store meant inside)
-  jobs_in = changes_jobs (writes_of batches) (db_state store meant inside) flights (subst (λ (z : DbValue P M). flights ≡ begun_flights (jobs_of_writes (writes_of batches) (db_state store meant z))) (sym view) changes)
+  found_in : Finds (snapshot_of_db store inside) (jobs_of_writes (writes_of batches) (db_state store meant inside)) flights
+  found_in = subst (λ (z : DbValue P M). Finds (snapshot_of_db store z) (jobs_of_writes (writes_of batches) (db_state store meant z)) flights) (sym view) changes
 
-  made_in : MakesAll (jobs_of flights) (store inside.pages) (store p) inside.queues queues → MakesAll (jobs_of_writes (writes_of batches) (db_state store meant inside)) (store inside.pages) (store p) inside.queues queues
-  made_in m = subst (λ js. MakesAll js (store inside.pages) (store p) inside.queues queues) jobs_in m
-
-  stopped_in : (e : Error) → StopsAll (jobs_of flights) (store inside.pages) (store p) inside.queues queues e → StopsAll (jobs_of_writes (writes_of batches) (db_state store meant inside)) (store inside.pages) (store p) inside.queues queues e
-  stopped_in e m = subst (λ js. StopsAll js (store inside.pages) (store p) inside.queues queues e) jobs_in m
-
-  pub group_ok : (r : Result (Unit {0}) Error) → OnOk r (MakesAll (jobs_of flights) (store inside.pages) (store p) inside.queues queues) → OnOk r (GroupDecided store meant old batches (record inside { pages = p; queues = queues }))
-  group_ok (Ok u) m = subst (λ (z : DbValue P M). GroupDecided store meant z batches (record inside { pages = p; queues = queues })) view (group_made store meant inside db batches tested_in p queues (made_in m))
+  pub group_ok : (r : Result (Unit {0}) Error) → OnOk r (MakesAll flights (store inside.pages) (store p) inside.queues queues) → OnOk r (GroupDecided store meant old batches (record inside { pages = p; queues = queues }))
+  group_ok (Ok u) m = subst (λ (z : DbValue P M). GroupDecided store meant z batches (record inside { pages = p; queues = queues })) view (group_made store meant inside db batches tested_in flights found_in p queues m)
   group_ok (Err e) m = tt
 
-  pub group_err : (r : Result (Unit {0}) Error) → IfErr r (λ e. StopsAll (jobs_of flights) (store inside.pages) (store p) inside.queues queues e) → IfErr r (λ e. GroupRefused store meant old batches e (record inside { pages = p; queues = queues }))
+  pub group_err : (r : Result (Unit {0}) Error) → IfErr r (λ e. StopsAll flights (store inside.pages) (store p) inside.queues queues e) → IfErr r (λ e. GroupRefused store meant old batches e (record inside { pages = p; queues = queues }))
   group_err (Ok u) m = tt
-  group_err (Err e) m = subst (λ (z : DbValue P M). GroupRefused store meant z batches e (record inside { pages = p; queues = queues })) view (group_stopped store meant inside db batches tested_in p queues e (stopped_in e m))
+  group_err (Err e) m = subst (λ (z : DbValue P M). GroupRefused store meant z batches e (record inside { pages = p; queues = queues })) view (group_stopped store meant inside db batches tested_in flights found_in p queues e m)
 
-  module _ (r : Result (Unit {0}) Error) (ok : OnOk r (MakesAll (jobs_of flights) (store inside.pages) (store p) inside.queues queues)) (err : IfErr r (λ e. StopsAll (jobs_of flights) (store inside.pages) (store p) inside.queues queues e)) where
+  module _ (r : Result (Unit {0}) Error) (ok : OnOk r (MakesAll flights (store inside.pages) (store p) inside.queues queues)) (err : IfErr r (λ e. StopsAll flights (store inside.pages) (store p) inside.queues queues e)) where
     pub group_db : IsDb store (record inside { pages = p; queues = queues })
     group_db = go r ok err
       where
-        go : (r : Result (Unit {0}) Error) → OnOk r (MakesAll (jobs_of flights) (store inside.pages) (store p) inside.queues queues) → IfErr r (λ e. StopsAll (jobs_of flights) (store inside.pages) (store p) inside.queues queues e) → IsDb store (record inside { pages = p; queues = queues })
-        go (Ok u) m n = (group_made store meant inside db batches tested_in p queues (made_in m)).leaves.sound db
-        go (Err e) m n = (group_stopped store meant inside db batches tested_in p queues e (stopped_in e n)).leaves.sound db
+        go : (r : Result (Unit {0}) Error) → OnOk r (MakesAll flights (store inside.pages) (store p) inside.queues queues) → IfErr r (λ e. StopsAll flights (store inside.pages) (store p) inside.queues queues e) → IsDb store (record inside { pages = p; queues = queues })
+        go (Ok u) m n = (group_made store meant inside db batches tested_in flights found_in p queues m).leaves.sound db
+        go (Err e) m n = (group_stopped store meant inside db batches tested_in flights found_in p queues e n).leaves.sound db
 
     pub group_quiet : IsQuietGroup store meant old batches (record inside { pages = p; queues = queues })
     group_quiet = subst (λ (z : DbValue P M). IsQuietGroup store meant z batches (record inside { pages = p; queues = queues })) view (go r ok err)
       where
-        go : (r : Result (Unit {0}) Error) → OnOk r (MakesAll (jobs_of flights) (store inside.pages) (store p) inside.queues queues) → IfErr r (λ e. StopsAll (jobs_of flights) (store inside.pages) (store p) inside.queues queues e) → IsQuietGroup store meant inside batches (record inside { pages = p; queues = queues })
-        go (Ok u) m n = made_quiet store meant inside db batches tested_in p queues (made_in m)
-        go (Err e) m n = stopped_quiet store meant inside db batches tested_in p queues e (stopped_in e n)
+        go : (r : Result (Unit {0}) Error) → OnOk r (MakesAll flights (store inside.pages) (store p) inside.queues queues) → IfErr r (λ e. StopsAll flights (store inside.pages) (store p) inside.queues queues e) → IsQuietGroup store meant inside batches (record inside { pages = p; queues = queues })
+        go (Ok u) m n = made_quiet store meant inside db batches tested_in flights found_in p queues m
+        go (Err e) m n = stopped_quiet store meant inside db batches tested_in flights found_in p queues e n
 
 -- ---- the same of the call that a machine makes
 

@@ -8,6 +8,7 @@ pub mod KeptSteps
 pub mod Subscribing
 pub mod Flying
 pub mod Yielding
+pub mod Walking
 pub mod Conducting
 pub mod Flushing
 pub mod Opening
@@ -29,5 +30,6 @@ pub mod Dropping
 pub mod Removing
 pub mod Written
 pub mod Batching
+pub mod Beginning
 pub mod Changes
 pub mod Transacting

@@ -16,7 +16,6 @@ use Rattle.sled_queues.specs.Laws.{prepared_all}
 use Rattle.sled_queues.specs.Tells.{waits_for, IsUnwatched}
 use Rattle.sled_queues.proofs.Grouped.{group_law}
 use Rattle.sled_tree.specs.declared.flight.InFlight.{InFlight}
-use Rattle.sled_tree.specs.declared.flight.Job.{Job}
 use Rattle.tree_groups.specs.Groups.{jobs_of, MakesGroup, LeavesGroup}
 use Rattle.sled.specs.theory.Groups.{events_of_call, events_of_jobs, Prepares, StopsPreparing, MakesAll, StopsAll}
 
@@ -81,16 +80,16 @@ flights_left fs i f h e = rw add-one (drop-cons fs i f h ∙ ap (λ z. z ∷ dro
 
 -- ---- a group over the pages, and its events
 
-module _ (js : List Job) (a b : Store) (old : QueuesValue) (calm : IsCalm (queue_at old)) where
+module _ (fs : List InFlight) (a b : Store) (old : QueuesValue) (calm : IsCalm (queue_at old)) where
   -- what was prepared is gone again
   pub cancelled_again : (mid new : QueuesValue) (events : List (ℕ × Event)) → Becomes (prepared_all events (queue_at old)) old.given mid → Becomes (cancelled (queue_at mid)) mid.given new → Becomes (queue_at old) old.given new
   cancelled_again mid new events p c = record { held = c.held ∙ ap cancelled p.held ∙ (group_law (queue_at old) calm events).undone; count = c.count ∙ p.count }
 
-  pub short_of_memory : (e : Error) (mid new : QueuesValue) → StopsPreparing e old mid → Becomes (cancelled (queue_at mid)) mid.given new → StopsAll js a a old new e
+  pub short_of_memory : (e : Error) (mid new : QueuesValue) → StopsPreparing e old mid → Becomes (cancelled (queue_at mid)) mid.given new → StopsAll fs a a old new e
   short_of_memory e mid new s c = record { is = inl (s.why, refl); tells = cancelled_again mid new s.events s.is c }
 
-  pub left_so : (e : Error) (mid new : QueuesValue) → Prepares js old mid → LeavesGroup js a b e → Becomes (cancelled (queue_at mid)) mid.given new → StopsAll js a b old new e
-  left_so e mid new p l c = record { is = inr l; tells = cancelled_again mid new (events_of_jobs js) p.is c }
+  pub left_so : (e : Error) (mid new : QueuesValue) → Prepares (jobs_of fs) old mid → LeavesGroup fs a b e → Becomes (cancelled (queue_at mid)) mid.given new → StopsAll fs a b old new e
+  left_so e mid new p l c = record { is = inr l; tells = cancelled_again mid new (events_of_jobs (jobs_of fs)) p.is c }
 
-  pub made_so : (mid new : QueuesValue) → Prepares js old mid → MakesGroup js a b → Becomes (committed (queue_at mid)) mid.given new → MakesAll js a b old new
+  pub made_so : (mid new : QueuesValue) → Prepares (jobs_of fs) old mid → MakesGroup fs a b → Becomes (committed (queue_at mid)) mid.given new → MakesAll fs a b old new
   made_so mid new p m c = record { makes = m; tells = record { held = c.held ∙ ap committed p.is.held; count = c.count ∙ p.is.count } }

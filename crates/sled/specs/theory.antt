@@ -8,3 +8,4 @@ pub mod Watched
 pub mod Groups
 pub mod Transactions
 pub mod Kept
+pub mod Walking

@@ -6,6 +6,7 @@ ghost use Rattle.sled_store.specs.Store.{now};
 ghost use Rattle.tree_laws.specs.Crashes.{IsValid, IsCrashConsistent};
 ghost use Rattle.sled_model.specs.Refusal.{must_refuse, must_refuse_of, needs_operator, ToPoint, ToStep};
 ghost use Rattle.sled_model.specs.declared.call.Call.{Call};
+ghost use Rattle.sled_tree.specs.declared.flight.Went.TheVariants.{Moved};
 ghost use Rattle.sled.specs.Calls.{IsHandle, RefusesHandle, MustBeRefused};
 
 use crate::DEFAULT_TREE;
@@ -17,9 +18,20 @@ use sled_nodes::texts::{HANDLE_OF_ANOTHER_DATABASE, NO_MERGE_OPERATOR, WALK_PASS
 use sled_nodes::{Error, IVec, Result};
 use sled_queues::Queues;
 use sled_store::Pages;
-use sled_tree::{InFlight, Went};
+use sled_tree::{InFlight, Went, walk_down};
 use std::alloc::Global;
 use std::marker::Model;
+
+// Whether the call goes on.
+fn goes_on(went: &Went) -> bool
+    ensures on { result ≡ true → went.now ≡ Moved }
+    ensures ended { result ≡ false → went.now ≢ Moved }
+{
+    match went {
+        Went::Moved => true,
+        _ => false,
+    }
+}
 
 /// A database: named trees over a store of pages.
 #[derive(Drop)]
@@ -54,6 +66,7 @@ impl<P: Pages, M: MergeOperator> Db<P, M> {
     ghost use Rattle.sled.specs.Values.{db_state, snapshot_of_db};
     ghost use Rattle.sled_tree.specs.Known.{IsKnown};
     ghost use Rattle.sled.specs.Flights.{DbStep, DbSound, DbActs, DbFollows, DbPasses, DbLeaksNoPage, DbKnows, KeepsTreePages, DbStepContract, DbRunsToEnd, call_in_flight_of};
+    ghost use Rattle.sled.specs.theory.Walking.{DbWalksDown};
     ghost use Rattle.sled.specs.Flush.{FlushesDb, RefusesFlush};
     ghost use Rattle.sled_queues.specs.Queues.{AreQueues};
 
@@ -239,6 +252,28 @@ impl<P: Pages, M: MergeOperator> Db<P, M> {
         )
     }
 
+    // The steps of its walk that a call on a key makes next, one after the other, which read pages and change none. By the last of them
+    // it may have ended.
+    #[inline(always)]
+    fn walk_down(&self, flight: &mut InFlight) -> Option<Went>
+        requires known { IsKnown (snapshot_of_db P.store self.now) flight.old }
+        requires tested { must_refuse (db_state P.store M.meant self.now) (ToStep (call_in_flight_of flight.old)) ≡ None }
+        ensures { DbWalksDown P.store M.meant self.now flight.old result flight.new }
+    {
+        self.audit();
+        if !flight.job.call.is_on_key() {
+            return None;
+        }
+        let Some(went) = walk_down(&self.pages, self.alloc, flight) else {
+            return None;
+        };
+        if goes_on(&went) {
+            drop(went);
+            return None;
+        }
+        Some(went)
+    }
+
     /// Steps of a call in flight until it ends. The tests are made once, since no step of a call changes what they look at.
     ///
     /// ```
@@ -268,6 +303,9 @@ impl<P: Pages, M: MergeOperator> Db<P, M> {
         ensures { DbRunsToEnd P.store M.meant self.old flight.old result self.new flight.new }
     {
         'steps: loop {
+            if let Some(went) = self.walk_down(flight) {
+                return went;
+            }
             match self.advance_tested(flight) {
                 Went::Moved => self.audit(),
                 went => return went,

@@ -3,7 +3,10 @@
 //! First comes all that can be refused without harm: the tests, the reads of the values that stand, and the memory of calls and events.
 //! Then the group is begun, the writes are made by the steps of calls in flight, repairs included, and the group is sealed. Once it is
 //! begun a refusal leaves it open, so that the database is closed: no crash leaves any of it.
-ghost use Rattle.std.specs.Prelude.{◌≡◌, false, IfOk, IfErr, OnOk, OnErr, [], ◌∷◌, Some, None, ◌++◌};
+//!
+//! A write begins at the leaf that the read of its key found, where it has nothing to repair there. Of several writes in one leaf only
+//! the first does: it changes the leaf, so that the others would find another version than they read.
+ghost use Rattle.std.specs.Prelude.{◌≡◌, false, IsTrue, IfOk, IfErr, OnOk, OnErr, [], ◌∷◌, Some, None, ◌++◌};
 ghost use Rattle.std.specs.FinMap.Entries.{find};
 ghost use Rattle.sled_nodes.specs.Order.{key_cmp};
 ghost use Rattle.sled_batch.specs.Batch.{Rises};
@@ -15,26 +18,42 @@ ghost use Rattle.sled_queues.specs.Values.{queue_at};
 ghost use Rattle.sled_model.specs.declared.event.Event.TheVariants as event;
 ghost use Rattle.sled_queues.specs.Queues.{IsCalm, Becomes};
 ghost use Rattle.sled_queues.specs.Laws.{prepared_all};
-ghost use Rattle.tree_groups.specs.Groups.{AreFresh, jobs_of};
+ghost use Rattle.tree_groups.specs.Groups.{AreReady, jobs_of};
 ghost use Rattle.sled.specs.Calls.{MustBeRefused};
-ghost use Rattle.sled.specs.Direct.{begun_flight};
-ghost use Rattle.sled.specs.theory.Groups.{begun_flights, jobs_of_writes, Stands, stands_over, unread, events_of_call, Prepares, StopsPreparing, MakesAll, StopsAll};
+ghost use Rattle.sled.specs.theory.Groups.{jobs_of_write, jobs_of_writes, flight_from, Finds, FindsMore, Stands, stands_over, ReadsKey, IsSettled, BeginsAt, unread, events_of_call, Prepares, StopsPreparing, MakesAll, StopsAll};
 
 use crate::db::Db;
 use crate::tree_list::number_of;
 use sled_batch::Batch;
 use sled_model::{Call, Event, MergeOperator, Tree};
 use sled_nodes::texts::HANDLE_OF_ANOTHER_DATABASE;
-use sled_nodes::{Error, IVec, Result};
+use sled_nodes::{Error, IVec, Node, Pid, Result};
 use sled_queues::Queues;
-use sled_store::Pages;
-use sled_tree::InFlight;
+use sled_store::{Pages, View};
+use sled_tree::{Aim, InFlight, Job, Stage};
 use std::alloc::Global;
+use std::ops::Bound;
 use tree_groups::write_group;
+use tree_reads::leaf_at;
 
-// The call that writes a key in a tree, as it begins.
-fn begun(tree: &Tree, key: &IVec, value: &Option<IVec>) -> Result<InFlight>
-    ensures ok { IfOk result (λ flight. flight ≡ begun_flight tree.now (call_with key.now value.now)) }
+// A call at the leaf that it has read, or without one as it begins.
+fn flight_from(tree: Tree, call: Call, leaf: Option<View>) -> InFlight
+    ensures { result ≡ flight_from tree call leaf }
+{
+    match leaf {
+        Some(leaf) => InFlight {
+            job: Job { tree, call },
+            aim: Aim::Own,
+            stage: Stage::Act(leaf),
+            turns: 1,
+        },
+        None => InFlight::new(tree, call),
+    }
+}
+
+// The call that writes a key in a tree.
+fn made(tree: &Tree, key: &IVec, value: &Option<IVec>) -> Result<(Tree, Call)>
+    ensures ok { IfOk result (λ job. (job.0 ≡ tree.now) × (job.1 ≡ call_with key.now value.now)) }
     ensures err { IfErr result (λ e. e ≡ NoMemory) }
 {
     let call = match write_call(key, value) {
@@ -42,7 +61,7 @@ fn begun(tree: &Tree, key: &IVec, value: &Option<IVec>) -> Result<InFlight>
         Err(e) => return Err(e),
     };
     match tree.clone() {
-        Ok(tree) => Ok(InFlight::new(tree, call)),
+        Ok(tree) => Ok((tree, call)),
         Err(e) => {
             drop(call);
             Err(e)
@@ -68,18 +87,47 @@ fn write_call(key: &IVec, value: &Option<IVec>) -> Result<Call>
     }
 }
 
-// Adds the call that writes a key in a tree.
+// Adds the call that writes a key in a tree, at a leaf or as it begins.
 fn add_call(
     flights: &mut Vec<InFlight>,
     tree: &Tree,
     key: &IVec,
     value: &Option<IVec>,
+    leaf: Option<View>,
 ) -> Result<()>
-    ensures ok { OnOk result (flights.new.items ≡ flights.old.items ++ begun_flight tree.now (call_with key.now value.now) ∷ []) }
+    ensures ok { OnOk result (flights.new.items ≡ flights.old.items ++ flight_from tree.now (call_with key.now value.now) leaf ∷ []) }
     ensures err { IfErr result (λ e. e ≡ NoMemory) }
 {
-    flights.push(begun(tree, key, value)?)?;
-    Ok(())
+    match made(tree, key, value) {
+        Ok((tree, call)) => {
+            flights.push(flight_from(tree, call, leaf))?;
+            Ok(())
+        }
+        Err(e) => {
+            drop(leaf);
+            Err(e)
+        }
+    }
+}
+
+// Whether nothing is to be repaired at a leaf, and it need not merge either.
+fn is_settled(leaf: &View) -> bool
+    ensures { IsTrue result → IsSettled leaf.now.node }
+{
+    let node: &Node = &leaf.node;
+    !node.merging && node.merging_child.is_none() && !node.should_split() && !node.should_merge()
+}
+
+// The leaf, where the call may begin there. A leaf that a call before it was given changes before this one is made.
+fn begins_at(leaf: View, given: Option<Pid>, stands: bool) -> Option<View>
+    ensures { BeginsAt leaf stands result }
+{
+    if !stands && given != Some(leaf.pid) && is_settled(&leaf) {
+        Some(leaf)
+    } else {
+        drop(leaf);
+        None
+    }
 }
 
 // Whether the value that a key is to have stands there once a batch is made too: its write of the key decides, or else what stood.
@@ -147,9 +195,9 @@ fn make_group<P: Pages>(
 ) -> Result<()>
     requires outside { (now (P.store pages.old)).in_group ≡ false }
     requires calm { IsCalm (queue_at queues.old) }
-    requires fresh { AreFresh flights.items }
-    ensures ok { OnOk result (MakesAll (jobs_of flights.items) (P.store pages.old) (P.store pages.new) queues.old queues.new) }
-    ensures err { IfErr result (StopsAll (jobs_of flights.items) (P.store pages.old) (P.store pages.new) queues.old queues.new) }
+    requires ready { AreReady flights.items }
+    ensures ok { OnOk result (MakesAll flights.items (P.store pages.old) (P.store pages.new) queues.old queues.new) }
+    ensures err { IfErr result (StopsAll flights.items (P.store pages.old) (P.store pages.new) queues.old queues.new) }
 {
     if let Err(e) = prepare_events(queues, flights.as_slice()) {
         queues.cancel();
@@ -165,7 +213,7 @@ fn make_group<P: Pages>(
 }
 
 impl<P: Pages, M: MergeOperator> Db<P, M> {
-    ghost use Rattle.sled.specs.Values.{db_state};
+    ghost use Rattle.sled.specs.Values.{db_state, snapshot_of_db};
     ghost use Rattle.sled.specs.Groups.{GroupDecided, GroupRefused, IsQuietGroup};
 
     // The tests that come before a group, each of all its trees.
@@ -189,36 +237,83 @@ impl<P: Pages, M: MergeOperator> Db<P, M> {
         Ok(())
     }
 
-    // Whether the value that a key is to have stands there, once these batches are made.
+    // The leaf of a key, and whether the value that the key is to have stands there.
+    fn read_key(&self, root: Pid, key: &IVec, value: &Option<IVec>) -> Result<(View, bool)>
+        ensures ok { IfOk result (λ read. ReadsKey (P.store self.now.pages) root key.now value.now read.0 read.1) }
+        ensures err { IfErr result (unread (P.store self.now.pages)) }
+    {
+        let bytes = key.as_ref();
+        let (leaf, _) = match leaf_at(self.alloc, &self.pages, root, Bound::Included(bytes), 0) {
+            Ok(found) => found,
+            Err(e) => return Err(e),
+        };
+        match leaf.node.get(bytes) {
+            Ok(found) => {
+                let stands = found == *value;
+                drop(found);
+                Ok((leaf, stands))
+            }
+            Err(e) => {
+                drop(leaf);
+                Err(e)
+            }
+        }
+    }
+
+    // Whether the value that a key is to have stands there once these batches are made, where it is known whether it stands before.
     fn stands(
         &self,
         before: &[(Tree, Batch)],
         tree: &Tree,
         key: &IVec,
         value: &Option<IVec>,
-    ) -> Result<bool>
+        stood: bool,
+    ) -> bool
         requires tested { must_refuse_of (db_state P.store M.meant self.now) (trees_of_batches before.now ++ tree.now ∷ []) ≡ None }
-        ensures ok { IfOk result (Stands (after_writes (writes_of before.now) (db_state P.store M.meant self.now)) tree.now key.now value.now) }
-        ensures err { IfErr result (unread (P.store self.now.pages)) }
+        requires stood { Stands (db_state P.store M.meant self.now) tree.now key.now value.now stood }
+        ensures { Stands (after_writes (writes_of before.now) (db_state P.store M.meant self.now)) tree.now key.now value.now result }
     {
         self.audit();
-        let mut stands = match self.get(tree, key.as_ref()) {
-            Ok(found) => {
-                let stands = found == *value;
-                drop(found);
-                stands
-            }
-            Err(e) => return Err(e),
-        };
+        let mut stands = stood;
         for (other, batch) in before {
             if other.number == tree.number {
                 stands = stands_over(batch, key, value, stands);
             }
         }
-        Ok(stands)
+        stands
     }
 
-    // Adds the writes of a batch that change something, as calls that have yet to begin, where these batches come before it.
+    // Adds the write of a key, where it changes something, and answers the leaf of the last write that was added.
+    fn add_change(
+        &self,
+        before: &[(Tree, Batch)],
+        tree: &Tree,
+        root: Pid,
+        key: &IVec,
+        value: &Option<IVec>,
+        given: Option<Pid>,
+        flights: &mut Vec<InFlight>,
+    ) -> Result<Option<Pid>>
+        requires tested { must_refuse_of (db_state P.store M.meant self.now) (trees_of_batches before.now ++ tree.now ∷ []) ≡ None }
+        requires root { (now (P.store self.now.pages)).roots tree.now.name ≡ Some root }
+        ensures ok { OnOk result (FindsMore (snapshot_of_db P.store self.now) (jobs_of_write ((after_writes (writes_of before.now) (db_state P.store M.meant self.now)).trees tree.now.name) (record { tree = tree.now; key = key.now; value = value.now })) flights.old.items flights.new.items) }
+        ensures err { IfErr result (unread (P.store self.now.pages)) }
+    {
+        self.audit();
+        let (leaf, stood) = match self.read_key(root, key, value) {
+            Ok(read) => read,
+            Err(e) => return Err(e),
+        };
+        if self.stands(before, tree, key, value, stood) {
+            drop(leaf);
+            return Ok(given);
+        }
+        let pid = leaf.pid;
+        add_call(flights, tree, key, value, begins_at(leaf, given, stood))?;
+        Ok(Some(pid))
+    }
+
+    // Adds the writes of a batch that change something, as calls that are ready to be made, where these batches come before it.
     fn add_changes(
         &self,
         before: &[(Tree, Batch)],
@@ -227,21 +322,24 @@ impl<P: Pages, M: MergeOperator> Db<P, M> {
         flights: &mut Vec<InFlight>,
     ) -> Result<()>
         requires tested { must_refuse_of (db_state P.store M.meant self.now) (trees_of_batches before.now ++ tree.now ∷ []) ≡ None }
-        ensures ok { OnOk result (flights.new.items ≡ flights.old.items ++ begun_flights (jobs_of_writes (writes_on tree.now batch.now) (after_writes (writes_of before.now) (db_state P.store M.meant self.now)))) }
+        ensures ok { OnOk result (FindsMore (snapshot_of_db P.store self.now) (jobs_of_writes (writes_on tree.now batch.now) (after_writes (writes_of before.now) (db_state P.store M.meant self.now))) flights.old.items flights.new.items) }
         ensures err { IfErr result (unread (P.store self.now.pages)) }
     {
+        let root = match self.root_of(tree) {
+            Ok(root) => root,
+            Err(e) => return Err(e),
+        };
+        let mut given = None;
         for (key, value) in batch.writes().iter() {
-            if !self.stands(before, tree, key, value)? {
-                add_call(flights, tree, key, value)?;
-            }
+            given = self.add_change(before, tree, root, key, value, given, flights)?;
         }
         Ok(())
     }
 
-    // The writes of a group that change something, as calls that have yet to begin.
+    // The writes of a group that change something, as calls that are ready to be made.
     fn changes(&self, batches: &[(Tree, Batch)]) -> Result<Vec<InFlight>>
         requires tested { must_refuse_of (db_state P.store M.meant self.now) (trees_of_batches batches.now) ≡ None }
-        ensures ok { IfOk result (λ flights. flights.items ≡ begun_flights (jobs_of_writes (writes_of batches.now) (db_state P.store M.meant self.now))) }
+        ensures ok { IfOk result (λ flights. Finds (snapshot_of_db P.store self.now) (jobs_of_writes (writes_of batches.now) (db_state P.store M.meant self.now)) flights.items) }
         ensures err { IfErr result (unread (P.store self.now.pages)) }
     {
         let mut flights = Vec::new(self.alloc);

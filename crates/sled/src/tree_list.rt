@@ -5,7 +5,7 @@ ghost use Rattle.sled_nodes.specs.Order.{key_cmp};
 ghost use Rattle.sled_nodes.specs.theory.Rising.{IsHit, IsGap};
 ghost use Rattle.sled_nodes.specs.declared.error.Error.TheVariants.{NoMemory};
 
-use sled_nodes::{IVec, Result};
+use sled_nodes::{IVec, Result, value_at};
 
 // Where the tree of a name stands, or would go.
 #[inline(always)]
@@ -19,14 +19,12 @@ fn place_of(trees: &[(IVec, u64)], name: &[u8]) -> std::result::Result<usize, us
 }
 
 // The number of the tree of a name.
+#[tactic(auto, unfolding(sled_nodes::specs::Order::key_cmp))]
 pub(crate) fn number_of(trees: &[(IVec, u64)], name: &[u8]) -> Option<u64>
     requires { is_sorted key_cmp trees.now ≡ true }
     ensures { result ≡ find key_cmp name.now trees.now }
 {
-    match place_of(trees, name) {
-        Ok(i) => Some(trees[i].1),
-        Err(_) => None,
-    }
+    value_at(trees, name, true).copied()
 }
 
 // Room for one tree more.

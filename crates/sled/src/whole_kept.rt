@@ -79,8 +79,8 @@ impl<P: Pages, M: MergeOperator> Db<P, M> {
     }
 
     /// Takes out the pair with the least key, as `pop_min` does, and answers the call's reply (`Reply::Pair`) and two copies of it. The
-    /// copies are made once the pair is read and before it is removed. Refused as `pop_min` is; where there is no memory for the copies
-    /// then with `NoMemory`, and nothing was done.
+    /// copies are made once the pair is read and before it is removed. Refused as `pop_min` is, and with `NoMemory` where there is no
+    /// memory for the copies: the pair stays then, and so do repairs that were made on the way to it, which change no map.
     ///
     /// ```
     /// let (reply, one, other) = db.pop_min_kept(&tree)?; // Three equal replies.
@@ -162,8 +162,8 @@ impl<P: Pages, M: MergeOperator> Db<P, M> {
     }
 
     /// Opens the tree of a name, as `open_tree` does, and answers the call's reply (`Reply::Tree`) and two copies of it. The copies are
-    /// made before the first action. Refused as `open_tree` is; where there is no memory for the copies then with `NoMemory`, and
-    /// nothing was done.
+    /// made before the action that decides it. Refused as `open_tree` is, and with `NoMemory` where there is no memory for the copies:
+    /// there is no tree more then, but a page that was made for one may be left behind.
     ///
     /// ```
     /// let (reply, one, other) = db.open_tree_kept(b"orders")?; // Three equal replies.

@@ -37,8 +37,8 @@ impl<P: Pages, M: MergeOperator> Machine<P, M> {
     ghost use Rattle.sled_calls.specs.theory.Kept.{IsLight, KeepsWhole};
 
     /// Does a whole call, as `whole` does. Where it is decided, two copies of its reply come beside it, which were made before the
-    /// action that decided it: want of memory for them refuses the call with `NoMemory`, and then a pop or an opening did nothing. Of
-    /// `Next`, which gives each event once, the copies are `Done`.
+    /// action that decided it: where there is no memory for them the call is refused with `NoMemory`, and then a pop or an opening
+    /// changed no map. Of `Next`, which gives each event once, the copies are `Done`.
     ///
     /// The number tells how many parts a `Clear` or an `Import` did, also of one that is refused midway: keys that it took out, or trees
     /// that it opened and pairs that it put in; `u64::MAX` stands for as many or more. Of any other call it is 0.

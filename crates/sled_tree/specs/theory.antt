@@ -4,3 +4,4 @@ pub mod StageAction
 pub mod Passing
 pub mod Descent
 pub mod Linking
+pub mod Walking

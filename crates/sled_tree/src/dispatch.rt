@@ -9,13 +9,14 @@ ghost use Rattle.sled_tree.specs.Passing.{StepsOnPath};
 ghost use Rattle.sled_tree.specs.theory.Passing.{AdvancesOnPath};
 ghost use Rattle.sled_tree.specs.Stages.{IsOnItsWay};
 ghost use Rattle.sled_tree.specs.theory.Stages.{IsOffWalk, IsElsewhere, IsOfMerge};
+ghost use Rattle.sled_tree.specs.theory.Walking.{WalksDown};
 
 use crate::act::act;
 use crate::flight::{Aim, InFlight, Job, Next, Went};
 use crate::hoist::{hoist, swap_root};
 use crate::merge::{cap, confirm, intend, read_child, receive, seek};
 use crate::split::{free, halve, install_left, post};
-use crate::walk::{Descent, at_leaf, descend, settle};
+use crate::walk::{Descent, at_leaf, descend, is_on_walk, settle};
 use sled_model::{MAX_LOOPS, MergeOperator};
 use sled_store::Pages;
 use std::alloc::Global;
@@ -135,4 +136,20 @@ pub fn advance<P: Pages, M: MergeOperator>(
         Descent::Leaf(view) => at_leaf(flight, view),
         Descent::Next(next) => settle(flight, next),
     }
+}
+
+/// Steps of a call's walk, one after the other: until its next step is none of a walk, or it has no turns left, or by the last of them it
+/// left its walk or ended. Each reads one page at most, and changes nothing but the call.
+pub fn walk_down<P: Pages>(pages: &P, alloc: Global, flight: &mut InFlight) -> Option<Went>
+    ensures { WalksDown (P.store pages.now) flight.old result flight.new }
+{
+    'steps: while flight.turns < MAX_LOOPS && is_on_walk(&flight.stage) {
+        match descend(pages, alloc, &flight.job, &flight.aim, &mut flight.stage) {
+            Descent::None => return None,
+            Descent::Further => flight.turns += 1,
+            Descent::Leaf(view) => return Some(at_leaf(flight, view)),
+            Descent::Next(next) => return Some(settle(flight, next)),
+        }
+    }
+    None
 }

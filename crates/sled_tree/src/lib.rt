@@ -16,7 +16,7 @@ mod split;
 mod walk;
 
 pub use act::{Change, begin_again, event_of, link_change, prepare_change};
-pub use dispatch::advance;
+pub use dispatch::{advance, walk_down};
 pub use flight::{Aim, InFlight, Job, Next, Went};
 pub use sled_model::{Event, Subscriber};
 pub use tree_laws::flight::{

@@ -5,7 +5,7 @@
 //!
 //! Every call takes most of its time here. So what a step does at such a page is inlined wherever a step is made; left to itself LLVM
 //! does that only where there is one such place.
-ghost use Rattle.std.specs.Prelude.{◌≡◌, ◌<◌, ◌↔◌, false, is_none, MatchOption, IsTrue, IfOk, IfErr};
+ghost use Rattle.std.specs.Prelude.{◌≡◌, ◌<◌, ◌↔◌, false, true, is_none, MatchOption, IsTrue, IfOk, IfErr};
 ghost use Rattle.std.specs.declared.ops.Bound.TheVariants.{Included};
 ghost use Rattle.sled_nodes.specs.Among.{IsPointerFor, bound_of};
 ghost use Rattle.sled_nodes.specs.Node.{count, pointers};
@@ -26,7 +26,7 @@ ghost use Rattle.tree_laws.specs.declared.flight.Stage.TheVariants as variant;
 use crate::flight::{Aim, InFlight, Job, Next, Went};
 use crate::repair::repair;
 use sled_model::{Call, MAX_LOOPS, Reply};
-use sled_nodes::{Data, IVec, Node, Pid, Result, is_up_to};
+use sled_nodes::{Data, IVec, Node, Pid, Result, key_is_up_to};
 use sled_store::{Pages, View};
 use std::alloc::Global;
 use std::ops::Bound;
@@ -109,11 +109,23 @@ pub(crate) fn target<'a>(job: &'a Job, aim: &'a Aim) -> Bound<&'a [u8]>
 }
 
 // Whether a node begins within a target and does not end within it.
+#[inline(always)]
 pub(crate) fn lies_under(node: &Node, target: Bound<&[u8]>) -> bool
     ensures { IsTrue result ↔ LiesUnder (bound_of target.entry) node.now }
 {
-    is_up_to(node.lo.as_ref(), target)
-        && (node.hi.len() == 0 || !is_up_to(node.hi.as_ref(), target))
+    key_is_up_to(&node.lo, target) && (node.hi.len() == 0 || !key_is_up_to(&node.hi, target))
+}
+
+// Whether the next step is one of a walk.
+#[inline(always)]
+pub(crate) fn is_on_walk(stage: &Stage) -> bool
+    ensures { result ≡ true → IsOffWalk stage.now → ⊥ }
+{
+    match stage {
+        Stage::Root => true,
+        Stage::Walk(_) => true,
+        _ => false,
+    }
 }
 
 // Reads the page of a stage of a walk. There is none where the tree has no root.
@@ -167,22 +179,13 @@ fn repairs_parent(stage: &Stage, node: &Node) -> bool
     }
 }
 
-// Whether a key lies within a node's bounds.
-#[inline(always)]
-#[tactic(auto, unfolding(sled_nodes::specs::Order::key_cmp))]
-fn covers(node: &Node, key: &[u8]) -> bool
-    ensures { IsTrue result ↔ LiesUnder (Included key.now) node.now }
-{
-    node.lo.as_ref().cmp(key).is_le() && (node.hi.len() == 0 || !node.hi.as_ref().cmp(key).is_le())
-}
-
-// Whether a node lies under what a walk aims at. A key, as most walks have it, is compared by itself, which is quicker.
+// Whether a node lies under what a walk aims at. Most walks have a key, which is told apart once.
 #[inline(always)]
 fn is_under(job: &Job, aim: &Aim, node: &Node) -> bool
     ensures { IsTrue result ↔ LiesUnder (aim_of job.now aim.now) node.now }
 {
     match target(job, aim) {
-        Bound::Included(key) => covers(node, key),
+        Bound::Included(key) => lies_under(node, Bound::Included(key)),
         bound => lies_under(node, bound),
     }
 }

@@ -1,11 +1,9 @@
 -- The writes of a group, one after the other, from its begin to its end.
-use Rattle.std.proofs.Common.{◌≡◌, ◌≢◌, ℕ, ◌⊎◌, Bool, true, false, if◌then◌else◌, ◌+◌, suc, List, [], ◌∷◌, length, Option, None, Some, Result, Ok, Err, OnOk, IfErr, sym, refl, ap, ◌∙◌, subst, inl, inr, arith}
+use Rattle.std.proofs.Common.{◌≡◌, ◌≢◌, ℕ, ◌⊎◌, Bool, true, false, if◌then◌else◌, ◌+◌, suc, List, [], ◌∷◌, length, Option, Result, Ok, Err, OnOk, IfErr, sym, refl, ap, ◌∙◌, subst, inl, inr, arith}
 use Rattle.std.specs.Str.{bytes_eq}
 use Rattle.std.proofs.lemmas.Slice.Eq.{bytes_eq-Decides}
 use Rattle.sled_nodes.specs.declared.error.Error.{Error}
 use Rattle.sled_nodes.specs.declared.error.Error.TheVariants as error
-use Rattle.sled_nodes.specs.declared.node.Node.{Node}
-use Rattle.sled_store.specs.In.{In}
 use Rattle.sled_store.specs.State.{GroupBegins, GroupEnds}
 use Rattle.sled_store.specs.Store.{Store, now, after_action, is_refused_as, IsRefused}
 use Rattle.sled_model.specs.Answer.{answer_of}
@@ -13,43 +11,16 @@ use Rattle.sled_model.specs.Maps.{Merge}
 use Rattle.sled_model.specs.Refusal.{needs_operator}
 use Rattle.sled_model.specs.State.{IsOnKey}
 use Rattle.tree_laws.specs.Crashes.{AddsCrashStates}
-use Rattle.tree_laws.specs.Forest.{Tree, Forest, Place, contents}
+use Rattle.tree_laws.specs.Forest.{Tree, Forest, contents}
 use Rattle.tree_laws.specs.Snapshot.{Snapshot, snapshot_of, nodes_at, HasForest}
 use Rattle.tree_laws.proofs.Crashing.{extends_nothing, extends_same, extends_again}
 use Rattle.sled_tree.specs.declared.flight.InFlight.{InFlight}
 use Rattle.sled_tree.specs.declared.flight.Job.{Job}
-use Rattle.tree_groups.specs.Groups.{AreFresh, jobs_of, AreNumbered, map_after_jobs, WrittenAll, seals_as, MakesGroup, KeepsForests, LeavesGroup}
-use Rattle.tree_groups.specs.theory.Groups.{WritesAll, StopsWritingAll}
-use Rattle.tree_groups.specs.Writes.{IsFresh, ActsOften, NoAction, is_write_refused_as, Keeps, WrittenAt, MakesWrite, StopsWriting}
-use Rattle.tree_groups.proofs.Writing.{often_then, number_given, keeps_first, open_law, refused_law, sealed_law, bounds_law}
-
--- ---- the pages
-
--- what was kept first and then again was kept
-keeps_then : (m n o : Snapshot) (w u v : Forest) → HasForest m w → Keeps m w n u → Keeps n u o v → Keeps m w o v
-keeps_then m n o w u v was a b = record {
-  is = b.is;
-  sized = λ s. b.sized (a.sized s);
-  known = λ f k. b.known f (a.known f k);
-  loses = λ x p i. let here = was.formed.page x p (was.formed.homed x p i) in go x p (number_given m w was p here.0 here.1.live) (a.loses x p i);
-  last = record {
-    pids = λ p e. b.last.pids p (a.last.pids p e);
-    merges = λ p d live on. elim (a.last.merges p d live on) [
-      | inl same ↦ b.last.merges p d same on
-      | inr none ↦ inr (b.last.gone p (a.last.pids p (number_given m w was p d live)) none)
-    ];
-    gone = λ p given none. b.last.gone p (a.last.pids p given) (a.last.gone p given none);
-  };
-}
-  where
-    go : (x : Place) (p : ℕ) → m.pids p ≡ true → In p (u.chain x) ⊎ (((d : Node) × (nodes_at n p ≡ Some d) × (d.merging ≡ true)) ⊎ (nodes_at n p ≡ None))
-        → In p (v.chain x) ⊎ (((d : Node) × (nodes_at o p ≡ Some d) × (d.merging ≡ true)) ⊎ (nodes_at o p ≡ None))
-    go x p given (inl i) = b.loses x p i
-    go x p given (inr (inl (d, live, on))) = elim (b.last.merges p d live on) [
-      | inl same ↦ inr (inl (d, same, on))
-      | inr none ↦ inr (inr none)
-    ]
-    go x p given (inr (inr none)) = inr (inr (b.last.gone p (a.last.pids p given) none))
+use Rattle.tree_groups.specs.Groups.{IsAtLeaf, AreReady, jobs_of, AreNumbered, AreKnown, map_after_jobs, WrittenAll, seals_as, MakesGroup, KeepsForests, LeavesGroup}
+use Rattle.tree_groups.specs.theory.Groups.{MakesKnown, StopsKnown, WritesAll, StopsWritingAll}
+use Rattle.tree_groups.specs.Writes.{IsFresh, ActsOften, NoAction, is_write_refused_as, Keeps, WrittenAt}
+use Rattle.tree_groups.proofs.Ready.{keeps_then, all_known}
+use Rattle.tree_groups.proofs.Writing.{often_then, keeps_first, open_law, refused_law, sealed_law, bounds_law}
 
 -- ---- the contents
 
@@ -74,8 +45,8 @@ pub none_left : {X : Type 0} (rest : List X) → length rest ≡ 0 → rest ≡ 
 none_left [] e = refl
 none_left (x ∷ xs) e = absurd (omega arith)
 
-pub no_jobs : (flights : List InFlight) (n : ℕ) → n ≡ length flights → n ≡ 0 → jobs_of flights ≡ []
-no_jobs flights n is none = ap jobs_of (none_left flights (sym is ∙ none))
+pub no_flights : (flights : List InFlight) (n : ℕ) → n ≡ length flights → n ≡ 0 → flights ≡ []
+no_flights flights n is none = none_left flights (sym is ∙ none)
 
 pub some_jobs : (flights : List InFlight) (n : ℕ) → n ≡ length flights → n ≢ 0 → jobs_of flights ≢ []
 some_jobs [] n is some e = some is
@@ -83,51 +54,54 @@ some_jobs (f ∷ fs) n is some e = cc
 
 -- ---- how far the writes have come
 
--- at a moment: what is left makes of the contents now what all make of those before, and its trees have their numbers
-pub record IsSoFar (numbers : Tree → Option ℕ) (all rest : List Job) (m : Snapshot) (w : Forest) (n : Snapshot) : Type 0 where
+-- at a moment: what is left makes of the contents now what all make of those before, its trees have their numbers, and its calls know
+-- what is true
+pub record IsSoFar (numbers : Tree → Option ℕ) (all : List Job) (rest : List InFlight) (m : Snapshot) (w : Forest) (n : Snapshot) : Type 0 where
   pub after : Forest
   pub keeps : Keeps m w n after
-  pub named : AreNumbered numbers rest
-  pub is : (operator : Option Merge) (t : Tree) → map_after_jobs operator rest t (contents (nodes_at n) after t) ≡ map_after_jobs operator all t (contents (nodes_at m) w t)
+  pub named : AreNumbered numbers (jobs_of rest)
+  pub known : AreKnown n rest
+  pub is : (operator : Option Merge) (t : Tree) → map_after_jobs operator (jobs_of rest) t (contents (nodes_at n) after t) ≡ map_after_jobs operator all t (contents (nodes_at m) w t)
 
 -- from the store before the writes to the store now
-pub record SoFar (all : List Job) (rest : List InFlight) (old new : Store) : Type 0 where
+pub record SoFar (all rest : List InFlight) (old new : Store) : Type 0 where
   pub acts : ActsOften old new
-  pub fresh : AreFresh rest
-  pub told : (numbers : Tree → Option ℕ) (given : ℕ → Bool) (w : Forest) → HasForest (snapshot_of old numbers given) w → AreNumbered numbers all
-      → IsSoFar numbers all (jobs_of rest) (snapshot_of old numbers given) w (snapshot_of new numbers given)
+  pub ready : AreReady rest
+  pub told : (numbers : Tree → Option ℕ) (given : ℕ → Bool) (w : Forest) → HasForest (snapshot_of old numbers given) w → AreNumbered numbers (jobs_of all) → AreKnown (snapshot_of old numbers given) all
+      → IsSoFar numbers (jobs_of all) rest (snapshot_of old numbers given) w (snapshot_of new numbers given)
 
-pub so_far_first : (all rest : List InFlight) (s : Store) → rest ≡ all → AreFresh all → SoFar (jobs_of all) rest s s
-so_far_first all rest s e fresh = subst (λ (l : List InFlight). SoFar (jobs_of all) l s s) (sym e) (record {
+pub so_far_first : (all rest : List InFlight) (s : Store) → rest ≡ all → AreReady all → SoFar all rest s s
+so_far_first all rest s e ready = subst (λ (l : List InFlight). SoFar all l s s) (sym e) (record {
   acts = NoAction;
-  fresh = fresh;
-  told = λ numbers given w is named. record { after = w; keeps = keeps_first (snapshot_of s numbers given) w is; named = named; is = λ operator t. refl };
+  ready = ready;
+  told = λ numbers given w is named known. record { after = w; keeps = keeps_first (snapshot_of s numbers given) w is; named = named; known = known; is = λ operator t. refl };
 })
 
 -- the next write
-pub so_far_fresh : (all : List Job) (f : InFlight) (fs rest : List InFlight) (old new : Store) → rest ≡ f ∷ fs → SoFar all rest old new → IsFresh f × IsOnKey f.job.call × (needs_operator f.job.call ≡ false)
-so_far_fresh all f fs rest old new e k = (subst AreFresh e k.fresh).0
+pub so_far_ready : (all : List InFlight) (f : InFlight) (fs rest : List InFlight) (old new : Store) → rest ≡ f ∷ fs → SoFar all rest old new → (IsFresh f ⊎ IsAtLeaf f) × IsOnKey f.job.call × (needs_operator f.job.call ≡ false)
+so_far_ready all f fs rest old new e k = (subst AreReady e k.ready).0
 
 -- one more is made
-pub so_far_more : (all : List Job) (f : InFlight) (fs rest : List InFlight) (old a b : Store) → rest ≡ f ∷ fs → SoFar all rest old a → MakesWrite f.job a b → SoFar all fs old b
+pub so_far_more : (all : List InFlight) (f : InFlight) (fs rest : List InFlight) (old a b : Store) → rest ≡ f ∷ fs → SoFar all rest old a → MakesKnown f a b → SoFar all fs old b
 so_far_more all f fs rest old a b e before x = go (subst (λ (l : List InFlight). SoFar all l old a) e before)
   where
     go : SoFar all (f ∷ fs) old a → SoFar all fs old b
     go k = record {
       acts = often_then k.acts x.acts;
-      fresh = k.fresh.1;
-      told = λ numbers given w is named.
-          let p = k.told numbers given w is named in
-          let r = x.told numbers given p.after p.keeps.is p.named.0 in record {
+      ready = k.ready.1;
+      told = λ numbers given w is named known.
+          let p = k.told numbers given w is named known in
+          let r = x.told numbers given p.after p.keeps.is p.named.0 p.known.0 in record {
             after = r.after;
             keeps = keeps_then (snapshot_of old numbers given) (snapshot_of a numbers given) (snapshot_of b numbers given) w p.after r.after is p.keeps r.keeps;
             named = p.named.1;
+            known = all_known (snapshot_of a numbers given) (snapshot_of b numbers given) p.after r.after r.keeps fs p.known.1;
             is = λ operator t. ap (map_after_jobs operator (jobs_of fs) t) (written_each f.job (snapshot_of a numbers given) p.after (snapshot_of b numbers given) r operator t) ∙ p.is operator t;
           };
     }
 
 -- one is refused
-pub so_far_refused : (all : List Job) (f : InFlight) (fs rest : List InFlight) (old a b : Store) (e : Error) → rest ≡ f ∷ fs → SoFar all rest old a → StopsWriting f.job a b e
+pub so_far_refused : (all : List InFlight) (f : InFlight) (fs rest : List InFlight) (old a b : Store) (e : Error) → rest ≡ f ∷ fs → SoFar all rest old a → StopsKnown f a b e
     → StopsWritingAll all old b e
 so_far_refused all f fs rest old a b e here before x = go (subst (λ (l : List InFlight). SoFar all l old a) here before)
   where
@@ -136,22 +110,22 @@ so_far_refused all f fs rest old a b e here before x = go (subst (λ (l : List I
       last = x.last;
       acts = often_then k.acts x.acts;
       refused = x.refused;
-      told = λ numbers given w is named.
-          let p = k.told numbers given w is named in
-          let r = x.told numbers given p.after p.keeps.is p.named.0 in record {
+      told = λ numbers given w is named known.
+          let p = k.told numbers given w is named known in
+          let r = x.told numbers given p.after p.keeps.is p.named.0 p.known.0 in record {
             after = r.after;
             keeps = keeps_then (snapshot_of old numbers given) (snapshot_of a numbers given) (snapshot_of b numbers given) w p.after r.after is p.keeps r.keeps;
           };
     }
 
 -- all are made
-pub so_far_all : (all : List Job) (rest : List InFlight) (old new : Store) → rest ≡ [] → SoFar all rest old new → WritesAll all old new
+pub so_far_all : (all rest : List InFlight) (old new : Store) → rest ≡ [] → SoFar all rest old new → WritesAll all old new
 so_far_all all rest old new none before = go (subst (λ (l : List InFlight). SoFar all l old new) none before)
   where
     go : SoFar all [] old new → WritesAll all old new
     go k = record {
       acts = k.acts;
-      told = λ numbers given w is named. let p = k.told numbers given w is named in record { after = p.after; keeps = p.keeps; is = p.is };
+      told = λ numbers given w is named known. let p = k.told numbers given w is named known in record { after = p.after; keeps = p.keeps; is = p.is };
     }
 
 -- ---- the group
@@ -189,63 +163,63 @@ forest_stays : (m n : Snapshot) (w : Forest) → n ≡ m → HasForest m w → K
 forest_stays m n w e is = subst (λ (o : Snapshot). KeepsForests m w o) (sym e) (record { after = w; keeps = keeps_first m w is })
 
 -- without a write
-pub group_of_none : (js : List Job) (s : Store) → js ≡ [] → (now s).in_group ≡ false → MakesGroup js s s
-group_of_none js s none outside = subst (λ (l : List Job). MakesGroup l s s) (sym none) (record {
+pub group_of_none : (fs : List InFlight) (s : Store) → fs ≡ [] → (now s).in_group ≡ false → MakesGroup fs s s
+group_of_none fs s none outside = subst (λ (l : List InFlight). MakesGroup l s s) (sym none) (record {
   acts = refl;
   adds = λ well. extends_again (extends_same s) outside;
-  told = λ numbers given w is named. record { after = w; keeps = keeps_first (snapshot_of s numbers given) w is; is = λ operator t. refl };
+  told = λ numbers given w is named known. record { after = w; keeps = keeps_first (snapshot_of s numbers given) w is; is = λ operator t. refl };
 })
 
 -- it is not begun
-pub group_not_begun : (js : List Job) (a b : Store) (e : Error) → js ≢ [] → is_refused_as e a b → LeavesGroup js a b e
-group_not_begun js a b e some refused = record {
+pub group_not_begun : (fs : List InFlight) (a b : Store) (e : Error) → jobs_of fs ≢ [] → is_refused_as e a b → LeavesGroup fs a b e
+group_not_begun fs a b e some refused = record {
   some = some;
   acts = inl refused;
   adds = refused_adds a b (refused_marks e a b refused);
-  told = λ numbers given w is named. forest_stays (snapshot_of a numbers given) (snapshot_of b numbers given) w (refused_shows a b (refused_marks e a b refused) numbers given) is;
+  told = λ numbers given w is named known. forest_stays (snapshot_of a numbers given) (snapshot_of b numbers given) w (refused_shows a b (refused_marks e a b refused) numbers given) is;
 }
 
 -- it is open when its writes are made
-pub group_open : (js : List Job) (old begun last : Store) → begun ≡ after_action GroupBegins old → WritesAll js begun last → (now last).in_group ≡ true
-group_open js old begun last begins x = (open_law old begun last begins x.acts).inside
+pub group_open : (fs : List InFlight) (old begun last : Store) → begun ≡ after_action GroupBegins old → WritesAll fs begun last → (now last).in_group ≡ true
+group_open fs old begun last begins x = (open_law old begun last begins x.acts).inside
 
-module _ (js : List Job) (some : js ≢ []) (old begun : Store) (begins : begun ≡ after_action GroupBegins old) where
+module _ (fs : List InFlight) (some : jobs_of fs ≢ []) (old begun : Store) (begins : begun ≡ after_action GroupBegins old) where
   -- a write is refused
-  pub group_refused : (new : Store) (e : Error) → StopsWritingAll js begun new e → LeavesGroup js old new e
+  pub group_refused : (new : Store) (e : Error) → StopsWritingAll fs begun new e → LeavesGroup fs old new e
   group_refused new e x =
       let inside = refused_law old begun x.last new e begins x.acts x.refused in record {
         some = some;
         acts = inr (x.last, record { begun = begun; is = begins; acts = x.acts }, x.refused, inside.inside);
         adds = inside.adds;
-        told = λ numbers given w is named.
+        told = λ numbers given w is named known.
             let p = bounds_law old begun (inl begins) numbers given w is in
-            let r = x.told numbers given p.after p.keeps.is named in record {
+            let r = x.told numbers given p.after p.keeps.is named (all_known (snapshot_of old numbers given) (snapshot_of begun numbers given) w p.after p.keeps fs known) in record {
               after = r.after;
               keeps = keeps_then (snapshot_of old numbers given) (snapshot_of begun numbers given) (snapshot_of new numbers given) w p.after r.after is p.keeps r.keeps;
             };
       }
 
-  module _ (last : Store) (x : WritesAll js begun last) where
-    written : (numbers : Tree → Option ℕ) (given : ℕ → Bool) (w : Forest) → HasForest (snapshot_of old numbers given) w → AreNumbered numbers js
-        → WrittenAll js (snapshot_of old numbers given) w (snapshot_of last numbers given)
-    written numbers given w is named =
+  module _ (last : Store) (x : WritesAll fs begun last) where
+    written : (numbers : Tree → Option ℕ) (given : ℕ → Bool) (w : Forest) → HasForest (snapshot_of old numbers given) w → AreNumbered numbers (jobs_of fs) → AreKnown (snapshot_of old numbers given) fs
+        → WrittenAll (jobs_of fs) (snapshot_of old numbers given) w (snapshot_of last numbers given)
+    written numbers given w is named known =
         let p = bounds_law old begun (inl begins) numbers given w is in
-        let r = x.told numbers given p.after p.keeps.is named in record {
+        let r = x.told numbers given p.after p.keeps.is named (all_known (snapshot_of old numbers given) (snapshot_of begun numbers given) w p.after p.keeps fs known) in record {
           after = r.after;
           keeps = keeps_then (snapshot_of old numbers given) (snapshot_of begun numbers given) (snapshot_of last numbers given) w p.after r.after is p.keeps r.keeps;
-          is = λ operator t. r.is operator t ∙ ap (map_after_jobs operator js t) (p.same t);
+          is = λ operator t. r.is operator t ∙ ap (map_after_jobs operator (jobs_of fs) t) (p.same t);
         }
 
     -- it is not sealed
-    pub group_not_sealed : (new : Store) (e : Error) → is_refused_as e last new → LeavesGroup js old new e
+    pub group_not_sealed : (new : Store) (e : Error) → is_refused_as e last new → LeavesGroup fs old new e
     group_not_sealed new e refused =
         let why = refused_store e last new refused in
         let inside = refused_law old begun last new e begins x.acts why in record {
           some = some;
           acts = inr (last, record { begun = begun; is = begins; acts = x.acts }, why, inside.inside);
           adds = inside.adds;
-          told = λ numbers given w is named.
-              let p = written numbers given w is named in
+          told = λ numbers given w is named known.
+              let p = written numbers given w is named known in
               let r = forest_stays (snapshot_of last numbers given) (snapshot_of new numbers given) p.after (refused_shows last new (refused_marks e last new refused) numbers given) p.keeps.is in record {
                 after = r.after;
                 keeps = keeps_then (snapshot_of old numbers given) (snapshot_of last numbers given) (snapshot_of new numbers given) w p.after r.after is p.keeps r.keeps;
@@ -253,12 +227,12 @@ module _ (js : List Job) (some : js ≢ []) (old begun : Store) (begins : begun 
         }
 
     -- it is sealed
-    pub group_sealed : (new : Store) → new ≡ after_action GroupEnds last → MakesGroup js old new
+    pub group_sealed : (new : Store) → new ≡ after_action GroupEnds last → MakesGroup fs old new
     group_sealed new seals = record {
-      acts = seals_so js some;
+      acts = seals_so (jobs_of fs) some;
       adds = λ well. sealed_law old begun last new begins x.acts seals well;
-      told = λ numbers given w is named.
-          let p = written numbers given w is named in
+      told = λ numbers given w is named known.
+          let p = written numbers given w is named known in
           let r = bounds_law last new (inr seals) numbers given p.after p.keeps.is in record {
             after = r.after;
             keeps = keeps_then (snapshot_of old numbers given) (snapshot_of last numbers given) (snapshot_of new numbers given) w p.after r.after is p.keeps r.keeps;
@@ -271,10 +245,10 @@ module _ (js : List Job) (some : js ≢ []) (old begun : Store) (begins : begun 
         seals_so (j ∷ l) some = (last, record { begun = begun; is = begins; acts = x.acts }, seals)
 
     -- as the store answers
-    pub group_ends : (new : Store) (r : Result (Unit {0}) Error) → OnOk r (new ≡ after_action GroupEnds last) → OnOk r (MakesGroup js old new)
+    pub group_ends : (new : Store) (r : Result (Unit {0}) Error) → OnOk r (new ≡ after_action GroupEnds last) → OnOk r (MakesGroup fs old new)
     group_ends new (Ok u) t = group_sealed new t
     group_ends new (Err e) t = tt
 
-    pub group_stays_open : (new : Store) (r : Result (Unit {0}) Error) → IfErr r (λ e. IsRefused e last new) → IfErr r (LeavesGroup js old new)
+    pub group_stays_open : (new : Store) (r : Result (Unit {0}) Error) → IfErr r (λ e. IsRefused e last new) → IfErr r (LeavesGroup fs old new)
     group_stays_open new (Ok u) t = tt
     group_stays_open new (Err e) t = group_not_sealed new e t.is

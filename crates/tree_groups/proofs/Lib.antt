@@ -1,3 +1,4 @@
 pub mod Ways
 pub mod Writing
+pub mod Ready
 pub mod Grouping

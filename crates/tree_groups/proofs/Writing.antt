@@ -41,7 +41,7 @@ use Rattle.sled_tree.specs.declared.flight.Went.TheVariants.{Moved, Decided, Ref
 use Rattle.sled_tree.proofs.Facts.{rests}
 use Rattle.sled_tree.proofs.Known.{known_kept, not_own, aims}
 use Rattle.tree_groups.proofs.Ways.{stays_on_way}
-use Rattle.tree_groups.specs.Writes.{IsFresh, ActsOften, NoAction, OneAction, is_write_refused_as, Keeps, MakesWrite, KeepsMapsAt, StopsWriting, IsInside, OpenGroupLaw, RefusedGroupLaw, SealedGroupLaw, GroupBoundsLaw}
+use Rattle.tree_groups.specs.Writes.{IsFresh, ActsOften, NoAction, OneAction, is_write_refused_as, Keeps, WrittenAt, MakesWrite, KeepsMapsAt, StopsWriting, IsInside, OpenGroupLaw, RefusedGroupLaw, SealedGroupLaw, GroupBoundsLaw}
 
 pub none_some : {P X : Type 0} {x : X} → None ≡ Some x → P
 none_some e = cc
@@ -52,12 +52,12 @@ pub often_then : {a b c : Store} → ActsOften a b → ActsOften b c → ActsOft
 often_then NoAction rest = rest
 often_then (OneAction one more) rest = OneAction one (often_then more rest)
 
-often_once : (a b : Store) → ActsAtMostOnce a b → ActsOften a b
+pub often_once : (a b : Store) → ActsAtMostOnce a b → ActsOften a b
 often_once a b (inl e) = subst (λ (s : Store). ActsOften a s) (sym e) NoAction
 often_once a b (inr o) = OneAction o NoAction
 
 -- a refused step refuses the write, and not for its turns
-refused_so : (e : Error) (a b : Store) → is_action_refused_as e a b → is_write_refused_as e a b
+pub refused_so : (e : Error) (a b : Store) → is_action_refused_as e a b → is_write_refused_as e a b
 refused_so error.NoMemory a b t = t
 refused_so (error.Io fault) a b t = t
 refused_so (error.CollectionNotFound name) a b t = absurd t
@@ -208,6 +208,55 @@ on_way_first s f fresh key = record {
     none_passed : (t n : ℕ) → t ≡ 0 → n ≡ t + n
     none_passed t n e = omega arith
 
+-- ---- one step more, at a moment
+
+module _ (j : Job) (old a b : Store) (f : InFlight) (numbers : Tree → Option ℕ) (given : ℕ → Bool) (w : Forest) (is : HasForest (snapshot_of old numbers given) w) (named : numbers j.tree.name ≡ Some j.tree.number)
+    (p : IsOnWay j (snapshot_of old numbers given) w (snapshot_of a numbers given) f) where
+  abbrev at_first : Snapshot
+  at_first = snapshot_of old numbers given
+
+  abbrev at_last : Snapshot
+  at_last = snapshot_of a numbers given
+
+  abbrev at_next : Snapshot
+  at_next = snapshot_of b numbers given
+
+  keeps_step : {mine own : List ℕ} (v : Forest) → ((h : InFlight) → IsKnown at_first h → (q : ℕ) → In q mine → In q (owned h.stage) → ⊥) → KeepsForest mine own at_last p.after at_next v → Keeps at_first w at_next v
+  keeps_step v off r = keeps_more at_first at_last at_next w p.after v is p.keeps r off
+
+  -- the call goes on
+  pub moved_at : (g : InFlight) → StageActionBy (Only None) (course j Own) a f.stage (next.Go g.stage) b → IsOnWay j at_first w at_next g
+  moved_at g step =
+      let r = step.is numbers given p.after p.keeps.is named p.knows in record {
+        after = r.0;
+        keeps = keeps_step r.0 (λ h y. (p.apart h y).off) r.1;
+        knows = r.2.0;
+        same = λ t. r.2.1.same t ∙ p.same t;
+        apart = λ h y. record { off = λ q i l. not_own p.keeps.is r.1 h (p.keeps.known h y) (p.apart h y).off q l i };
+      }
+
+  -- it is decided
+  pub decided_at : needs_operator j.call ≡ false → (reply : Reply) → StageActionBy (Only None) (course j Own) a f.stage (next.Decided reply) b → WrittenAt j at_first w at_next
+  decided_at plain reply step =
+      let r = step.is numbers given p.after p.keeps.is named p.knows in
+      let d = r.2 None refl in record {
+        after = r.0;
+        keeps = keeps_step r.0 (λ h y. (p.apart h y).off) r.1;
+        here = λ operator. d.here ∙ ap (λ z. (answer_of None j.call z).map) (p.same j.tree.name) ∙ plain_answer j.call plain operator (contents (nodes_at at_first) w j.tree.name);
+        others = λ t off. d.others t off ∙ p.same t;
+      }
+
+  -- it is refused
+  pub refused_at : (e : Error) → StageActionBy (Only None) (course j Own) a f.stage (next.Refused e) b → KeepsMapsAt at_first w at_next
+  refused_at e step =
+      let r = step.is numbers given p.after p.keeps.is named p.knows in record {
+        after = r.0;
+        keeps = keeps_step r.0 (λ h y. (p.apart h y).off) r.1;
+        same = λ t. r.2.same t ∙ p.same t;
+      }
+
+-- ---- and from the store before the write
+
 module _ (j : Job) (old a : Store) (f : InFlight) (k : OnWay j old a f) (b : Store) where
   on_course : (n : Next) → StageActionBy (Only None) (course_of f) a f.stage n b → StageActionBy (Only None) (course j Own) a f.stage n b
   on_course n s = subst (λ (z : Course). StageActionBy (Only None) z a f.stage n b) k.course_is s
@@ -225,15 +274,7 @@ module _ (j : Job) (old a : Store) (f : InFlight) (k : OnWay j old a f) (b : Sto
           count = one_passed (length path) f.turns g.turns (length p.rest) (length r.0) p.count x.is.2 r.1;
           ahead = subst (λ (z : Course). IsOnPath (now b) z g.stage r.0) course_on r.2;
         };
-    told = λ numbers given w is named.
-        let p = k.told numbers given w is named in
-        let r = step.is numbers given p.after p.keeps.is named p.knows in record {
-          after = r.0;
-          keeps = keeps_more (snapshot_of old numbers given) (snapshot_of a numbers given) (snapshot_of b numbers given) w p.after r.0 is p.keeps r.1 (λ h y. (p.apart h y).off);
-          knows = r.2.0;
-          same = λ t. r.2.1.same t ∙ p.same t;
-          apart = λ h y. record { off = λ q i l. not_own p.keeps.is r.1 h (p.keeps.known h y) (p.apart h y).off q l i };
-        };
+    told = λ numbers given w is named. moved_at j old a b f numbers given w is named (k.told numbers given w is named) g step;
   }
     where
       step : StageActionBy (Only None) (course j Own) a f.stage (next.Go g.stage) b
@@ -249,15 +290,7 @@ module _ (j : Job) (old a : Store) (f : InFlight) (k : OnWay j old a f) (b : Sto
   pub on_way_decided : needs_operator j.call ≡ false → (reply : Reply) (g : InFlight) → FlightStepBy (Only None) a f (Decided reply) b g → MakesWrite j old b
   on_way_decided plain reply g x = record {
     acts = often_then k.acts (often_once a b step.touches);
-    told = λ numbers given w is named.
-        let p = k.told numbers given w is named in
-        let r = step.is numbers given p.after p.keeps.is named p.knows in
-        let d = r.2 None refl in record {
-          after = r.0;
-          keeps = keeps_more (snapshot_of old numbers given) (snapshot_of a numbers given) (snapshot_of b numbers given) w p.after r.0 is p.keeps r.1 (λ h y. (p.apart h y).off);
-          here = λ operator. d.here ∙ ap (λ z. (answer_of None j.call z).map) (p.same j.tree.name) ∙ plain_answer j.call plain operator (contents (nodes_at (snapshot_of old numbers given)) w j.tree.name);
-          others = λ t off. d.others t off ∙ p.same t;
-        };
+    told = λ numbers given w is named. decided_at j old a b f numbers given w is named (k.told numbers given w is named) plain reply step;
   }
     where
       step : StageActionBy (Only None) (course j Own) a f.stage (next.Decided reply) b
@@ -270,13 +303,7 @@ module _ (j : Job) (old a : Store) (f : InFlight) (k : OnWay j old a f) (b : Sto
     acts = k.acts;
     refused = refused_so e a b step.touches;
     turns = λ tells path clean. absurd (untold e a b step.touches tells);
-    told = λ numbers given w is named.
-        let p = k.told numbers given w is named in
-        let r = step.is numbers given p.after p.keeps.is named p.knows in record {
-          after = r.0;
-          keeps = keeps_more (snapshot_of old numbers given) (snapshot_of a numbers given) (snapshot_of b numbers given) w p.after r.0 is p.keeps r.1 (λ h y. (p.apart h y).off);
-          same = λ t. r.2.same t ∙ p.same t;
-        };
+    told = λ numbers given w is named. refused_at j old a b f numbers given w is named (k.told numbers given w is named) e step;
   }
     where
       step : StageActionBy (Only None) (course j Own) a f.stage (next.Refused e) b

@@ -4,6 +4,7 @@ use Rattle.std.specs.Str.{bytes_eq}
 use Rattle.sled_nodes.specs.declared.error.Error.{Error}
 use Rattle.sled_store.specs.State.{GroupBegins, GroupEnds}
 use Rattle.sled_store.specs.Store.{Store, now, after_action, is_refused_as}
+use Rattle.sled_store.specs.declared.page.View.{View}
 use Rattle.sled_model.specs.Maps.{Map, Merge}
 use Rattle.sled_model.specs.Answer.{answer_of}
 use Rattle.sled_model.specs.Refusal.{needs_operator}
@@ -12,14 +13,26 @@ use Rattle.tree_laws.specs.Contents.{trees_of}
 use Rattle.tree_laws.specs.Crashes.{AddsCrashStates, IsValid}
 use Rattle.tree_laws.specs.Forest.{Tree, Forest, contents}
 use Rattle.tree_laws.specs.Snapshot.{Snapshot, snapshot_of, nodes_at, HasForest}
+use Rattle.tree_laws.specs.declared.flight.Stage.TheVariants.{Act}
+use Rattle.sled_tree.specs.Known.{IsKnown}
+use Rattle.sled_tree.specs.declared.flight.Aim.TheVariants.{Own}
 use Rattle.sled_tree.specs.declared.flight.InFlight.{InFlight}
 use Rattle.sled_tree.specs.declared.flight.Job.{Job}
 use Rattle.tree_groups.specs.Writes.{IsFresh, ActsOften, is_write_refused_as, Keeps}
 
--- each call has yet to begin, is one on a key, and needs no operator
-abbrev pub AreFresh : List InFlight → Type 0
-AreFresh [] = Unit {0}
-AreFresh (f ∷ fs) = (IsFresh f × IsOnKey f.job.call × (needs_operator f.job.call ≡ false)) × AreFresh fs
+-- a call that is to link its change at a leaf that it has read
+abbrev pub IsAtLeaf : InFlight → Type 0
+IsAtLeaf f = (leaf : View) × (f ≡ record { job = f.job; aim = Own; stage = Act leaf; turns = 1 })
+
+-- each call has yet to begin, or is to link its change; it is one on a key, and needs no operator
+abbrev pub AreReady : List InFlight → Type 0
+AreReady [] = Unit {0}
+AreReady (f ∷ fs) = ((IsFresh f ⊎ IsAtLeaf f) × IsOnKey f.job.call × (needs_operator f.job.call ≡ false)) × AreReady fs
+
+-- what each call knows of the pages is true
+abbrev pub AreKnown : Snapshot → List InFlight → Type 0
+AreKnown m [] = Unit {0}
+AreKnown m (f ∷ fs) = IsKnown m f × AreKnown m fs
 
 abbrev pub jobs_of : List InFlight → List Job
 jobs_of flights = map (λ f. f.job) flights
@@ -52,12 +65,12 @@ seals_as [] old new = new ≡ old
 seals_as (j ∷ js) old new = (last : Store) × ActsInside old last × (new ≡ after_action GroupEnds last)
 
 -- A group of writes is made: it is begun, the writes are made, one after the other, and it is sealed. A crash may leave what it leaves,
--- and nothing else of it
-pub record MakesGroup (js : List Job) (old new : Store) : Type 0 where
-  pub acts : seals_as js old new
+-- and nothing else of it. What the calls know is to be true before
+pub record MakesGroup (fs : List InFlight) (old new : Store) : Type 0 where
+  pub acts : seals_as (jobs_of fs) old new
   pub adds : IsValid (now new) → AddsCrashStates (trees_of (now new) ∷ []) old new
-  pub told : (numbers : Tree → Option ℕ) (given : ℕ → Bool) (w : Forest) → HasForest (snapshot_of old numbers given) w → AreNumbered numbers js
-      → WrittenAll js (snapshot_of old numbers given) w (snapshot_of new numbers given)
+  pub told : (numbers : Tree → Option ℕ) (given : ℕ → Bool) (w : Forest) → HasForest (snapshot_of old numbers given) w → AreNumbered numbers (jobs_of fs) → AreKnown (snapshot_of old numbers given) fs
+      → WrittenAll (jobs_of fs) (snapshot_of old numbers given) w (snapshot_of new numbers given)
 
 -- the pages are well formed after any number of actions, whatever the contents are
 pub record KeepsForests (m : Snapshot) (w : Forest) (n : Snapshot) : Type 0 where
@@ -66,9 +79,9 @@ pub record KeepsForests (m : Snapshot) (w : Forest) (n : Snapshot) : Type 0 wher
 
 -- A group is refused: where it is to begin, and then nothing was done; or at a write or where it is to be sealed, and then it stays open
 -- and nothing more is done. A crash leaves nothing of it. A group without a write is not refused
-pub record LeavesGroup (js : List Job) (old new : Store) (e : Error) : Type 0 where
-  pub some : js ≢ []
+pub record LeavesGroup (fs : List InFlight) (old new : Store) (e : Error) : Type 0 where
+  pub some : jobs_of fs ≢ []
   pub acts : is_refused_as e old new ⊎ ((last : Store) × ActsInside old last × is_write_refused_as e last new × ((now new).in_group ≡ true))
   pub adds : AddsCrashStates [] old new
-  pub told : (numbers : Tree → Option ℕ) (given : ℕ → Bool) (w : Forest) → HasForest (snapshot_of old numbers given) w → AreNumbered numbers js
+  pub told : (numbers : Tree → Option ℕ) (given : ℕ → Bool) (w : Forest) → HasForest (snapshot_of old numbers given) w → AreNumbered numbers (jobs_of fs) → AreKnown (snapshot_of old numbers given) fs
       → KeepsForests (snapshot_of old numbers given) w (snapshot_of new numbers given)

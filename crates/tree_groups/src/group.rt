@@ -1,17 +1,17 @@
 //! Writes of a group.
-ghost use Rattle.std.specs.Prelude.{◌≡◌, false, OnOk, IfErr};
+ghost use Rattle.std.specs.Prelude.{◌≡◌, ◌⊎◌, false, OnOk, IfErr};
 ghost use Rattle.sled_model.specs.Refusal.{needs_operator};
 ghost use Rattle.sled_model.specs.State.{IsOnKey};
 ghost use Rattle.sled_store.specs.Store.{now};
-ghost use Rattle.tree_groups.specs.Groups.{AreFresh, jobs_of, MakesGroup, LeavesGroup};
-ghost use Rattle.tree_groups.specs.theory.Groups.{WritesAll, StopsWritingAll};
+ghost use Rattle.tree_groups.specs.Groups.{IsAtLeaf, AreReady, MakesGroup, LeavesGroup};
+ghost use Rattle.tree_groups.specs.theory.Groups.{MakesKnown, StopsKnown, WritesAll, StopsWritingAll};
 ghost use Rattle.tree_groups.specs.Writes.{IsFresh, MakesWrite, StopsWriting, OpenGroupLaw, RefusedGroupLaw, SealedGroupLaw, GroupBoundsLaw};
 
 use sled_model::{MAX_LOOPS, MergeOperator};
 use sled_nodes::texts::WALK_PASSED_TURNS;
 use sled_nodes::{Error, Result};
 use sled_store::Pages;
-use sled_tree::{InFlight, Went, advance};
+use sled_tree::{InFlight, Stage, Went, advance};
 use std::alloc::Global;
 
 /// Makes one write: the steps of a call on a key that has yet to begin, repairs included, until it ends. A call that is refused leaves
@@ -50,8 +50,51 @@ pub fn write<P: Pages>(pages: &mut P, alloc: Global, flight: InFlight) -> Result
     Err(Error::ReportableBug(WALK_PASSED_TURNS))
 }
 
+// Makes a write at the leaf that its call has read. Where the leaf has changed since, the call begins at the root.
+fn write_at_leaf<P: Pages>(pages: &mut P, alloc: Global, flight: InFlight) -> Result<()>
+    requires here { IsAtLeaf flight }
+    requires on_key { IsOnKey flight.job.call }
+    requires plain { needs_operator flight.job.call ≡ false }
+    ensures ok { OnOk result (MakesKnown flight (P.store pages.old) (P.store pages.new)) }
+    ensures err { IfErr result (StopsKnown flight (P.store pages.old) (P.store pages.new)) }
+{
+    let mut flight = flight;
+    let went = advance::<P, Box<dyn MergeOperator + Send>>(pages, alloc, None, &mut flight);
+    match went {
+        Went::Moved => {
+            flight.turns = 0;
+            write(pages, alloc, flight)
+        }
+        Went::Yielded(_, _) => unreachable!(),
+        Went::Decided(reply) => {
+            drop(reply);
+            drop(flight);
+            Ok(())
+        }
+        Went::Refused(cause) => {
+            drop(flight);
+            Err(cause)
+        }
+    }
+}
+
+// Makes a write whose call has yet to begin, or is to link its change.
+fn write_ready<P: Pages>(pages: &mut P, alloc: Global, flight: InFlight) -> Result<()>
+    requires ready { IsFresh flight ⊎ IsAtLeaf flight }
+    requires on_key { IsOnKey flight.job.call }
+    requires plain { needs_operator flight.job.call ≡ false }
+    ensures ok { OnOk result (MakesKnown flight (P.store pages.old) (P.store pages.new)) }
+    ensures err { IfErr result (StopsKnown flight (P.store pages.old) (P.store pages.new)) }
+{
+    match &flight.stage {
+        Stage::Act(_) => write_at_leaf(pages, alloc, flight),
+        _ => write(pages, alloc, flight),
+    }
+}
+
 /// Makes a group of writes: begins it, makes the writes, one after the other, and seals it. Where there is none it does nothing. A group
-/// that is refused after it began stays open, and a crash leaves nothing of it.
+/// that is refused after it began stays open, and a crash leaves nothing of it. A call that has read its leaf is made there, where no
+/// other write of the group changed the leaf before it.
 ///
 /// ```
 /// let mut flights = Vec::new(alloc);
@@ -60,9 +103,9 @@ pub fn write<P: Pages>(pages: &mut P, alloc: Global, flight: InFlight) -> Result
 /// ```
 pub fn write_group<P: Pages>(pages: &mut P, alloc: Global, flights: Vec<InFlight>) -> Result<()>
     requires outside { (now (P.store pages.old)).in_group ≡ false }
-    requires fresh { AreFresh flights.items }
-    ensures ok { OnOk result (MakesGroup (jobs_of flights.items) (P.store pages.old) (P.store pages.new)) }
-    ensures err { IfErr result (LeavesGroup (jobs_of flights.items) (P.store pages.old) (P.store pages.new)) }
+    requires ready { AreReady flights.items }
+    ensures ok { OnOk result (MakesGroup flights.items (P.store pages.old) (P.store pages.new)) }
+    ensures err { IfErr result (LeavesGroup flights.items (P.store pages.old) (P.store pages.new)) }
 {
     if flights.is_empty() {
         drop(flights);
@@ -80,12 +123,12 @@ pub fn write_group<P: Pages>(pages: &mut P, alloc: Global, flights: Vec<InFlight
 
 // Makes writes, one after the other, in an open group.
 fn write_all<P: Pages>(pages: &mut P, alloc: Global, flights: Vec<InFlight>) -> Result<()>
-    requires fresh { AreFresh flights.items }
-    ensures ok { OnOk result (WritesAll (jobs_of flights.items) (P.store pages.old) (P.store pages.new)) }
-    ensures err { IfErr result (StopsWritingAll (jobs_of flights.items) (P.store pages.old) (P.store pages.new)) }
+    requires ready { AreReady flights.items }
+    ensures ok { OnOk result (WritesAll flights.items (P.store pages.old) (P.store pages.new)) }
+    ensures err { IfErr result (StopsWritingAll flights.items (P.store pages.old) (P.store pages.new)) }
 {
     for flight in flights {
-        if let Err(e) = write(pages, alloc, flight) {
+        if let Err(e) = write_ready(pages, alloc, flight) {
             return Err(e);
         }
     }

@@ -8,7 +8,7 @@ ghost use Rattle.tree_reads.specs.theory.Walk.{IsIndex, LiesBehind, Turns};
 use crate::MOST_PAGES;
 use crate::reads::{Reads, law_given};
 use sled_nodes::texts::WALK_PASSED_TURNS;
-use sled_nodes::{Data, Error, Node, Pid, Result, is_up_to};
+use sled_nodes::{Data, Error, Node, Pid, Result, key_is_up_to};
 use sled_store::View;
 use std::alloc::Global;
 use std::ops::Bound;
@@ -17,7 +17,7 @@ use std::ops::Bound;
 fn is_behind(node: &Node, target: Bound<&[u8]>) -> bool
     ensures { IsTrue result ↔ LiesBehind (bound_of target.entry) node.now }
 {
-    node.hi.len() != 0 && is_up_to(node.hi.as_ref(), target)
+    node.hi.len() != 0 && key_is_up_to(&node.hi, target)
 }
 
 // Where a walk to the target goes from a page, if it does not end there: to the right, or down, but never by the pointer to

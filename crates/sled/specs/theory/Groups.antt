@@ -1,12 +1,16 @@
 -- Of Groups, for inner functions and proofs. How a group is made ready, and then made.
-use Rattle.std.specs.Prelude.{◌≡◌, ℕ, ◌⊎◌, List, [], ◌∷◌, ◌++◌, map, Bool, Option, Some, None}
+use Rattle.std.specs.Prelude.{◌≡◌, ℕ, ◌≤◌, ◌⊎◌, List, [], ◌∷◌, ◌++◌, map, Bool, false, Option, Some, None}
 use Rattle.std.specs.FinMap.Entries.{find}
 use Rattle.std.specs.Option.{option_to_list}
+use Rattle.std.specs.declared.ops.Bound.TheVariants.{Included}
+use Rattle.sled_nodes.specs.Node.{count, value_at}
 use Rattle.sled_nodes.specs.Order.{Key, key_cmp}
 use Rattle.sled_nodes.specs.declared.error.Error.{Error}
 use Rattle.sled_nodes.specs.declared.error.Error.TheVariants.{NoMemory, ReportableBug}
+use Rattle.sled_nodes.specs.declared.node.Node.{Node}
 use Rattle.sled_nodes.specs.declared.texts.TheConstants.{WALK_PASSED_TURNS}
-use Rattle.sled_store.specs.Store.{Store, refuses_read_as}
+use Rattle.sled_store.specs.Store.{Store, now, refuses_read_as}
+use Rattle.sled_store.specs.declared.page.View.{View}
 use Rattle.sled_model.specs.Answer.{same_value}
 use Rattle.sled_model.specs.Groups.{Write, call_of_write, answer_of_write, after_write}
 use Rattle.sled_model.specs.State.{State, NamedTree}
@@ -18,7 +22,11 @@ use Rattle.sled_model.specs.declared.tree.Tree.{Tree}
 use Rattle.sled_queues.specs.Values.{QueuesValue, queue_at}
 use Rattle.sled_queues.specs.Queues.{Becomes, committed}
 use Rattle.sled_queues.specs.Laws.{prepared_all}
-use Rattle.tree_groups.specs.Groups.{MakesGroup, LeavesGroup}
+use Rattle.tree_laws.specs.Snapshot.{Snapshot}
+use Rattle.tree_laws.specs.declared.flight.Stage.TheVariants.{Act}
+use Rattle.tree_reads.specs.Walk.{IsLeafFor}
+use Rattle.tree_groups.specs.Groups.{AreReady, AreKnown, jobs_of, MakesGroup, LeavesGroup}
+use Rattle.sled_tree.specs.declared.flight.Aim.TheVariants.{Own}
 use Rattle.sled_tree.specs.declared.flight.InFlight.{InFlight}
 use Rattle.sled_tree.specs.declared.flight.Job.{Job}
 use Rattle.sled.specs.Direct.{begun_flight}
@@ -35,9 +43,22 @@ abbrev pub jobs_of_writes : List Write → State → List Job
 jobs_of_writes [] s = []
 jobs_of_writes (w ∷ ws) s = jobs_of_write (s.trees w.tree.name) w ++ jobs_of_writes ws (after_write w s)
 
--- calls as they begin
-abbrev pub begun_flights : List Job → List InFlight
-begun_flights js = map (λ j. begun_flight j.tree j.call) js
+-- a call at the leaf that it has read, or without one as it begins
+abbrev pub flight_from : Tree → Call → Option View → InFlight
+flight_from tree call None = begun_flight tree call
+flight_from tree call (Some leaf) = record { job = record { tree = tree; call = call }; aim = Own; stage = Act leaf; turns = 1 }
+
+-- calls that do these jobs are ready to be made, and what they know is true
+pub record Finds (m : Snapshot) (js : List Job) (flights : List InFlight) : Type 0 where
+  pub jobs : jobs_of flights ≡ js
+  pub ready : AreReady flights
+  pub known : AreKnown m flights
+
+-- .. and stand behind others
+pub record FindsMore (m : Snapshot) (js : List Job) (first flights : List InFlight) : Type 0 where
+  pub more : List InFlight
+  pub is : flights ≡ first ++ more
+  pub finds : Finds m js more
 
 -- the value that the key of a tree has, or none
 abbrev pub value_in : Option NamedTree → Key → Option Key
@@ -52,6 +73,26 @@ pub record Stands (s : State) (tree : Tree) (key : Key) (value : Option Key) (st
 abbrev pub stands_over : Option (Option Key) → Option Key → Bool → Bool
 stands_over None value stands = stands
 stands_over (Some written) value stands = same_value written value
+
+-- the leaf of a key was read, and whether the value that the key is to have stands there
+pub record ReadsKey (s : Store) (root : ℕ) (key : Key) (value : Option Key) (leaf : View) (stands : Bool) : Type 0 where
+  pub looked : ℕ
+  pub found : IsLeafFor (now s) root (Included key) 0 leaf looked
+  pub is : stands ≡ same_value (value_at leaf.node.content key) value
+
+-- nothing is to be repaired at a node
+pub record IsSettled (n : Node) : Type 0 where
+  pub not_merging : n.merging ≡ false
+  pub free : n.merging_child ≡ None
+  pub fits : count n.content ≤ 16
+
+-- a call begins at its leaf only where it changes the leaf and has nothing to repair there
+abbrev pub begins_as : View → Bool → Option View → Type 0
+begins_as leaf stands None = Unit {0}
+begins_as leaf stands (Some at) = (at ≡ leaf) × (stands ≡ false) × IsSettled leaf.node
+
+pub record BeginsAt (leaf : View) (stands : Bool) (at : Option View) : Type 0 where
+  pub is : begins_as leaf stands at
 
 -- a page could not be read
 abbrev pub unread : Store → Error → Type 0
@@ -83,11 +124,11 @@ pub record StopsPreparing (e : Error) (old new : QueuesValue) : Type 0 where
 -- ---- and all of it
 
 -- the group is made, and its events come
-pub record MakesAll (js : List Job) (a b : Store) (old new : QueuesValue) : Type 0 where
-  pub makes : MakesGroup js a b
-  pub tells : Becomes (committed (prepared_all (events_of_jobs js) (queue_at old))) old.given new
+pub record MakesAll (fs : List InFlight) (a b : Store) (old new : QueuesValue) : Type 0 where
+  pub makes : MakesGroup fs a b
+  pub tells : Becomes (committed (prepared_all (events_of_jobs (jobs_of fs)) (queue_at old))) old.given new
 
 -- it is refused, and no event comes
-pub record StopsAll (js : List Job) (a b : Store) (old new : QueuesValue) (e : Error) : Type 0 where
-  pub is : ((e ≡ NoMemory) × (b ≡ a)) ⊎ LeavesGroup js a b e
+pub record StopsAll (fs : List InFlight) (a b : Store) (old new : QueuesValue) (e : Error) : Type 0 where
+  pub is : ((e ≡ NoMemory) × (b ≡ a)) ⊎ LeavesGroup fs a b e
   pub tells : Becomes (queue_at old) old.given new

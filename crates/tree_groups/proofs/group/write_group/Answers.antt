@@ -1,10 +1,10 @@
 use Rattle.std.proofs.Common.{rules, sym, eqb-true}
 use Rattle.std.proofs.lemmas.Bool.{eqb-false}
-use Rattle.tree_groups.proofs.Grouping.{no_jobs, some_jobs, group_of_none, group_not_begun, group_refused, group_open, group_ends, group_stays_open}
+use Rattle.tree_groups.proofs.Grouping.{no_flights, some_jobs, group_of_none, group_not_begun, group_refused, group_open, group_ends, group_stays_open}
 use Rattle.tree_groups.proofs.group.write_group.Goals as goal
 
 pub returns-then-is_empty-clause-ok : goal.returns-then-is_empty-clause-ok
-returns-then-is_empty-clause-ok g c = group_of_none _ _ (no_jobs c.args.flights.items _ (search rules) (eqb-true _ 0 (sym c.if-is_empty.ensures))) c.requires.outside
+returns-then-is_empty-clause-ok g c = group_of_none _ _ (no_flights c.args.flights.items _ (search rules) (eqb-true _ 0 (sym c.if-is_empty.ensures))) c.requires.outside
 
 pub returns-in-Err-clause-err : goal.returns-in-Err-clause-err
 returns-in-Err-clause-err g c = group_not_begun _ _ _ _ (some_jobs c.args.flights.items _ (search rules) (eqb-false _ 0 (sym c.if-is_empty.ensures))) c.in-Err.ensures.err.is

@@ -1,6 +1,4 @@
-use Rattle.sled_model.specs.Groups.{writes_of}
-use Rattle.sled.specs.Values.{db_state}
-use Rattle.sled.proofs.Grouping.{group_untested, group_unread, changes_fresh, group_ok, group_err, group_db, group_quiet}
+use Rattle.sled.proofs.Grouping.{group_untested, group_unread, group_ok, group_err, group_db, group_quiet}
 use Rattle.sled.proofs.db.Db.apply_group.Goals as goal
 
 pub returns-in-Err-clause-err : goal.returns-in-Err-clause-err
@@ -9,8 +7,8 @@ returns-in-Err-clause-err g c = group_untested g.P.Pages.store g.M.MergeOperator
 pub returns-in-Err-changes-clause-err : goal.returns-in-Err-changes-clause-err
 returns-in-Err-changes-clause-err g c = group_unread g.P.Pages.store g.M.MergeOperator.meant c.args.self.now c.args.batches.now c.in_default.ensures.ok c.in-Err-changes.e c.in-Err-changes.ensures.err
 
-pub make_group-requires-clause-fresh : goal.make_group-requires-clause-fresh
-make_group-requires-clause-fresh g c κs within = changes_fresh (writes_of c.args.batches.now) (db_state g.P.Pages.store g.M.MergeOperator.meant c.args.self.now) c.in-Ok.flights.items c.in-Ok.ensures.ok
+pub make_group-requires-clause-ready : goal.make_group-requires-clause-ready
+make_group-requires-clause-ready g c κs within = c.in-Ok.ensures.ok.ready
 
 pub invariant_of-self : goal.invariant_of-self
 invariant_of-self g c = group_db g.P.Pages.store g.M.MergeOperator.meant _ c.args.self.now c.self.view_is c.self.invariant c.args.batches.now c.in_default.ensures.ok c.in-Ok.flights.items c.in-Ok.ensures.ok c.make_group.new.pages c.make_group.new.queues c.make_group.result c.make_group.ensures.ok c.make_group.ensures.err

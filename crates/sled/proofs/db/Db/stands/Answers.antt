@@ -1,10 +1,7 @@
 use Rattle.std.proofs.Common.{◌∙◌}
-use Rattle.sled.proofs.Changes.{stands_on, stands_still, unread_by}
+use Rattle.sled.proofs.Changes.{stands_on, stands_still}
 use Rattle.sled.proofs.db.Db.stands.Goals.{then-other-tree, else-other-tree}
 use Rattle.sled.proofs.db.Db.stands.Goals as goal
-
-pub returns-in-Err-clause-err : goal.returns-in-Err-clause-err
-returns-in-Err-clause-err g c = unread_by g.P.Pages.store g.M.MergeOperator.meant c.args.self.now c.args.tree.now c.args.before.now c.requires.tested _ c.in-Err.e c.in-Err.ensures.err
 
 pub loop-other-preserved : goal.loop-other-preserved
 loop-other-preserved g c = elim c.if-other-tree.branch [

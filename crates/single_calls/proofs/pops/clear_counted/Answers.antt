@@ -1,0 +1,10 @@
+use Rattle.single_calls.proofs.pops.clear_counted.Goals as goal
+
+pub returns-clause-ok : goal.returns-clause-ok
+returns-clause-ok c = assumption
+
+pub returns-clause-err : goal.returns-clause-err
+returns-clause-err c = assumption
+
+pub returns-clause-parts : goal.returns-clause-parts
+returns-clause-parts c = assumption
