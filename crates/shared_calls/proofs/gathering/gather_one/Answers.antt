@@ -1,0 +1,13 @@
+use Rattle.shared_calls.proofs.gathering.gather_one.Goals as goal
+
+pub returns-clause-count : goal.returns-clause-count
+returns-clause-count c = assumption
+
+pub returns-clause-others : goal.returns-clause-others
+returns-clause-others c = assumption
+
+pub returns-clause-opening : goal.returns-clause-opening
+returns-clause-opening c = assumption
+
+pub returns-clause-err : goal.returns-clause-err
+returns-clause-err c = assumption
