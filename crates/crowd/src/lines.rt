@@ -1,10 +1,7 @@
 //! Lines, over a store in memory that counts the pages that are read, from opening to opening.
 
 use crate::counting::{Counting, kept_of};
-use crate::crowd::run_calls;
-use crate::images::tell_images;
 use crate::many::{find, load, overtake, run_steps};
-use crate::scans::tell_scans;
 use line_files::Program;
 use shell_parts::known::tell_known;
 use shell_parts::look::{Look, is_read, look_of, tell_look};
@@ -30,9 +27,6 @@ use std::sync::atomic::{AtomicU64, Ordering};
 // A word with numbers behind it.
 #[derive(Clone, Copy)]
 enum Word {
-    Crowd,
-    Images,
-    Scans,
     Load,
     Find,
     Overtake,
@@ -44,10 +38,7 @@ enum Word {
 }
 
 // The words, and how many numbers each of them takes.
-const WORDS: [(&str, Word, usize); 11] = [
-    ("crowd", Word::Crowd, 2),
-    ("images", Word::Images, 2),
-    ("scans", Word::Scans, 2),
+const WORDS: [(&str, Word, usize); 8] = [
     ("load", Word::Load, 3),
     ("find", Word::Find, 2),
     ("overtake", Word::Overtake, 2),
@@ -130,9 +121,6 @@ fn own(
     out: &mut Told,
 ) -> Result<Answer> {
     match word {
-        Word::Crowd => run_calls(alloc, numbers[0], numbers[1], out)?,
-        Word::Images => tell_images(alloc, numbers[0], numbers[1], out)?,
-        Word::Scans => tell_scans(alloc, numbers[0], numbers[1], out)?,
         Word::Load => load(alloc, session, reads, numbers, out)?,
         Word::Find => find(alloc, session, reads, numbers, out)?,
         Word::Overtake => overtake(alloc, session, numbers, out)?,

@@ -1,19 +1,10 @@
-//! Tests of many calls at once: eight in flight beside a plain program, scans beside what changes their trees, lists of steps, how many
-//! pages calls read, and images of pages that look random. It knows the lines of `sledrun`, reads that take no slot, and words of
-//! its own. What it prints is not proved: it is safe, and it ends.
+//! Tests of many calls at once: lists of steps, how many pages calls read, and calls that others overtake. It knows the lines of
+//! `sledrun`, reads that take no slot, and words of its own. What it prints is not proved: it is safe, and it ends.
 #![tactic(auto)]
 
 mod counting;
-mod crowd;
-mod damage;
-mod growing;
-mod images;
 mod lines;
 mod many;
-mod plain;
-mod reading;
-mod scans;
-mod sketch;
 
 use line_files::check;
 use lines::{Sessions, run};

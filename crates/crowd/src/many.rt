@@ -17,8 +17,8 @@ use std::sync::atomic::{AtomicU64, Ordering};
 // What the numbers of the keys begin with.
 const SEED: u64 = 88172645463325252;
 
-/// The next number of a sequence that looks random.
-pub fn mixed(number: u64) -> u64 {
+// The next number of a sequence that looks random.
+fn mixed(number: u64) -> u64 {
     let number = number ^ (number << 13);
     let number = number ^ (number >> 7);
     number ^ (number << 17)
@@ -35,8 +35,8 @@ fn on_key(call: Call) -> Result<Call>
     Err(Stopped)
 }
 
-/// The call on a key that a line asks for.
-pub fn call_of(alloc: Global, line: &[Piece<'_>]) -> Result<Call>
+// The call on a key that a line asks for.
+fn call_of(alloc: Global, line: &[Piece<'_>]) -> Result<Call>
     ensures { IfOk result IsOnKey }
 {
     let mut text = Vec::new(alloc);
