@@ -1,58 +1,103 @@
-//! Handles of trees, and merge operators.
+//! Calls of a machine, by the arguments of a line.
 
-use crate::operators::{Operator, operator_of};
-use shell_parts::tell::{Result, Told, bytes_of, tell, tell_refused};
-use sled_lines::input::{Stopped, without_end};
-use sled_lines::print::Piece::Text;
-use sled_lines::session::Session;
-use sled_lines::words::{first_word, read_number};
-use sled_model::Tree;
-use sled_pages::MemPages;
+use crate::arguments::Arguments;
+use crate::groups::batch_of;
+use crate::imports::collections_of;
+use crate::table::{Verb, Way};
+use shell_parts::tell::Result;
+use sled_lines::command::Command;
+use sled_model::{Call, Tree, Whole};
+use sled_nodes::{IVec, Result as Answer};
 use std::alloc::Global;
 
-// What names a tree, of the words of a database, a name and a number.
-fn tree_of(alloc: Global, database: &[u8], words: &[u8]) -> Result<Tree> {
-    let (name, number) = first_word(words);
-    let number = read_number(number.unwrap_or(b"")).ok_or(Stopped)?;
-    let database = bytes_of(alloc, database)?;
-    match bytes_of(alloc, name) {
-        Ok(name) => Ok(Tree {
-            database,
-            name,
-            number,
-        }),
-        Err(stopped) => {
-            drop(database);
-            Err(stopped)
+// The call that is asked for.
+fn call_of(alloc: Global, verb: Verb, arguments: &Arguments) -> Answer<Call> {
+    let key = arguments.bytes(0);
+    match verb {
+        Verb::Insert => Call::insert(alloc, key, arguments.bytes(1)),
+        Verb::Get => Call::get(alloc, key),
+        Verb::Remove => Call::remove(alloc, key),
+        Verb::Cas => { Call::compare_and_swap(alloc, key, arguments.value(1), arguments.value(2)) }
+        Verb::Merge => Call::merge(alloc, key, arguments.bytes(1)),
+        _ => {
+            let is_back = matches!(verb, Verb::ScanBack);
+            Call::scan(alloc, arguments.bound(0), arguments.bound(1), is_back)
         }
     }
 }
 
-/// Makes the tree current that a line names.
-pub fn take_handle(
-    alloc: Global,
-    session: &mut Session<MemPages, Operator>,
-    line: &[u8],
-    out: &mut Told,
-) -> Result<()> {
-    let words = first_word(without_end(line)).1.unwrap_or(b"");
-    let (database, words) = first_word(words);
-    session.set_tree(tree_of(alloc, database, words.unwrap_or(b""))?);
-    tell(out, &[Text(b"done\n")])
+// A call, from its begin to its end or in a slot.
+fn made(way: Way, call: Call) -> Command {
+    match way {
+        Way::Begun => Command::Begin(call),
+        _ => Command::Point(call),
+    }
 }
 
-/// Gives the current tree the operator that a line names.
-pub fn set_operator(
-    session: &mut Session<MemPages, Operator>,
-    line: &[u8],
-    out: &mut Told,
-) -> Result<()> {
-    let name = first_word(without_end(line)).1.unwrap_or(b"");
-    let Some(operator) = operator_of(name) else {
-        return Err(Stopped);
-    };
-    match session.set_merge_operator(operator) {
-        Ok(()) => tell(out, &[Text(b"done\n")]),
-        Err(error) => tell_refused(out, error),
+/// What is asked for that `sledrun` knows too, or that takes a slot.
+pub fn known_of(
+    alloc: Global,
+    verb: Verb,
+    way: Way,
+    words: Option<&[u8]>,
+    arguments: &Arguments,
+) -> Result<Command> {
+    match verb {
+        Verb::Step => Ok(Command::Step(arguments.number())),
+        Verb::Finish => Ok(Command::Finish(arguments.number())),
+        Verb::Abandon => Ok(Command::Abandon(arguments.number())),
+        Verb::Batch => Ok(Command::Batch(batch_of(alloc, words)?)),
+        Verb::Flush => Ok(Command::Flush),
+        Verb::Dump => Ok(Command::Dump),
+        _ => Ok(made(way, call_of(alloc, verb, arguments)?)),
+    }
+}
+
+// The byte string of a name.
+fn name_of(alloc: Global, arguments: &Arguments) -> Answer<IVec> {
+    IVec::from_slice(alloc, arguments.bytes(0))
+}
+
+// The call that watches the keys of a tree that begin with a prefix.
+fn watch_of(tree: &Tree, prefix: IVec) -> Answer<Whole> {
+    match tree.clone() {
+        Ok(tree) => Ok(Whole::Watch(tree, prefix)),
+        Err(error) => {
+            drop(prefix);
+            Err(error)
+        }
+    }
+}
+
+/// The whole call that is asked for, on a tree.
+pub fn whole_of(alloc: Global, tree: &Tree, verb: Verb, arguments: &Arguments) -> Answer<Whole> {
+    match verb {
+        Verb::PopMin => Ok(Whole::PopMin(tree.clone()?)),
+        Verb::PopMax => Ok(Whole::PopMax(tree.clone()?)),
+        Verb::Clear => Ok(Whole::Clear(tree.clone()?)),
+        Verb::Watch => watch_of(tree, name_of(alloc, arguments)?),
+        Verb::OpenTree => Ok(Whole::OpenTree(name_of(alloc, arguments)?)),
+        Verb::DropTree => Ok(Whole::DropTree(name_of(alloc, arguments)?)),
+        Verb::Import | Verb::ImportTyped | Verb::ImportAll => {
+            let collections = collections_of(alloc, verb, arguments.values())?;
+            Ok(Whole::Import(collections))
+        }
+        _ => Ok(Whole::GenerateId),
+    }
+}
+
+/// What names a tree, of the arguments of a line.
+pub fn handle_of(alloc: Global, arguments: &Arguments) -> Answer<Tree> {
+    let database = IVec::from_slice(alloc, arguments.bytes(0))?;
+    match IVec::from_slice(alloc, arguments.bytes(1)) {
+        Ok(name) => Ok(Tree {
+            database,
+            name,
+            number: arguments.number(),
+        }),
+        Err(error) => {
+            drop(database);
+            Err(error)
+        }
     }
 }

@@ -1,22 +1,17 @@
 //! Groups of writes: batches on several trees, made together.
 
 use crate::names::Names;
-use crate::operators::Operator;
-use crate::owned::tell_done;
-use shell_parts::tell::{Result, Told, answered, tell_outcome};
-use sled::Db;
+use shell_parts::tell::{Result, answered};
 use sled_batch::Batch;
 use sled_lines::batch::read_batch;
-use sled_lines::input::{Stopped, without_end};
-use sled_lines::session::Session;
+use sled_lines::input::Stopped;
 use sled_lines::words::first_word;
-use sled_model::{Tree, Whole};
-use sled_pages::MemPages;
+use sled_model::Tree;
 use std::alloc::Global;
 use transaction_lines::names::{named, tell_unnamed};
 
-// The batch that words spell.
-fn batch_of(alloc: Global, words: Option<&[u8]>) -> Result<Batch> {
+/// The batch that words spell, if there are any.
+pub fn batch_of(alloc: Global, words: Option<&[u8]>) -> Result<Batch> {
     match answered(read_batch(alloc, words))? {
         Some(batch) => Ok(batch),
         None => Err(Stopped),
@@ -77,37 +72,20 @@ fn add_parts(
     Ok(())
 }
 
-/// Makes the group that a line spells, and adds how that came out; or why the line cannot be read.
-pub fn tell_group(
+/// The group that a text spells; or why one of its trees cannot be read.
+pub fn group_of(
     alloc: Global,
-    session: &mut Session<MemPages, Operator>,
+    current: &Tree,
     names: &Names,
-    line: &[u8],
-    out: &mut Told,
+    text: &[u8],
     why: &mut Vec<u8>,
-) -> Result<()> {
-    let text = first_word(without_end(line)).1.unwrap_or(b"");
+) -> Result<Vec<(Tree, Batch)>> {
     let mut group = Vec::new(alloc);
-    let read = add_parts(alloc, &mut group, session.tree(), names, text, why);
-    if read.is_err() || !why.is_empty() {
-        drop(group);
-        return read;
+    match add_parts(alloc, &mut group, current, names, text, why) {
+        Ok(()) => Ok(group),
+        Err(stopped) => {
+            drop(group);
+            Err(stopped)
+        }
     }
-    let outcome = session.whole(Whole::Group(group));
-    let told = tell_outcome(out, &outcome);
-    drop(outcome);
-    told
-}
-
-/// Makes the batch that words spell, if there are any, by a call of a database, and adds how that came out.
-pub fn tell_owned_batch(
-    alloc: Global,
-    db: &mut Db<MemPages, Operator>,
-    tree: &Tree,
-    words: &[u8],
-    out: &mut Told,
-) -> Result<()> {
-    let words = if words.is_empty() { None } else { Some(words) };
-    let batch = batch_of(alloc, words)?;
-    tell_done(out, db.apply_batch(tree, batch))
 }

@@ -2,18 +2,18 @@
 //! print with what was expected. What it prints is not proved: it is safe, and it ends.
 #![tactic(auto)]
 
+mod arguments;
 mod calls;
 mod fetch;
-mod forms;
 mod groups;
 mod imports;
 mod names;
 mod operators;
 mod owned;
-mod places;
-mod pops;
+mod read;
 mod shell;
 mod subscribers;
+mod table;
 
 use line_files::check;
 use shell::{Texts, run};

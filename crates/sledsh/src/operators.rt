@@ -27,7 +27,7 @@ pub enum Operator {
 }
 
 // The operators by name.
-const OPERATORS: [(&str, Operator); 7] = [
+static OPERATORS: [(&str, Operator); 7] = [
     ("concat", Operator::Concat),
     ("add", Operator::Add),
     ("max", Operator::Max),
@@ -39,7 +39,7 @@ const OPERATORS: [(&str, Operator); 7] = [
 
 /// The operator of a name.
 pub fn operator_of(name: &[u8]) -> Option<Operator> {
-    for (own, operator) in &OPERATORS {
+    for (own, operator) in OPERATORS.iter() {
         if own.as_bytes() == name {
             return Some(*operator);
         }

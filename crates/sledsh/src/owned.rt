@@ -1,281 +1,119 @@
 //! Calls of the database itself, with no machine round it.
 
-use crate::fetch::{Fetch, tell_owned_fetch};
-use crate::groups::tell_owned_batch;
+use crate::arguments::Arguments;
+use crate::fetch::fetch_owned;
+use crate::groups::batch_of;
 use crate::operators::Operator;
-use crate::subscribers::{Listen, Subscribers, tell_owned_listen};
-use shell_parts::look::{tell_found, tell_is, tell_value};
-use shell_parts::tell::{Result, Told, bytes_of, tell, tell_outcome, tell_refused};
-use sled::{CompareAndSwapResult, Db};
-use sled_lines::input::{Stopped, without_end};
-use sled_lines::print::Piece::{Number, Text, Word};
-use sled_lines::session::Session;
-use sled_lines::words::{first_word, read_value};
-use sled_model::{Outcome, Reply, Tree};
-use sled_nodes::IVec;
+use crate::shell::{Shell, rest_behind, words_behind};
+use crate::subscribers::tell_no_subscriber;
+use crate::table::Verb;
+use shell_parts::tell::Result;
+use sled::Db;
+use sled_lines::print::Shown;
+use sled_model::{Reply, Subscriber, Tree};
+use sled_nodes::{IVec, Result as Answer};
 use sled_pages::MemPages;
-use std::alloc::Global;
 use transaction_lines::run::tell_owned_transaction;
 
-// What a call of a database answers.
-type Answer<T> = sled_nodes::Result<T>;
-
-/// Which call it is.
-#[derive(Clone, Copy)]
-pub enum Owned {
-    Insert,
-    Set,
-    Remove,
-    Del,
-    Cas,
-    Merge,
-    Fetch(Fetch),
-    PopMin,
-    PopMax,
-    Clear,
-    Batch,
-    Transaction,
-    Flush,
-    Drop,
-    Id,
-    Listen(Listen),
-}
-
-fn tell_old(out: &mut Told, stood: Answer<Option<IVec>>) -> Result<()> {
-    match stood {
-        Ok(Some(value)) => {
-            let told = tell(out, &[Text(b"old "), Word(value.as_ref()), Text(b"\n")]);
-            drop(value);
-            told
-        }
-        Ok(None) => tell(out, &[Text(b"old -\n")]),
-        Err(e) => tell_refused(out, e),
+// What the value or the number in the reply is.
+fn shown_of(verb: Verb) -> Shown {
+    match verb {
+        Verb::Insert | Verb::Set | Verb::Remove | Verb::Del => Shown::Old,
+        Verb::Id => Shown::Number,
+        _ => Shown::Value,
     }
 }
 
-fn tell_swap(out: &mut Told, swapped: CompareAndSwapResult) -> Result<()> {
-    match swapped {
-        Ok(swapped) => {
-            let outcome = Outcome::Decided(Reply::Swapped(swapped));
-            let told = tell_outcome(out, &outcome);
-            drop(outcome);
-            told
-        }
-        Err(e) => tell_refused(out, e),
-    }
-}
-
-fn tell_id(out: &mut Told, id: Answer<u64>) -> Result<()> {
-    match id {
-        Ok(id) => tell(out, &[Text(b"number "), Number(id), Text(b"\n")]),
-        Err(e) => tell_refused(out, e),
-    }
-}
-
-fn tell_flushed(out: &mut Told, count: Answer<usize>) -> Result<()> {
-    match count {
-        Ok(count) => tell(out, &[Text(b"flushed "), Number(count as u64), Text(b"\n")]),
-        Err(e) => tell_refused(out, e),
-    }
-}
-
-// Drops the tree of a name.
-fn drop_tree(
-    alloc: Global,
+// Makes a call on a key, and answers the value that stood there, or of a merge the new one.
+fn write(
     db: &mut Db<MemPages, Operator>,
-    word: &[u8],
-    out: &mut Told,
-) -> Result<()> {
-    let name = bytes_of(alloc, word)?;
-    let dropped = db.drop_tree(name.as_ref());
-    drop(name);
-    tell_is(out, dropped)
-}
-
-/// Adds that a call is done.
-pub fn tell_done(out: &mut Told, done: Answer<()>) -> Result<()> {
-    match done {
-        Ok(()) => tell(out, &[Text(b"done\n")]),
-        Err(e) => tell_refused(out, e),
+    tree: &Tree,
+    verb: Verb,
+    arguments: &Arguments,
+) -> Answer<Option<IVec>> {
+    let key = arguments.bytes(0);
+    match verb {
+        Verb::Insert => db.insert(tree, key, arguments.bytes(1)),
+        Verb::Set => db.set(tree, key, arguments.bytes(1)),
+        Verb::Remove => db.remove(tree, key),
+        Verb::Del => db.del(tree, key),
+        _ => db.merge(tree, key, arguments.bytes(1)),
     }
 }
 
-// The value that a word is, or none.
-fn value_of(alloc: Global, word: &[u8]) -> Result<Option<IVec>> {
-    match read_value(alloc, word) {
-        Ok(Some(value)) => Ok(value),
-        Ok(None) => Err(Stopped),
-        Err(e) => {
-            drop(e);
-            Err(Stopped)
+// Swaps the value at a key.
+fn swap(db: &mut Db<MemPages, Operator>, tree: &Tree, arguments: &Arguments) -> Answer<Reply> {
+    let key = arguments.bytes(0);
+    let swapped = db.compare_and_swap(tree, key, arguments.value(1), arguments.value(2));
+    swapped.map(Reply::Swapped)
+}
+
+// Makes a call on a tree, or on the database.
+fn whole(
+    db: &mut Db<MemPages, Operator>,
+    tree: &Tree,
+    verb: Verb,
+    arguments: &Arguments,
+) -> Answer<Reply> {
+    match verb {
+        Verb::PopMin => db.pop_min(tree).map(Reply::Pair),
+        Verb::PopMax => db.pop_max(tree).map(Reply::Pair),
+        Verb::Clear => db.clear(tree).map(|()| Reply::Done),
+        Verb::Flush => Ok(Reply::Number(db.flush()? as u64)),
+        Verb::DropTree => db.drop_tree(arguments.bytes(0)).map(Reply::Flag),
+        Verb::Watch => db
+            .watch_prefix(tree, arguments.bytes(0))
+            .map(Reply::Subscriber),
+        _ => db.generate_id().map(Reply::Number),
+    }
+}
+
+// Takes what a subscriber is told next, or ends it.
+fn hear(db: &mut Db<MemPages, Operator>, verb: Verb, subscriber: &Subscriber) -> Reply {
+    match verb {
+        Verb::Next => Reply::Next(db.next(subscriber)),
+        _ => {
+            db.unsubscribe(subscriber);
+            Reply::Done
         }
     }
 }
 
-// A value, lent.
-fn lend(value: &Option<IVec>) -> Option<&[u8]> {
-    match value {
-        Some(value) => Some(value.as_ref()),
-        None => None,
+impl Shell {
+    // Makes the writes of a batch.
+    fn apply(&self, db: &mut Db<MemPages, Operator>, tree: &Tree) -> Result<Answer<Reply>> {
+        let batch = batch_of(self.alloc, words_behind(self.line.as_slice(), 2))?;
+        Ok(db.apply_batch(tree, batch).map(|()| Reply::Done))
     }
-}
 
-// The key and the value that two words are.
-fn pair_of(alloc: Global, words: &[u8]) -> Result<(IVec, IVec)> {
-    let (key, value) = first_word(words);
-    let key = bytes_of(alloc, key)?;
-    match bytes_of(alloc, value.unwrap_or(b"")) {
-        Ok(value) => Ok((key, value)),
-        Err(stopped) => {
-            drop(key);
-            Err(stopped)
-        }
+    /// Makes the call of a database that the line says, and adds what it answers.
+    pub fn make_owned(
+        &mut self,
+        db: &mut Db<MemPages, Operator>,
+        tree: &Tree,
+        verb: Verb,
+    ) -> Result<()> {
+        let arguments = &self.arguments;
+        let answer = match verb {
+            Verb::Insert | Verb::Set | Verb::Remove | Verb::Del | Verb::Merge => {
+                write(db, tree, verb, arguments).map(Reply::Value)
+            }
+            Verb::Cas => swap(db, tree, arguments),
+            Verb::Update | Verb::Fetch => {
+                fetch_owned(self.alloc, db, tree, verb, arguments).map(Reply::Value)
+            }
+            Verb::Batch => self.apply(db, tree)?,
+            Verb::Next | Verb::Unwatch => match self.subscribers.named(arguments.number()) {
+                Some(subscriber) => Ok(hear(db, verb, &subscriber)),
+                None => return tell_no_subscriber(&mut self.out),
+            },
+            Verb::Transaction => {
+                let words = rest_behind(self.line.as_slice(), 2);
+                return tell_owned_transaction(self.alloc, db, tree, words, &mut self.out);
+            }
+            _ => whole(db, tree, verb, arguments),
+        };
+        let shown = shown_of(verb);
+        self.subscribers.tell_answer(&mut self.out, shown, answer)
     }
-}
-
-fn insert(
-    alloc: Global,
-    db: &mut Db<MemPages, Operator>,
-    tree: &Tree,
-    owned: Owned,
-    words: &[u8],
-    out: &mut Told,
-) -> Result<()> {
-    let (key, value) = pair_of(alloc, words)?;
-    let stood = match owned {
-        Owned::Set => db.set(tree, key.as_ref(), value.as_ref()),
-        _ => db.insert(tree, key.as_ref(), value.as_ref()),
-    };
-    drop(key);
-    drop(value);
-    tell_old(out, stood)
-}
-
-fn remove(
-    alloc: Global,
-    db: &mut Db<MemPages, Operator>,
-    tree: &Tree,
-    owned: Owned,
-    word: &[u8],
-    out: &mut Told,
-) -> Result<()> {
-    let key = bytes_of(alloc, word)?;
-    let stood = match owned {
-        Owned::Del => db.del(tree, key.as_ref()),
-        _ => db.remove(tree, key.as_ref()),
-    };
-    drop(key);
-    tell_old(out, stood)
-}
-
-// A swap at a key.
-fn swap_at(
-    alloc: Global,
-    db: &mut Db<MemPages, Operator>,
-    tree: &Tree,
-    key: &[u8],
-    values: &[u8],
-    out: &mut Told,
-) -> Result<()> {
-    let (old, new) = first_word(values);
-    let old = value_of(alloc, old)?;
-    let new = match value_of(alloc, new.unwrap_or(b"")) {
-        Ok(new) => new,
-        Err(stopped) => {
-            drop(old);
-            return Err(stopped);
-        }
-    };
-    let swapped = db.compare_and_swap(tree, key, lend(&old), lend(&new));
-    drop(old);
-    drop(new);
-    tell_swap(out, swapped)
-}
-
-fn swap(
-    alloc: Global,
-    db: &mut Db<MemPages, Operator>,
-    tree: &Tree,
-    words: &[u8],
-    out: &mut Told,
-) -> Result<()> {
-    let (key, values) = first_word(words);
-    let key = bytes_of(alloc, key)?;
-    let told = swap_at(alloc, db, tree, key.as_ref(), values.unwrap_or(b""), out);
-    drop(key);
-    told
-}
-
-fn merge(
-    alloc: Global,
-    db: &mut Db<MemPages, Operator>,
-    tree: &Tree,
-    words: &[u8],
-    out: &mut Told,
-) -> Result<()> {
-    let (key, bytes) = pair_of(alloc, words)?;
-    let merged = db.merge(tree, key.as_ref(), bytes.as_ref());
-    drop(key);
-    drop(bytes);
-    tell_value(out, merged)
-}
-
-// Makes a call with the words that its line has, and adds what it answers.
-fn make(
-    alloc: Global,
-    db: &mut Db<MemPages, Operator>,
-    tree: &Tree,
-    subscribers: &mut Subscribers,
-    owned: Owned,
-    words: &[u8],
-    out: &mut Told,
-) -> Result<()> {
-    match owned {
-        Owned::Insert | Owned::Set => insert(alloc, db, tree, owned, words, out),
-        Owned::Remove | Owned::Del => remove(alloc, db, tree, owned, words, out),
-        Owned::Cas => swap(alloc, db, tree, words, out),
-        Owned::Merge => merge(alloc, db, tree, words, out),
-        Owned::Fetch(call) => tell_owned_fetch(alloc, db, tree, call, words, out),
-        Owned::PopMin => tell_found(out, db.pop_min(tree)),
-        Owned::PopMax => tell_found(out, db.pop_max(tree)),
-        Owned::Clear => tell_done(out, db.clear(tree)),
-        Owned::Batch => tell_owned_batch(alloc, db, tree, words, out),
-        Owned::Transaction => tell_owned_transaction(alloc, db, tree, words, out),
-        Owned::Flush => tell_flushed(out, db.flush()),
-        Owned::Drop => drop_tree(alloc, db, words, out),
-        Owned::Id => tell_id(out, db.generate_id()),
-        Owned::Listen(listen) => {
-            tell_owned_listen(alloc, db, tree, subscribers, listen, words, out)
-        }
-    }
-}
-
-// The words of a line behind the two of the command's own.
-fn words_of(line: &[u8]) -> &[u8] {
-    let words = first_word(without_end(line)).1.unwrap_or(b"");
-    let (_, words) = first_word(words);
-    words.unwrap_or(b"")
-}
-
-/// Takes a session apart, makes the call of its database that a line says, adds what it answers, and makes a session again,
-/// where the same tree is current. The calls in flight are given up.
-pub fn tell_owned(
-    alloc: Global,
-    session: Session<MemPages, Operator>,
-    subscribers: &mut Subscribers,
-    owned: Owned,
-    line: &[u8],
-    out: &mut Told,
-) -> (Session<MemPages, Operator>, Result<()>) {
-    let (mut db, tree) = session.into_parts();
-    let told = make(
-        alloc,
-        &mut db,
-        &tree,
-        subscribers,
-        owned,
-        words_of(line),
-        out,
-    );
-    (Session::with_tree(alloc, db, tree), told)
 }

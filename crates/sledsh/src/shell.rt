@@ -1,15 +1,14 @@
 //! A session of the shell: lines, from opening to opening.
 
-use crate::calls::{set_operator, take_handle};
-use crate::fetch::{Fetch, tell_fetch};
-use crate::forms::{Command, Verb, push_groups, push_help, read};
-use crate::groups::tell_group;
-use crate::imports::{Import, tell_import};
-use crate::names::{Named, Names, take_tree, tell_named};
-use crate::operators::Operator;
-use crate::owned::{Owned, tell_owned};
-use crate::pops::tell_pop;
-use crate::subscribers::{Listen, Subscribers, tell_listen, tell_no_subscriber};
+use crate::arguments::Arguments;
+use crate::calls::{handle_of, known_of, whole_of};
+use crate::fetch::fetch;
+use crate::groups::group_of;
+use crate::names::Names;
+use crate::operators::{Operator, operator_of};
+use crate::read::read;
+use crate::subscribers::{Subscribers, tell_no_subscriber};
+use crate::table::{Verb, Way, push_groups, push_help, way_of};
 use hostile_lines::held::Held;
 use hostile_lines::image::{Image, Noted};
 use hostile_lines::repeats::Repeats;
@@ -20,18 +19,16 @@ use line_files::Program;
 use shell_parts::known::tell_known;
 use shell_parts::look::{Look, tell_look};
 use shell_parts::store::Kept;
-use shell_parts::tell::{
-    Told, answered, bytes_of, tell, tell_refused, tell_turns, tell_whether, tell_why,
-};
+use shell_parts::tell::{Told, answered, tell, tell_refused, tell_turns, tell_whether, tell_why};
 use sled::{Db, GROUP_IS_OPEN, verify_integrity};
 use sled_draw::draw::{Drawing, draw};
 use sled_draw::levels::count_levels;
-use sled_lines::command;
 use sled_lines::input::{Stopped, read_line, without_end};
 use sled_lines::print::Piece::{Number, Text, Word};
-use sled_lines::print::{push_pieces, push_text};
+use sled_lines::print::{Shown, push_pieces, push_text};
 use sled_lines::session::{Session, write};
 use sled_lines::words::first_word;
+use sled_model::{Outcome, Reply, Tree, Whole};
 use sled_nodes::Error;
 use sled_pages::MemPages;
 use sled_store::Pages;
@@ -88,58 +85,32 @@ impl State {
 
 // The line that was read last and its number, and what is to be printed.
 #[derive(Drop)]
-struct Shell {
-    alloc: Global,
+pub struct Shell {
+    pub alloc: Global,
     // Whether its lines are run again and again, and may have no others run so.
     is_swept: bool,
-    line: Vec<u8>,
+    pub line: Vec<u8>,
     number: u64,
     // Whether each line could be read.
     good: bool,
-    out: Told,
-    // The numbers of the line.
-    numbers: Vec<u64>,
+    pub out: Told,
+    pub arguments: Arguments,
     // Why the line cannot be read; empty where it can be.
     why: Vec<u8>,
     mark: u64,
     names: Names,
-    subscribers: Subscribers,
+    pub subscribers: Subscribers,
     noted: Noted,
     // The command that changed the store last, or ended; and why the pages cannot be opened after it.
     last: Verb,
     refused: Option<Error>,
 }
 
-// The first three numbers, or 0 where there are fewer.
-fn three(numbers: &[u64]) -> [u64; 3] {
-    match numbers {
-        [] => [0, 0, 0],
-        [first] => [*first, 0, 0],
-        [first, second] => [*first, *second, 0],
-        [first, second, third, ..] => [*first, *second, *third],
-    }
-}
-
-// Adds what a line prints that `sledrun` knows too, where there is no database.
-fn tell_shut(out: &mut Told, line: command::Command) -> Result<(), Stopped> {
-    let names_slot = matches!(
-        &line,
-        command::Command::Step(_) | command::Command::Finish(_) | command::Command::Abandon(_)
-    );
-    drop(line);
-    if names_slot {
-        tell_turns(out, None)
-    } else {
-        tell_refused(out, Error::Closed)
-    }
-}
-
-// Adds what a command prints that asks a database, where there is none.
+// Adds what a line prints that asks a database, where there is none.
 fn tell_unasked(out: &mut Told, verb: Verb) -> Result<(), Stopped> {
     match verb {
-        Verb::Turns => tell_turns(out, None),
-        Verb::Listen(Listen::Next | Listen::Unwatch)
-        | Verb::Owned(Owned::Listen(Listen::Next | Listen::Unwatch)) => tell_no_subscriber(out),
+        Verb::Step | Verb::Finish | Verb::Abandon | Verb::Turns => tell_turns(out, None),
+        Verb::Next | Verb::Unwatch => tell_no_subscriber(out),
         _ => tell_refused(out, Error::Closed),
     }
 }
@@ -170,17 +141,18 @@ fn tell_none(why: &mut Vec<u8>, name: &[u8]) -> Result<(), Stopped> {
     ))
 }
 
-// The words of a line behind its first.
-fn words_behind(line: &[u8]) -> &[u8] {
-    first_word(without_end(line)).1.unwrap_or(b"")
+/// The words of a line behind so many of its own, if there are some.
+pub fn words_behind(line: &[u8], own: usize) -> Option<&[u8]> {
+    let mut words = Some(without_end(line));
+    for _ in 0..own {
+        words = first_word(words?).1;
+    }
+    words
 }
 
-// Whether a text goes on so from a place.
-fn goes_on(text: &[u8], start: usize, with: &[u8]) -> bool {
-    match text.get(start..) {
-        Some(rest) => rest.starts_with(with),
-        None => false,
-    }
+/// The same, which may be empty.
+pub fn rest_behind(line: &[u8], own: usize) -> &[u8] {
+    words_behind(line, own).unwrap_or(b"")
 }
 
 impl Shell {
@@ -193,7 +165,7 @@ impl Shell {
             number: 0,
             good: true,
             out: Told::new(alloc, explains),
-            numbers: Vec::new(alloc),
+            arguments: Arguments::none(alloc),
             why: Vec::new(alloc),
             mark: 0,
             names: Names::empty(alloc),
@@ -228,15 +200,15 @@ impl Shell {
     }
 
     // What the line asks for, if it does. One that cannot be read is told.
-    fn command(&mut self) -> Result<Option<Command>, Stopped> {
+    fn verb(&mut self) -> Result<Option<Verb>, Stopped> {
         self.why.clear();
-        self.numbers.clear();
+        self.arguments.clear();
         let line = without_end(self.line.as_slice());
         if line.is_empty() || line.starts_with(b"#") {
             return Ok(None);
         }
-        match read(self.alloc, line, &mut self.numbers, &mut self.why)? {
-            Some(command) => Ok(Some(command)),
+        match read(line, &mut self.arguments, &mut self.why)? {
+            Some(verb) => Ok(Some(verb)),
             None => self.tell_bad().map(|()| None),
         }
     }
@@ -257,63 +229,75 @@ impl Shell {
         &mut self,
         source: &mut S,
         output: &mut W,
-    ) -> Result<Command, Stopped> {
+    ) -> Result<Verb, Stopped> {
         for _ in 0..u64::MAX {
             if !self.read(source, output)? {
                 break;
             }
-            if let Some(command) = self.command()? {
-                return Ok(command);
+            if let Some(verb) = self.verb()? {
+                return Ok(verb);
             }
         }
-        Ok(Command::Own(Verb::Quit))
+        Ok(Verb::Quit)
     }
 
-    // Opens a tree by its name, or takes an id. What a line `tree` got is taken down.
-    fn name(
+    // Makes a tree current.
+    fn take_tree(
         &mut self,
         session: &mut Session<MemPages, Operator>,
-        named: Named,
+        tree: sled_nodes::Result<Tree>,
     ) -> Result<(), Stopped> {
-        let start = self.out.text.len();
-        tell_named(
-            self.alloc,
-            session,
-            named,
-            self.line.as_slice(),
-            &mut self.out,
-        )?;
-        if goes_on(self.out.text.as_slice(), start, b"tree ") {
-            return self.names.push(session.tree());
-        }
-        Ok(())
+        let tree = answered(tree)?;
+        let name = tree.name.as_ref();
+        let told = tell(&mut self.out, &[Text(b"tree "), Word(name), Text(b"\n")]);
+        session.set_tree(tree);
+        told
     }
 
-    // Imports what the line says.
-    fn import(
+    // Makes a whole call, and adds how it came out.
+    fn whole(
         &mut self,
         session: &mut Session<MemPages, Operator>,
-        import: Import,
+        whole: Whole,
     ) -> Result<(), Stopped> {
-        tell_import(
-            self.alloc,
-            session,
-            import,
-            self.line.as_slice(),
-            &mut self.out,
-        )
+        let shown = Shown::of_whole(&whole);
+        let outcome = session.whole(whole);
+        let told = match &outcome {
+            Outcome::Decided(Reply::Tree(tree)) => {
+                let told = self.take_tree(session, tree.clone());
+                told.and(self.names.push(tree))
+            }
+            outcome => self.subscribers.tell_outcome(&mut self.out, shown, outcome),
+        };
+        drop(outcome);
+        told
+    }
+
+    // Takes what a subscriber is told next, or ends it.
+    fn hear(
+        &mut self,
+        session: &mut Session<MemPages, Operator>,
+        verb: Verb,
+    ) -> Result<(), Stopped> {
+        let Some(subscriber) = self.subscribers.named(self.arguments.number()) else {
+            return tell_no_subscriber(&mut self.out);
+        };
+        let whole = match verb {
+            Verb::Next => Whole::Next(subscriber),
+            _ => Whole::Unsubscribe(subscriber),
+        };
+        self.whole(session, whole)
     }
 
     // Makes the group of writes that the line says, if its trees can be read.
     fn group(&mut self, session: &mut Session<MemPages, Operator>) -> Result<(), Stopped> {
-        tell_group(
-            self.alloc,
-            session,
-            &self.names,
-            self.line.as_slice(),
-            &mut self.out,
-            &mut self.why,
-        )?;
+        let words = rest_behind(self.line.as_slice(), 1);
+        let tree = session.tree();
+        let group = group_of(self.alloc, tree, &self.names, words, &mut self.why)?;
+        if self.why.is_empty() {
+            return self.whole(session, Whole::Group(group));
+        }
+        drop(group);
         self.tell_bad()
     }
 
@@ -333,41 +317,9 @@ impl Shell {
         self.tell_bad()
     }
 
-    // Reads a value and writes what is made of it, which the line says.
-    fn fetch(
-        &mut self,
-        session: &mut Session<MemPages, Operator>,
-        call: Fetch,
-    ) -> Result<(), Stopped> {
-        tell_fetch(
-            self.alloc,
-            session,
-            call,
-            self.line.as_slice(),
-            &mut self.out,
-        )
-    }
-
-    // Adds a subscriber, takes an event of one, or ends one.
-    fn listen(
-        &mut self,
-        session: &mut Session<MemPages, Operator>,
-        listen: Listen,
-    ) -> Result<(), Stopped> {
-        tell_listen(
-            self.alloc,
-            session,
-            &mut self.subscribers,
-            listen,
-            self.line.as_slice(),
-            &mut self.out,
-        )
-    }
-
     // Answers a read, with the words behind its own.
     fn look(&mut self, session: &Session<MemPages, Operator>, which: Look) -> Result<(), Stopped> {
-        let text = first_word(without_end(self.line.as_slice())).1;
-        let (first, more) = first_word(text.unwrap_or(b""));
+        let (first, more) = first_word(rest_behind(self.line.as_slice(), 1));
         let words = (first, more.unwrap_or(b""));
         tell_look(
             self.alloc,
@@ -379,21 +331,39 @@ impl Shell {
         )
     }
 
-    // The words of the line behind its first.
-    fn words(&self) -> &[u8] {
-        words_behind(self.line.as_slice())
+    // Makes current what the line names.
+    fn take_handle(&mut self, session: &mut Session<MemPages, Operator>) -> Result<(), Stopped> {
+        session.set_tree(handle_of(self.alloc, &self.arguments)?);
+        tell(&mut self.out, &[Text(b"done\n")])
+    }
+
+    // Gives the current tree the operator that the line names.
+    fn set_operator(&mut self, session: &mut Session<MemPages, Operator>) -> Result<(), Stopped> {
+        let operator = operator_of(self.arguments.bytes(0)).ok_or(Stopped)?;
+        let answer = session.set_merge_operator(operator);
+        let answer = answer.map(|()| Reply::Done);
+        self.subscribers
+            .tell_answer(&mut self.out, Shown::Value, answer)
+    }
+
+    // How the line makes its call.
+    fn way(&self) -> Way {
+        way_of(first_word(self.line.as_slice()).0)
     }
 
     // Makes current what a name was before.
     fn take_old(&mut self, state: &mut State) -> Result<(), Stopped> {
-        let name = bytes_of(self.alloc, self.words())?;
-        let told = match (state, self.names.before(name.as_ref(), 1)) {
-            (State::Open(session), Some(tree)) => take_tree(session, tree, &mut self.out),
-            _ => tell_none(&mut self.why, name.as_ref()),
-        };
-        drop(name);
-        told?;
-        self.tell_bad()
+        let name = self.arguments.bytes(0);
+        match (state, self.names.before(name, 1)) {
+            (State::Open(session), Some(tree)) => {
+                let tree = tree.clone();
+                self.take_tree(session, tree)
+            }
+            _ => {
+                tell_none(&mut self.why, name)?;
+                self.tell_bad()
+            }
+        }
     }
 
     // Draws the current tree, or counts its pages, from the pages as they are.
@@ -417,114 +387,149 @@ impl Shell {
         }
     }
 
-    // Answers a command that is a call of the database itself.
-    fn owned(&mut self, state: &mut State, owned: Owned) -> Result<(), Stopped> {
+    // Takes a session apart, makes the call of its database that the line says, and makes a session again, where the same tree is current.
+    // The calls in flight are given up.
+    fn on_parts(
+        &mut self,
+        session: Session<MemPages, Operator>,
+        verb: Verb,
+    ) -> (State, Result<(), Stopped>) {
+        let (mut db, tree) = session.into_parts();
+        let told = self.make_owned(&mut db, &tree, verb);
+        (State::Open(Session::with_tree(self.alloc, db, tree)), told)
+    }
+
+    // Answers a line that is a call of the database itself.
+    fn owned(&mut self, state: &mut State, verb: Verb) -> Result<(), Stopped> {
         let shut = State::Shut(Held::Kept(Kept::empty(self.alloc)));
         let (next, told) = match std::mem::replace(state, shut) {
-            State::Open(session) => {
-                let (session, told) = tell_owned(
-                    self.alloc,
-                    session,
-                    &mut self.subscribers,
-                    owned,
-                    self.line.as_slice(),
-                    &mut self.out,
-                );
-                (State::Open(session), told)
-            }
-            State::Shut(held) => (
-                State::Shut(held),
-                tell_unasked(&mut self.out, Verb::Owned(owned)),
-            ),
+            State::Open(session) => self.on_parts(session, verb),
+            State::Shut(held) => (State::Shut(held), tell_unasked(&mut self.out, verb)),
         };
         let shut = std::mem::replace(state, next);
         drop(shut.into_held());
         told
     }
 
-    // Answers a command that makes a call of its own kind, or that asks.
+    // Runs a line that `sledrun` knows too, or that takes a slot.
+    fn known<W: Write>(
+        &mut self,
+        session: &mut Session<MemPages, Operator>,
+        verb: Verb,
+        output: &mut W,
+    ) -> Result<(), Stopped> {
+        let way = self.way();
+        let words = words_behind(self.line.as_slice(), 1);
+        let line = known_of(self.alloc, verb, way, words, &self.arguments)?;
+        tell_known(session, line, output, &mut self.out)
+    }
+
+    // Makes the whole call that the line says.
     fn call(
         &mut self,
         session: &mut Session<MemPages, Operator>,
         verb: Verb,
-        numbers: [u64; 3],
+    ) -> Result<(), Stopped> {
+        match whole_of(self.alloc, session.tree(), verb, &self.arguments) {
+            Ok(whole) => self.whole(session, whole),
+            Err(error) => tell_refused(&mut self.out, error),
+        }
+    }
+
+    // Reads a value and writes what is made of it, which the line says.
+    fn fetch(
+        &mut self,
+        session: &mut Session<MemPages, Operator>,
+        verb: Verb,
+    ) -> Result<(), Stopped> {
+        let answer = fetch(self.alloc, session, verb, &self.arguments).map(Reply::Value);
+        self.subscribers
+            .tell_answer(&mut self.out, Shown::Value, answer)
+    }
+
+    // Answers a line that asks a session.
+    fn ask_session<W: Write>(
+        &mut self,
+        session: &mut Session<MemPages, Operator>,
+        verb: Verb,
+        output: &mut W,
     ) -> Result<(), Stopped> {
         match verb {
-            Verb::Named(named) => self.name(session, named),
-            Verb::Import(import) => self.import(session, import),
+            Verb::Look(which) => self.look(session, which),
+            Verb::Update | Verb::Fetch => self.fetch(session, verb),
+            Verb::Next | Verb::Unwatch => self.hear(session, verb),
+            Verb::PopMin
+            | Verb::PopMax
+            | Verb::Clear
+            | Verb::OpenTree
+            | Verb::DropTree
+            | Verb::Id
+            | Verb::Import
+            | Verb::ImportTyped
+            | Verb::ImportAll
+            | Verb::Watch => self.call(session, verb),
             Verb::Group => self.group(session),
             Verb::Transaction => {
                 tell_transaction(self.alloc, session, self.line.as_slice(), &mut self.out)
             }
             Verb::TransactionAll => self.transaction_all(session),
-            Verb::Fetch(call) => self.fetch(session, call),
-            Verb::Listen(listen) => self.listen(session, listen),
-            Verb::Pop(pop) => tell_pop(session, pop, &mut self.out),
-            Verb::Turns => tell_turns(&mut self.out, session.turns(numbers[0])),
-            _ => tell_whether(&mut self.out, session.db().was_recovered()),
-        }
-    }
-
-    // Answers a command that asks a session.
-    fn ask_session(
-        &mut self,
-        session: &mut Session<MemPages, Operator>,
-        verb: Verb,
-        numbers: [u64; 3],
-    ) -> Result<(), Stopped> {
-        match verb {
-            Verb::Handle => {
-                let line = self.line.as_slice();
-                take_handle(self.alloc, session, line, &mut self.out)
-            }
-            Verb::Operator => set_operator(session, self.line.as_slice(), &mut self.out),
-            Verb::Look(which) => self.look(session, which),
+            Verb::Handle => self.take_handle(session),
+            Verb::Operator => self.set_operator(session),
             Verb::Pages => self.show(session, None),
             Verb::Draw(drawing) => self.show(session, Some(drawing)),
-            verb => self.call(session, verb, numbers),
+            Verb::Turns => tell_turns(&mut self.out, session.turns(self.arguments.number())),
+            Verb::Recovered => tell_whether(&mut self.out, session.db().was_recovered()),
+            verb => self.known(session, verb, output),
         }
     }
 
-    // Answers a command that asks a database.
-    fn ask(&mut self, state: &mut State, verb: Verb, numbers: [u64; 3]) -> Result<(), Stopped> {
+    // Answers a line that asks a database.
+    fn ask<W: Write>(
+        &mut self,
+        state: &mut State,
+        verb: Verb,
+        output: &mut W,
+    ) -> Result<(), Stopped> {
+        if let Way::Owned = self.way() {
+            return self.owned(state, verb);
+        }
         match state {
-            State::Open(session) => self.ask_session(session, verb, numbers),
+            State::Open(session) => self.ask_session(session, verb, output),
             State::Shut(_) => tell_unasked(&mut self.out, verb),
         }
     }
 
-    // Answers a command of the shell's own that does not change the store: whether it is one.
-    fn answers(&mut self, state: &mut State, verb: Verb) -> Result<bool, Stopped> {
-        let numbers = three(self.numbers.as_slice());
+    // Answers a line, unless it changes the store, has others run again and again, or ends: whether it did.
+    fn answer<W: Write>(
+        &mut self,
+        state: &mut State,
+        verb: Verb,
+        output: &mut W,
+    ) -> Result<bool, Stopped> {
+        let number = self.arguments.number();
         let told = match verb {
-            Verb::Turns
-            | Verb::Recovered
-            | Verb::Handle
-            | Verb::Operator
-            | Verb::Look(_)
-            | Verb::Pages
-            | Verb::Draw(_)
-            | Verb::Named(_)
-            | Verb::Fetch(_)
-            | Verb::Listen(_)
-            | Verb::Import(_)
-            | Verb::Group
-            | Verb::Transaction
-            | Verb::TransactionAll
-            | Verb::Pop(_) => self.ask(state, verb, numbers),
-            Verb::OldTree => self.take_old(state),
-            Verb::Owned(owned) => self.owned(state, owned),
-            Verb::Mark if numbers[0] < self.mark => self.tell_below(numbers[0]),
+            Verb::Mark if number < self.mark => self.tell_below(number),
             Verb::Reopen | Verb::Refuse | Verb::Unreadable | Verb::Mark if state.is_closed() => {
                 tell_refused(&mut self.out, Error::Corruption(GROUP_IS_OPEN))
             }
-            Verb::Verify => return self.verify(state),
             Verb::Sweep(_) if self.is_swept => self.tell_swept(),
+            Verb::Crash
+            | Verb::New
+            | Verb::Reopen
+            | Verb::Refuse
+            | Verb::Unreadable
+            | Verb::Mark
+            | Verb::Recover
+            | Verb::Image(_)
+            | Verb::Sweep(_)
+            | Verb::Quit => return Ok(false),
+            Verb::Verify => return self.verify(state),
+            Verb::OldTree => self.take_old(state),
             Verb::Page => self.note_page(),
             Verb::Root => self.note_root(),
             Verb::Why => tell_why(&mut self.out),
             Verb::Help => self.help(),
-            _ => return Ok(false),
+            verb => self.ask(state, verb, output),
         };
         told.map(|()| true)
     }
@@ -558,20 +563,19 @@ impl Shell {
 
     // Notes a page of an image.
     fn note_page(&mut self) -> Result<(), Stopped> {
-        let words = words_behind(self.line.as_slice());
+        let words = rest_behind(self.line.as_slice(), 1);
         self.noted.note_page(self.alloc, words, &mut self.out)
     }
 
     // Notes a root of an image.
     fn note_root(&mut self) -> Result<(), Stopped> {
-        let words = words_behind(self.line.as_slice());
+        let words = rest_behind(self.line.as_slice(), 1);
         self.noted.note_root(self.alloc, words, &mut self.out)
     }
 
     // Lists the commands: all in groups, or those that the line asks for.
     fn help(&mut self) -> Result<(), Stopped> {
-        let line = without_end(self.line.as_slice());
-        match first_word(line).1 {
+        match words_behind(self.line.as_slice(), 1) {
             None => push_groups(&mut self.out),
             Some(word) => {
                 if !push_help(&mut self.out, word)? {
@@ -579,36 +583,6 @@ impl Shell {
                 }
                 self.tell_bad()
             }
-        }
-    }
-
-    // Runs a line that `sledrun` knows too.
-    fn line<W: Write>(
-        &mut self,
-        state: &mut State,
-        line: command::Command,
-        output: &mut W,
-    ) -> Result<(), Stopped> {
-        match state {
-            State::Open(session) => tell_known(session, line, output, &mut self.out),
-            State::Shut(_) => tell_shut(&mut self.out, line),
-        }
-    }
-
-    // Answers a line, unless it changes the store.
-    fn answer<W: Write>(
-        &mut self,
-        state: &mut State,
-        command: Command,
-        output: &mut W,
-    ) -> Result<Option<Verb>, Stopped> {
-        match command {
-            Command::Line(line) => self.line(state, line, output).map(|()| None),
-            Command::Own(verb) => match self.answers(state, verb) {
-                Ok(true) => Ok(None),
-                Ok(false) => Ok(Some(verb)),
-                Err(stopped) => Err(stopped),
-            },
         }
     }
 
@@ -620,8 +594,8 @@ impl Shell {
         output: &mut W,
     ) -> Result<Verb, Stopped> {
         for _ in 0..u64::MAX {
-            let command = self.next(source, output)?;
-            if let Some(verb) = self.answer(state, command, output)? {
+            let verb = self.next(source, output)?;
+            if !self.answer(state, verb, output)? {
                 return Ok(verb);
             }
         }
@@ -724,16 +698,16 @@ impl Shell {
     // What is made of the pages by a line that changes them, which are opened then.
     fn changed(&mut self, held: Held, verb: Verb) -> Result<Held, Stopped> {
         self.last = verb;
-        let [first, ..] = three(self.numbers.as_slice());
+        let first = self.arguments.number();
         match verb {
             Verb::Crash => held.crash(self.alloc, first),
             Verb::Recover => {
                 let left = held.crash(self.alloc, u64::MAX)?;
-                left.refuse(self.numbers.as_slice())
+                left.refuse(self.arguments.numbers())
             }
-            Verb::New => self.empty(held).refuse(self.numbers.as_slice()),
-            Verb::Refuse => held.refuse(self.numbers.as_slice()),
-            Verb::Unreadable => held.unreadable(self.numbers.as_slice()),
+            Verb::New => self.empty(held).refuse(self.arguments.numbers()),
+            Verb::Refuse => held.refuse(self.arguments.numbers()),
+            Verb::Unreadable => held.unreadable(self.arguments.numbers()),
             Verb::Mark => Ok(self.set_aside(held, first)),
             Verb::Image(image) => self.image(held, image, first),
             _ => Ok(held),
@@ -775,16 +749,13 @@ impl Shell {
 
     // Has the lines of a file run again and again, which the line names.
     fn sweep(&mut self, rt: &HostRuntime, sweep: Sweep) -> Result<(), Stopped> {
-        let name = bytes_of(self.alloc, self.words())?;
-        let read = read_file(rt, name.as_ref());
-        drop(name);
-        match read {
+        match read_file(rt, self.arguments.bytes(0)) {
             Some(lines) => {
                 let (alloc, out) = (self.alloc, &mut self.out);
                 tell_sweep(alloc, &Swept, sweep, lines.as_slice(), out, &mut self.why)?;
             }
             None => {
-                let word = words_behind(self.line.as_slice());
+                let word = rest_behind(self.line.as_slice(), 1);
                 answered(quote(&mut self.why, word, "cannot be read"))?;
             }
         }

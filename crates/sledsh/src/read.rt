@@ -1,0 +1,63 @@
+//! What a line asks for, or why it asks for nothing.
+
+use crate::arguments::Arguments;
+use crate::table::{Misfit, Verb, find};
+use sled_lines::print::Piece::Text;
+use sled_lines::print::{push_pieces, push_text};
+use sled_lines::words::first_word;
+use sled_nodes::Result;
+use transaction_lines::words::quote;
+
+const SPACED: &str = "a line begins with a word; one space stands between two";
+
+fn is_space(byte: &u8) -> bool {
+    *byte == b' '
+}
+
+// Whether a line begins with a word, and each space of it stands between two.
+fn is_spaced(line: &[u8]) -> bool {
+    for word in line.split(is_space) {
+        if word.is_empty() {
+            return false;
+        }
+    }
+    true
+}
+
+// Adds why a line has the words of no command.
+fn push_misfit<'a>(why: &mut Vec<u8>, line: &'a [u8], misfit: Misfit<'a>) -> Result<()> {
+    let name = first_word(line).0;
+    match misfit {
+        Misfit::Name => quote(why, name, "is no command; `help` lists them"),
+        Misfit::Short => quote(why, line, "takes a word more; `help` lists which"),
+        Misfit::Other(word) => push_pieces(
+            why,
+            &[
+                Text(b"`"),
+                Text(word),
+                Text(b"` does not follow `"),
+                Text(name),
+                Text(b"`; `help` lists what does"),
+            ],
+        ),
+    }
+}
+
+/// What a line asks for, with its arguments; `None` where it cannot be read, and then the reason is added.
+pub fn read(line: &[u8], arguments: &mut Arguments, why: &mut Vec<u8>) -> Result<Option<Verb>> {
+    if !is_spaced(line) {
+        push_text(why, SPACED.as_bytes())?;
+        return Ok(None);
+    }
+    match find(line) {
+        Ok(found) => {
+            arguments.read_text(found.own, found.takes, found.words, why)?;
+            Ok(if why.is_empty() {
+                Some(found.verb)
+            } else {
+                None
+            })
+        }
+        Err(misfit) => push_misfit(why, line, misfit).map(|()| None),
+    }
+}
