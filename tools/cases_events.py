@@ -36,6 +36,18 @@ def fill(s, count=1024):
 
 
 @case
+def two_subscribers_hear_two_inserts(s):
+    """Each of two subscribers to all keys hears of two inserts that the database makes by itself."""
+    watch(s, 1, '%')
+    watch(s, 2, '%')
+    s.line('owned insert a 1', 'old -')
+    s.line('owned insert b 2', 'old -')
+    for number in 1, 2:
+        sees(s, number, 'insert a 1', 'insert b 2')
+    s.line('dump', 'pair __sled__default a 1', 'pair __sled__default b 2', 'end 2')
+
+
+@case
 def a_subscriber_sees_what_changes(s):
     """A subscriber sees each change of a key under its prefix. An insert of the value that stands and a removal of an absent key are
     none; a swap always is one."""

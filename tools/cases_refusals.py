@@ -514,61 +514,11 @@ def a_crash_amid_every_stage(s):
 
 
 @crowd_case
-def crowds(s):
-    """Eight calls in flight at random beside a plain program, with crashes: a tree that grows and shrinks."""
-    for seed, calls in [(88172645463325252, 12000), (1, 3000), (2, 3000), (18446744073709551615, 1000), (7, 0),
-                        (7, 1), (7, 8), (7, 9)]:
-        s.line(f'crowd {seed} {calls}', f'agreed {calls}')
-    s.note('It has a store of its own.')
-    s.rows('''
-        insert a 1          old -
-        begin get a         slot 1
-        crowd 5 100         agreed 100
-        step 1              value 1
-        dump                pair __sled__default a 1
-                            end 1
-    ''')
-
-
-@crowd_case
-def images_by_seed(s):
-    """Images of pages that look random: the check accepts those that a plain reading accepts, and they survive writes and a crash."""
-    for seed, count in [(1, 40), (88172645463325252, 40), (18446744073709551615, 20), (7, 0)]:
-        s.line(f'images {seed} {count}', f'images {count}, accepted a third or more, all as read')
-    s.note('It has stores of its own.')
-    s.rows('''
-        insert a 1          old -
-        begin get a         slot 1
-        images 12 10        images 10, accepted a third or more, all as read
-        step 1              value 1
-        dump                pair __sled__default a 1
-                            end 1
-    ''')
-
-
-@crowd_case
-def scans_by_seed(s):
-    """Scans in flight beside writes, drops and crashes: they give in order what was there, within their bounds, and all that was there at each of
-    their steps."""
-    for seed, steps in [(1, 9000), (88172645463325252, 6000), (18446744073709551615, 3000), (2, 400), (7, 0)]:
-        s.line(f'scans {seed} {steps}', f'scans {steps}, as seen')
-    s.note('It has stores of its own.')
-    s.rows('''
-        insert a 1          old -
-        begin get a         slot 1
-        scans 12 500        scans 500, as seen
-        step 1              value 1
-        dump                pair __sled__default a 1
-                            end 1
-    ''')
-
-
-@crowd_case
 def words_of_many_calls_that_cannot_be_read(s):
     """A line of the program `crowd` that cannot be read changes nothing, and the next one is read."""
     s.line('insert a 1', 'old -')
     s.begin(1, 'get a')
-    for line in ('crowd', 'crowd 1', 'crowd 1 x', 'crowd 1 2 3', 'images 1', 'images 1 -', 'scans 1', 'scans 1 -', 'scans 1 2 3', 'begin scan .. ..', 'load', 'load 1 2', 'load 1 2 3 4', 'find 1', 'find 1 -', 'overtake 1', 'overtake 1 2 3',
+    for line in ('crowd 1 2', 'begin scan .. ..', 'load', 'load 1 2', 'load 1 2 3 4', 'find 1', 'find 1 -', 'overtake 1', 'overtake 1 2 3',
                  'reads 1', 'pages 1', 'why 1', 'turns', 'turns 01', 'new refuse 1', 'batch a', 'batch - 1', 'batch a 1 ', 'run', 'run step', 'run step 1,', 'run step 1, tree t', 'run drop t', 'drop',
                  'drop -', 'len 1', 'read', 'read -', 'read a b', 'range ..', 'range a z', 'range [a (', 'range .. .. ..', 'prefix', 'merge a 1', 'draw', 'quit', 'get', ' get a'):
         s.line(line, f'bad line {len(s.text) + 1}')

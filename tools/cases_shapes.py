@@ -156,7 +156,7 @@ def the_empty_value_is_a_value(s):
 
 @case
 def long_words_are_written(s):
-    """Direct writes at a key of 200 bytes, a merge that makes 120, and a closure that makes 100."""
+    """Direct writes at a key of 200 bytes, a merge that makes 120, a closure that makes 100, and the event of a value of 100."""
     key, value = 'k' * 200, 'v' * 60
     s.line(f'owned insert {key} 1', 'old -')
     s.line(f'owned merge {key} 1', 'refused E2')
@@ -169,6 +169,9 @@ def long_words_are_written(s):
     s.line(f'update k set {"w" * 100}', f'value {"w" * 100}')
     s.line(f'fetch k append {value}', f'value {"w" * 100}')
     s.line('get k', f'value {"w" * 100}{value}')
+    s.line('watch a', 'subscriber 1')
+    s.line(f'insert a {"x" * 100}', 'old -')
+    s.line('next 1', f'event insert a {"x" * 100}')
 
 
 @case

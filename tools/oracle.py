@@ -502,6 +502,20 @@ def act(store, tree, call, view):
     yield
 
 
+def is_settled(node):
+    """Whether nothing is to be repaired at a leaf, and it need not merge either."""
+    return not node.merging and node.child is None and not node.should_split() and not node.should_merge()
+
+
+def ended(steps):
+    """What steps give at their end."""
+    try:
+        while True:
+            next(steps)
+    except StopIteration as end:
+        return end.value
+
+
 def split(store, view, parent, tree=None):
     """Splits a page; a merge that wants it split names no tree and posts no pointer."""
     left, right = view.node.split()
@@ -615,15 +629,20 @@ def above(prefix):
 
 
 def look(store, tree, target):
-    """The leaf in which a key just within an upper bound lies. It goes right, or down by the last pointer within the bound, but
-    to no merging child."""
+    """The leaf in which a key just within an upper bound lies."""
+    return look_at(store, tree, target).node
+
+
+def look_at(store, tree, target):
+    """The page of that leaf. The way to it goes right, or down by the last pointer within the bound, but to no merging child."""
     pid = store.roots[tree.name]
     while True:
-        node = store.read(pid).node
+        view = store.read(pid)
+        node = view.node
         if node.hi != b'' and is_up_to(target, node.hi):
             pid = node.next
         elif node.leaf:
-            return node
+            return view
         else:
             pids = [p for k, p in node.entries if is_up_to(target, k)]
             pid = pids[-2] if pids[-1] == node.child else pids[-1]
@@ -689,7 +708,7 @@ names; tree NAME; old-tree NAME; drop NAME; id; import NAME K V ..; import-type 
 update K HOW; fetch K HOW; owned update K HOW; owned fetch K HOW
 watch P; next N; unwatch N; owned watch P; owned next N; owned unwatch N"""
 # What the program `crowd` knows beside the lines of `sledrun` and reads that take no slot: many calls at once.
-CROWD = """crowd SEED CALLS; images SEED COUNT; scans SEED STEPS; run STEP, ..; reads; load N MOST ALL; find N PAGES; overtake N COUNT; pages; turns N; new; drop NAME; why
+CROWD = """run STEP, ..; reads; load N MOST ALL; find N PAGES; overtake N COUNT; pages; turns N; new; drop NAME; why
 insert K V; get K; remove K; cas K OLD NEW; begin insert K V; begin get K; begin remove K; begin cas K OLD NEW
 step N; finish N; abandon N; batch K NEW ..; flush; crash N; dump; tree NAME
 has K; read K; lt K; gt K; first; last; len; empty; names; range LO HI; range-back LO HI; range-ends LO HI; prefix P; prefix-back P
@@ -988,12 +1007,6 @@ class Shell:
             return ['recovered']
         if name == 'why':
             return [f'why {self.why}']
-        if name == 'crowd':
-            return [f'agreed {words[1]}']
-        if name == 'images':
-            return [f'images {words[1]}, accepted a third or more, all as read']
-        if name == 'scans':
-            return [f'scans {words[1]}, as seen']
         if name == 'reads':
             return [f'reads {self.reads()}']
         if name == 'run':
@@ -1196,20 +1209,30 @@ class Shell:
         trees = [self.there(handle) for handle, _ in batches]
         changes, writes, told = [], {}, []
         for tree, (_, pairs) in zip(trees, batches):
+            given = None
             for key, value in pairs:
-                old = look(self.store, tree, (True, key)).get(key)
+                leaf = look_at(self.store, tree, (True, key))
+                old = leaf.node.get(key)
                 if writes.get((tree, key), old) != value:
-                    changes.append((tree, ('remove', key) if value is None else ('insert', key, value)))
+                    begins = old != value and leaf.pid != given and is_settled(leaf.node)
+                    changes.append((tree, ('remove', key) if value is None else ('insert', key, value), leaf if begins else None))
+                    given = leaf.pid
                 writes[tree, key] = value
         if not changes:
             return
         self.store.begin_group()
-        for tree, call in changes:
-            for _ in fly(self.store, InGroup(tree, told), call):
-                pass
+        for tree, call, leaf in changes:
+            self.write_one(InGroup(tree, told), call, leaf)
         self.store.seal_group()
         for tree, key, value in told:
             tree.tell(key, value)
+
+    def write_one(self, tree, call, leaf):
+        """Makes a write of a group: at the leaf that the read of its key found, where there is one and it has not changed since."""
+        if leaf is not None and ended(act(self.store, tree, call, leaf)) is not None:
+            return
+        for _ in fly(self.store, tree, call):
+            pass
 
     def next_id(self):
         """One above the greatest id that was given. Where none is set aside, 4096 more are, or as many as are left."""

@@ -157,7 +157,7 @@ class Unproved(Kept):
     folders = ("src",)
 
     def build(self):
-        say(f"compiling {self.program} with checks and without proofs, once, within a minute")
+        say(f"compiling {self.program} with checks and without proofs, once, in a minute or two")
         with tempfile.TemporaryDirectory() as room, open(f"{room}/said", "w+") as said:
             rt = self.start(room, said)
             with ended(rt):

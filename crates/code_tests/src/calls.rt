@@ -1,8 +1,9 @@
 //! Calls as values, what is tested before a call, and looks at pages.
 use sled::{
-    Call, CompareAndSwapError, Data, Db, Event, IVec, MemPages, Next, Pages, Reads, Reply, Result,
-    Subscriber, Tree, empty_pages,
+    Call, CompareAndSwapError, Data, Db, Decision, Effect, Event, IVec, MemPages, Next, Pages,
+    Reads, Reply, Result, Subscriber, Tree, empty_pages,
 };
+use sled_lines::operator::NoOperator;
 use std::alloc::Global;
 use std::io;
 use std::ops::Bound;
@@ -81,8 +82,32 @@ fn tell_call(
     )
 }
 
+// What a call replies where it is to link its change, and whether it changes something there.
+fn link_of(alloc: Global, call: &Call, value: Option<IVec>) -> Result<(Reply, bool)> {
+    let Decision { effect, reply } = call.at_link(alloc, value, None::<&NoOperator>)?;
+    let changes = effect != Effect::Nothing;
+    drop(effect);
+    Ok((reply, changes))
+}
+
+fn tell_link(rt: &HostRuntime, call: &Call, value: Option<IVec>) -> io::Result<()> {
+    let linked = link_of(rt.alloc(), call, value);
+    let told = println!(rt; "at a link: {:?}", linked);
+    drop(linked);
+    told
+}
+
+// Prints what a call comes to at a link where `21` stands, and where no value does.
+fn tell_links(rt: &HostRuntime, call: &Call) -> io::Result<()> {
+    match IVec::from_slice(rt.alloc(), b"21") {
+        Ok(value) => tell_link(rt, call, Some(value))?,
+        Err(e) => println!(rt; "{e}")?,
+    }
+    tell_link(rt, call, None)
+}
+
 // Prints of each call its key, whether it is on that, whether it needs an operator, what it answers at a read of `21` and of no value,
-// and whether copies are the same.
+// and whether copies are the same; and what it comes to at links.
 fn tell_calls(rt: &HostRuntime, calls: &[Call]) -> io::Result<()> {
     for call in calls {
         match reads_of(rt.alloc(), call) {
@@ -93,6 +118,7 @@ fn tell_calls(rt: &HostRuntime, calls: &[Call]) -> io::Result<()> {
             }
             Err(e) => println!(rt; "{e}")?,
         }
+        tell_links(rt, call)?;
     }
     Ok(())
 }
