@@ -70,8 +70,11 @@ fn tell_batches(rt: &HostRuntime) -> io::Result<()> {
 
 fn tell_runs(rt: &HostRuntime) -> io::Result<()> {
     match transactions::runs(rt.alloc()) {
-        Ok((count, moved)) => {
-            let counted = println!(rt; "after three conflicts a closure was run {count} times");
+        Ok((runs, moved)) => {
+            let counted = println!(rt;
+                "3, 999,999 and 1,000,000 conflicts: closures were run {:?}",
+                runs
+            );
             let told = println!(rt; "a value is moved to another tree: {:?}", moved);
             drop(moved);
             counted.and(told)

@@ -57,19 +57,20 @@ pub fn is_answered_alike(answer: &TransactionError<u64>) -> Result<bool> {
     Ok(is_same)
 }
 
-// Runs a closure that meets three conflicts, and takes no id.
-fn count_runs(db: &mut Db<MemPages>, tree: &Tree) -> u32 {
+// A transaction that meets so many conflicts before it writes, and takes no id: how often its closure was run, and whether it was made.
+fn count_runs(db: &mut Db<MemPages>, tree: &Tree, conflicts: u32) -> (u32, bool) {
     let count = Cell::new(0u32);
     let ended: TransactionResult<(), ()> = db.transaction(tree, |inside| {
         count.set(count.get().wrapping_add(1));
-        if count.get() < 4 {
+        if count.get() <= conflicts {
             return Err(ConflictableTransactionError::Conflict);
         }
         inside.insert(b"ulm", b"21")?;
         Ok(())
     });
+    let is_made = ended.is_ok();
     drop(ended);
-    count.get()
+    (count.get(), is_made)
 }
 
 // Whether `ulm` is in the second tree, and no longer in the first.
@@ -105,17 +106,21 @@ fn move_on(db: &mut Db<MemPages>) -> Result<(Option<IVec>, bool)> {
     moved
 }
 
-// How often a closure is run in the default tree.
-fn runs_on(db: &mut Db<MemPages>) -> Result<u32> {
+// The same in the default tree, of a few conflicts, as many as there may be, and one more.
+fn runs_on(db: &mut Db<MemPages>) -> Result<[(u32, bool); 3]> {
     let tree = db.default_tree()?;
-    let runs = count_runs(db, &tree);
+    let runs = [
+        count_runs(db, &tree, 3),
+        count_runs(db, &tree, 999_999),
+        count_runs(db, &tree, 1_000_000),
+    ];
     drop(tree);
     Ok(runs)
 }
 
-/// How often a closure is run that meets three conflicts, and takes no id; and what a value was that one moves from a tree to
-/// another, and whether it is moved.
-pub fn runs(alloc: Global) -> Result<(u32, Result<(Option<IVec>, bool)>)> {
+/// How often closures are run that meet 3, 999,999 and 1,000,000 conflicts, each with whether its transaction was made; and what a value
+/// was that one moves from a tree to another, and whether it is moved.
+pub fn runs(alloc: Global) -> Result<([(u32, bool); 3], Result<(Option<IVec>, bool)>)> {
     match Db::open(alloc, empty_pages(alloc), b"weather") {
         Ok(mut db) => {
             let runs = runs_on(&mut db);
