@@ -133,7 +133,6 @@ def a_tree_of_one_key_over_and_over(s):
             value = '-'
         s.pages((1, 0 if value == '-' else 1))
     is_sound(s)
-    s.line('operator concat', 'done')
     for number in range(300):
         s.line('owned insert a b', 'old ' + ('s' if number == 0 else '-'))
         s.line('owned remove a', 'old b')
@@ -143,6 +142,7 @@ def a_tree_of_one_key_over_and_over(s):
         s.line('merge a c', 'value b' + 'c' * (number + 1))
     s.line('len', 'number 1')
     is_sound(s)
+    s.ask('flush')
     s.line('insert a b', 'old b' + 'c' * 300)
     s.line('insert a d', 'old b')
     s.line('crash 1', 'recovered')

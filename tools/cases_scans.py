@@ -299,7 +299,7 @@ def a_scan_is_refused_where_its_tree_was_dropped(s):
 @case
 def scans_end_at_every_opening(s):
     """A crash and every opening end all scans, and a call of the database itself does. One that begins then gives what there is."""
-    for line, printed in [('crash 99', 'recovered'), ('crash 0', 'recovered'), ('reopen', 'opened'), ('recover', 'opened'), ('verify', 'sound'), ('owned id', 'number 1'),
+    for line, printed in [('crash 99', 'recovered'), ('crash 0', 'recovered'), ('reopen', 'opened'), ('recover', 'opened'), ('owned id', 'number 1'),
                           ('new', 'opened')]:
         s.new()
         s.insert(*below(3))

@@ -914,10 +914,14 @@ class Shell:
 
     def check(self):
         """A check of pages that somebody else made. Which of the things that are wrong is told is for a case to say."""
-        faults = {10} if self.store.group else images.faults(lambda pid: (view := self.store.read(pid)) and view.node, self.store.roots)
+        faults = {10} if self.store.group else self.faults()
         if faults:
             assert self.code in faults | {None}, (self.code, faults)
             raise Refused(5, str(self.code or min(faults)))
+
+    def faults(self):
+        """What is wrong with the pages."""
+        return images.faults(lambda pid: (view := self.store.read(pid)) and view.node, self.store.roots)
 
     def image(self, kind=None, mark=0):
         """A store of what was noted, opened after a check."""
@@ -937,14 +941,13 @@ class Shell:
         return ['opened']
 
     def verify(self):
-        """A check of the pages, and an opening. Where it is a database whose pages do not pass nothing changes."""
-        if self.opened:
-            if self.closed:
-                raise Refused(5, '10')
-            faults = images.faults(lambda pid: (view := self.store.read(pid)) and view.node, self.store.roots)
-            assert not faults, faults
-        self.slots, self.opened = {}, False
-        self.open()
+        """A check of the pages as they are, which changes nothing."""
+        if self.is_foreign:
+            self.check()
+        elif self.closed:
+            raise Refused(5, '10')
+        else:
+            assert not self.faults(), self.faults()
         return ['sound']
 
     @property

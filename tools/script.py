@@ -376,7 +376,7 @@ class Plain:
         elif name == 'load':
             for key in some_keys(words[1]):
                 self.answer(('insert', key, key), self.current)
-        elif name in ('reopen', 'verify'):
+        elif name == 'reopen':
             self.changes = []
             self.opened()
 

@@ -45,7 +45,6 @@ const DATABASE: &[u8] = b"sledsh";
 fn opening(last: Verb) -> &'static [u8] {
     match last {
         Verb::Crash => b"recovered\n",
-        Verb::Verify => b"sound\n",
         Verb::Quit => b"",
         _ => b"opened\n",
     }
@@ -65,12 +64,11 @@ impl State {
         }
     }
 
-    // The pages, but for those that somebody else made.
-    fn pages(&self) -> Option<&MemPages> {
+    fn pages(&self) -> &MemPages {
         match self {
-            State::Open(session) => Some(session.db().pages()),
-            State::Shut(Held::Kept(kept)) => Some(kept.pages()),
-            State::Shut(Held::Foreign(_)) => None,
+            State::Open(session) => session.db().pages(),
+            State::Shut(Held::Kept(kept)) => kept.pages(),
+            State::Shut(Held::Foreign(pages)) => pages,
         }
     }
 
@@ -81,6 +79,14 @@ impl State {
             State::Shut(_) => false,
         }
     }
+}
+
+// Checks pages as an opening does that checks them.
+fn check_pages(alloc: Global, pages: &MemPages) -> sled_nodes::Result<()> {
+    if pages.in_group() {
+        return Err(Error::Corruption(GROUP_IS_OPEN));
+    }
+    verify_integrity(alloc, pages)
 }
 
 // The line that was read last and its number, and what is to be printed.
@@ -523,7 +529,7 @@ impl Shell {
             | Verb::Image(_)
             | Verb::Sweep(_)
             | Verb::Quit => return Ok(false),
-            Verb::Verify => return self.verify(state),
+            Verb::Verify => self.verify(state),
             Verb::OldTree => self.take_old(state),
             Verb::Page => self.note_page(),
             Verb::Root => self.note_root(),
@@ -534,19 +540,14 @@ impl Shell {
         told.map(|()| true)
     }
 
-    // Checks the pages as they are. Where they pass it is for the opening behind it to say so, and else they stay as they are: whether
-    // that is told.
-    fn verify(&mut self, state: &State) -> Result<bool, Stopped> {
+    // Checks the pages as they are, and changes nothing.
+    fn verify(&mut self, state: &State) -> Result<(), Stopped> {
         if state.is_closed() {
-            let told = tell_refused(&mut self.out, Error::Corruption(GROUP_IS_OPEN));
-            return told.map(|()| true);
+            return tell_refused(&mut self.out, Error::Corruption(GROUP_IS_OPEN));
         }
-        let Some(pages) = state.pages() else {
-            return Ok(false);
-        };
-        match verify_integrity(self.alloc, pages) {
-            Ok(()) => Ok(false),
-            Err(error) => tell_verdict(&mut self.out, error).map(|()| true),
+        match check_pages(self.alloc, state.pages()) {
+            Ok(()) => tell(&mut self.out, &[Text(b"sound\n")]),
+            Err(error) => tell_verdict(&mut self.out, error),
         }
     }
 

@@ -201,7 +201,7 @@ static STORE: [Command; 8] = [
     Command("reopen", "", Verb::Reopen, "opens the store again"),
     Command("recover", "", Verb::Recover, "a crash that keeps all actions, and an opening"),
     Command("recovered", "", Verb::Recovered, "prints whether the store is what a crash left"),
-    Command("verify", "", Verb::Verify, "checks all pages, and opens the store again"),
+    Command("verify", "", Verb::Verify, "checks all pages, and changes nothing"),
 ];
 
 fn store_commands() -> &'static [Command] {
