@@ -75,6 +75,54 @@ def an_import_of_three_pairs(s):
     s.line('import-all tree x a 1 b 2 ; tree y a 1', 'done')
 
 
+@case
+def imports_into_a_new_tree_and_into_one_that_there_is(s):
+    """Imports of several pairs: into a new tree, into one that there is, of several trees by one call, over a pair that is present, and of
+    another type. Pages split on the way."""
+    s.rows(f'''
+        insert b 1                                          old -
+        import x a 1 b 2 c 3                                done
+        import x d 4 e 5                                    done
+        import {TREE.decode()} a 0 c 2                      done
+        import-type tree y k 1 j 2                          done
+        import-all tree z ; %74ree z a 1 b 2 ; tree y a 3 ; tree w c 4 %3b %3b   done
+        import x f 6 c 7 g 8                                refused E2
+        import-all tree x h 1 ; tree y l 1 a 2 m 3 ; tree v a 1   refused E2
+        import-type trees x i 1 j 2                         refused E2
+        import-all tree x i 1 ; trees x j 2                 refused E2
+        import t                                            done
+        clear                                               done
+        owned clear                                         done
+    ''')
+    s.line('import n' + ''.join(f' {key(number)} {key(number)}' for number in range(40)), 'done')
+    s.ask('dump')
+
+
+@case
+def a_write_beside_a_page_that_cannot_be_read(s):
+    """The default tree cannot be read, so that no dump has all pairs, and another tree is written."""
+    s.rows('''
+        tree t                  tree t
+        reopen unreadable 1     opened
+        tree t                  tree t
+        insert x 1              old -
+        insert y 2              old -
+    ''')
+
+
+@case
+def a_clear_that_is_refused(s):
+    """A tree that was dropped is not cleared, and one of its name is made by an import."""
+    s.rows('''
+        tree t              tree t
+        insert a 1          old -
+        drop t              yes
+        clear               refused E1
+        owned clear         refused E1
+        import t a 1 b 2    done
+    ''')
+
+
 def image_file(at):
     """A case that writes to one of the well-formed images."""
     root, pages, words, said = ACCEPTED[at]
@@ -125,12 +173,24 @@ def each_crash_of_many_writes_keeps_a_beginning(s):
 
 
 @case
+def each_crash_of_an_import_keeps_its_first_pairs(s):
+    """A crash keeps each number of actions of imports in turn. The pairs are those after one of the lines, or after a pair of an import; a tree
+    that an import opened may be there without one."""
+    s.note('The batch has three actions, each of the two trees two, and each pair one.')
+    s.line('each-crash an_import_of_three_pairs.lines', 'crashes 11, each a beginning')
+    s.ask('each-crash imports_into_a_new_tree_and_into_one_that_there_is.lines')
+    s.note('A tree is made by two actions and gets a pair, is dropped by two, is made again, and gets two pairs.')
+    s.line('each-crash a_clear_that_is_refused.lines', 'crashes 10, each a beginning')
+
+
+@case
 def what_differs_is_told_where_lines_are_run_again(s):
-    """An import that is refused midway keeps the pairs before, so that it is no beginning, and is refused where it is made again."""
+    """An import that is refused midway keeps the pairs before, so that it is refused where it is made again. Where a page cannot be read, no
+    pairs are known of which a crash keeps a beginning."""
     s.note('To open makes calls 1 to 3, the batch 4 to 6, the tree 7 and 8, its pairs 9 and 10.')
     s.line('each-refusal an_import_of_three_pairs.lines', 'call 10: line 2 is `refused E2` and not `done`')
-    s.note('The batch has three actions, the tree two; the sixth is its first pair.')
-    s.line('each-crash an_import_of_three_pairs.lines', 'crash 6: no beginning')
+    s.note('An opening makes all durable, so that the first action is the first pair.')
+    s.line('each-crash a_write_beside_a_page_that_cannot_be_read.lines', 'crash 1: no beginning')
 
 
 @case

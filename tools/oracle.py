@@ -894,6 +894,8 @@ class Shell:
     def __init__(self, forms=FORMS):
         self.store, self.line, self.forms, self.why = Store(), 0, forms, '-'
         self.noted, self.is_foreign, self.code = ({}, {}), False, None
+        # the pairs of each moment, where somebody asks for them
+        self.dumps = None
         self.open()
 
     def open(self):
@@ -1194,6 +1196,12 @@ class Shell:
                 if look(self.store, tree, (True, key)).get(key) is not None:
                     raise Refused(2, PRESENT)
                 self.advance(self.flight(tree, 'insert', key, value), True)
+                self.passes()
+
+    def passes(self):
+        """Notes the pairs of a moment between two lines, or between two pairs of a call that changes them one after the other."""
+        if self.dumps is not None:
+            self.dumps.append(self.run('dump'))
 
     def named_so(self, name):
         """What a word in a group names: the current tree, or what the last line `tree NAME` got."""
@@ -1253,6 +1261,7 @@ class Shell:
             pair = all.search_back() if name == 'pop-max' else all.search()
             if pair:
                 self.advance(self.flight(tree, 'remove', pair[0]), True)
+                self.passes()
             if name != 'clear':
                 return ['found ' + (f'{word(pair[0])} {word(pair[1])}' if pair else '-')]
             if not pair:
@@ -1457,17 +1466,11 @@ def each_refusal(lines):
 def each_crash(lines):
     """What it comes to that a crash keeps each number of actions in turn."""
     check_lines(lines, False)
-    shell, dumps = Shell(), []
-    shell.run('new')
-    dumps.append(shell.run('dump'))
-    for line in lines:
-        while line.endswith('clear') and shell.run('pop-min') != ['found -']:
-            dumps.append(shell.run('dump'))
-        shell.run(line)
-        dumps.append(shell.run('dump'))
     shell = Shell()
+    shell.dumps = dumps = []
     for line in ['new'] + lines:
         shell.run(line)
+        shell.passes()
     count = len(shell.store.recent)
     for keep in range(count + 1):
         left = Shell()

@@ -4,6 +4,7 @@
 
 pub mod held;
 pub mod image;
+pub mod parts;
 pub mod repeats;
 pub mod source;
 pub mod sweeps;

@@ -1,5 +1,6 @@
 //! Lines that are run again, with what comes before them, between them and behind them.
 
+use crate::parts::Part;
 use crate::source::Source;
 use shell_parts::tell::answered;
 use sled_lines::input::Stopped;
@@ -12,8 +13,8 @@ pub enum Aim {
     /// What they answer and the dump behind them, over a store that refuses its call of this number. A line that is refused so is made
     /// again.
     Refusing(u64),
-    /// The dump of the empty store and those after each line. Of a `clear`, which takes out one pair after the other, there are those
-    /// after each pair.
+    /// The dump of the empty store and those after each line. Of a `clear` and of an import, which take out or put in one pair after the
+    /// other, there are those after each pair.
     Dumps,
     /// How many actions wait for a flush behind them.
     Count,
@@ -27,8 +28,6 @@ enum Asked {
     Nothing,
     New,
     Line,
-    // A pair of those that the line takes out.
-    Pop,
     Recover,
     // The last line that made a tree current.
     Tree,
@@ -47,8 +46,8 @@ enum Answer {
     Failed,
     // The database is closed.
     Closed,
-    // There was no pair.
-    Nothing,
+    // It was refused otherwise, or there was no pair.
+    Ended,
 }
 
 fn is_end(byte: &u8) -> bool {
@@ -61,7 +60,8 @@ fn answer_of(printed: &[u8]) -> Answer {
         match line {
             b"refused E4" => return Answer::Failed,
             b"refused E8" => return Answer::Closed,
-            b"found -" => return Answer::Nothing,
+            b"found -" => return Answer::Ended,
+            line if line.starts_with(b"refused ") => return Answer::Ended,
             _ => {}
         }
     }
@@ -77,6 +77,8 @@ pub struct Repeats<'a> {
     // The line that is being made, and the last one that made a tree current.
     line: &'a [u8],
     tree: Option<&'a [u8]>,
+    // The part of the line that is made; none where it is made as a whole.
+    part: Option<Part<'a>>,
     asked: Asked,
     // Whether the line is made again, and whether the store was recovered for it.
     is_again: bool,
@@ -94,6 +96,7 @@ impl<'a> Repeats<'a> {
             rest: Some(text),
             line: b"",
             tree: None,
+            part: None,
             asked: Asked::Nothing,
             is_again: false,
             is_recovered: false,
@@ -129,10 +132,25 @@ impl<'a> Repeats<'a> {
         self.rest = rest;
         self.line = line;
         self.is_remade |= remakes(line);
-        if is_clear(self.aim, line) {
-            return Asked::Pop;
-        }
+        self.ask_line()
+    }
+
+    // Makes the line from its beginning.
+    fn ask_line(&mut self) -> Asked {
+        self.part = match self.aim {
+            Aim::Dumps => Part::first(self.line),
+            _ => None,
+        };
         Asked::Line
+    }
+
+    // Dumps what a part of the line left, and goes on to the next part where this one was made.
+    fn ask_dump(&mut self, answer: Answer) -> Asked {
+        self.part = match (self.part, answer) {
+            (Some(part), Answer::Made) => part.next(),
+            _ => None,
+        };
+        Asked::Dump
     }
 
     // What comes first behind the lines.
@@ -163,7 +181,7 @@ impl<'a> Repeats<'a> {
         if answer == Answer::Failed && !self.is_again {
             self.is_told = true;
             self.is_again = true;
-            return Asked::Line;
+            return self.ask_line();
         }
         if answer == Answer::Closed && !self.is_recovered {
             self.is_recovered = true;
@@ -173,7 +191,7 @@ impl<'a> Repeats<'a> {
             self.tree = Some(self.line);
         }
         match self.aim {
-            Aim::Dumps => Asked::Dump,
+            Aim::Dumps => self.ask_dump(answer),
             _ => self.ask_next(),
         }
     }
@@ -181,7 +199,7 @@ impl<'a> Repeats<'a> {
     // What is asked for behind a dump.
     fn ask_after_dump(&mut self) -> Asked {
         match self.aim {
-            Aim::Dumps if is_clear(self.aim, self.line) => Asked::Pop,
+            Aim::Dumps if self.part.is_some() => Asked::Line,
             Aim::Dumps => self.ask_next(),
             Aim::Refusing(_) if !self.is_told => Asked::Flush,
             _ => Asked::End,
@@ -200,10 +218,8 @@ impl<'a> Repeats<'a> {
             Asked::Nothing => Asked::New,
             Asked::New => self.ask_first(answer),
             Asked::Line => self.ask_after(answer),
-            Asked::Pop if answer == Answer::Nothing => self.ask_next(),
-            Asked::Pop => Asked::Dump,
             Asked::Recover if self.tree.is_some() => Asked::Tree,
-            Asked::Recover | Asked::Tree => Asked::Line,
+            Asked::Recover | Asked::Tree => self.ask_line(),
             Asked::Dump => self.ask_after_dump(),
             Asked::Flush => self.ask_after_flush(answer),
             Asked::Crash => Asked::Verify,
@@ -247,7 +263,6 @@ impl<'a> Repeats<'a> {
             Asked::Nothing | Asked::End => (b"", None),
             Asked::New => self.beginning(),
             Asked::Line => (self.line, None),
-            Asked::Pop => (b"pop-min", None),
             Asked::Recover => (b"recover", None),
             Asked::Tree => match self.tree {
                 Some(line) => (line, None),
@@ -260,14 +275,22 @@ impl<'a> Repeats<'a> {
         }
     }
 
+    // Adds the line that is asked for as a whole.
+    fn put_asked(&self, line: &mut Vec<u8>) -> sled_nodes::Result<()> {
+        match self.asked_line() {
+            (text, Some(number)) => push_numbered(line, text, number),
+            (text, None) => push_text(line, text),
+        }
+    }
+
     // Puts the line that is asked for into its place: whether there is one.
     fn put(&self, line: &mut Vec<u8>) -> sled_nodes::Result<bool> {
         if matches!(self.asked, Asked::Nothing | Asked::End) {
             return Ok(false);
         }
-        match self.asked_line() {
-            (text, Some(number)) => push_numbered(line, text, number)?,
-            (text, None) => push_text(line, text)?,
+        match (self.asked, self.part) {
+            (Asked::Line, Some(part)) => part.push(line)?,
+            _ => self.put_asked(line)?,
         }
         Ok(true)
     }
@@ -303,11 +326,6 @@ fn names_calls(words: Option<&[u8]>) -> bool {
         Some(words) => words.starts_with(b"refuse "),
         None => false,
     }
-}
-
-// Whether a line takes out one pair after the other, with a dump after each.
-fn is_clear(aim: Aim, line: &[u8]) -> bool {
-    matches!(aim, Aim::Dumps) && (line == b"clear".as_slice() || line == b"owned clear".as_slice())
 }
 
 // What is kept of what was printed: of how many actions a flush made durable nothing, since a call that is made again may make more.

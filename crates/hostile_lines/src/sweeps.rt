@@ -247,12 +247,44 @@ fn flushed(printed: &[u8]) -> u64 {
     }
 }
 
-// How many actions lines leave to be flushed.
-fn actions_of<P: Sessions>(alloc: Global, sessions: &P, lines: &[u8]) -> Result<u64> {
-    let run = run_once(alloc, sessions, lines, Aim::Count)?;
-    let actions = flushed(run.text.as_slice());
-    drop(run);
-    Ok(actions)
+// Refuses each call of lines in turn, if they can be run so, and adds what that came to.
+fn sweep_refusals<P: Sessions>(
+    alloc: Global,
+    sessions: &P,
+    lines: &[u8],
+    out: &mut Told,
+    why: &mut Vec<u8>,
+) -> Result<()> {
+    let clean = run_once(alloc, sessions, lines, Aim::Refusing(0))?;
+    let told = if !clean.is_good {
+        answered(push_text(why, BAD_LINES.as_bytes()))
+    } else if clean.is_remade {
+        answered(push_text(why, REMADE.as_bytes()))
+    } else {
+        tell_refusals(alloc, sessions, lines, clean.text.as_slice(), out)
+    };
+    drop(clean);
+    told
+}
+
+// Has a crash keep each number of the actions of lines, if they can be run so, and adds what that came to.
+fn sweep_crashes<P: Sessions>(
+    alloc: Global,
+    sessions: &P,
+    lines: &[u8],
+    out: &mut Told,
+    why: &mut Vec<u8>,
+) -> Result<()> {
+    let counted = run_once(alloc, sessions, lines, Aim::Count)?;
+    let (is_good, actions) = (counted.is_good, flushed(counted.text.as_slice()));
+    drop(counted);
+    if !is_good {
+        return answered(push_text(why, BAD_LINES.as_bytes()));
+    }
+    let clean = run_once(alloc, sessions, lines, Aim::Dumps)?;
+    let told = tell_crashes(alloc, sessions, lines, clean.text.as_slice(), actions, out);
+    drop(clean);
+    told
 }
 
 /// Runs lines again and again, and adds what that came to; or why it cannot be done.
@@ -264,20 +296,8 @@ pub fn tell_sweep<P: Sessions>(
     out: &mut Told,
     why: &mut Vec<u8>,
 ) -> Result<()> {
-    let aim = match sweep {
-        Sweep::Refusals => Aim::Refusing(0),
-        Sweep::Crashes => Aim::Dumps,
-    };
-    let clean = run_once(alloc, sessions, lines, aim)?;
-    if !clean.is_good {
-        return answered(push_text(why, BAD_LINES.as_bytes()));
-    }
     match sweep {
-        Sweep::Refusals if clean.is_remade => answered(push_text(why, REMADE.as_bytes())),
-        Sweep::Refusals => tell_refusals(alloc, sessions, lines, clean.text.as_slice(), out),
-        Sweep::Crashes => {
-            let actions = actions_of(alloc, sessions, lines)?;
-            tell_crashes(alloc, sessions, lines, clean.text.as_slice(), actions, out)
-        }
+        Sweep::Refusals => sweep_refusals(alloc, sessions, lines, out, why),
+        Sweep::Crashes => sweep_crashes(alloc, sessions, lines, out, why),
     }
 }
