@@ -1,4 +1,5 @@
 """Trees of several levels: they grow by keys in their order, and shrink by removals that are given up, or crash."""
+from oracle import TREE
 from script import case, crowd_case, expect, pair, word
 
 KEYS = 4096
@@ -41,6 +42,31 @@ def keys_in_their_order_make_four_levels(s):
     for number in range(KEYS, 5000):
         s.insert(numbered(number))
     dumps(s, numbered, 5000)
+
+
+@case
+def a_batch_of_two_thousand_pairs_makes_four_levels(s):
+    """A batch of 2,100 pairs makes a tree of four levels. A get takes three turns in it, and all its pairs are dumped beside those of two small
+    trees and an empty one, also after a crash."""
+    words = [short(number) for number in range(2100)]
+    for tree in 'a', 'b', 'z':
+        s.line(f'tree {tree}', f'tree {tree}')
+        s.line(f'batch x {tree}' if tree != 'b' else 'batch', 'done')
+    s.line(f'tree {TREE.decode()}', f'tree {TREE.decode()}')
+    s.line('batch' + ''.join(f' {k} {k}' for k in words), 'done')
+    levels = s.ask('pages')
+    expect(levels[-1] == 'end 4', levels)
+    all = [*(pair(k) for k in words), pair('x', 'a', 'a'), pair('x', 'z', 'z'), 'end 2102']
+    s.line('dump', *all)
+    for slot, k in enumerate([words[0], words[1049], words[2099]], 1):
+        s.begin(slot, f'get {k}')
+        s.moves(slot, 3)
+        s.line(f'step {slot}', f'value {k}')
+    s.line('len', 'number 2100')
+    s.line('crash 99999', 'recovered')
+    s.line('verify', 'sound')
+    s.line('dump', *all)
+    s.line('names', f'name {TREE.decode()}', 'name a', 'name b', 'name z', 'end 4')
 
 
 @crowd_case
