@@ -233,7 +233,7 @@ def has(s, keys, others):
 def each_store_call_of_a_group_is_refused(s):
     """Each call of the store that a group makes is refused in turn, where a leaf splits, where two leaves merge, and over two trees. Where
     the begin is refused nothing changes; else the database is closed, and opened again none of its trees has anything of the group. Then
-    the group is made."""
+    the group is made. The pages of a closed database are well formed, but that a group is open in them."""
     for prepare, trees, line, calls, keys, after, others, others_after in SPLITS, MERGES, TWO_TREES:
         for number in range(calls + 1):
             prepare(s)
@@ -248,6 +248,7 @@ def each_store_call_of_a_group_is_refused(s):
                 s.line(line, 'done')
             elif number < calls:
                 s.line('next 1', 'event -')
+                s.line('verify', 'refused E5')
                 s.line(line, 'refused E8')
                 s.line('finish 1', 'refused E8')
                 s.line('crash 99', 'recovered')

@@ -85,7 +85,7 @@ def imports_into_a_new_tree_and_into_one_that_there_is(s):
         import x d 4 e 5                                    done
         import {TREE.decode()} a 0 c 2                      done
         import-type tree y k 1 j 2                          done
-        import-all tree z ; %74ree z a 1 b 2 ; tree y a 3 ; tree w c 4 %3b %3b   done
+        import-all tree z ; tree z a 1 b 2 ; tree y a 3 ; tree w c 4 %3b %3b   done
         import x f 6 c 7 g 8                                refused E2
         import-all tree x h 1 ; tree y l 1 a 2 m 3 ; tree v a 1   refused E2
         import-type trees x i 1 j 2                         refused E2

@@ -1480,6 +1480,8 @@ def each_crash(lines):
         if dump not in dumps:
             return f'crash {keep}: no beginning'
         dumps = dumps[dumps.index(dump):]
+    if dumps[0] != dumps[-1]:
+        return f'crash {count}: not the last'
     return f'crashes {count + 1}, each a beginning'
 
 

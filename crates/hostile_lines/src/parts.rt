@@ -132,7 +132,7 @@ fn first_words(text: &[u8], count: usize) -> (&[u8], Option<&[u8]>) {
     (text, None)
 }
 
-// Whether each part is of the type `tree`. An import tests that first, and does nothing else where one is not.
+// Whether each part is of the type `tree`, written so. An import tests that first, and does nothing else where one is not.
 fn are_trees(words: &[u8]) -> bool {
     let mut rest = Some(words);
     let mut begins = true;
@@ -141,39 +141,11 @@ fn are_trees(words: &[u8]) -> bool {
             break;
         };
         let (word, others) = first_word(text);
-        if begins && !is_tree(word) {
+        if begins && word != b"tree".as_slice() {
             return false;
         }
         begins = word == b";".as_slice();
         rest = others;
     }
     true
-}
-
-// Whether a word spells the type `tree`.
-fn is_tree(word: &[u8]) -> bool {
-    let mut rest = word;
-    for (letter, escape) in TREE.iter() {
-        let Some(others) = behind(rest, *letter, *escape) else {
-            return false;
-        };
-        rest = others;
-    }
-    rest.is_empty()
-}
-
-// The letters of a type, as each may stand in a word.
-static TREE: [(&[u8], &[u8]); 4] = [
-    (b"t", b"%74"),
-    (b"r", b"%72"),
-    (b"e", b"%65"),
-    (b"e", b"%65"),
-];
-
-// What stands behind a letter, which stands for itself or is escaped.
-fn behind<'a>(word: &'a [u8], letter: &[u8], escape: &[u8]) -> Option<&'a [u8]> {
-    match word.strip_prefix(letter) {
-        Some(rest) => Some(rest),
-        None => word.strip_prefix(escape),
-    }
 }

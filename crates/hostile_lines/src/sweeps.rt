@@ -199,6 +199,30 @@ fn find_dump<'a>(
     Ok(found)
 }
 
+// Whether the last of these dumps is the same as the first.
+fn is_last(dumps: &[u8]) -> bool {
+    let (dump, others) = first_dump(dumps);
+    others.is_empty() || others.ends_with(dump)
+}
+
+// Adds what so many crashes came to, where a crash that kept all actions left the first of these dumps.
+fn tell_last(dumps: &[u8], actions: u64, out: &mut Told) -> Result<()> {
+    if !is_last(dumps) {
+        return tell(
+            out,
+            &[Text(b"crash "), Number(actions), Text(b": not the last\n")],
+        );
+    }
+    tell(
+        out,
+        &[
+            Text(b"crashes "),
+            Number(actions.saturating_add(1)),
+            Text(b", each a beginning\n"),
+        ],
+    )
+}
+
 // Has a crash keep each number of actions in turn, and adds what that came to. The dumps are those after each line.
 fn tell_crashes<P: Sessions>(
     alloc: Global,
@@ -218,14 +242,7 @@ fn tell_crashes<P: Sessions>(
             None => return Ok(()),
         }
     }
-    tell(
-        out,
-        &[
-            Text(b"crashes "),
-            Number(actions.saturating_add(1)),
-            Text(b", each a beginning\n"),
-        ],
-    )
+    tell_last(rest, actions, out)
 }
 
 // How many actions a flush made durable that printed this.
