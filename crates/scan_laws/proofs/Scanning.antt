@@ -12,7 +12,6 @@ use Rattle.sled_model.specs.State.{State, NamedTree, CallInFlight}
 use Rattle.sled_model.specs.Refusal.{MustRefuse, IsClosed, IsDropped, ToStep, first_of, foreign_test, is_number, dropped_test, must_refuse_of, operator_test, must_refuse}
 use Rattle.sled_model.specs.Scan.{is_in_rest, Before, ReadsPart}
 use Rattle.sled_model.specs.Transition.{Configuration, Transition, transition_as, Decide}
-use Rattle.sled_model.specs.Runs.{Runs, NoSteps, OneMore}
 use Rattle.sled_model.specs.declared.call.Call.TheVariants.{Scan}
 use Rattle.sled_model.specs.declared.tree.Tree.{Tree}
 use Rattle.sled_model.specs.declared.reply.Reply.{Reply}
@@ -20,7 +19,7 @@ use Rattle.sled_model.specs.declared.outcome.Step.{Step}
 use Rattle.sled_model.specs.declared.outcome.Step.TheVariants as step
 use Rattle.sled_model.specs.declared.outcome.Outcome.{Outcome}
 use Rattle.sled_model.specs.declared.outcome.Outcome.TheVariants as outcome
-use Rattle.scan_laws.specs.Scanned.{is_own, given_by, yielded, InOrder, HasPair, HasKey, AtSomeMoment, AtOwnSteps, Ascend, ScanLaw}
+use Rattle.scan_laws.specs.Scanned.{is_own, given_by, yielded, InOrder, HasPair, HasKey, Ascend, ChangesBeside, RunsBeside, NoSteps, OneMore, OneBeside, run_alone, AtSomeMoment, AtOwnSteps, ScanLaw, ScanLawAlone}
 use Rattle.scan_laws.proofs.Lists.{in_left, in_right, in_either, ordered_left, ordered_both, in_turned, in_turned_back, ordered_turned, in_kept, passes, keeps_in, ordered_kept, ordered_map, in_range_reversed}
 use Rattle.scan_laws.proofs.Staying.{AscendOpen, Leaves, leaves}
 
@@ -104,6 +103,17 @@ other {slot = slot} {tree = tree} {bounds = bounds} {given = given} {was = was} 
     go : (f : CallInFlight) → b.slots slot ≡ Some f → (b.slots slot ≡ a.slots slot) ⊎ (b.slots slot ≡ None) → Known tree bounds given was kept f
     go f e (inl same) = h.known f (sym same ∙ e)
     go f e (inr none) = no_some (sym none ∙ e)
+
+-- a change beside
+beside : {slot : ℕ} {tree : Tree} {bounds : Range} {given : List Pair} {was : Pair → Type 0} {kept : Key → Type 0} {a b : Configuration}
+    → ChangesBeside a b → Holds slot tree bounds given was kept a.state → Holds slot tree bounds given was kept b.state
+beside {slot = slot} c h = record {
+  ascend = λ o. c.ascend;
+  numbered = le_trans h.numbered (le_of_eq (sym c.slots_given));
+  ordered = h.ordered;
+  inside = h.inside;
+  known = λ f e. h.known f (sym (ap (λ s. s slot) c.slots) ∙ e);
+}
 
 -- the pairs of the part of a range that is read
 in_part : (part : Range) (map : Map) (e : Pair) → In e (pairs_in part map) → (In e map) × (is_in_range part e.0 ≡ true)
@@ -277,7 +287,7 @@ one slot tree bounds given was kept a s o b maps t h = go (is_own slot s) refl
         (widen (λ x i. inl i) (λ k g. g.0) (other (leaves slot a s o b maps t) e h))
 
 -- a run
-all : (slot : ℕ) (tree : Tree) (bounds : Range) (given : List Pair) (was : Pair → Type 0) (kept : Key → Type 0) {a b : Configuration} {steps : List Step} {outcomes : List Outcome} {maps : List Maps} (run : Runs a steps outcomes b maps)
+all : (slot : ℕ) (tree : Tree) (bounds : Range) (given : List Pair) (was : Pair → Type 0) (kept : Key → Type 0) {a b : Configuration} {steps : List Step} {outcomes : List Outcome} (run : RunsBeside a steps outcomes b)
     → Holds slot tree bounds given was kept a.state
     → Holds slot tree bounds (given ++ yielded slot steps outcomes) (λ e. was e ⊎ AtSomeMoment (HasPair tree e) run) (λ k. kept k × AtOwnSteps slot (HasKey tree k) run) b.state
 all slot tree bounds given was kept (NoSteps {s = s}) h = subst (λ l. Holds slot tree bounds l (λ e. was e ⊎ HasPair tree e s.state) (λ k. kept k × Unit {0}) s.state) (sym (append-nil given)) (widen (λ x i. inl i) (λ k g. g.0) h)
@@ -287,6 +297,10 @@ all slot tree bounds given was kept (OneMore {a = a} {m = m} {b = b} {step = s} 
     (widen (λ e i. elim i [ inl j ↦ elim j [ inl w ↦ inl w | inr x ↦ inr (inl x) ] | inr y ↦ inr (inr y) ]) (λ k g. ((g.0, g.1.0), g.1.1))
     (all slot tree bounds (given ++ cond (is_own slot s) (given_by o) []) (λ e. was e ⊎ HasPair tree e a.state) (λ k. kept k × (is_own slot s ≡ true → HasKey tree k a.state)) rest
     (one slot tree bounds given was kept a s o m added first.is h)))
+all slot tree bounds given was kept (OneBeside {a = a} change rest) h =
+    widen (λ e i. elim i [ inl j ↦ elim j [ inl w ↦ inl w | inr x ↦ inr (inl x) ] | inr y ↦ inr (inr y) ]) (λ k g. g)
+    (all slot tree bounds given (λ e. was e ⊎ HasPair tree e a.state) kept rest
+    (widen (λ e i. inl i) (λ k g. g) (beside change h)))
 
 -- as it begins
 begins : (a b : Configuration) (tree : Tree) (lo hi : Bound Key) (back : Bool) (slot : ℕ) (none : List Maps) → Ascend a.state → Transition a (step.Begin tree (Scan lo hi back)) (outcome.Begun slot) b none
@@ -315,7 +329,7 @@ begins a b tree lo hi back slot none l t = record {
     }
 
 pub scan_law : ScanLaw
-scan_law a b c tree lo hi back slot none maps steps outcomes l t run = record {
+scan_law a b c tree lo hi back slot none steps outcomes l t run = record {
   ordered = now.ordered;
   within = now.inside;
   seen = λ key value d more u. elim ((now.known u.is.0.flying u.is.0.here).seen (key, value) (subst (λ z. In (key, value) z) (sym u.is.0.waits) (inl refl))) [ inl w ↦ absurd w | inr m ↦ m ];
@@ -331,3 +345,6 @@ scan_law a b c tree lo hi back slot none maps steps outcomes l t run = record {
     end : (key : Key) {reply : Reply} {new : State} (u : Decide c.state slot reply new) → (is_in_rest u.flying.rest key ≡ true) ⊎ ((v : Key) × In (key, v) (yielded slot steps outcomes ++ u.flying.waiting)) → (v : Key) × In (key, v) (yielded slot steps outcomes)
     end key u (inl left) = absurd (in_range_reversed u.flying.rest key u.done left)
     end key u (inr found) = (found.0, subst (λ z. In (key, found.0) z) (ap (λ z. yielded slot steps outcomes ++ z) u.none ∙ append-nil (yielded slot steps outcomes)) found.1)
+
+pub scan_law_alone : ScanLawAlone
+scan_law_alone a b c tree lo hi back slot none maps steps outcomes t l run = scan_law a b c tree lo hi back slot none steps outcomes l t (run_alone run)

@@ -36,7 +36,8 @@ pub fn law_hears<P: Pages, M: MergeOperator>()
 
 /// Over every list of steps that follows its begin, whatever other calls do between its own, a scan gives pairs whose keys lie within
 /// its bounds and strictly rise or, backwards, fall; each of them was in the map of its tree at some moment since the begin; and where
-/// it ends it has given each key within its bounds that was in the map at each of its steps.
+/// it ends it has given each key within its bounds that was in the map at each of its steps. Beside the steps there may be calls that
+/// are none, as `update_and_fetch` or a transaction.
 pub fn law_scans<P: Pages, M: MergeOperator>()
     ensures { Scans P.store P.flush_number M.meant }
 {}
