@@ -48,6 +48,7 @@ impl<P: Pages, M> Model for Machine<P, M> {
 impl<P: Pages, M: MergeOperator> Machine<P, M> {
     ghost use Rattle.sled_model.specs.State.{maps_of, IsOnKey};
     ghost use Rattle.sled.specs.Sound.{IsDb, MapsAscend};
+    ghost use Rattle.sled_calls.specs.Sound.{AreSlotsGiven};
     ghost use Rattle.sled_calls.specs.Values.{slots_of, job_of_call, job_lent};
     ghost use Rattle.sled.specs.Values.{db_state};
     ghost use Rattle.sled.specs.Operators.{OperatorSet, OperatorNotSet};
@@ -99,8 +100,8 @@ impl<P: Pages, M: MergeOperator> Machine<P, M> {
         db
     }
 
-    /// What holds of every machine: that its database is as it should be, the pairs of each of its maps rise by key, and at most
-    /// 1024 events wait for a subscriber. It does nothing.
+    /// What holds of every machine: that its database is as it should be, the pairs of each of its maps rise by key, at most 1024 events
+    /// wait for a subscriber, and no call is in a slot that is yet to be given. It does nothing.
     ///
     /// ```
     /// machine.audit(); // From here on a proof knows that its database is well formed.
@@ -109,6 +110,7 @@ impl<P: Pages, M: MergeOperator> Machine<P, M> {
         ensures sound { IsDb P.store self.now.db }
         ensures ascend { MapsAscend (maps_of (db_state P.store M.meant self.now.db)) }
         ensures queues { AreQueues self.now.db.queues }
+        ensures slots { AreSlotsGiven self.now.flights self.now.slots_given }
     {
         self.db.audit();
     }

@@ -36,8 +36,8 @@ impl<P: Pages, M: MergeOperator> Machine<P, M> {
     ghost use Rattle.sled_calls.specs.Kept.{kept_of_whole, CountsParts};
     ghost use Rattle.sled_calls.specs.theory.Kept.{IsLight, KeepsWhole};
 
-    /// Does a whole call, as `whole` does. Where it is decided, two copies of its reply come beside it, which were made before the
-    /// action that decided it: where there is no memory for them the call is refused with `NoMemory`, and then a pop or an opening
+    /// Does a whole call, as `whole` does. Where it is decided, two copies of its reply come beside it. Those of a pop and of an opening
+    /// take memory, and are made before the action that decides it: where there is none the call is refused with `NoMemory`, and then it
     /// changed no map. Of `Next`, which gives each event once, the copies are `Done`.
     ///
     /// The number tells how many parts a `Clear` or an `Import` did, also of one that is refused midway: keys that it took out, or trees
