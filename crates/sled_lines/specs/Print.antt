@@ -9,7 +9,7 @@ use Rattle.sled_model.specs.Maps.{Map}
 use Rattle.sled_model.specs.declared.call.Call.{Call}
 use Rattle.sled_model.specs.declared.call.Call.TheVariants.{Get, Insert, Remove, CompareAndSwap, Merge, Scan}
 use Rattle.sled_model.specs.declared.call.Whole.{Whole}
-use Rattle.sled_model.specs.declared.call.Whole.TheVariants.{GenerateId}
+use Rattle.sled_model.specs.declared.call.Whole.TheVariants as whole
 use Rattle.sled_model.specs.declared.event.Event.{Event}
 use Rattle.sled_model.specs.declared.event.Event.TheVariants as event
 use Rattle.sled_model.specs.declared.event.Next.{Next}
@@ -47,8 +47,18 @@ shown_of (Scan lo hi back) = shown.Value
 
 -- the number in the reply to a whole call is an id, or counts what a flush made durable
 abbrev pub shown_of_whole : Whole → Shown
-shown_of_whole GenerateId = shown.Number
-shown_of_whole whole = shown.Value
+shown_of_whole whole.Flush = shown.Value
+shown_of_whole (whole.PopMin tree) = shown.Value
+shown_of_whole (whole.PopMax tree) = shown.Value
+shown_of_whole (whole.Clear tree) = shown.Value
+shown_of_whole (whole.Group batches) = shown.Value
+shown_of_whole (whole.OpenTree name) = shown.Value
+shown_of_whole (whole.DropTree name) = shown.Value
+shown_of_whole whole.GenerateId = shown.Number
+shown_of_whole (whole.Import collections) = shown.Value
+shown_of_whole (whole.Watch tree prefix) = shown.Value
+shown_of_whole (whole.Next subscriber) = shown.Value
+shown_of_whole (whole.Unsubscribe subscriber) = shown.Value
 
 abbrev pub name_of : Shown → List ℕ
 name_of shown.Old = codes "old "
