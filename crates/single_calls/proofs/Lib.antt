@@ -1,2 +1,4 @@
 pub mod Dropped
+pub mod Keeping
 pub mod Refusing
+pub mod Scanning
