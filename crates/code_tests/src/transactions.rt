@@ -57,8 +57,11 @@ pub fn is_answered_alike(answer: &TransactionError<u64>) -> Result<bool> {
     Ok(is_same)
 }
 
-// A transaction that meets so many conflicts before it writes, and takes no id: how often its closure was run, and whether it was made.
-fn count_runs(db: &mut Db<MemPages>, tree: &Tree, conflicts: u32) -> (u32, bool) {
+/// How often a closure was run, and whether its transaction was made.
+pub type Runs = (u32, bool);
+
+// A transaction that meets so many conflicts before it writes, and takes no id.
+fn count_runs(db: &mut Db<MemPages>, tree: &Tree, conflicts: u32) -> Runs {
     let count = Cell::new(0u32);
     let ended: TransactionResult<(), ()> = db.transaction(tree, |inside| {
         count.set(count.get().wrapping_add(1));
@@ -107,20 +110,20 @@ fn move_on(db: &mut Db<MemPages>) -> Result<(Option<IVec>, bool)> {
 }
 
 // The same in the default tree, of a few conflicts, as many as there may be, and one more.
-fn runs_on(db: &mut Db<MemPages>) -> Result<[(u32, bool); 3]> {
+fn runs_on(db: &mut Db<MemPages>) -> Result<(Runs, Runs, Runs)> {
     let tree = db.default_tree()?;
-    let runs = [
+    let runs = (
         count_runs(db, &tree, 3),
         count_runs(db, &tree, 999_999),
         count_runs(db, &tree, 1_000_000),
-    ];
+    );
     drop(tree);
     Ok(runs)
 }
 
-/// How often closures are run that meet 3, 999,999 and 1,000,000 conflicts, each with whether its transaction was made; and what a value
-/// was that one moves from a tree to another, and whether it is moved.
-pub fn runs(alloc: Global) -> Result<([(u32, bool); 3], Result<(Option<IVec>, bool)>)> {
+/// What comes of closures that meet 3, 999,999 and 1,000,000 conflicts; and what a value was that one moves from a tree to another, and
+/// whether it is moved.
+pub fn runs(alloc: Global) -> Result<((Runs, Runs, Runs), Result<(Option<IVec>, bool)>)> {
     match Db::open(alloc, empty_pages(alloc), b"weather") {
         Ok(mut db) => {
             let runs = runs_on(&mut db);
