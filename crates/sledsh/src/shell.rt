@@ -28,7 +28,7 @@ use sled_lines::print::Piece::{Number, Text, Word};
 use sled_lines::print::{Shown, push_pieces, push_text};
 use sled_lines::session::{Session, write};
 use sled_lines::words::first_word;
-use sled_model::{Outcome, Reply, Tree, Whole};
+use sled_model::{Outcome, Reply, Subscriber, Tree, Whole};
 use sled_nodes::Error;
 use sled_pages::MemPages;
 use sled_store::Pages;
@@ -161,6 +161,14 @@ pub fn rest_behind(line: &[u8], own: usize) -> &[u8] {
     words_behind(line, own).unwrap_or(b"")
 }
 
+// What is asked for a subscriber: its next event, or its end.
+fn hearing(verb: Verb, subscriber: Subscriber) -> Whole {
+    match verb {
+        Verb::Next => Whole::Next(subscriber),
+        _ => Whole::Unsubscribe(subscriber),
+    }
+}
+
 impl Shell {
     // A shell that has read no line yet.
     fn new(alloc: Global, explains: bool, is_swept: bool) -> Shell {
@@ -285,14 +293,10 @@ impl Shell {
         session: &mut Session<MemPages, Operator>,
         verb: Verb,
     ) -> Result<(), Stopped> {
-        let Some(subscriber) = self.subscribers.named(self.arguments.number()) else {
-            return tell_no_subscriber(&mut self.out);
-        };
-        let whole = match verb {
-            Verb::Next => Whole::Next(subscriber),
-            _ => Whole::Unsubscribe(subscriber),
-        };
-        self.whole(session, whole)
+        match self.subscribers.named(self.arguments.number()) {
+            Some(subscriber) => self.whole(session, hearing(verb, subscriber)),
+            None => tell_no_subscriber(&mut self.out),
+        }
     }
 
     // Makes the group of writes that the line says, if its trees can be read.
