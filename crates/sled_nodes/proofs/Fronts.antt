@@ -1,10 +1,10 @@
 -- The order of byte strings by their fronts.
-use Rattle.std.proofs.Common.{Global, ◌≡◌, ℕ, zero, suc, ◌+◌, ◌-◌, ◌*◌, ◌%◌, ◌^◌, ◌<◌, ◌≤◌, [], ◌∷◌, ◌++◌, refl, sym, ap, subst, ◌∙◌, inl, inr, arith, pow-suc, mul_comm, take, drop, length, get_or, replicate, length-drop}
+use Rattle.std.proofs.Common.{Global, ◌≡◌, ℕ, zero, suc, ◌+◌, ◌-◌, ◌*◌, ◌%◌, ◌^◌, ◌<◌, ◌≤◌, [], ◌∷◌, ◌++◌, refl, sym, ap, subst, ◌∙◌, inl, inr, arith, pow-suc, mul_comm, take, drop, length, get_or, replicate, length-drop, append_assoc}
 use Rattle.std.proofs.Math.Nat.{pow-le-pow_right}
 use Rattle.std.proofs.Math.Arith.{mod-mul}
 use Rattle.std.proofs.lemmas.Bool.{cases_order, lt-ltb, le-ltb, ne_eqb}
 use Rattle.std.proofs.lemmas.Cmp.{nat_cmp_total, tied_itself}
-use Rattle.std.proofs.lemmas.List.{append-nil, take-append-drop, take_all, length-take}
+use Rattle.std.proofs.lemmas.List.{append-nil, take-append-drop, take_all, length-take, length-append, drop-append-le}
 use Rattle.std.proofs.lemmas.Nat.{row_fits, mod_below, be_bytes_8}
 use Rattle.std.specs.Int.{byte_at, bytes_high_first, to_be_bytes, from_be_bytes, w64}
 use Rattle.std.specs.Ordering.{ordering_then, ordering_reverse, nat_cmp}
@@ -17,7 +17,7 @@ use Rattle.std.specs.declared.sync.Arc.{Arc}
 use Rattle.sled_nodes.specs.Bytes.{padded, IsShort}
 use Rattle.sled_nodes.specs.declared.ivec.Bytes.{Bytes}
 use Rattle.sled_nodes.specs.declared.ivec.Bytes.TheVariants.{Short, Middle}
-use Rattle.sled_nodes.specs.theory.Fronts.{front}
+use Rattle.sled_nodes.specs.theory.Fronts.{front, AreBehind}
 
 abbrev pub bytes_cmp : Key → Key → Ordering
 bytes_cmp = slice_cmp nat_cmp
@@ -222,7 +222,10 @@ middle_padded bytes len array e h = (subst IsShort e h).1
 pub array-long : (array a : Key) (k : ℕ) → 8 ≤ k → padded k a ≡ array → 8 ≤ length array
 array-long array a k h e = let l : k ≡ length array = sym (length-padded k a) ∙ ap length e in omega arith
 
--- ---- what lies behind the first eight bytes
+-- ---- what lies behind the first bytes
+
+abbrev pub behind_at : ℕ → Key → Key
+behind_at k a = take (length a - k) (drop k a)
 
 abbrev pub behind : Key → Key
 behind a = take (length a - 8) (drop 8 a)
@@ -236,13 +239,6 @@ split_eight a n h low is =
     ap (λ (z : Key). z ++ behind a) (be_bytes_8 (take 8 a) n eight (low_take 8 a low) is)
     ∙ (ap (λ (z : Key). take 8 a ++ z) (behind-is a) ∙ take-append-drop 8 a)
 
--- where the fronts do not tell, the rest does
-pub front_level : (a b : Key) (m n : ℕ) → 8 ≤ length a → 8 ≤ length b → ((i : ℕ) → get_or a i 0 < 256) → ((i : ℕ) → get_or b i 0 < 256) → m ≡ from_be_bytes w64 (take 8 a) → n ≡ from_be_bytes w64 (take 8 b) → m < 2 ^ 64 → n < 2 ^ 64 → m ≡ n → bytes_cmp (behind a) (behind b) ≡ bytes_cmp a b
-front_level a b m n h k low-a low-b m-is n-is m-fits n-fits e =
-    ap (λ o. ordering_then o (bytes_cmp (behind a) (behind b))) (sym (cmp_same m n e))
-    ∙ (sym (number_then m n (behind a) (behind b) m-fits n-fits)
-    ∙ (ap (λ (z : Key). bytes_cmp z (to_be_bytes w64 n ++ behind b)) (split_eight a m h low-a m-is) ∙ ap (bytes_cmp a) (split_eight b n k low-b n-is)))
-
 -- the same byte string
 pub tied_same : (a b : Key) → a ≡ b → bytes_cmp a b ≡ Equal
 tied_same a b e = ap (bytes_cmp a) (sym e) ∙ tied_itself nat_list_cmp_total a
@@ -255,3 +251,58 @@ front_same a b low-a low-b e h same =
     let h-a : length a ≤ 8 = omega arith in
     let is : a ≡ b = sym (taken-padded 8 a (padded 8 a) h-a refl) ∙ (ap (λ n. take n (padded 8 a)) same ∙ (ap (take (length b)) bytes ∙ taken-padded 8 b (padded 8 b) h refl)) in
     tied_same a b is
+
+-- ---- behind the same bytes
+
+-- the same bytes before them change nothing
+cmp_behind : (before a b : Key) → bytes_cmp (before ++ a) (before ++ b) ≡ bytes_cmp a b
+cmp_behind [] a b = refl
+cmp_behind (x ∷ before) a b = ap (λ o. ordering_then o (bytes_cmp (before ++ a) (before ++ b))) (cmp_same x x refl) ∙ cmp_behind before a b
+
+pub behind_cmp : (a b rest other : Key) → AreBehind a b rest other → bytes_cmp rest other ≡ bytes_cmp a b
+behind_cmp a b rest other w = sym (cmp_behind w.before rest other) ∙ (ap (λ (z : Key). bytes_cmp z (w.before ++ other)) (sym w.is) ∙ ap (bytes_cmp a) (sym w.other_is))
+
+-- eight bytes more are the same
+eight_more : (a before rest : Key) (n : ℕ) → a ≡ before ++ rest → 8 ≤ length rest → ((i : ℕ) → get_or rest i 0 < 256) → n ≡ from_be_bytes w64 (take 8 rest) → a ≡ (before ++ to_be_bytes w64 n) ++ behind rest
+eight_more a before rest n is h low n-is = is ∙ (ap (λ (z : Key). before ++ z) (sym (split_eight rest n h low n-is)) ∙ sym (append_assoc before (to_be_bytes w64 n) (behind rest)))
+
+pub behind_eight : (a b rest other : Key) (m n : ℕ) → AreBehind a b rest other → 8 ≤ length rest → 8 ≤ length other → ((i : ℕ) → get_or rest i 0 < 256) → ((i : ℕ) → get_or other i 0 < 256) → m ≡ from_be_bytes w64 (take 8 rest) → n ≡ from_be_bytes w64 (take 8 other) → m ≡ n → AreBehind a b (behind rest) (behind other)
+behind_eight a b rest other m n w h k low other-low m-is n-is e = record {
+  before = w.before ++ to_be_bytes w64 m;
+  is = eight_more a w.before rest m w.is h low m-is;
+  other_is = eight_more b w.before other n w.other_is k other-low n-is ∙ ap (λ l. (w.before ++ to_be_bytes w64 l) ++ behind other) (sym e);
+}
+
+-- as much is left of two of one length
+pub left_same : (a b rest other : Key) → AreBehind a b rest other → length a ≡ length b → length rest ≡ length other
+left_same a b rest other w same =
+    let sum : length a ≡ length w.before + length rest = ap length w.is ∙ length-append w.before rest in
+    let other_sum : length b ≡ length w.before + length other = ap length w.other_is ∙ length-append w.before other in
+    omega arith
+
+-- of two of one length the last eight bytes tell all that is left
+pub last_eight : (a b rest other : Key) → AreBehind a b rest other → length a ≡ length b → 8 ≤ length a → length rest ≤ 8 → bytes_cmp (drop (length a - 8) a) (drop (length b - 8) b) ≡ bytes_cmp a b
+last_eight a b rest other w same long short =
+    let k = length a - 8 in
+    let sum : length a ≡ length w.before + length rest = ap length w.is ∙ length-append w.before rest in
+    let fits : length a - 8 ≤ length w.before = omega arith in
+    let end : drop k a ≡ drop k w.before ++ rest = ap (drop k) w.is ∙ drop-append-le k w.before rest fits in
+    let other_end : drop (length b - 8) b ≡ drop k w.before ++ other = ap (λ n. drop (n - 8) b) (sym same) ∙ (ap (drop k) w.other_is ∙ drop-append-le k w.before other fits) in
+    ap (λ (z : Key). bytes_cmp z (drop (length b - 8) b)) end ∙ (ap (bytes_cmp (drop k w.before ++ rest)) other_end ∙ (cmp_behind (drop k w.before) rest other ∙ behind_cmp a b rest other w))
+
+-- the last eight bytes
+module _ (a : Key) (h : 8 ≤ length a) where
+  abbrev pub end : Key
+  end = drop (length a - 8) a
+
+  pub end-is : behind_at (length a - 8) a ≡ end
+  end-is = let l : length (drop (length a - 8) a) ≤ length a - (length a - 8) = omega (arith, length-drop (length a - 8) a) in take_all (length a - (length a - 8)) (drop (length a - 8) a) l
+
+  pub length-end : length end ≡ 8
+  length-end = omega (arith, length-drop (length a - 8) a)
+
+  pub end_low : ((i : ℕ) → get_or (behind_at (length a - 8) a) i 0 < 256) → (i : ℕ) → get_or end i 0 < 256
+  end_low low = subst (λ (z : Key). (i : ℕ) → get_or z i 0 < 256) end-is low
+
+  pub end_front : (n : ℕ) → n ≡ from_be_bytes w64 (take 8 (behind_at (length a - 8) a)) → n ≡ front end
+  end_front n is = let long : 8 ≤ length end = omega (arith, length-end) in front-long end n long (is ∙ ap (λ (z : Key). from_be_bytes w64 (take 8 z)) end-is)

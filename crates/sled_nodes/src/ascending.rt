@@ -28,6 +28,9 @@ pub fn ascends<V>(pairs: &[(IVec, V)]) -> bool
     true
 }
 
+// No place in a list.
+pub const NOWHERE: usize = usize::MAX;
+
 /// Where a key stands, or would go.
 #[inline(always)]
 pub fn search<V>(pairs: &[(IVec, V)], key: &[u8]) -> std::result::Result<usize, usize>
@@ -49,14 +52,30 @@ pub fn search<V>(pairs: &[(IVec, V)], key: &[u8]) -> std::result::Result<usize, 
     Err(low)
 }
 
+// The same. The place where the key is likely to stand is looked at first.
+#[inline(always)]
+fn search_near<V>(pairs: &[(IVec, V)], key: &[u8], near: usize) -> std::result::Result<usize, usize>
+    requires { is_sorted (slice_cmp nat_cmp) pairs.now ≡ true }
+    ensures ok { IfOk result (IsHit (slice_cmp nat_cmp) key.now pairs.now) }
+    ensures err { IfErr result (IsGap (slice_cmp nat_cmp) key.now pairs.now) }
+{
+    if near < pairs.len() {
+        match compare_to(&pairs[near].0, key, front_of(key)) {
+            Ordering::Equal => return Ok(near),
+            _ => {}
+        }
+    }
+    search(pairs, key)
+}
+
 // How many keys are below a key.
 #[inline(always)]
-fn count_below<V>(pairs: &[(IVec, V)], key: &[u8]) -> usize
+fn count_below<V>(pairs: &[(IVec, V)], key: &[u8], near: usize) -> usize
     requires { is_sorted (slice_cmp nat_cmp) pairs.now ≡ true }
     ensures bound { result ≤ length pairs.now }
     ensures parted { IsPartitionPoint (λ e. is_lt (slice_cmp nat_cmp e.0 key.now) ≡ true) (λ e. is_lt (slice_cmp nat_cmp e.0 key.now) ≡ false) pairs.now result }
 {
-    match search(pairs, key) {
+    match search_near(pairs, key, near) {
         Ok(i) => i,
         Err(i) => i,
     }
@@ -64,12 +83,12 @@ fn count_below<V>(pairs: &[(IVec, V)], key: &[u8]) -> usize
 
 // How many keys are below a key, or are that key.
 #[inline(always)]
-fn count_to<V>(pairs: &[(IVec, V)], key: &[u8]) -> usize
+fn count_to<V>(pairs: &[(IVec, V)], key: &[u8], near: usize) -> usize
     requires { is_sorted (slice_cmp nat_cmp) pairs.now ≡ true }
     ensures bound { result ≤ length pairs.now }
     ensures parted { IsPartitionPoint (λ e. is_gt (slice_cmp nat_cmp e.0 key.now) ≡ false) (λ e. is_gt (slice_cmp nat_cmp e.0 key.now) ≡ true) pairs.now result }
 {
-    match search(pairs, key) {
+    match search_near(pairs, key, near) {
         Ok(i) => i + 1,
         Err(i) => i,
     }
@@ -77,48 +96,49 @@ fn count_to<V>(pairs: &[(IVec, V)], key: &[u8]) -> usize
 
 // How many keys are within an upper bound. All others come behind them.
 #[inline(always)]
-fn count_up_to<V>(pairs: &[(IVec, V)], bound: Bound<&[u8]>) -> usize
+fn count_up_to<V>(pairs: &[(IVec, V)], bound: Bound<&[u8]>, near: usize) -> usize
     requires { is_sorted (slice_cmp nat_cmp) pairs.now ≡ true }
     ensures bound { result ≤ length pairs.now }
     ensures parted { IsPartitionPoint (λ e. within_upper (bound_of bound.entry) e.0 ≡ true) (λ e. within_upper (bound_of bound.entry) e.0 ≡ false) pairs.now result }
 {
     match bound {
-        Bound::Included(end) => count_to(pairs, end),
-        Bound::Excluded(end) => count_below(pairs, end),
+        Bound::Included(end) => count_to(pairs, end, near),
+        Bound::Excluded(end) => count_below(pairs, end, near),
         Bound::Unbounded => pairs.len(),
     }
 }
 
 // How many keys are not within a lower bound. All others come behind them.
 #[inline(always)]
-fn count_before<V>(pairs: &[(IVec, V)], bound: Bound<&[u8]>) -> usize
+fn count_before<V>(pairs: &[(IVec, V)], bound: Bound<&[u8]>, near: usize) -> usize
     requires { is_sorted (slice_cmp nat_cmp) pairs.now ≡ true }
     ensures bound { result ≤ length pairs.now }
     ensures parted { IsPartitionPoint (λ e. not (within_lower (bound_of bound.entry) e.0) ≡ true) (λ e. not (within_lower (bound_of bound.entry) e.0) ≡ false) pairs.now result }
 {
     match bound {
-        Bound::Included(start) => count_below(pairs, start),
-        Bound::Excluded(start) => count_to(pairs, start),
+        Bound::Included(start) => count_below(pairs, start, near),
+        Bound::Excluded(start) => count_to(pairs, start, near),
         Bound::Unbounded => 0,
     }
 }
 
-/// The place of the last pair whose key is within an upper bound.
+/// The place of the last pair whose key is within an upper bound. The bound's key is looked for at the place `near` first.
 #[inline(always)]
-pub fn last_place<V>(pairs: &[(IVec, V)], bound: Bound<&[u8]>) -> Option<usize>
+pub fn last_place<V>(pairs: &[(IVec, V)], bound: Bound<&[u8]>, near: usize) -> Option<usize>
     requires { is_sorted (slice_cmp nat_cmp) pairs.now ≡ true }
     ensures { MatchOption result (list_any (λ e. within_upper (bound_of bound.entry) e.0) pairs.now ≡ false) (IsLastAt (λ e. within_upper (bound_of bound.entry) e.0) pairs.now) }
 {
-    let count = count_up_to(pairs, bound);
+    let count = count_up_to(pairs, bound, near);
     if count > 0 { Some(count - 1) } else { None }
 }
 
-/// The place of the first pair whose key is within a lower bound.
-pub fn first_place<V>(pairs: &[(IVec, V)], bound: Bound<&[u8]>) -> Option<usize>
+/// The place of the first pair whose key is within a lower bound. The bound's key is looked for at the place `near` first.
+#[inline(always)]
+pub fn first_place<V>(pairs: &[(IVec, V)], bound: Bound<&[u8]>, near: usize) -> Option<usize>
     requires { is_sorted (slice_cmp nat_cmp) pairs.now ≡ true }
     ensures { MatchOption result (list_any (λ e. within_lower (bound_of bound.entry) e.0) pairs.now ≡ false) (IsFirstAt (λ e. within_lower (bound_of bound.entry) e.0) pairs.now) }
 {
-    let count = count_before(pairs, bound);
+    let count = count_before(pairs, bound, near);
     if count < pairs.len() {
         Some(count)
     } else {
@@ -136,7 +156,7 @@ fn place_up(
     requires { is_sorted (slice_cmp nat_cmp) pairs.now ≡ true }
     ensures { IsPlaceOf (slice_get (pairs_in (record { lo = bound_of lo.entry; hi = bound_of hi.entry; back = false }) pairs.now) place) pairs.now result }
 {
-    let start = count_before(pairs, lo);
+    let start = count_before(pairs, lo, NOWHERE);
     if place < pairs.len() - start && is_up_to(pairs[start + place].0.as_ref(), hi) {
         Some(start + place)
     } else {
@@ -154,7 +174,7 @@ fn place_down(
     requires { is_sorted (slice_cmp nat_cmp) pairs.now ≡ true }
     ensures { IsPlaceOf (slice_get (pairs_in (record { lo = bound_of lo.entry; hi = bound_of hi.entry; back = true }) pairs.now) place) pairs.now result }
 {
-    let end = count_up_to(pairs, hi);
+    let end = count_up_to(pairs, hi, NOWHERE);
     if place < end && is_from(pairs[end - 1 - place].0.as_ref(), lo) {
         Some(end - 1 - place)
     } else {

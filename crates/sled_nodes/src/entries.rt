@@ -74,6 +74,7 @@ impl<V> Entries<V> {
     }
 
     /// What stands at a key.
+    #[inline(always)]
     pub fn get(&self, key: &[u8]) -> Option<&V>
         ensures { option_copied result ≡ find (slice_cmp nat_cmp) key.now self.now }
     {
@@ -87,23 +88,25 @@ impl<V> Entries<V> {
         pairs::place_alone(self.list.as_slice(), key, self.ascends)
     }
 
-    /// The place of the last entry whose key is within an upper bound.
-    pub fn last_place(&self, bound: Bound<&[u8]>) -> Option<usize>
+    /// The place of the last entry whose key is within an upper bound. The bound's key is looked for at the place `near` first.
+    #[inline(always)]
+    pub fn last_place(&self, bound: Bound<&[u8]>, near: usize) -> Option<usize>
         ensures { MatchOption result (list_any (λ e. within_upper (bound_of bound.entry) e.0) self.now ≡ false) (IsLastAt (λ e. within_upper (bound_of bound.entry) e.0) self.now) }
     {
         if self.ascends {
-            ascending::last_place(self.list.as_slice(), bound)
+            ascending::last_place(self.list.as_slice(), bound, near)
         } else {
             among::last_place(self.list.as_slice(), bound)
         }
     }
 
-    /// The place of the first entry whose key is within a lower bound.
-    pub fn first_place(&self, bound: Bound<&[u8]>) -> Option<usize>
+    /// The place of the first entry whose key is within a lower bound. The bound's key is looked for at the place `near` first.
+    #[inline(always)]
+    pub fn first_place(&self, bound: Bound<&[u8]>, near: usize) -> Option<usize>
         ensures { MatchOption result (list_any (λ e. within_lower (bound_of bound.entry) e.0) self.now ≡ false) (IsFirstAt (λ e. within_lower (bound_of bound.entry) e.0) self.now) }
     {
         if self.ascends {
-            ascending::first_place(self.list.as_slice(), bound)
+            ascending::first_place(self.list.as_slice(), bound, near)
         } else {
             among::first_place(self.list.as_slice(), bound)
         }

@@ -1,5 +1,5 @@
 //! One page of a tree: a leaf of pairs or an index of pointers.
-ghost use Rattle.std.specs.Prelude.{◌≡◌, ℕ, nat_le, true, ◌<◌, ◌≤◌, ◌++◌, ◌↔◌, IsTrue, false, None, if◌then◌else◌, is_none, length, IfOk, IfErr, OnOk, OnErr, MatchOption};
+ghost use Rattle.std.specs.Prelude.{◌≡◌, ℕ, nat_le, true, ◌<◌, ◌≤◌, ◌++◌, ◌↔◌, IsTrue, false, None, if◌then◌else◌, is_none, length, IfOk, IfErr, IfSome, IfNone, OnOk, OnErr, Some, MatchOption};
 ghost use Rattle.sled_nodes.specs.declared.error.Error.TheVariants.{NoMemory};
 ghost use Rattle.std.specs.FinMap.Entries.{put, find};
 ghost use Rattle.std.specs.Option.{option_copied};
@@ -15,6 +15,7 @@ ghost use Rattle.sled_nodes.specs.declared.link.Link.TheVariants.{Set, Del, Pare
 ghost use Rattle.sled_nodes.specs.Posting.{IsOpen, IsIndex, Posts};
 
 use crate::among::{place_of, pointer_alone};
+use crate::ascending::NOWHERE;
 use crate::change::{Back, Part};
 use crate::entries::Entries;
 use crate::error::Result;
@@ -248,29 +249,41 @@ impl Leaf {
         key_of_first(alloc, self.pairs.as_slice())
     }
 
-    // The first pair within a lower bound.
-    fn first_from(&self, bound: Bound<&[u8]>) -> Result<Option<(IVec, IVec)>>
+    // The first pair within a lower bound, and its place. The bound's key is looked for at the place `near` first.
+    #[inline(always)]
+    fn first_from(&self, bound: Bound<&[u8]>, near: &mut usize) -> Result<Option<(IVec, IVec)>>
         ensures ok { IfOk result (IsSuccessor (bound_of bound.entry) self.now) }
+        ensures place { IfOk result (λ found. IfSome found (λ pair. slice_get self.now near.new ≡ Some pair)) }
+        ensures none { IfOk result (λ found. IfNone found (near.new ≡ near.old)) }
+        ensures kept { OnErr result (near.new ≡ near.old) }
         ensures err { IfErr result (λ e. e ≡ NoMemory) }
     {
-        match self.pairs.first_place(bound) {
+        match self.pairs.first_place(bound, *near) {
             Some(i) => {
                 let pair = &self.pairs.as_slice()[i];
-                Ok(Some(clone_pair(&pair.0, &pair.1)?))
+                let copy = clone_pair(&pair.0, &pair.1)?;
+                *near = i;
+                Ok(Some(copy))
             },
             None => Ok(None),
         }
     }
 
-    // The last pair within an upper bound.
-    fn last_up_to(&self, bound: Bound<&[u8]>) -> Result<Option<(IVec, IVec)>>
+    // The last pair within an upper bound, and its place. The bound's key is looked for at the place `near` first.
+    #[inline(always)]
+    fn last_up_to(&self, bound: Bound<&[u8]>, near: &mut usize) -> Result<Option<(IVec, IVec)>>
         ensures ok { IfOk result (IsPredecessor (bound_of bound.entry) self.now) }
+        ensures place { IfOk result (λ found. IfSome found (λ pair. slice_get self.now near.new ≡ Some pair)) }
+        ensures none { IfOk result (λ found. IfNone found (near.new ≡ near.old)) }
+        ensures kept { OnErr result (near.new ≡ near.old) }
         ensures err { IfErr result (λ e. e ≡ NoMemory) }
     {
-        match self.pairs.last_place(bound) {
+        match self.pairs.last_place(bound, *near) {
             Some(i) => {
                 let pair = &self.pairs.as_slice()[i];
-                Ok(Some(clone_pair(&pair.0, &pair.1)?))
+                let copy = clone_pair(&pair.0, &pair.1)?;
+                *near = i;
+                Ok(Some(copy))
             },
             None => Ok(None),
         }
@@ -296,6 +309,7 @@ impl Leaf {
         }
     }
 
+    #[inline(always)]
     #[tactic(auto, unfolding(crate::specs::Order::key_cmp))]
     fn get(&self, key: &[u8]) -> Option<&IVec>
         ensures { option_copied result ≡ find key_cmp key.now self.now }
@@ -470,10 +484,11 @@ impl Index {
     }
 
     // The last pointer within an upper bound, and whether it is the first of all.
+    #[inline(always)]
     fn last_up_to(&self, bound: Bound<&[u8]>) -> Option<(Pid, bool)>
         ensures { IsPointerFor (bound_of bound.entry) self.now result }
     {
-        match self.pointers.last_place(bound) {
+        match self.pointers.last_place(bound, NOWHERE) {
             Some(i) => Some((self.pointers.as_slice()[i].1, i == 0)),
             None => None,
         }
@@ -1045,8 +1060,31 @@ impl Node {
         ensures ok { IfOk result (IsSuccessor (bound_of bound.entry) (pairs self.now.content)) }
         ensures err { IfErr result (λ e. e ≡ NoMemory) }
     {
+        self.successor_near(bound, &mut NOWHERE)
+    }
+
+    /// The same, and `near` becomes the place of the pair, counted from 0; where none is found, or it is refused, it stays. In a leaf whose
+    /// keys ascend the bound's key is looked for at this place first, so who goes from pair to pair finds each at once. Any number will
+    /// do: a wrong one costs a comparison, or nothing where there is no such place. Refused with `NoMemory` alone.
+    ///
+    /// ```
+    /// let mut near = 3; // Where the pair of `ulm` was found.
+    /// let next = node.successor_near(Bound::Excluded(b"ulm"), &mut near)?; // The pair behind it. If there is one, `near` is 4.
+    /// ```
+    #[inline(always)]
+    pub fn successor_near(
+        &self,
+        bound: Bound<&[u8]>,
+        near: &mut usize,
+    ) -> Result<Option<(IVec, IVec)>>
+        ensures ok { IfOk result (IsSuccessor (bound_of bound.entry) (pairs self.now.content)) }
+        ensures place { IfOk result (λ found. IfSome found (λ pair. slice_get (pairs self.now.content) near.new ≡ Some pair)) }
+        ensures none { IfOk result (λ found. IfNone found (near.new ≡ near.old)) }
+        ensures kept { OnErr result (near.new ≡ near.old) }
+        ensures err { IfErr result (λ e. e ≡ NoMemory) }
+    {
         match &self.content {
-            Data::Leaf(leaf) => leaf.first_from(bound),
+            Data::Leaf(leaf) => leaf.first_from(bound, near),
             Data::Index(_) => Ok(None),
         }
     }
@@ -1060,8 +1098,31 @@ impl Node {
         ensures ok { IfOk result (IsPredecessor (bound_of bound.entry) (pairs self.now.content)) }
         ensures err { IfErr result (λ e. e ≡ NoMemory) }
     {
+        self.predecessor_near(bound, &mut NOWHERE)
+    }
+
+    /// The same, and `near` becomes the place of the pair, counted from 0; where none is found, or it is refused, it stays. In a leaf whose
+    /// keys ascend the bound's key is looked for at this place first, so who goes from pair to pair finds each at once. Any number will
+    /// do: a wrong one costs a comparison, or nothing where there is no such place. Refused with `NoMemory` alone.
+    ///
+    /// ```
+    /// let mut near = 3; // Where the pair of `ulm` was found.
+    /// let before = node.predecessor_near(Bound::Excluded(b"ulm"), &mut near)?; // The pair before it. If there is one, `near` is 2.
+    /// ```
+    #[inline(always)]
+    pub fn predecessor_near(
+        &self,
+        bound: Bound<&[u8]>,
+        near: &mut usize,
+    ) -> Result<Option<(IVec, IVec)>>
+        ensures ok { IfOk result (IsPredecessor (bound_of bound.entry) (pairs self.now.content)) }
+        ensures place { IfOk result (λ found. IfSome found (λ pair. slice_get (pairs self.now.content) near.new ≡ Some pair)) }
+        ensures none { IfOk result (λ found. IfNone found (near.new ≡ near.old)) }
+        ensures kept { OnErr result (near.new ≡ near.old) }
+        ensures err { IfErr result (λ e. e ≡ NoMemory) }
+    {
         match &self.content {
-            Data::Leaf(leaf) => leaf.last_up_to(bound),
+            Data::Leaf(leaf) => leaf.last_up_to(bound, near),
             Data::Index(_) => Ok(None),
         }
     }

@@ -2,7 +2,7 @@
 //!
 //! Most keys differ within their first eight bytes, so these are compared first, at once, as a number: the front of a key. A search takes
 //! the front of the key that it looks for once.
-ghost use Rattle.std.specs.Prelude.{◌≡◌, ◌<◌, ◌≤◌, ℕ, length, take, slice_index};
+ghost use Rattle.std.specs.Prelude.{◌≡◌, ◌<◌, ◌≤◌, ◌-◌, ℕ, length, take, drop, slice_index};
 ghost use Rattle.std.specs.Int.{from_be_bytes, w64};
 ghost use Rattle.std.specs.Cmp.Lexicographic.{slice_cmp};
 ghost use Rattle.std.specs.Ordering.{nat_cmp};
@@ -22,30 +22,6 @@ pub fn first_eight(bytes: &[u8]) -> u64
         Some((first, _)) => u64::from_be_bytes(*first),
         None => unreachable!(),
     }
-}
-
-// How two byte strings compare: whether they are the same first, then eight bytes at once as long as both have them, and then byte by
-// byte. It is called where their fronts do not tell, so most of them are the same.
-#[inline(never)]
-fn compare_bytes(a: &[u8], b: &[u8]) -> Ordering
-    ensures { result ≡ slice_cmp nat_cmp a.now b.now }
-{
-    if a == b {
-        return Ordering::Equal;
-    }
-    let (mut rest, mut other) = (a, b);
-    'eights: while rest.len() >= 8 && other.len() >= 8 {
-        let (front, other_front) = (first_eight(rest), first_eight(other));
-        if front < other_front {
-            return Ordering::Less;
-        }
-        if other_front < front {
-            return Ordering::Greater;
-        }
-        rest = &rest[8..];
-        other = &other[8..];
-    }
-    rest.cmp(other)
 }
 
 // The front of a byte string that is shorter than eight.
@@ -71,6 +47,48 @@ pub fn front_of(bytes: &[u8]) -> u64
     } else {
         first_eight(bytes)
     }
+}
+
+// How the last eight bytes of two byte strings of one length compare.
+#[inline(always)]
+fn compare_last(a: &[u8], b: &[u8]) -> Ordering
+    requires long { 8 ≤ length a.now }
+    requires same { length a.now ≡ length b.now }
+    ensures { result ≡ slice_cmp nat_cmp (drop (length a.now - 8) a.now) (drop (length b.now - 8) b.now) }
+{
+    let (end, other_end) = (&a[a.len() - 8..], &b[b.len() - 8..]);
+    let (last, other_last) = (first_eight(end), first_eight(other_end));
+    if last < other_last {
+        return Ordering::Less;
+    }
+    if other_last < last {
+        return Ordering::Greater;
+    }
+    Ordering::Equal
+}
+
+// How two byte strings compare: eight bytes at once as long as both have them. Of two of one length the last eight tell the rest, for the
+// bytes before what is left are the same; else it goes byte by byte. It is called where their fronts do not tell.
+#[inline(never)]
+fn compare_bytes(a: &[u8], b: &[u8]) -> Ordering
+    ensures { result ≡ slice_cmp nat_cmp a.now b.now }
+{
+    let (mut rest, mut other) = (a, b);
+    'eights: while rest.len() >= 8 && other.len() >= 8 {
+        let (front, other_front) = (first_eight(rest), first_eight(other));
+        if front < other_front {
+            return Ordering::Less;
+        }
+        if other_front < front {
+            return Ordering::Greater;
+        }
+        rest = &rest[8..];
+        other = &other[8..];
+    }
+    if a.len() == b.len() && a.len() >= 8 {
+        return compare_last(a, b);
+    }
+    rest.cmp(other)
 }
 
 /// How a key compares with another one whose front this is. Two of the same length that have no more bytes than their fronts are the same

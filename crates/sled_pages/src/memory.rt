@@ -293,6 +293,7 @@ impl MemPages {
     }
 
     // The page of a number, whose node is shared.
+    #[inline(always)]
     fn shared_page(&self, pid: Pid) -> Result<Option<Page>>
         ensures ok { IfOk result (λ page. page ≡ (now (store_of self.now)).pages pid) }
         ensures err { IfErr result (λ e. e ≡ NoMemory) }

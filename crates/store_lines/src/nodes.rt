@@ -371,10 +371,80 @@ fn find_between(node: &Node, back: bool, line: &mut Line) {
     }
 }
 
+// The pair that a bound leads to, where its key is looked for at a place first.
+fn find_near(
+    node: &Node,
+    bound: Bound<&[u8]>,
+    back: bool,
+    near: &mut usize,
+) -> Result<Option<(IVec, IVec)>> {
+    if back {
+        node.predecessor_near(bound, near)
+    } else {
+        node.successor_near(bound, near)
+    }
+}
+
+// The pair at a place of a leaf.
+fn pair_at(node: &Node, place: usize) -> Result<Option<(IVec, IVec)>> {
+    node.pair_within(Bound::Unbounded, Bound::Unbounded, false, place)
+}
+
+// Whether the same pair is found where the bound's key is looked for at this place first, and the place that is left is its own.
+fn is_found_near(
+    node: &Node,
+    bound: Bound<&[u8]>,
+    back: bool,
+    near: usize,
+    found: &Option<(IVec, IVec)>,
+) -> Result<bool> {
+    let mut place = near;
+    let other = find_near(node, bound, back, &mut place)?;
+    let is_same = other == *found;
+    drop(other);
+    if !is_same || found.is_none() {
+        return Ok(is_same);
+    }
+    let there = pair_at(node, place)?;
+    let is_there = there == *found;
+    drop(there);
+    Ok(is_there)
+}
+
+// The same of each place, and of one behind the last.
+fn is_found_everywhere(
+    node: &Node,
+    bound: Bound<&[u8]>,
+    back: bool,
+    found: &Option<(IVec, IVec)>,
+) -> Result<bool> {
+    for near in 0..=len(node) {
+        if !is_found_near(node, bound, back, near, found)? {
+            return Ok(false);
+        }
+    }
+    Ok(true)
+}
+
+// Finds the pair that a bound leads to, and says so where from some place another pair or a wrong place comes.
+fn find_pair(node: &Node, bound: Bound<&[u8]>, back: bool, out: &mut Text) {
+    let found = if back {
+        node.predecessor(bound)
+    } else {
+        node.successor(bound)
+    };
+    if let Ok(pair) = &found {
+        if out.kept(is_found_everywhere(node, bound, back, pair)) == Some(false) {
+            out.push("differs");
+        }
+    }
+    push_pair(out, found);
+}
+
 fn find_at(search: Search, node: &Node, bound: Bound<&[u8]>, out: &mut Text) {
     match search {
-        Search::Successor => push_pair(out, node.successor(bound)),
-        Search::Predecessor => push_pair(out, node.predecessor(bound)),
+        Search::Successor => find_pair(node, bound, false, out),
+        Search::Predecessor => find_pair(node, bound, true, out),
         _ => push_pointer(out, node.pointer(bound)),
     }
 }

@@ -51,6 +51,7 @@ fn first_within<R: Reads>(
     pages: &R,
     root: Pid,
     hand: &mut Option<View>,
+    near: &mut usize,
     lo: &mut Bound<IVec>,
     hi: Bound<&[u8]>,
 ) -> Result<Option<(IVec, IVec)>>
@@ -61,7 +62,7 @@ fn first_within<R: Reads>(
     ensures kept { SeeksAt (now (R.store pages.now)) root lo.new hand.new }
 {
     law_given(pages);
-    let pair = match first_at(alloc, pages, root, hand, lend(lo)) {
+    let pair = match first_at(alloc, pages, root, hand, near, lend(lo)) {
         Ok(Some(pair)) => pair,
         Ok(None) => return Ok(None),
         Err(e) => return Err(e),
@@ -85,6 +86,7 @@ fn last_within<R: Reads>(
     pages: &R,
     root: Pid,
     hand: &mut Option<View>,
+    near: &mut usize,
     lo: Bound<&[u8]>,
     hi: &mut Bound<IVec>,
 ) -> Result<Option<(IVec, IVec)>>
@@ -95,7 +97,7 @@ fn last_within<R: Reads>(
     ensures kept { SeeksBackAt (now (R.store pages.now)) root hi.new hand.new }
 {
     law_given(pages);
-    let pair = match last_at(alloc, pages, root, hand, lend(hi)) {
+    let pair = match last_at(alloc, pages, root, hand, near, lend(hi)) {
         Ok(Some(pair)) => pair,
         Ok(None) => return Ok(None),
         Err(e) => return Err(e),
@@ -123,9 +125,11 @@ pub struct Iter<'a, R: Reads> {
     root: Pid,
     lo: Bound<IVec>,
     hi: Bound<IVec>,
-    // the leaves at which the searches from both ends stand
+    // the leaves at which the searches from both ends stand, and where the last pairs were found in them
     front: Option<View>,
+    front_place: usize,
     back: Option<View>,
+    back_place: usize,
     ended: bool,
 }
 
@@ -164,7 +168,9 @@ pub fn pairs_of<'a, R: Reads>(
         lo,
         hi,
         front: None,
+        front_place: usize::MAX,
         back: None,
+        back_place: usize::MAX,
         ended,
     }
 }
@@ -201,6 +207,7 @@ impl<'a, R: Reads> Iterator for Iter<'a, R> {
             self.pages,
             self.root,
             &mut self.front,
+            &mut self.front_place,
             &mut self.lo,
             lend(&self.hi),
         ) {
@@ -229,6 +236,7 @@ impl<'a, R: Reads> DoubleEndedIterator for Iter<'a, R> {
             self.pages,
             self.root,
             &mut self.back,
+            &mut self.back_place,
             lend(&self.lo),
             &mut self.hi,
         ) {

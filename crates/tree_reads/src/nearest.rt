@@ -52,12 +52,14 @@ fn start_of(lo: Bound<&[u8]>) -> Bound<&[u8]>
     }
 }
 
-// The first pair within a lower bound from this leaf on. The leaf at which the search ends is left in its place.
+// The first pair within a lower bound from this leaf on. The leaf at which the search ends comes in place of the one at hand, and `near`
+// becomes the pair's place in it, where the next search looks first.
 fn first_along<R: Reads>(
     alloc: Global,
     pages: &R,
     root: Pid,
     leaf: &mut View,
+    near: &mut usize,
     lo: Bound<&[u8]>,
     looked: u64,
 ) -> Result<Option<(IVec, IVec)>>
@@ -67,7 +69,7 @@ fn first_along<R: Reads>(
     ensures kept { Seeks (now (R.store pages.now)) root (bound_of lo.entry) leaf.new 0 }
 {
     for count in looked..MOST_PAGES {
-        match leaf.node.successor(lo) {
+        match leaf.node.successor_near(lo, near) {
             Ok(Some(pair)) => return Ok(Some(pair)),
             Ok(None) => {}
             Err(e) => return Err(e),
@@ -93,6 +95,7 @@ pub(crate) fn first_at<R: Reads>(
     pages: &R,
     root: Pid,
     hand: &mut Option<View>,
+    near: &mut usize,
     lo: Bound<&[u8]>,
 ) -> Result<Option<(IVec, IVec)>>
     requires { SeeksAt (now (R.store pages.now)) root (bound_of lo) hand.old }
@@ -101,14 +104,14 @@ pub(crate) fn first_at<R: Reads>(
     ensures kept { SeeksAt (now (R.store pages.now)) root (bound_of lo.entry) hand.new }
 {
     if let Some(leaf) = hand {
-        return first_along(alloc, pages, root, leaf, lo, 0);
+        return first_along(alloc, pages, root, leaf, near, lo, 0);
     }
     law_given(pages);
     let (mut leaf, looked) = match leaf_at(alloc, pages, root, start_of(lo), 0) {
         Ok(found) => found,
         Err(e) => return Err(e),
     };
-    let found = first_along(alloc, pages, root, &mut leaf, lo, looked);
+    let found = first_along(alloc, pages, root, &mut leaf, near, lo, looked);
     let old = mem::replace(hand, Some(leaf));
     drop(old);
     found
@@ -125,18 +128,19 @@ pub fn first_from<R: Reads>(
     ensures err { IfErr result (RefusesWalk once (R.store pages.now) root) }
 {
     let mut hand = None;
-    let found = first_at(alloc, pages, root, &mut hand, lo);
+    let found = first_at(alloc, pages, root, &mut hand, &mut usize::MAX, lo);
     drop(hand);
     found
 }
 
 // The last pair within an upper bound from this leaf back. Each leaf before it is walked to from the root. The leaf at which the
-// search ends is left in its place.
+// search ends comes in place of the one at hand, and `near` becomes the pair's place in it, where the next search looks first.
 fn last_along<R: Reads>(
     alloc: Global,
     pages: &R,
     root: Pid,
     leaf: &mut View,
+    near: &mut usize,
     hi: Bound<&[u8]>,
     looked: u64,
 ) -> Result<Option<(IVec, IVec)>>
@@ -147,7 +151,7 @@ fn last_along<R: Reads>(
 {
     let mut count = looked;
     for walk in 0..MOST_PAGES {
-        match leaf.node.predecessor(hi) {
+        match leaf.node.predecessor_near(hi, near) {
             Ok(Some(pair)) => return Ok(Some(pair)),
             Ok(None) => {}
             Err(e) => return Err(e),
@@ -174,6 +178,7 @@ pub(crate) fn last_at<R: Reads>(
     pages: &R,
     root: Pid,
     hand: &mut Option<View>,
+    near: &mut usize,
     hi: Bound<&[u8]>,
 ) -> Result<Option<(IVec, IVec)>>
     requires { SeeksBackAt (now (R.store pages.now)) root (bound_of hi) hand.old }
@@ -182,7 +187,7 @@ pub(crate) fn last_at<R: Reads>(
     ensures kept { SeeksBackAt (now (R.store pages.now)) root (bound_of hi.entry) hand.new }
 {
     if let Some(leaf) = hand {
-        return last_along(alloc, pages, root, leaf, hi, 0);
+        return last_along(alloc, pages, root, leaf, near, hi, 0);
     }
     if !is_up_to(&[], hi) {
         return Ok(None);
@@ -192,7 +197,7 @@ pub(crate) fn last_at<R: Reads>(
         Ok(found) => found,
         Err(e) => return Err(e),
     };
-    let found = last_along(alloc, pages, root, &mut leaf, hi, looked);
+    let found = last_along(alloc, pages, root, &mut leaf, near, hi, looked);
     let old = mem::replace(hand, Some(leaf));
     drop(old);
     found
@@ -209,7 +214,7 @@ pub fn last_up_to<R: Reads>(
     ensures err { IfErr result (RefusesWalk for_each (R.store pages.now) root) }
 {
     let mut hand = None;
-    let found = last_at(alloc, pages, root, &mut hand, hi);
+    let found = last_at(alloc, pages, root, &mut hand, &mut usize::MAX, hi);
     drop(hand);
     found
 }

@@ -25,6 +25,7 @@ impl<P: Pages> Reads for P {
 
     ghost given = { P.given };
 
+    #[inline(always)]
     fn page(&self, alloc: Global, pid: Pid) -> Result<Option<View>> {
         self.read(alloc, pid)
     }

@@ -1,5 +1,5 @@
 -- The front of a byte string: its first eight bytes, as a number.
-use Rattle.std.specs.Prelude.{ℕ}
+use Rattle.std.specs.Prelude.{◌≡◌, ◌++◌, ℕ}
 use Rattle.std.specs.Int.{from_be_bytes, w64}
 use Rattle.sled_nodes.specs.Order.{Key}
 use Rattle.sled_nodes.specs.Bytes.{padded}
@@ -7,3 +7,9 @@ use Rattle.sled_nodes.specs.Bytes.{padded}
 -- the first of them counts most, and zeros stand behind a shorter string
 unfoldable pub front : Key → ℕ
 front bytes = from_be_bytes w64 (padded 8 bytes)
+
+-- the same bytes stand before the rests of two byte strings
+pub record AreBehind (a b rest other : Key) : Type 0 where
+  pub before : Key
+  pub is : a ≡ before ++ rest
+  pub other_is : b ≡ before ++ other

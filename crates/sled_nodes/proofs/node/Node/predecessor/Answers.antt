@@ -1,4 +1,0 @@
-use Rattle.sled_nodes.proofs.node.Node.predecessor.Goals as goal
-
-pub returns-in-Leaf-clause-ok : goal.returns-in-Leaf-clause-ok
-returns-in-Leaf-clause-ok c = rw c.in-Leaf.is c.last_up_to.ensures.ok
