@@ -98,7 +98,18 @@ abbrev pub operator_test : State → Asked → Option MustRefuse
 operator_test s (ToBegin tree call) = if needs_operator call && not (has_operator (s.trees tree.name)) then (Some HasNoOperator) else None
 operator_test s (ToStep f) = if needs_operator f.call && not (has_operator (s.trees f.tree.name)) then (Some HasNoOperator) else None
 operator_test s (ToPoint tree call) = if needs_operator call && not (has_operator (s.trees tree.name)) then (Some HasNoOperator) else None
-operator_test s (ToCall whole) = None
+operator_test s (ToCall Flush) = None
+operator_test s (ToCall (PopMin tree)) = None
+operator_test s (ToCall (PopMax tree)) = None
+operator_test s (ToCall (Clear tree)) = None
+operator_test s (ToCall (Group batches)) = None
+operator_test s (ToCall (OpenTree name)) = None
+operator_test s (ToCall (DropTree name)) = None
+operator_test s (ToCall GenerateId) = None
+operator_test s (ToCall (Import collections)) = None
+operator_test s (ToCall (Watch tree prefix)) = None
+operator_test s (ToCall (Next subscriber)) = None
+operator_test s (ToCall (Unsubscribe subscriber)) = None
 operator_test s (ToSetOperator tree) = None
 
 abbrev pub must_refuse : State → Asked → Option MustRefuse
