@@ -20,7 +20,7 @@ use Rattle.sled_model.specs.declared.tree.Tree.{Tree}
 use Rattle.sled.specs.Values.{DbValue, db_state}
 use Rattle.sled.specs.Sound.{MapsAscend}
 use Rattle.sled.specs.Direct.{PointDecided}
-use Rattle.sled.specs.Reads.{ReadsMap, Begins}
+use Rattle.sled.specs.Reads.{ReadsMap, BeginsRange}
 use Rattle.examples.specs.Reads.{maps_now}
 use Rattle.examples.specs.Typed.{Spelling, pairs_in, is_above, is_below, pair_bytes, bound_bytes, bounds_value, IsTyped, Puts, LooksUp, Walks, IsForeign}
 use Rattle.examples.proofs.Typing.{KeepsOrder, IsOneToOne, insert_puts, put_bytes, put_values, find_bytes, find_value, within_bytes, within_values, sorted_bytes, same_entries_of}
@@ -104,10 +104,10 @@ module _ {P M : Type 0} (store : P → Store) (meant : M → Merge) (d : DbValue
 
   -- ---- a walk
 
-  pub ends_empty : (lo hi : Bound Key) (entries : Coming P) → Begins store meant d tree lo hi entries → entries.ended ≡ true → entries.pairs ≡ []
+  pub ends_empty : (lo hi : Bound Key) (entries : Coming P) → BeginsRange store meant d tree lo hi entries → entries.ended ≡ true → entries.pairs ≡ []
   ends_empty lo hi entries b e = b.all.is ∙ reversed_none lo hi b.all.named.map (sym b.ended ∙ e)
 
-  module _ (lo hi : Bound K) (lo-bytes hi-bytes : Bound Key) (i : bounds_value keys lo) (j : bounds_value keys hi) (lo-is : lo-bytes ≡ bound_bytes keys lo) (hi-is : hi-bytes ≡ bound_bytes keys hi) (coming : Coming P) (b : Begins store meant d tree lo-bytes hi-bytes coming) (pairs : Map) (all : pairs ≡ coming.pairs) where
+  module _ (lo hi : Bound K) (lo-bytes hi-bytes : Bound Key) (i : bounds_value keys lo) (j : bounds_value keys hi) (lo-is : lo-bytes ≡ bound_bytes keys lo) (hi-is : hi-bytes ≡ bound_bytes keys hi) (coming : Coming P) (b : BeginsRange store meant d tree lo-bytes hi-bytes coming) (pairs : Map) (all : pairs ≡ coming.pairs) where
     abbrev within : List (K × V) → List (K × V)
     within entries = filter (λ e. is_above keys.order lo e.0 && is_below keys.order hi e.0) entries
 

@@ -23,7 +23,7 @@ use Rattle.tree_reads.proofs.Ranging.{of_pairs}
 use Rattle.sled.specs.Values.{DbValue, numbers_of, named, db_state}
 use Rattle.sled.specs.Sound.{IsDb}
 use Rattle.sled.specs.Calls.{MustBeRefused, must_be_refused_as}
-use Rattle.sled.specs.Reads.{ReadsMap, Begins, RefusesReading, refuses_reading_as, stops_reading, RefusesRange, refuses_range_as, GivesUpGet, gives_up_get_as}
+use Rattle.sled.specs.Reads.{ReadsMap, BeginsRange, RefusesReading, refuses_reading_as, stops_reading, RefusesRange, refuses_range_as, GivesUpGet, gives_up_get_as}
 use Rattle.sled.proofs.Trees.{current}
 
 some_is : {X : Type 0} {x y : X} → Some x ≡ Some y → x ≡ y
@@ -72,7 +72,7 @@ module _ {P M : Type 0} (store : P → Store) (meant : M → Merge) (d : DbValue
         let k = tree_under tested in
         record { tested = tested; named = k.0; there = k.2; is = subst so (map_under k) (of_pairs (store d.pages) root (pages_given store d db) (root_is store d db tree.name root there) so near) }
 
-    pub begins : (lo hi : Bound Key) (pairs : Coming P) → pairs ≡ record { pages = d.pages; root = root; pairs = pairs_within lo hi (pairs_under (nodes_of (now (store d.pages))) root); ended = is_reversed lo hi } → Begins store meant d tree lo hi pairs
+    pub begins : (lo hi : Bound Key) (pairs : Coming P) → pairs ≡ record { pages = d.pages; root = root; pairs = pairs_within lo hi (pairs_under (nodes_of (now (store d.pages))) root); ended = is_reversed lo hi } → BeginsRange store meant d tree lo hi pairs
     begins lo hi pairs is =
         let k = tree_under tested in
         record {
@@ -193,9 +193,9 @@ module _ {P M : Type 0} (store : P → Store) (meant : M → Merge) (tree : Tree
   pub refuses_in : IsDb store d → (of : ℕ → ℕ) (e : Error) → RefusesWalk of (store d.pages) root e → RefusesReading store meant seen tree of e
   refuses_in db of e r = refuses store meant seen tree tested root there (subst (λ (z : DbValue P M). IsDb store z) same db) of e (subst (λ (z : DbValue P M). RefusesWalk of (store z.pages) root e) same r)
 
-  pub begins_in : (lo hi : Bound Key) (pairs : Coming P) → pairs ≡ record { pages = d.pages; root = root; pairs = pairs_within lo hi (pairs_under (nodes_of (now (store d.pages))) root); ended = is_reversed lo hi } → Begins store meant seen tree lo hi pairs
+  pub begins_in : (lo hi : Bound Key) (pairs : Coming P) → pairs ≡ record { pages = d.pages; root = root; pairs = pairs_within lo hi (pairs_under (nodes_of (now (store d.pages))) root); ended = is_reversed lo hi } → BeginsRange store meant seen tree lo hi pairs
   begins_in lo hi pairs is = begins store meant seen tree tested root there lo hi pairs
       (is ∙ ap (λ (z : DbValue P M). record { pages = z.pages; root = root; pairs = pairs_within lo hi (pairs_under (nodes_of (now (store z.pages))) root); ended = is_reversed lo hi }) same)
 
-  pub begins_between : (a b lo hi : Bound Key) → a ≡ lo → b ≡ hi → (pairs : Coming P) → pairs ≡ record { pages = d.pages; root = root; pairs = pairs_within a b (pairs_under (nodes_of (now (store d.pages))) root); ended = is_reversed a b } → Begins store meant seen tree lo hi pairs
-  begins_between a b lo hi e f pairs is = subst (λ z. Begins store meant seen tree lo z pairs) f (subst (λ z. Begins store meant seen tree z b pairs) e (begins_in a b pairs is))
+  pub begins_between : (a b lo hi : Bound Key) → a ≡ lo → b ≡ hi → (pairs : Coming P) → pairs ≡ record { pages = d.pages; root = root; pairs = pairs_within a b (pairs_under (nodes_of (now (store d.pages))) root); ended = is_reversed a b } → BeginsRange store meant seen tree lo hi pairs
+  begins_between a b lo hi e f pairs is = subst (λ z. BeginsRange store meant seen tree lo z pairs) f (subst (λ z. BeginsRange store meant seen tree z b pairs) e (begins_in a b pairs is))

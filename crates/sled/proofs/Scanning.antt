@@ -10,11 +10,11 @@ use Rattle.tree_reads.specs.Ranges.{Coming}
 use Rattle.tree_reads.specs.Prefixes.{IsBytes, raised}
 use Rattle.tree_reads.proofs.Prefixes.{not_reversed, pairs_same}
 use Rattle.sled.specs.Values.{DbValue}
-use Rattle.sled.specs.Reads.{Begins, BeginsWith}
+use Rattle.sled.specs.Reads.{BeginsRange, BeginsWith}
 
 module _ {P M : Type 0} (store : P → Store) (meant : M → Merge) (tree : Tree) (d : DbValue P M) where
   -- a range between a prefix and what it is raised to
-  pub begins_as : (prefix : Key) (pairs : Coming P) → Begins store meant d tree (Included prefix) (raised prefix) pairs → BeginsWith store meant d tree prefix pairs
+  pub begins_as : (prefix : Key) (pairs : Coming P) → BeginsRange store meant d tree (Included prefix) (raised prefix) pairs → BeginsWith store meant d tree prefix pairs
   begins_as prefix pairs b = record {
     over = b.over;
     root = b.root;

@@ -28,7 +28,7 @@ module _ {P M : Type 0} (store : P → Store) (meant : M → Merge) (d : DbValue
     pub is : claim named.map
 
   -- the iterator begins with the pairs of the tree's map within the bounds, over the pages and the root of the tree as they are
-  pub record Begins (lo hi : Bound Key) (pairs : Coming P) : Type 0 where
+  pub record BeginsRange (lo hi : Bound Key) (pairs : Coming P) : Type 0 where
     pub over : pairs.pages ≡ d.pages
     pub root : (now (store d.pages)).roots tree.name ≡ Some pairs.root
     pub all : ReadsMap (λ map. pairs.pairs ≡ pairs_within lo hi map)

@@ -10,7 +10,7 @@ ghost use Rattle.sled_model.specs.Refusal.{must_refuse_of};
 ghost use Rattle.tree_reads.specs.Walk.{once, for_each};
 ghost use Rattle.tree_reads.specs.Ranges.{IsRoot};
 ghost use Rattle.sled.specs.Calls.{MustBeRefused};
-ghost use Rattle.sled.specs.Reads.{ReadsMap, Begins, BeginsWith, RefusesReading, RefusesRange, GivesUpGet};
+ghost use Rattle.sled.specs.Reads.{ReadsMap, BeginsRange, BeginsWith, RefusesReading, RefusesRange, GivesUpGet};
 
 use crate::db::Db;
 use sled_model::{MergeOperator, Tree};
@@ -219,7 +219,7 @@ impl<P: Pages, M: MergeOperator> Db<P, M> {
     /// }
     /// ```
     pub fn iter(&self, tree: &Tree) -> Result<Iter<'_, P>>
-        ensures ok { IfOk result (Begins P.store M.meant self.now tree.now Unbounded Unbounded) }
+        ensures ok { IfOk result (BeginsRange P.store M.meant self.now tree.now Unbounded Unbounded) }
         ensures err { IfErr result (RefusesRange P.store M.meant self.now tree.now) }
     {
         let root = match self.root_of(tree) {
@@ -244,7 +244,7 @@ impl<P: Pages, M: MergeOperator> Db<P, M> {
     /// let last = pairs.next_back();
     /// ```
     pub fn range(&self, tree: &Tree, lo: Bound<&[u8]>, hi: Bound<&[u8]>) -> Result<Iter<'_, P>>
-        ensures ok { IfOk result (Begins P.store M.meant self.now tree.now (bound_of lo.entry) (bound_of hi.entry)) }
+        ensures ok { IfOk result (BeginsRange P.store M.meant self.now tree.now (bound_of lo.entry) (bound_of hi.entry)) }
         ensures err { IfErr result (RefusesRange P.store M.meant self.now tree.now) }
     {
         let root = match self.root_of(tree) {

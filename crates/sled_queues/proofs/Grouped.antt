@@ -13,7 +13,7 @@ use Rattle.sled_queues.specs.Values.{WaitingValue, Waitings}
 use Rattle.sled_queues.specs.Events.{after_turns}
 use Rattle.sled_queues.specs.Turns.{turns_of_events}
 use Rattle.sled_queues.specs.Queues.{queue_of, queues_of, IsCalm, prepared_in, prepared, committed_in, committed, cancelled_in, taken_in}
-use Rattle.sled_queues.specs.Laws.{CalmLaw, prepared_all, delivered_all, GroupLaw}
+use Rattle.sled_queues.specs.Laws.{CalmLaw, prepared_all, delivered_all, DeliversGroupLaw}
 use Rattle.sled_queues.proofs.Lawful.{on_option, map_twice, map_same, calm_from}
 
 none_some : {P A : Type 0} {a : A} → None ≡ Some a → P
@@ -83,7 +83,7 @@ receive_is (e ∷ es) q = go (matches e.0 e.1 q) (receive_is es (with_backlog q 
 ended : (es : List (ℕ × Event)) (w : WaitingValue) → w.coming ≡ [] → queue_of (committed_in (gain es w)) ≡ receive es (queue_of w)
 ended es w calm = ap (λ z. queue_of (committed_in z)) (gained es w calm) ∙ sym (receive_is es (queue_of w))
 
-pub group_law : GroupLaw
+pub group_law : DeliversGroupLaw
 group_law queues calm es = record {
   hidden = fun_ext (λ n. ap (option_map queue_of) (gain_at es queues n) ∙ map_twice (gain es) queue_of (queues n) ∙ on_option (λ w. queue_of (gain es w)) queue_of (queues n) (λ w there. ap queue_of (gain_is es w)));
   shown = fun_ext (λ n.

@@ -56,5 +56,5 @@ pub record DeliversAll (queues : Waitings) (es : List (ℕ × Event)) : Type 0 w
   pub calm : IsCalm (committed (prepared_all es queues))
   pub undone : cancelled (prepared_all es queues) ≡ queues
 
-abbrev pub GroupLaw : Type 0
-GroupLaw = (queues : Waitings) → IsCalm queues → (es : List (ℕ × Event)) → DeliversAll queues es
+abbrev pub DeliversGroupLaw : Type 0
+DeliversGroupLaw = (queues : Waitings) → IsCalm queues → (es : List (ℕ × Event)) → DeliversAll queues es

@@ -1,5 +1,5 @@
 //! The laws of queues.
-ghost use Rattle.sled_queues.specs.Laws.{DeliversLaw, CancelsLaw, GroupLaw, CalmLaw, ServesLaw};
+ghost use Rattle.sled_queues.specs.Laws.{DeliversLaw, CancelsLaw, DeliversGroupLaw, CalmLaw, ServesLaw};
 ghost use Rattle.sled_queues.specs.Hears.{HearsLaw, HearsAllLaw, CountsLaw};
 ghost use Rattle.sled_queues.specs.Copies.{ChangesLaw, CopyLaw, FollowsLaw};
 ghost use Rattle.sled_queues.specs.Turns.{TurnsLaw, HeardLaw};
@@ -18,7 +18,7 @@ pub fn law_cancels()
 /// Events of several trees that are prepared one after the other are delivered in that order once they are committed, and
 /// are gone once they are cancelled, where nothing was prepared before.
 pub fn law_delivers_all()
-    ensures { GroupLaw }
+    ensures { DeliversGroupLaw }
 {}
 
 /// Where nothing is prepared, nothing is after the calls that prepare nothing.

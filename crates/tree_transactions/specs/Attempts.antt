@@ -84,7 +84,7 @@ module _ {F T R A E W : Type 0} (says : Closure F T R) (result_of : R → Answer
     pub told : tells_attempts e
 
   -- fewer attempts than there may be met a conflict, and the one after them was not begun
-  pub record Stops (old : Store) (greatest : ℕ) (new : Store) (next : ℕ) : Type 0 where
+  pub record StopsAttempts (old : Store) (greatest : ℕ) (new : Store) (next : ℕ) : Type 0 where
     pub count : ℕ
     pub few : count < MOST_ATTEMPTS
     pub before : Conflicts old greatest count new next
@@ -100,7 +100,7 @@ module _ {F T R A E W : Type 0} (says : Closure F T R) (result_of : R → Answer
 
   -- It is run until an attempt does not answer that there was a conflict, which is to be made, is given up or is refused, or until as many
   -- attempts were made as there may be. The pages stay as they are, and ids that were given stay given
-  pub record Runs (old : Store) (greatest : ℕ) (answer : Result (Commit A W) (TransactionError E)) (new : Store) (next : ℕ) : Type 0 where
+  pub record RunsAttempts (old : Store) (greatest : ℕ) (answer : Result (Commit A W) (TransactionError E)) (new : Store) (next : ℕ) : Type 0 where
     pub is : runs_as old greatest answer new next
     pub only : OnlyRaises old new
     pub rises : greatest ≤ next

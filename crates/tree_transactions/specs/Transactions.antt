@@ -4,7 +4,7 @@ use Rattle.sled_batch.specs.Batch.{Writes}
 use Rattle.sled_store.specs.Store.{Store}
 use Rattle.sled_nodes.specs.declared.error.Error.TheVariants.{NoMemory}
 use Rattle.tree_transactions.specs.Ids.{SetsAside, sets_aside_for}
-use Rattle.tree_transactions.specs.Attempts.{Answer, Closure, Left, Runs, Stops}
+use Rattle.tree_transactions.specs.Attempts.{Answer, Closure, Left, RunsAttempts, StopsAttempts}
 use Rattle.tree_transactions.specs.declared.attempts.Commit.{Commit}
 use Rattle.tree_transactions.specs.declared.errors.TransactionError.{TransactionError}
 use Rattle.tree_transactions.specs.declared.errors.TransactionError.TheVariants.{Storage}
@@ -26,7 +26,7 @@ left_of_tree t = record { writes = t.overlay; flushes = t.flushes; greatest_id =
 
 -- the closure is run as a transaction of the tree with this root
 abbrev pub Transacts : {P F R A E : Type 0} → (P → Store) → Closure F (TransactionalTree P) R → (R → Answer A E) → F → ℕ → Store → ℕ → Result (Commit A Writes) (TransactionError E) → Store → ℕ → Type 0
-Transacts store says result_of f root = Runs says result_of f SetsAside (Begins store root) left_of_tree
+Transacts store says result_of f root = RunsAttempts says result_of f SetsAside (Begins store root) left_of_tree
 
 -- the trees with these roots as an attempt is given them: with no writes at any position
 pub record BeginsAll {P : Type 0} (store : P → Store) (roots : List ℕ) (pages : Store) (greatest : ℕ) (given : TransactionalTrees P) : Type 0 where
@@ -44,5 +44,5 @@ left_of_trees t = record { writes = t.overlays; flushes = t.flushes; greatest_id
 -- The closure is run as a transaction of the trees with these roots; or there was no memory for the writes of an attempt, which was then
 -- not begun
 pub record TransactsAll {P F R A E : Type 0} (store : P → Store) (says : Closure F (TransactionalTrees P) R) (result_of : R → Answer A E) (f : F) (roots : List ℕ) (old : Store) (greatest : ℕ) (ended : Result (Commit A (List Writes)) (TransactionError E)) (new : Store) (next : ℕ) : Type 0 where
-  pub is : Runs says result_of f (sets_aside_for roots) (BeginsAll store roots) left_of_trees old greatest ended new next
-      ⊎ ((ended ≡ Err (Storage NoMemory)) × Stops says result_of f (sets_aside_for roots) (BeginsAll store roots) left_of_trees old greatest new next)
+  pub is : RunsAttempts says result_of f (sets_aside_for roots) (BeginsAll store roots) left_of_trees old greatest ended new next
+      ⊎ ((ended ≡ Err (Storage NoMemory)) × StopsAttempts says result_of f (sets_aside_for roots) (BeginsAll store roots) left_of_trees old greatest new next)
