@@ -18,10 +18,11 @@ use sled_lines::print::Piece::{Number, Text};
 use sled_lines::print::push_bad_line;
 use sled_lines::session::{Session, write};
 use sled_lines::words::{first_word, read_number, read_word};
-use sled_model::Whole;
+use sled_model::{Call, Whole};
 use sled_store::Pages;
 use std::alloc::Global;
 use std::io::{BufRead, Write};
+use std::ops::Bound;
 use std::sync::atomic::{AtomicU64, Ordering};
 
 // A word with numbers behind it.
@@ -34,11 +35,13 @@ enum Word {
     Pages,
     Turns,
     Why,
+    Scan,
+    ScanBack,
     New,
 }
 
 // The words, and how many numbers each of them takes.
-const WORDS: [(&str, Word, usize); 8] = [
+const WORDS: [(&str, Word, usize); 10] = [
     ("load", Word::Load, 3),
     ("find", Word::Find, 2),
     ("overtake", Word::Overtake, 2),
@@ -46,6 +49,8 @@ const WORDS: [(&str, Word, usize); 8] = [
     ("pages", Word::Pages, 0),
     ("turns", Word::Turns, 1),
     ("why", Word::Why, 0),
+    ("scan", Word::Scan, 0),
+    ("scan-back", Word::ScanBack, 0),
     ("new", Word::New, 0),
 ];
 
@@ -111,6 +116,20 @@ fn tell_pages(
     }
 }
 
+// Begins a scan of all pairs in a slot.
+fn begin_scan(
+    alloc: Global,
+    session: &mut Session<Counting<'_>, NoOperator>,
+    back: bool,
+    out: &mut Told,
+) -> Result<()> {
+    let call = answered(Call::scan(alloc, Bound::Unbounded, Bound::Unbounded, back))?;
+    let (_, outcome) = session.begin(call)?;
+    let told = tell_outcome(out, &outcome);
+    drop(outcome);
+    told
+}
+
 // Answers a word that has its numbers.
 fn own(
     alloc: Global,
@@ -128,6 +147,8 @@ fn own(
         Word::Pages => tell_pages(alloc, session, out)?,
         Word::Turns => tell_turns(out, session.turns(numbers[0]))?,
         Word::Why => tell_why(out)?,
+        Word::Scan => begin_scan(alloc, session, false, out)?,
+        Word::ScanBack => begin_scan(alloc, session, true, out)?,
         Word::New => {
             tell(out, &[Text(b"opened\n")])?;
             return Ok(Answer::Ends(End::New));
