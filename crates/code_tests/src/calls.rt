@@ -292,9 +292,14 @@ fn root_of(alloc: Global, db: &Db<MemPages>, tree: &Tree) -> Result<Option<usize
     }
 }
 
+// A subscriber, of which nothing is said, so that nobody who asks for it has more to prove than that.
+fn watched(db: &mut Db<MemPages>, tree: &Tree) -> Result<Subscriber> {
+    db.watch_prefix(tree, b"u")
+}
+
 // Whether a copy of a subscriber is the same.
 fn is_told_alike(db: &mut Db<MemPages>, tree: &Tree) -> Result<bool> {
-    let subscriber = db.watch_prefix(tree, b"u")?;
+    let subscriber = watched(db, tree)?;
     let copy = subscriber.clone()?;
     Ok(copy == subscriber)
 }

@@ -74,16 +74,10 @@ impl<'a> Part<'a> {
     /// The first part of a line; `None` where it is made as a whole.
     pub fn first(line: &'a [u8]) -> Option<Part<'a>> {
         let (word, words) = first_word(line);
-        match (word, words) {
-            (b"clear", None) => Some(Part::Pop(b"pop-min")),
-            (b"owned", Some(b"clear")) => Some(Part::Pop(b"owned pop-min")),
-            (b"import" | b"import-type", Some(words)) => {
-                Some(Part::Import(Import::begin(word, words)))
-            }
-            (b"import-all", Some(words)) if are_trees(words) => {
-                Some(Part::Import(Import::begin(word, words)))
-            }
-            _ => None,
+        match words {
+            None => clear_of(word, b"pop-min"),
+            Some(words) if word == b"owned".as_slice() => clear_of(words, b"owned pop-min"),
+            Some(words) => import_of(word, words),
         }
     }
 
@@ -104,6 +98,27 @@ impl<'a> Part<'a> {
             Part::Pop(line) => push_text(out, *line),
             Part::Import(import) => import.push(out),
         }
+    }
+}
+
+// The first part of a word that takes all pairs out: this line.
+fn clear_of<'a>(word: &[u8], line: &'static [u8]) -> Option<Part<'a>> {
+    if word == b"clear".as_slice() {
+        Some(Part::Pop(line))
+    } else {
+        None
+    }
+}
+
+// The first part of an import, if the word is one and all its parts are of trees.
+fn import_of<'a>(word: &'a [u8], words: &'a [u8]) -> Option<Part<'a>> {
+    let is_import = word == b"import".as_slice()
+        || word == b"import-type".as_slice()
+        || word == b"import-all".as_slice() && are_trees(words);
+    if is_import {
+        Some(Part::Import(Import::begin(word, words)))
+    } else {
+        None
     }
 }
 

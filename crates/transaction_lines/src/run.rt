@@ -117,6 +117,15 @@ fn lend(alloc: Global, trees: &[Tree]) -> Result<Vec<&Tree>> {
     Ok(lent)
 }
 
+// Runs it on trees. Nothing is said of that, so that nobody who tells it has more to prove than that.
+fn run_on_trees<M: MergeOperator>(
+    session: &mut Session<MemPages, M>,
+    trees: &[&Tree],
+    run: &Run,
+) -> Ended {
+    session.transaction_all(trees, |trees| run.attempt(trees))
+}
+
 // Runs the transaction that words spell on trees.
 fn tell_on_trees<M: MergeOperator>(
     alloc: Global,
@@ -127,7 +136,7 @@ fn tell_on_trees<M: MergeOperator>(
 ) -> Result<()> {
     let lent = lend(alloc, trees)?;
     let run = Run::new(alloc, words, Reach::List)?;
-    let ended: Ended = session.transaction_all(lent.as_slice(), |trees| run.attempt(trees));
+    let ended = run_on_trees(session, lent.as_slice(), &run);
     run.tell(out, ended)
 }
 

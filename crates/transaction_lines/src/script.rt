@@ -213,14 +213,20 @@ fn act_of(alloc: Global, words: &[&[u8]], why: &mut Vec<u8>) -> Result<Option<Ac
     let [name, words @ ..] = words else {
         return push_text(why, MISSING_PART).map(|()| None);
     };
-    match *name {
-        b"get" => get_of(alloc, words, why),
-        b"insert" => insert_of(alloc, words, why),
-        b"remove" => remove_of(alloc, words, why),
-        b"batch" => batch_of(alloc, words, why),
-        b"flush" => alone(why, words, "flush", Act::Flush),
-        b"id" => alone(why, words, "id", Act::Id),
-        name => quote(why, name, NO_PART).map(|()| None),
+    if *name == b"get".as_slice() {
+        get_of(alloc, words, why)
+    } else if *name == b"insert".as_slice() {
+        insert_of(alloc, words, why)
+    } else if *name == b"remove".as_slice() {
+        remove_of(alloc, words, why)
+    } else if *name == b"batch".as_slice() {
+        batch_of(alloc, words, why)
+    } else if *name == b"flush".as_slice() {
+        alone(why, words, "flush", Act::Flush)
+    } else if *name == b"id".as_slice() {
+        alone(why, words, "id", Act::Id)
+    } else {
+        quote(why, *name, NO_PART).map(|()| None)
     }
 }
 
@@ -309,12 +315,16 @@ fn end_of(words: &[&[u8]], why: &mut Vec<u8>) -> Result<Option<End>> {
     let [name, words @ ..] = words else {
         return push_text(why, MISSING_END).map(|()| None);
     };
-    match *name {
-        b"commit" => alone(why, words, "commit", End::Commit),
-        b"abort" => alone(why, words, "abort", End::Abort),
-        b"conflict" => alone(why, words, "conflict", End::Conflict),
-        b"conflict-below" => below_of(words, why),
-        name => quote(why, name, NO_END).map(|()| None),
+    if *name == b"commit".as_slice() {
+        alone(why, words, "commit", End::Commit)
+    } else if *name == b"abort".as_slice() {
+        alone(why, words, "abort", End::Abort)
+    } else if *name == b"conflict".as_slice() {
+        alone(why, words, "conflict", End::Conflict)
+    } else if *name == b"conflict-below".as_slice() {
+        below_of(words, why)
+    } else {
+        quote(why, *name, NO_END).map(|()| None)
     }
 }
 
