@@ -5,11 +5,9 @@
 mod callers;
 mod gathering;
 mod handle;
-mod sharing;
 mod state;
 
 pub use callers::step_of_one;
-pub use gathering::{gather, gather_one};
+pub use gathering::gather_one;
 pub use handle::call;
-pub use sharing::new;
 pub use state::{step, whole};

@@ -3,7 +3,6 @@ ghost use Rattle.std.specs.Prelude.{IfErr, OnOk};
 ghost use Rattle.sled_model.specs.Collections.{contents_of};
 ghost use Rattle.sled_model.specs.Imports.{parts_of};
 ghost use Rattle.sled.specs.Imports.{ImportDecided, ImportRefused, ImportsBySteps};
-ghost use Rattle.sled.specs.Parts.{ImportsParts, ImportRefusedAfter};
 
 use sled::{Collection, Db};
 use sled_model::MergeOperator;
@@ -20,16 +19,4 @@ pub fn import<P: Pages, M: MergeOperator>(
     ensures steps { OnOk result (ImportsBySteps P.store M.meant db.old (parts_of (contents_of collections.now)) db.new) }
 {
     db.import(collections)
-}
-
-/// The same, and tells how many parts were done.
-pub fn import_counted<P: Pages, M: MergeOperator>(
-    db: &mut Db<P, M>,
-    collections: &[Collection],
-) -> (Result<()>, u64)
-    ensures ok { OnOk result.0 (ImportDecided P.store M.meant db.old (contents_of collections.now) db.new) }
-    ensures parts { OnOk result.0 (ImportsParts (contents_of collections.now) result.1) }
-    ensures err { IfErr result.0 (λ e. ImportRefusedAfter P.store M.meant db.old (contents_of collections.now) result.1 e db.new) }
-{
-    db.import_counted(collections)
 }

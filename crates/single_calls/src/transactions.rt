@@ -1,8 +1,8 @@
 //! Transactions of a database.
 ghost use Rattle.std.specs.Prelude.{IfOk, IfErr};
-ghost use Rattle.sled.specs.Transactions.{CanTransact, TransactionMade, TransactionNotMade, CanTransactAll, ListMade, ListNotMade, trees_of_list};
+ghost use Rattle.sled.specs.Transactions.{CanTransact, TransactionMade, TransactionNotMade};
 
-use sled::{Db, TransactionAnswer, TransactionalTree, TransactionalTrees};
+use sled::{Db, TransactionAnswer, TransactionalTree};
 use sled_model::{MergeOperator, Tree};
 use sled_store::Pages;
 
@@ -19,19 +19,4 @@ where
     ensures err { IfErr (R.answer_of result) (λ e. TransactionNotMade P.store P.flush_number M.meant F.Fn R.result_of f db.old tree.now e db.new) }
 {
     db.transaction(tree, f)
-}
-
-/// Runs a closure as a transaction of the trees of a list.
-pub fn transaction_all<P: Pages, M: MergeOperator, A: Drop, E, R: TransactionAnswer<A, E>, F>(
-    db: &mut Db<P, M>,
-    trees: &[&Tree],
-    f: F,
-) -> R::Ended
-where
-    F: Fn(&mut TransactionalTrees<'_, P>) -> R,
-    requires { CanTransactAll P.store M.meant (F.pre f) db.old (trees_of_list trees.now) }
-    ensures ok { IfOk (R.answer_of result) (λ answer. ListMade P.store P.flush_number M.meant F.Fn R.result_of f db.old (trees_of_list trees.now) answer db.new) }
-    ensures err { IfErr (R.answer_of result) (λ e. ListNotMade P.store P.flush_number M.meant F.Fn R.result_of f db.old (trees_of_list trees.now) e db.new) }
-{
-    db.transaction_all(trees, f)
 }

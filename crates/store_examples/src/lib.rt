@@ -8,5 +8,5 @@ mod single;
 mod store;
 
 pub use log_pages::LogPages;
-pub use single::{allocate, crash, flush, link, predecessor, receive_merge, replace, split};
+pub use single::{flush, link};
 pub use store::{may_leave_base, open_tree, two_links};

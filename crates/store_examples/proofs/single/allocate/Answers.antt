@@ -1,4 +1,0 @@
-use Rattle.store_examples.proofs.single.allocate.Goals as goal
-
-pub returns : goal.returns
-returns c = assumption
