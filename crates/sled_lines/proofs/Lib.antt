@@ -1,9 +1,11 @@
 mod Spelling
+mod Plain
 mod Numbers
+mod Searching
 mod Lines
 mod Shortest
+mod Holding
 mod Reading
-mod Running
 mod Printing
 mod Obeying
 mod Living

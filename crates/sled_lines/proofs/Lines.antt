@@ -1,6 +1,7 @@
 -- Laws of the words of a line.
 use Rattle.std.proofs.Common.{◌≡◌, ℕ, ◌+◌, ◌<◌, ◌≤◌, ◌==◌, false, List, [], ◌∷◌, ◌++◌, length, take, drop, get_or, All, None, refl, ap, ◌∙◌, sym, arith, add-one, take-append-drop}
 use Rattle.std.proofs.Math.Seq.{drop-cons}
+use Rattle.std.specs.List.{slice_split}
 use Rattle.std.proofs.lemmas.List.Splits.{slice_split_at, slice_split_none, length-slice_split}
 use Rattle.std.proofs.lemmas.List.{take_all}
 use Rattle.std.proofs.lemmas.Bool.{eq-eqb}
@@ -8,12 +9,12 @@ use Rattle.sled_lines.specs.declared.command.Command.{Command}
 use Rattle.sled_lines.specs.Command.{alone, one_of}
 use Rattle.sled_lines.specs.Words.{words_of}
 
--- the first space ends the first word
-pub words_of-space : (line : List ℕ) (at : ℕ) → at < length line → get_or line at 0 ≡ 32 → All (λ b. (b == 32) ≡ false) (take at line) → words_of line ≡ take at line ∷ words_of (drop (at + 1) line)
-words_of-space line at inside space before =
-    let rest : drop at line ≡ get_or line at 0 ∷ drop (at + 1) line = rw (add-one, drop-cons line at 0 inside) refl in
-    let whole : take at line ++ (get_or line at 0 ∷ drop (at + 1) line) ≡ line = rw (← rest) (take-append-drop at line) in
-    sym (ap words_of whole) ∙ slice_split_at (λ b. b == 32) (take at line) (get_or line at 0) (drop (at + 1) line) before (eq-eqb _ _ space)
+-- the first byte of its kind ends the first part
+pub first_part : (byte : ℕ) (text : List ℕ) (at : ℕ) → at < length text → get_or text at 0 ≡ byte → All (λ b. (b == byte) ≡ false) (take at text) → slice_split (λ b. b == byte) text ≡ take at text ∷ slice_split (λ b. b == byte) (drop (at + 1) text)
+first_part byte text at inside stands before =
+    let rest : drop at text ≡ get_or text at 0 ∷ drop (at + 1) text = rw (add-one, drop-cons text at 0 inside) refl in
+    let whole : take at text ++ (get_or text at 0 ∷ drop (at + 1) text) ≡ text = rw (← rest) (take-append-drop at text) in
+    sym (ap (slice_split (λ b. b == byte)) whole) ∙ slice_split_at (λ b. b == byte) (take at text) (get_or text at 0) (drop (at + 1) text) before (eq-eqb _ _ stands)
 
 not_alone : (command : Command) (words : List (List ℕ)) → 0 < length words → alone command words ≡ None
 not_alone command [] some = absurd (omega arith)

@@ -1,18 +1,15 @@
 -- How a text is read line by line.
-use Rattle.std.proofs.Common.{◌≡◌, ℕ, suc, ◌+◌, ◌-◌, ◌<◌, ◌==◌, ◌&&◌, Bool, true, false, List, [], ◌∷◌, length, get_or, take, nat_lt, Option, Some, None, IfSome, IsSome, is_some, refl, sym, subst, ap, ◌∙◌, arith, if◌then◌else◌}
+use Rattle.std.proofs.Common.{◌≡◌, ℕ, suc, ◌-◌, ◌<◌, ◌==◌, ◌&&◌, Bool, true, false, List, [], ◌∷◌, length, get_or, take, nat_lt, Option, Some, None, IfSome, IsSome, refl, sym, subst, ap, ◌∙◌, arith}
 use Rattle.std.proofs.lemmas.Bool.{cond-true, cond-false, eqb-true, lt-ltb}
 use Rattle.std.specs.Io.BufRead.{take_through, drop_through, ends_with_byte, strip_last, first_piece, DropsThrough}
-use Rattle.std.specs.Io.KnownBytes.{IsAtEnd}
 use Rattle.std.specs.List.{slice_split, onto_first}
 use Rattle.std.proofs.lemmas.List.Splits.{slice_split-cons_yes, slice_split-cons_no, length-slice_split}
 use Rattle.std.specs.Str.{bytes_eq}
 use Rattle.sled_lines.specs.declared.command.Command.{Command}
 use Rattle.sled_lines.specs.Command.{command_of}
-use Rattle.sled_lines.specs.Serve.{without_last, lines_of, first_bad, bad_left, crash_of}
-use Rattle.sled_lines.specs.theory.Serve.{BeginsSo, Took, Takes, IsToDo, Reads}
+use Rattle.sled_lines.specs.Serve.{without_last, lines_of, crash_of}
+use Rattle.sled_lines.specs.theory.Serve.{BeginsSo}
 use Rattle.sled_lines.specs.declared.command.Command.TheVariants as command
-use Rattle.sled_lines.specs.declared.serve.Line.{Line}
-use Rattle.sled_lines.specs.declared.serve.Line.TheVariants as line
 
 nil_not_cons : {X : Type 0} {x : X} {xs : List X} → [] ≡ x ∷ xs → ⊥
 nil_not_cons e = cc
@@ -102,14 +99,6 @@ lines_of-cons x (y ∷ ys) = next_by x (y ∷ ys) (x == 10) refl (λ z zs e. sub
 
 -- ---- a line that was read
 
-bad_by : (n : ℕ) (line : List ℕ) (lines : List (List ℕ)) (c : Option Command) → command_of line ≡ c → first_bad n (line ∷ lines) ≡ (if is_some c then first_bad (n + 1) lines else Some n)
-bad_by n line lines c e = ap (λ o. if is_some o then first_bad (n + 1) lines else Some n) e
-
--- nothing is left
-pub none_left : (left after : Option (List ℕ)) → IsAtEnd left → DropsThrough left after 10 → IfSome left (λ text. (text ≡ []) × (after ≡ Some []))
-none_left None after none rest = tt
-none_left (Some text) after none rest = (none, rest ∙ ap (λ t. Some (drop_through 10 t)) none)
-
 begins_by : (left after : Option (List ℕ)) (line : List ℕ) (read : Option Command) → IfSome left (λ text. line ≡ take_through 10 text) → 0 < length line → DropsThrough left after 10 → command_of (strip_last 10 line) ≡ read → IfSome left (λ text. BeginsSo text read after)
 begins_by None after line read is some rest reads = tt
 begins_by (Some []) after line read is some rest reads = absurd (omega (arith, ap length is))
@@ -121,24 +110,11 @@ begins_by (Some (x ∷ xs)) after line read is some rest reads = record {
   left = rest;
 }
 
--- a line as it was read, its bytes as they were parsed, and its number
-pub took_line : (n m : ℕ) (left after : Option (List ℕ)) (line slice text : List ℕ) (read : Option Command) → m ≡ n + 1 → IfSome left (λ t. line ≡ take_through 10 t) → 0 < length line
-    → DropsThrough left after 10 → slice ≡ line → text ≡ strip_last 10 slice → command_of text ≡ read → Took left after n m read
-took_line n m left after line slice text read next is some rest same ends reads = record {
-  number = next;
-  is = begins_by left after line read is some rest (ap (λ l. command_of (strip_last 10 l)) (sym same) ∙ (ap command_of (sym ends) ∙ reads));
-}
-
-bad_first : (left after : Option (List ℕ)) (n m : ℕ) → m ≡ n + 1 → IfSome left (λ text. BeginsSo text None after) → IfSome (bad_left n left) (λ bad. bad ≡ Some m)
-bad_first None after n m next begins = tt
-bad_first (Some text) after n m next begins = ap (first_bad (n + 1)) begins.lines ∙ (bad_by (n + 1) begins.line (lines_of begins.rest) None begins.reads ∙ ap Some (sym next))
-
-good_first : (left after : Option (List ℕ)) (n m : ℕ) (c : Command) → m ≡ n + 1 → IfSome left (λ text. BeginsSo text (Some c) after) → IfSome (bad_left n left) (λ bad. bad_left m after ≡ Some bad)
-good_first None after n m c next begins = tt
-good_first (Some text) after n m c next begins =
-    ap (bad_left m) begins.left
-    ∙ (ap (λ k. Some (first_bad (k + 1) (lines_of begins.rest))) next
-    ∙ ap Some (sym (ap (first_bad (n + 1)) begins.lines ∙ bad_by (n + 1) begins.line (lines_of begins.rest) (Some c) begins.reads)))
+-- a line as it was copied, and its bytes as they were parsed
+pub begins_copied : (left after : Option (List ℕ)) (line slice text : List ℕ) (read : Option Command) → IfSome left (λ t. line ≡ take_through 10 t) → 0 < length line
+    → DropsThrough left after 10 → slice ≡ line → text ≡ strip_last 10 slice → command_of text ≡ read → IfSome left (λ t. BeginsSo t read after)
+begins_copied left after line slice text read is some rest same ends reads =
+    begins_by left after line read is some rest (ap (λ l. command_of (strip_last 10 l)) (sym same) ∙ (ap command_of (sym ends) ∙ reads))
 
 pub is_crash : (c : Command) (keep : ℕ) → crash_of c ≡ Some keep → c ≡ command.Crash keep
 is_crash (command.Crash k) keep e = cc
@@ -151,29 +127,6 @@ is_crash (command.Batch writes) keep e = cc
 is_crash command.Flush keep e = cc
 is_crash command.Dump keep e = cc
 is_crash (command.OpenTree name) keep e = cc
-
-took_as : (left after : Option (List ℕ)) (n m : ℕ) (read other : Option Command) → read ≡ other → Took left after n m read → Took left after n m other
-took_as left after n m read other e took = subst (Took left after n m) e took
-
--- what is to be done with the line that was read
-pub takes_by : (left after : Option (List ℕ)) (n m : ℕ) (read : Option Command) (l : Line) → IsToDo read l → Took left after n m read → Takes left after n m l
-takes_by left after n m read line.NoLine is took = absurd is
-takes_by left after n m read line.BadLine is took = took_as left after n m read None is took
-takes_by left after n m read (line.Crash keep) is took = took_as left after n m read (Some (command.Crash keep)) is took
-takes_by left after n m read (line.Command c) is took = (is.1, took_as left after n m read (Some c) is.0 took)
-
--- and whether it is the first bad one
-pub reads_by : (left after : Option (List ℕ)) (n m : ℕ) (l : Line) → (l ≡ line.NoLine → ⊥) → Takes left after n m l → Reads (bad_left n left) (bad_left m after) m l
-reads_by left after n m line.NoLine some takes = absurd (some refl)
-reads_by left after n m line.BadLine some takes = bad_first left after n m takes.number takes.is
-reads_by left after n m (line.Crash keep) some takes = good_first left after n m (command.Crash keep) takes.number takes.is
-reads_by left after n m (line.Command c) some takes = good_first left after n m c takes.1.number takes.1.is
-
-pub to_do_some : (read : Option Command) (l : Line) → IsToDo read l → l ≡ line.NoLine → ⊥
-to_do_some read line.NoLine is e = is
-to_do_some read line.BadLine is e = cc
-to_do_some read (line.Crash keep) is e = cc
-to_do_some read (line.Command c) is e = cc
 
 -- ---- over several lines
 

@@ -1,3 +1,4 @@
+pub mod Search
 pub mod Words
 pub mod Serve
 pub mod Session

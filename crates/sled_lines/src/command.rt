@@ -1,9 +1,9 @@
 //! Commands: what a line asks for.
-ghost use Rattle.std.specs.Prelude.{◌≡◌, IfOk, IfErr, option_map};
+ghost use Rattle.std.specs.Prelude.{◌≡◌, Some, IfOk, IfErr, option_map};
 ghost use Rattle.std.specs.Option.{option_and_then};
 ghost use Rattle.sled_nodes.specs.declared.error.Error.TheVariants.{NoMemory};
 ghost use Rattle.sled_lines.specs.Words.{words_after, read_number};
-ghost use Rattle.sled_lines.specs.Command.{call_name_of, flight_name_of, other_name_of, name_of, one_of, two_of, three_of, insert_of, get_of, remove_of, swap_of, call_of, call_of_words, in_slot, opens, alone, command_of};
+ghost use Rattle.sled_lines.specs.Command.{call_name_of, flight_name_of, other_name_of, name_of, one_of, two_of, three_of, insert_of, get_of, remove_of, swap_of, call_of, call_of_words, at_once, in_slot, opens, alone, command_from, command_of};
 
 use crate::batch::read_batch;
 use crate::words::{first_word, read_number, read_value, read_word};
@@ -294,6 +294,38 @@ fn alone(command: Command, arguments: Option<&[u8]>) -> Option<Command>
     }
 }
 
+// The command that asks for a call at once.
+fn point_of(alloc: Global, name: Name, arguments: Option<&[u8]>) -> Result<Option<Command>>
+    ensures ok { IfOk result (λ command. command ≡ at_once (call_of (Some name) (words_after arguments.entry))) }
+    ensures err { IfErr result (λ e. e ≡ NoMemory) }
+{
+    match call_of(alloc, Some(name), arguments) {
+        Ok(Some(call)) => Ok(Some(Command::Point(call))),
+        Ok(None) => Ok(None),
+        Err(e) => Err(e),
+    }
+}
+
+// The command of a name and its arguments. It has a frame of its own, since most lines ask for a call at once.
+#[inline(never)]
+fn command_from(alloc: Global, name: Name, arguments: Option<&[u8]>) -> Result<Option<Command>>
+    ensures ok { IfOk result (λ command. command ≡ command_from (Some name) (words_after arguments.entry)) }
+    ensures err { IfErr result (λ e. e ≡ NoMemory) }
+{
+    match name {
+        Name::Insert | Name::Get | Name::Remove | Name::Cas => point_of(alloc, name, arguments),
+        Name::Begin => begin_of(alloc, arguments),
+        Name::Step => Ok(number_of(arguments).map(Command::Step)),
+        Name::Finish => Ok(number_of(arguments).map(Command::Finish)),
+        Name::Abandon => Ok(number_of(arguments).map(Command::Abandon)),
+        Name::Batch => Ok(read_batch(alloc, arguments)?.map(Command::Batch)),
+        Name::Flush => Ok(alone(Command::Flush, arguments)),
+        Name::Crash => Ok(number_of(arguments).map(Command::Crash)),
+        Name::Dump => Ok(alone(Command::Dump, arguments)),
+        Name::Tree => tree_of(alloc, arguments),
+    }
+}
+
 /// The command of a line, or `None` for a line that is none. Refused with `NoMemory` alone.
 pub fn parse(alloc: Global, line: &[u8]) -> Result<Option<Command>>
     ensures ok { IfOk result (λ command. command ≡ command_of line.now) }
@@ -304,17 +336,7 @@ pub fn parse(alloc: Global, line: &[u8]) -> Result<Option<Command>>
         return Ok(None);
     };
     match name {
-        Name::Insert | Name::Get | Name::Remove | Name::Cas => {
-            Ok(call_of(alloc, Some(name), arguments)?.map(Command::Point))
-        }
-        Name::Begin => begin_of(alloc, arguments),
-        Name::Step => Ok(number_of(arguments).map(Command::Step)),
-        Name::Finish => Ok(number_of(arguments).map(Command::Finish)),
-        Name::Abandon => Ok(number_of(arguments).map(Command::Abandon)),
-        Name::Batch => Ok(read_batch(alloc, arguments)?.map(Command::Batch)),
-        Name::Flush => Ok(alone(Command::Flush, arguments)),
-        Name::Crash => Ok(number_of(arguments).map(Command::Crash)),
-        Name::Dump => Ok(alone(Command::Dump, arguments)),
-        Name::Tree => tree_of(alloc, arguments),
+        Name::Insert | Name::Get | Name::Remove | Name::Cas => point_of(alloc, name, arguments),
+        _ => command_from(alloc, name, arguments),
     }
 }

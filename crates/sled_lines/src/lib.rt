@@ -6,6 +6,7 @@ pub mod command;
 pub mod input;
 pub mod operator;
 pub mod print;
+mod search;
 pub mod serve;
 pub mod session;
 pub mod words;

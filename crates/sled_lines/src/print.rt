@@ -269,7 +269,8 @@ fn push_shown(out: &mut Vec<u8>, shown: Shown, value: &Option<IVec>) -> Result<(
 {
     push_text(out, name_of(shown))?;
     push_value(out, value.as_ref())?;
-    push_text(out, b"\n")
+    out.push(b'\n')?;
+    Ok(())
 }
 
 // Adds the line of a reply.

@@ -8,19 +8,20 @@ ghost use Rattle.sled_lines.specs.Print.{Prints, bad_line};
 ghost use Rattle.sled_lines.specs.declared.serve.End.TheVariants.{BadLine};
 ghost use Rattle.sled_lines.specs.Serve.{IsStatus, bad_left, crash_of, recovered_text, Served, served_as};
 ghost use Rattle.sled_lines.specs.Session.{CanRun, Obeys};
-ghost use Rattle.sled_lines.specs.theory.Serve.{Reads, Takes, IsToDo, CanDo, Ends, LivesFrom, LivedFrom, ServesFrom, place, Ran};
+ghost use Rattle.sled_lines.specs.theory.Serve.{ReadsHeld, ReadsNext, CanAllRun, Reads, Takes, IsToDo, CanDo, Ends, LivesFrom, LivedFrom, ServesFrom, place, Ran};
 
 use crate::command::{Command, parse};
 use crate::input::{Stopped, read_line, without_end};
 use crate::operator::NoOperator;
 use crate::print::{push_bad_line, push_recovered};
+use crate::search::find;
 use crate::session::{Session, write};
 use sled::{Db, crash_pages, empty_pages};
 use sled_model::MergeOperator;
 use sled_pages::MemPages;
 use sled_store::Pages;
 use std::alloc::Global;
-use std::io::{BufRead, Write};
+use std::io::{BufRead, ErrorKind, Write};
 
 // The name that the database is opened under.
 const DATABASE: &[u8] = b"sledrun";
@@ -45,7 +46,8 @@ enum Line {
     Command(Command),
 }
 
-// The line and what it prints, the number of the line, and how many bytes of whole lines the reader holds behind it.
+// A line that is copied, what lines print, the number of the line, and how many bytes of whole lines the reader holds
+// behind it.
 #[derive(Drop)]
 struct Buffers {
     line: Vec<u8>,
@@ -81,8 +83,71 @@ fn to_do(command: Option<Command>) -> Line
     }
 }
 
+// The command of the next line, where the reader holds it whole: it is read where it lies, and then the reader goes past it.
+#[inline(always)]
+fn held_command<R: BufRead>(
+    alloc: Global,
+    input: &mut R,
+    left: &mut usize,
+) -> Result<Option<Option<Command>>, Stopped>
+    ensures reads { IfOk result (ReadsHeld (R.remaining input.old) (R.remaining input.new)) }
+    ensures runs { IfOk result CanAllRun }
+{
+    let held = match input.fill_buf() {
+        Ok(held) => held,
+        Err(e) if e.kind() == ErrorKind::Interrupted => return Ok(None),
+        Err(_) => return Err(Stopped),
+    };
+    let Some(end) = find(b'\n', held) else {
+        return Ok(None);
+    };
+    let command = parse(alloc, &held[..end])?;
+    input.consume(end + 1);
+    *left = left.saturating_sub(end + 1);
+    Ok(Some(command))
+}
+
+// The command of the next line, if there is one, which is copied first.
+fn copied_command<R: BufRead, W: Write>(
+    alloc: Global,
+    input: &mut R,
+    output: &mut W,
+    line: &mut Vec<u8>,
+    left: &mut usize,
+) -> Result<Option<Option<Command>>, Stopped>
+    ensures reads { IfOk result (ReadsNext (R.remaining input.old) (R.remaining input.new)) }
+    ensures runs { IfOk result CanAllRun }
+    ensures output { Keeps (W.contents output.old) (W.contents output.new) }
+{
+    if read_line(input, output, line, left)? == 0 {
+        return Ok(None);
+    }
+    Ok(Some(parse(alloc, without_end(line.as_slice()))?))
+}
+
+// The command of the next line, if there is one. It is copied where the reader is not known to hold it whole.
+#[inline(always)]
+fn next_command<R: BufRead, W: Write>(
+    alloc: Global,
+    input: &mut R,
+    output: &mut W,
+    buffers: &mut Buffers,
+) -> Result<Option<Option<Command>>, Stopped>
+    ensures reads { IfOk result (ReadsNext (R.remaining input.old) (R.remaining input.new)) }
+    ensures runs { IfOk result CanAllRun }
+    ensures number { buffers.new.number ≡ buffers.old.number }
+    ensures same { buffers.new.out ≡ buffers.old.out }
+    ensures output { Keeps (W.contents output.old) (W.contents output.new) }
+{
+    if buffers.left > 0
+        && let Some(command) = held_command(alloc, input, &mut buffers.left)?
+    {
+        return Ok(Some(command));
+    }
+    copied_command(alloc, input, output, &mut buffers.line, &mut buffers.left)
+}
+
 // Reads the next line.
-#[tactic(auto, using(crate::proofs::Reading::none_left))]
 fn next_line<R: BufRead, W: Write>(
     alloc: Global,
     input: &mut R,
@@ -95,14 +160,13 @@ fn next_line<R: BufRead, W: Write>(
     ensures same { OnOk result (buffers.new.out.items ≡ buffers.old.out.items) }
     ensures output { Keeps (W.contents output.old) (W.contents output.new) }
 {
-    if read_line(input, output, &mut buffers.line, &mut buffers.left)? == 0 {
-        return Ok(Line::NoLine);
-    }
     let Some(number) = buffers.number.checked_add(1) else {
         return Err(Stopped);
     };
+    let Some(command) = next_command(alloc, input, output, buffers)? else {
+        return Ok(Line::NoLine);
+    };
     buffers.number = number;
-    let command = parse(alloc, without_end(buffers.line.as_slice()))?;
     Ok(to_do(command))
 }
 

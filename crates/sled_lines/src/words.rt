@@ -12,6 +12,7 @@ ghost use Rattle.sled_nodes.specs.declared.error.Error.TheVariants.{NoMemory};
 ghost use Rattle.sled_lines.specs.Words.{is_plain, hex_digit, hex_value, byte_of, escape, spelled, printed, bytes_of, read_word, read_value, number_of, read_number, words_of, words_after, AreBytes, ReadsPrinted, ReadsValues, PrintsShortest, ReadsDecimals};
 ghost use Rattle.sled_lines.specs.theory.Words.{BeginsWith};
 
+use crate::search::{LANES, find};
 use sled_nodes::{IVec, Result};
 use std::alloc::Global;
 
@@ -80,7 +81,8 @@ fn push_byte(out: &mut Vec<u8>, byte: u8) -> Result<()>
 }
 
 // Whether each byte stands for itself. It looks at all of them, so that the compiler can test many at a time.
-fn all_plain(bytes: &[u8]) -> bool
+#[inline(always)]
+fn few_plain(bytes: &[u8]) -> bool
     ensures { result ≡ list_all is_plain bytes.now }
 {
     let mut plain = true;
@@ -88,6 +90,24 @@ fn all_plain(bytes: &[u8]) -> bool
         plain = plain & is_plain(*byte);
     }
     plain
+}
+
+// The same of many bytes. The last sixteen are looked at whole, also where some of them were looked at before.
+fn all_plain(bytes: &[u8]) -> bool
+    ensures { result ≡ list_all is_plain bytes.now }
+{
+    if bytes.len() < LANES {
+        return few_plain(bytes);
+    }
+    let last = bytes.len() - LANES;
+    let mut at = 0;
+    while at < last {
+        if !few_plain(&bytes[at..at + LANES]) {
+            return false;
+        }
+        at += LANES;
+    }
+    few_plain(&bytes[last..])
 }
 
 // How many bytes in front stand for themselves.
@@ -286,10 +306,8 @@ fn reads_decimals()
 pub fn first_word(line: &[u8]) -> (&[u8], Option<&[u8]>)
     ensures { words_of line.now ≡ result.0.now ∷ words_after result.1 }
 {
-    for (at, byte) in line.iter().enumerate() {
-        if *byte == b' ' {
-            return (&line[..at], Some(&line[at + 1..]));
-        }
+    match find(b' ', line) {
+        Some(at) => (&line[..at], Some(&line[at + 1..])),
+        None => (line, None),
     }
-    (line, None)
 }

@@ -1,5 +1,6 @@
 -- Of Serve, for proofs. The program as a whole.
 use Rattle.std.specs.Prelude.{◌≡◌, ℕ, ◌+◌, Bool, true, false, List, [], ◌∷◌, IsSome, Option, Some, None, IfSome}
+use Rattle.std.specs.Io.KnownBytes.{Keeps}
 use Rattle.sled_store.specs.Store.{Store}
 use Rattle.sled_model.specs.Maps.{Merge}
 use Rattle.sled_lines.specs.Command.{command_of}
@@ -40,6 +41,20 @@ pub record BeginsSo (text : List ℕ) (read : Option Command) (after : Option (L
   pub lines : lines_of text ≡ line ∷ lines_of rest
   pub reads : command_of line ≡ read
   pub left : after ≡ Some rest
+
+-- what is read next is the command of the first line, if there is a line
+abbrev pub ReadsNext : Option (List ℕ) → Option (List ℕ) → Option (Option Command) → Type 0
+ReadsNext before after None = IfSome before (λ text. (text ≡ []) × (after ≡ Some []))
+ReadsNext before after (Some read) = IfSome before (λ text. BeginsSo text read after)
+
+-- the same of a line that a reader holds whole; where it holds none, nothing is read
+abbrev pub ReadsHeld : Option (List ℕ) → Option (List ℕ) → Option (Option Command) → Type 0
+ReadsHeld before after None = Keeps before after
+ReadsHeld before after (Some read) = IfSome before (λ text. BeginsSo text read after)
+
+-- a command that was read can be run
+abbrev pub CanAllRun : Option (Option Command) → Type 0
+CanAllRun next = IfSome next (λ read. IfSome read CanRun)
 
 -- the line behind n others was read so, and has the number m
 pub record Took (before after : Option (List ℕ)) (n m : ℕ) (read : Option Command) : Type 0 where

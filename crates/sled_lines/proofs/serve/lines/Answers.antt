@@ -1,4 +1,4 @@
-use Rattle.std.proofs.Common.{◌≡◌, None, Some, sym, subst, ap}
+use Rattle.std.proofs.Common.{◌≡◌, None, sym, subst, ap}
 use Rattle.sled_lines.specs.Print.{Prints, bad_line}
 use Rattle.sled_lines.specs.theory.Serve.{Took, Place, place}
 use Rattle.sled_lines.specs.declared.serve.Buffers.{Buffers}

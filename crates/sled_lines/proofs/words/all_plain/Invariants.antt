@@ -1,8 +1,10 @@
-use Rattle.std.proofs.Common.{◌≡◌, ◌&&◌, drop}
+use Rattle.std.proofs.Common.{◌≡◌, ◌-◌, true, take}
 use Rattle.std.specs.List.{list_all}
 use Rattle.sled_lines.specs.Words.{is_plain}
 use Rattle.sled_lines.proofs.words.all_plain.Given as goal
 
--- what is left to look at decides, where all was plain so far
-abbrev pub invariant-loop-byte : goal.invariant-loop-byte
-invariant-loop-byte l = (l.plain && list_all is_plain (drop l.byte-index l.bytes)) ≡ list_all is_plain l.bytes
+abbrev pub invariant-loop-at : goal.invariant-loop-at
+invariant-loop-at l = list_all is_plain (take l.at l.bytes) ≡ true
+
+abbrev pub decreases-loop-at : goal.decreases-loop-at
+decreases-loop-at l = l.last - l.at
