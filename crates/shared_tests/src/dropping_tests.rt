@@ -1,22 +1,15 @@
 //! A thread that inserts into a tree until another one drops it.
-ghost use Rattle.std.specs.Prelude.{◌≡◌};
-
-use crate::callers::{both, gathered, share_by_two};
-use crate::start::{Shared, Way, new_database};
+use crate::beside::{Gathered, Trial, Way, new_database, require, try_out, wait_for_more};
 use sled_machine::shared::{Entry, Made};
 use sled_model::{Outcome, Reply, Tree, Whole};
 use sled_nodes::{Error, IVec};
 use std::alloc::Global;
-use std::marker::Brand;
 use std::process::Abort;
 use std::sync::Wait;
 use std::sync::atomic::{AtomicU64, Ordering};
-use std::sync::ledger::{Blank, Ledger};
-use std::thread::{Threads, join};
+use std::sync::ledger::Ledger;
 
-// So often a flag is looked at, and so many keys are inserted. Then the test fails, since the other thread did nothing.
-const LOOKS: u64 = 100_000_000;
-
+// So many keys are inserted. Then the test fails, since the other thread did nothing.
 const KEYS: u64 = 10_000_000;
 
 // How an insert came out: into the tree, into none, or otherwise.
@@ -27,62 +20,58 @@ enum Came {
     Wrong,
 }
 
-// An insert of a new key.
-fn insert<L: Ledger, R: Wait>(
-    rt: &R,
-    alloc: Global,
-    tree: &Tree,
-    handle: &mut Way<L>,
-    number: u64,
-) -> Came {
-    let outcome = handle.insert(rt, alloc, tree, &number.to_be_bytes(), b"1");
-    let came = match &outcome {
-        Outcome::Decided(Reply::Value(None)) => Came::In,
-        Outcome::Refused(Error::CollectionNotFound(_)) => Came::Lost,
-        _ => Came::Wrong,
-    };
-    drop(outcome);
-    came
+// The first thread inserts into this tree until the second one drops it. So many inserts were decided.
+#[derive(Drop)]
+struct Dropping {
+    tree: Tree,
+    inserted: AtomicU64,
 }
 
-// Inserts until the tree is not there any more: how many inserts were decided. After the first the other thread is told.
-fn insert_on<L: Ledger, R: Wait + Abort>(
-    rt: &R,
-    alloc: Global,
-    tree: &Tree,
-    handle: Way<L>,
-    begun: &AtomicU64,
-) -> (Way<L>, u64) {
-    let mut handle = handle;
-    for number in 0..KEYS {
-        let came = insert(rt, alloc, tree, &mut handle, number);
-        assert!(rt; came != Came::Wrong);
-        if came == Came::Lost {
-            return (handle, number);
-        }
-        begun.store(1, Ordering::SeqCst);
+impl Dropping {
+    // An insert of a new key.
+    fn insert<L: Ledger, R: Wait>(
+        &self,
+        rt: &R,
+        alloc: Global,
+        handle: &mut Way<L>,
+        number: u64,
+    ) -> Came {
+        let outcome = handle.insert(rt, alloc, &self.tree, &number.to_be_bytes(), b"1");
+        let came = match &outcome {
+            Outcome::Decided(Reply::Value(None)) => Came::In,
+            Outcome::Refused(Error::CollectionNotFound(_)) => Came::Lost,
+            _ => Came::Wrong,
+        };
+        drop(outcome);
+        came
     }
-    (handle, KEYS)
+
+    // Inserts until the tree is not there any more.
+    fn insert_on<L: Ledger, R: Wait + Abort>(&self, rt: &R, alloc: Global, handle: &mut Way<L>) {
+        for number in 1..=KEYS {
+            let came = self.insert(rt, alloc, handle, number);
+            require(
+                rt,
+                came != Came::Wrong,
+                "the insert is decided, or finds no tree",
+            );
+            if came == Came::Lost {
+                return;
+            }
+            self.inserted.store(number, Ordering::SeqCst);
+        }
+    }
 }
 
-// Waits until the first insert is decided, and drops the tree.
-fn drop_tree<L: Ledger, R: Wait + Abort>(
-    rt: &R,
-    alloc: Global,
-    handle: Way<L>,
-    begun: &AtomicU64,
-) -> Way<L> {
-    let mut handle = handle;
-    for _ in 0..LOOKS {
-        if begun.load(Ordering::SeqCst) != 0 {
-            break;
-        }
-    }
+fn drop_tree<L: Ledger, R: Wait + Abort>(rt: &R, alloc: Global, handle: &mut Way<L>) {
     let name = IVec::from_slice(alloc, b"t").expect(rt, "memory");
     let outcome = handle.whole(rt, Whole::DropTree(name));
-    assert!(rt; matches!(&outcome, Outcome::Decided(Reply::Flag(true))));
+    require(
+        rt,
+        matches!(&outcome, Outcome::Decided(Reply::Flag(true))),
+        "the tree is dropped",
+    );
     drop(outcome);
-    handle
 }
 
 // Whether the tree was dropped, and nothing was inserted after that.
@@ -96,46 +85,42 @@ fn ends_with_drop(history: &[Entry]) -> bool {
     }
 }
 
-fn check_all<L: Ledger, R: Wait + Abort>(
-    rt: &R,
-    alloc: Global,
-    shared: Shared<L>,
-    one: Way<L>,
-    other: Way<L>,
-    count: u64,
-) {
-    let handles = both(rt, alloc, one, other);
-    let state = gathered(rt, shared, handles);
-    assert!(rt; count > 0 && count < KEYS);
-    assert_eq!(rt; state.history().len() as u64, count + 1);
-    assert!(rt; ends_with_drop(state.history()));
-    drop(state);
-}
+impl Trial for Dropping {
+    // The second thread drops the tree once an insert was decided.
+    fn work<L: Ledger, R: Wait + Abort>(&self, rt: &R, alloc: Global, handle: &mut Way<L>) {
+        if handle.number() == 1 {
+            self.insert_on(rt, alloc, handle);
+        } else {
+            wait_for_more(rt, &self.inserted, 0);
+            drop_tree(rt, alloc, handle);
+        }
+    }
 
-fn race<L: Ledger + Send + Sync, R: Threads + Wait + Abort + Sync>(
-    rt: &R,
-    alloc: Global,
-    blank: Blank,
-)
-where
-    requires name { blank.name ≡ L.name }
-    requires parts { blank.parts ≡ L.parts }
-    requires each { blank.parts ≡ 3 }
-{
-    let mut db = new_database(alloc).expect(rt, "a database");
-    let tree = db.open_tree(b"t").expect(rt, "a tree");
-    let (shared, one, other) = share_by_two::<L, R>(rt, alloc, db, blank);
-    let begun = AtomicU64::new(0);
-    let ((one, count), other) = join(
-        rt,
-        || insert_on(rt, alloc, &tree, one, &begun),
-        || drop_tree(rt, alloc, other, &begun),
-    );
-    drop(tree);
-    check_all(rt, alloc, shared, one, other, count);
+    fn check<L: Ledger, R: Abort>(&self, rt: &R, _alloc: Global, state: Gathered<L>) {
+        let inserted = self.inserted.load(Ordering::SeqCst);
+        require(
+            rt,
+            inserted > 0 && inserted < KEYS,
+            "some inserts, and an end of them",
+        );
+        require(
+            rt,
+            state.history().len() as u64 == inserted.wrapping_add(1),
+            "these, and the drop",
+        );
+        require(rt, ends_with_drop(state.history()), "the drop last");
+        drop(state);
+    }
 }
 
 #[test]
 fn an_insert_finds_its_tree_dropped(rt: HostRuntime) {
-    race::<Brand, _>(&rt, rt.alloc(), Blank::new(3));
+    let mut db = new_database(&rt, rt.alloc());
+    let tree = db.open_tree(b"t").expect(&rt, "a tree");
+    let dropping = Dropping {
+        tree,
+        inserted: AtomicU64::new(0),
+    };
+    try_out(&rt, rt.alloc(), db, 2, &dropping);
+    drop(dropping);
 }

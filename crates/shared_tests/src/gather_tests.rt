@@ -1,8 +1,7 @@
 //! Two callers, and a state that is taken out only when both are back.
 ghost use Rattle.std.specs.Prelude.{◌≡◌};
 
-use crate::callers::{gathered, not_gathered, put, share_by_two};
-use crate::start::{Shared, Way, new_database};
+use crate::beside::{Shared, Way, gathered, handle_of, new_database, put, require, share};
 use sled_machine::shared::Made;
 use sled_model::{Call, Outcome, Reply, Tree};
 use std::alloc::Global;
@@ -19,7 +18,11 @@ fn insert_new<L: Ledger, R: Wait + Abort>(
     key: &[u8],
 ) {
     let outcome = handle.insert(rt, alloc, tree, key, b"1");
-    assert!(rt; matches!(&outcome, Outcome::Decided(Reply::Value(None))));
+    require(
+        rt,
+        matches!(&outcome, Outcome::Decided(Reply::Value(None))),
+        "the insert of a new key",
+    );
     drop(outcome);
 }
 
@@ -31,6 +34,22 @@ fn is_insert(made: &[Made], key: &[u8]) -> bool {
     }
 }
 
+// A handle of a new caller, of this number, which inserts a key.
+fn inserting<L: Ledger, R: Wait + Abort>(
+    rt: &R,
+    alloc: Global,
+    tree: &Tree,
+    shared: &mut Shared<L>,
+    number: u64,
+    key: &[u8],
+) -> Way<L> {
+    let mut handle = handle_of(rt, alloc, shared);
+    require(rt, handle.number() == number, "its number");
+    insert_new(rt, alloc, tree, &mut handle, key);
+    require(rt, is_insert(handle.made(), key), "its own insert");
+    handle
+}
+
 // No handle comes for a third caller.
 fn is_refused_another<L: Ledger>(alloc: Global, shared: &mut Shared<L>) -> bool {
     let third = shared.handle(alloc);
@@ -39,7 +58,30 @@ fn is_refused_another<L: Ledger>(alloc: Global, shared: &mut Shared<L>) -> bool 
     refused
 }
 
-// With one handle all is given back, and with both there is the state.
+// The database, which is given back where a handle is missing, and the handles.
+fn not_gathered<L: Ledger, R: Wait + Abort>(
+    rt: &R,
+    shared: Shared<L>,
+    handles: Vec<Way<L>>,
+) -> (Shared<L>, Vec<Way<L>>) {
+    match shared.gather(rt, handles) {
+        Ok(state) => {
+            drop(state);
+            panic!(rt; "gathered too early")
+        }
+        Err(given_back) => given_back,
+    }
+}
+
+// With both handles there is the state.
+fn gather_both<L: Ledger, R: Wait + Abort>(rt: &R, shared: Shared<L>, handles: Vec<Way<L>>) {
+    require(rt, handles.len() == 2, "both handles");
+    let state = gathered(rt, shared, handles);
+    require(rt, state.history().len() == 2, "both calls");
+    drop(state);
+}
+
+// With one handle all is given back. With both, the second caller's first, there is the state.
 fn gather_twice<L: Ledger, R: Wait + Abort>(
     rt: &R,
     alloc: Global,
@@ -48,14 +90,11 @@ fn gather_twice<L: Ledger, R: Wait + Abort>(
     two: Way<L>,
 ) {
     let mut handles = Vec::new(alloc);
-    put(rt, &mut handles, one);
-    let (shared, handles) = not_gathered(rt, shared, handles);
-    assert_eq!(rt; handles.len(), 1);
-    let mut handles = handles;
     put(rt, &mut handles, two);
-    let state = gathered(rt, shared, handles);
-    assert_eq!(rt; state.history().len(), 2);
-    drop(state);
+    let (shared, handles) = not_gathered(rt, shared, handles);
+    let mut handles = handles;
+    put(rt, &mut handles, one);
+    gather_both(rt, shared, handles);
 }
 
 fn gather_late<L: Ledger, R: Wait + Abort>(rt: &R, alloc: Global, blank: Blank)
@@ -64,16 +103,14 @@ where
     requires parts { blank.parts ≡ L.parts }
     requires each { blank.parts ≡ 3 }
 {
-    let db = new_database(alloc).expect(rt, "a database");
+    let db = new_database(rt, alloc);
     let tree = db.default_tree().expect(rt, "a tree");
-    let (shared, one, two) = share_by_two::<L, R>(rt, alloc, db, blank);
-    let (mut shared, mut one, mut two) = (shared, one, two);
-    assert!(rt; is_refused_another(alloc, &mut shared), "a third caller");
-    insert_new(rt, alloc, &tree, &mut one, b"a");
-    insert_new(rt, alloc, &tree, &mut two, b"b");
+    let mut shared = share::<L, R>(rt, alloc, db, blank, 2);
+    let one = inserting(rt, alloc, &tree, &mut shared, 1, b"a");
+    let two = inserting(rt, alloc, &tree, &mut shared, 2, b"b");
     drop(tree);
-    assert!(rt; is_insert(one.made(), b"a"), "the first caller's insert");
-    assert!(rt; is_insert(two.made(), b"b"), "the second caller's insert");
+    require(rt, is_insert(one.made(), b"a"), "nothing else came to it");
+    require(rt, is_refused_another(alloc, &mut shared), "a third caller");
     gather_twice(rt, alloc, shared, one, two);
 }
 

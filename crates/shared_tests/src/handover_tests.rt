@@ -1,23 +1,17 @@
 //! Calls that one thread leaves half done, which another finishes, or makes again once they are given up.
-ghost use Rattle.std.specs.Prelude.{◌≡◌};
-
-use crate::callers::{both, gathered, share_by_two};
-use crate::start::{Fresh, Shared, Way, new_database};
+use crate::beside::{Fresh, Gathered, Trial, Way, new_database, require, try_out, wait_for_more};
+use sled_machine::shared::Entry;
 use sled_model::{Call, Outcome, Reply, Slot, Tree};
 use sled_nodes::Result;
 use std::alloc::Global;
-use std::marker::Brand;
 use std::process::Abort;
 use std::sync::Wait;
 use std::sync::atomic::{AtomicU64, Ordering};
-use std::sync::ledger::{Blank, Ledger};
-use std::thread::{Threads, join};
+use std::sync::ledger::Ledger;
+use std::thread::Threads;
 
 // So often a removal of the key 10 goes on, from two leaves of 8 and 3 pairs, before it is decided: the leaves merge first.
 const MOVES: u64 = 11;
-
-// So often a number is looked at. Then the test fails, since the other thread gave none.
-const LOOKS: u64 = 100_000_000;
 
 fn put_key(db: &mut Fresh, tree: &Tree, key: u8) -> Result<()> {
     let old = db.insert(tree, &[key], &[key])?;
@@ -42,56 +36,12 @@ fn fill(db: &mut Fresh, tree: &Tree) -> Result<()> {
     Ok(())
 }
 
-// Waits for a number other than 0.
-fn number_in(cell: &AtomicU64) -> u64 {
-    for _ in 0..LOOKS {
-        let number = cell.load(Ordering::SeqCst);
-        if number != 0 {
-            return number;
-        }
-    }
-    0
-}
-
-// Begins to ask for the first key, and leaves that unstepped.
-fn leave_get<L: Ledger, R: Wait + Abort>(
-    rt: &R,
-    alloc: Global,
-    tree: &Tree,
-    handle: &mut Way<L>,
-) -> Slot {
-    let call = Call::get(alloc, &[0]).expect(rt, "memory");
-    handle.begin(rt, tree, call).expect(rt, "a slot")
-}
-
-// Begins the removal, between two calls that are left unstepped, and goes on so often. Then its slot is handed over by number, once it is
-// given up where it is to be.
-fn begin_removal<L: Ledger, R: Wait + Abort>(
-    rt: &R,
-    alloc: Global,
-    tree: &Tree,
-    handle: Way<L>,
-    moves: u64,
-    gives_up: bool,
-    handed: &AtomicU64,
-) -> (Way<L>, Slot, Slot) {
-    let mut one = handle;
-    let before = leave_get(rt, alloc, tree, &mut one);
-    let call = Call::remove(alloc, &[10]).expect(rt, "memory");
-    let slot = one.begin(rt, tree, call).expect(rt, "a slot");
-    let after = leave_get(rt, alloc, tree, &mut one);
-    for _ in 0..moves {
-        let outcome = one.step(rt, slot);
-        assert!(rt; matches!(&outcome, Outcome::Moved));
-        drop(outcome);
-    }
-    if gives_up {
-        let outcome = one.abandon(rt, slot);
-        assert!(rt; matches!(&outcome, Outcome::Abandoned));
-        drop(outcome);
-    }
-    handed.store(slot.0, Ordering::SeqCst);
-    (one, before, after)
+// A database whose default tree has two leaves, and the tree.
+fn two_leaves<R: Abort>(rt: &R, alloc: Global) -> (Fresh, Tree) {
+    let mut db = new_database(rt, alloc);
+    let tree = db.default_tree().expect(rt, "a tree");
+    fill(&mut db, &tree).expect(rt, "memory");
+    (db, tree)
 }
 
 // Whether the removal was decided, and what it took out.
@@ -102,101 +52,152 @@ fn is_taken(outcome: &Outcome) -> bool {
     }
 }
 
-// Finishes the removal, or makes it again. How often it went on then.
-fn end_removal<L: Ledger, R: Wait + Abort>(
-    rt: &R,
-    alloc: Global,
-    tree: &Tree,
-    handle: Way<L>,
-    gives_up: bool,
-    handed: &AtomicU64,
-) -> (Way<L>, u64) {
-    let mut two = handle;
-    let slot = Slot(number_in(handed));
-    if gives_up {
-        let outcome = two.remove(rt, alloc, tree, &[10]);
-        assert!(rt; is_taken(&outcome), "made again");
-        drop(outcome);
-        return (two, 0);
+// Whether the history has one call, which the second caller made.
+fn is_by_second(history: &[Entry]) -> bool {
+    match history {
+        [entry] => entry.by == 2,
+        _ => false,
     }
-    for moves in 0..=MOVES {
-        let outcome = two.step(rt, slot);
-        if !matches!(&outcome, Outcome::Moved) {
-            assert!(rt; is_taken(&outcome), "finished");
-            drop(outcome);
-            return (two, moves);
-        }
-        drop(outcome);
-    }
-    (two, MOVES + 1)
 }
 
-// A database whose default tree has two leaves, and the tree.
-fn two_leaves<R: Abort>(rt: &R, alloc: Global) -> (Fresh, Tree) {
-    let mut db = new_database(alloc).expect(rt, "a database");
-    let tree = db.default_tree().expect(rt, "a tree");
-    fill(&mut db, &tree).expect(rt, "memory");
-    (db, tree)
-}
-
-// The removal is the second caller's alone, and these calls stand as they were left.
-fn check_all<L: Ledger, R: Wait + Abort>(
-    rt: &R,
-    alloc: Global,
-    shared: Shared<L>,
-    one: Way<L>,
-    two: Way<L>,
-    left: &[Slot],
-) {
-    let handles = both(rt, alloc, one, two);
-    let state = gathered(rt, shared, handles);
-    assert_eq!(rt; state.history().len(), 1);
-    for entry in state.history() {
-        assert_eq!(rt; entry.by, 2);
-    }
-    let machine = state.into_machine();
-    for slot in left {
-        assert_eq!(rt; machine.turns(*slot), Some(0));
-    }
-    drop(machine);
-}
-
-fn hand_over<L: Ledger + Send + Sync, R: Threads + Wait + Abort + Sync>(
-    rt: &R,
-    alloc: Global,
-    blank: Blank,
+// The first thread begins the removal and goes on so often, and gives it up then where it is to be. The slot is handed over by its number.
+// Before and after it a call begins that is left unstepped.
+#[derive(Drop)]
+struct Handing {
+    tree: Tree,
     moves: u64,
     gives_up: bool,
-) -> u64
-where
-    requires name { blank.name ≡ L.name }
-    requires parts { blank.parts ≡ L.parts }
-    requires each { blank.parts ≡ 3 }
-{
-    let (db, tree) = two_leaves(rt, alloc);
-    let (shared, one, two) = share_by_two::<L, R>(rt, alloc, db, blank);
-    let handed = AtomicU64::new(0);
-    let ((one, before, after), (two, more)) = join(
-        rt,
-        || begin_removal(rt, alloc, &tree, one, moves, gives_up, &handed),
-        || end_removal(rt, alloc, &tree, two, gives_up, &handed),
-    );
-    drop(tree);
-    check_all(rt, alloc, shared, one, two, &[before, after]);
-    more
+    before: AtomicU64,
+    handed: AtomicU64,
+    after: AtomicU64,
+}
+
+impl Handing {
+    // Begins to ask for the first key, and leaves that unstepped.
+    fn leave_get<L: Ledger, R: Wait + Abort>(
+        &self,
+        rt: &R,
+        alloc: Global,
+        handle: &mut Way<L>,
+    ) -> u64 {
+        let call = Call::get(alloc, &[0]).expect(rt, "memory");
+        handle.begin(rt, &self.tree, call).expect(rt, "a slot").0
+    }
+
+    fn begin_removal<L: Ledger, R: Wait + Abort>(
+        &self,
+        rt: &R,
+        alloc: Global,
+        handle: &mut Way<L>,
+    ) -> Slot {
+        let call = Call::remove(alloc, &[10]).expect(rt, "memory");
+        handle.begin(rt, &self.tree, call).expect(rt, "a slot")
+    }
+
+    // Goes on so often, and gives the call up then where it is to be.
+    fn go_on<L: Ledger, R: Wait + Abort>(&self, rt: &R, handle: &mut Way<L>, slot: Slot) {
+        for _ in 0..self.moves {
+            let outcome = handle.step(rt, slot);
+            require(rt, matches!(&outcome, Outcome::Moved), "the call goes on");
+            drop(outcome);
+        }
+        if self.gives_up {
+            let outcome = handle.abandon(rt, slot);
+            require(
+                rt,
+                matches!(&outcome, Outcome::Abandoned),
+                "the call is given up",
+            );
+            drop(outcome);
+        }
+    }
+
+    fn begin<L: Ledger, R: Wait + Abort>(&self, rt: &R, alloc: Global, handle: &mut Way<L>) {
+        let before = self.leave_get(rt, alloc, handle);
+        self.before.store(before, Ordering::SeqCst);
+        let slot = self.begin_removal(rt, alloc, handle);
+        let after = self.leave_get(rt, alloc, handle);
+        self.after.store(after, Ordering::SeqCst);
+        self.go_on(rt, handle, slot);
+        self.handed.store(slot.0, Ordering::SeqCst);
+    }
+
+    // Finishes the removal. How often it went on until then.
+    fn finish<L: Ledger, R: Wait + Abort>(&self, rt: &R, handle: &mut Way<L>, slot: Slot) -> u64 {
+        for moves in 0..=MOVES {
+            let outcome = handle.step(rt, slot);
+            if !matches!(&outcome, Outcome::Moved) {
+                require(rt, is_taken(&outcome), "finished");
+                drop(outcome);
+                return moves;
+            }
+            drop(outcome);
+        }
+        MOVES + 1
+    }
+}
+
+impl Trial for Handing {
+    // The second thread finishes the removal, or makes it again.
+    fn work<L: Ledger, R: Wait + Abort>(&self, rt: &R, alloc: Global, handle: &mut Way<L>) {
+        if handle.number() == 1 {
+            self.begin(rt, alloc, handle);
+            return;
+        }
+        let slot = Slot(wait_for_more(rt, &self.handed, 0));
+        if self.gives_up {
+            let outcome = handle.remove(rt, alloc, &self.tree, &[10]);
+            require(rt, is_taken(&outcome), "made again");
+            drop(outcome);
+        } else {
+            let more = self.finish(rt, handle, slot);
+            require(
+                rt,
+                more.wrapping_add(self.moves) == MOVES,
+                "as many steps together as by one thread",
+            );
+        }
+    }
+
+    // The removal is the second caller's alone, and the other calls stand as they were left.
+    fn check<L: Ledger, R: Abort>(&self, rt: &R, _alloc: Global, state: Gathered<L>) {
+        require(
+            rt,
+            is_by_second(state.history()),
+            "one call, by the second caller",
+        );
+        let machine = state.into_machine();
+        for left in [&self.before, &self.after] {
+            let turns = machine.turns(Slot(left.load(Ordering::SeqCst)));
+            require(rt, turns == Some(0), "an unstepped call");
+        }
+        drop(machine);
+    }
+}
+
+// A removal that is handed over after each number of steps.
+fn hand_over<R: Threads + Wait + Abort + Sync>(rt: &R, alloc: Global, gives_up: bool) {
+    for moves in 0..=MOVES {
+        let (db, tree) = two_leaves(rt, alloc);
+        let handing = Handing {
+            tree,
+            moves,
+            gives_up,
+            before: AtomicU64::new(0),
+            handed: AtomicU64::new(0),
+            after: AtomicU64::new(0),
+        };
+        try_out(rt, alloc, db, 2, &handing);
+        drop(handing);
+    }
 }
 
 #[test]
 fn a_call_is_finished_by_another_thread(rt: HostRuntime) {
-    for moves in 0..=MOVES {
-        let more = hand_over::<Brand, _>(&rt, rt.alloc(), Blank::new(3), moves, false);
-        assert_eq!(rt; more, MOVES - moves);
-    }
+    hand_over(&rt, rt.alloc(), false);
 }
 
 #[test]
 fn a_call_that_is_given_up_is_made_by_another_thread(rt: HostRuntime) {
-    for moves in 0..=MOVES {
-        hand_over::<Brand, _>(&rt, rt.alloc(), Blank::new(3), moves, true);
-    }
+    hand_over(&rt, rt.alloc(), true);
 }

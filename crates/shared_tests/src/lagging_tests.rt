@@ -1,16 +1,12 @@
 //! Two threads that insert under a subscriber, which nobody asks meanwhile: it is told the latest events, and how many it missed.
-ghost use Rattle.std.specs.Prelude.{◌≡◌};
-
-use crate::callers::{both, gathered, share_by_two};
-use crate::start::{Shared, Way, new_database};
-use crate::watching::watch;
-use sled_model::{Next, Outcome, Reply, Subscriber, Tree, Whole};
+use crate::beside::{Gathered, Trial, Way, new_database, require, try_out, wait_for_more};
+use crate::watching::{Told, told_next, watch};
+use sled_model::{Outcome, Tree};
 use std::alloc::Global;
-use std::marker::Brand;
 use std::process::Abort;
 use std::sync::Wait;
-use std::sync::ledger::{Blank, Ledger};
-use std::thread::{Threads, join};
+use std::sync::atomic::{AtomicU64, Ordering};
+use std::sync::ledger::Ledger;
 
 // So often each thread inserts.
 const TIMES: u64 = 1500;
@@ -18,95 +14,91 @@ const TIMES: u64 = 1500;
 // So many events wait for a subscriber at most.
 const WAITING: u64 = 1024;
 
-// Sets the value at one key to one number after the other.
-fn insert_all<L: Ledger, R: Wait + Abort>(
-    rt: &R,
-    alloc: Global,
-    tree: &Tree,
-    handle: Way<L>,
-    key: &[u8],
-) -> Way<L> {
-    let mut handle = handle;
-    for number in 0..TIMES {
-        let outcome = handle.insert(rt, alloc, tree, key, &number.to_be_bytes());
-        assert!(rt; matches!(&outcome, Outcome::Decided(_)));
-        drop(outcome);
-    }
-    handle
+// Both threads insert into this tree. The first one has a subscriber, and the one that is done last asks for what it is told.
+#[derive(Drop)]
+struct Lagging {
+    tree: Tree,
+    subscriber: AtomicU64,
+    ended: AtomicU64,
 }
 
-// What a subscriber is told next, as the numbers of events and of missed ones; none where nothing waits.
-fn told_next<L: Ledger, R: Wait>(rt: &R, handle: &mut Way<L>, number: u64) -> Option<(u64, u64)> {
-    let outcome = handle.whole(rt, Whole::Next(Subscriber(number)));
-    let told = match &outcome {
-        Outcome::Decided(Reply::Next(Some(Next::Event(_)))) => Some((1, 0)),
-        Outcome::Decided(Reply::Next(Some(Next::Missed(count)))) => Some((0, *count)),
-        _ => None,
-    };
-    drop(outcome);
-    told
+impl Lagging {
+    // Sets the value at one key to one number after the other.
+    fn insert_all<L: Ledger, R: Wait + Abort>(
+        &self,
+        rt: &R,
+        alloc: Global,
+        handle: &mut Way<L>,
+        key: &[u8],
+    ) {
+        for number in 0..TIMES {
+            let outcome = handle.insert(rt, alloc, &self.tree, key, &number.to_be_bytes());
+            require(
+                rt,
+                matches!(&outcome, Outcome::Decided(_)),
+                "the insert is decided",
+            );
+            drop(outcome);
+        }
+    }
+
+    // All events are told or missed.
+    fn ask_all<L: Ledger, R: Wait + Abort>(&self, rt: &R, handle: &mut Way<L>) {
+        let number = self.subscriber.load(Ordering::SeqCst);
+        let (events, missed) = count_told(rt, handle, number);
+        require(rt, events == WAITING, "the latest events are told");
+        require(rt, missed == 2 * TIMES - WAITING, "the others are missed");
+    }
 }
 
 // How many events a subscriber is told, and how many it missed.
 fn count_told<L: Ledger, R: Wait>(rt: &R, handle: &mut Way<L>, number: u64) -> (u64, u64) {
     let (mut events, mut missed) = (0u64, 0u64);
     for _ in 0..3 * TIMES {
-        let Some((more, gone)) = told_next(rt, handle, number) else {
-            return (events, missed);
-        };
-        events = events.wrapping_add(more);
-        missed = missed.wrapping_add(gone);
+        match told_next(rt, handle, number) {
+            Told::Insert(_) => events = events.wrapping_add(1),
+            Told::Missed(count) => missed = missed.wrapping_add(count),
+            Told::Nothing => break,
+        }
     }
     (events, missed)
 }
 
-// All events are told or missed, and all calls are noted: the subscription, the inserts, and each that asked for what is next.
-fn check_all<L: Ledger, R: Wait + Abort>(
-    rt: &R,
-    alloc: Global,
-    shared: Shared<L>,
-    one: Way<L>,
-    other: Way<L>,
-    number: u64,
-) {
-    let mut one = one;
-    let (events, missed) = count_told(rt, &mut one, number);
-    assert_eq!(rt; events, WAITING);
-    assert_eq!(rt; missed, 2 * TIMES - WAITING);
-    let handles = both(rt, alloc, one, other);
-    let state = gathered(rt, shared, handles);
-    assert_eq!(rt;
-        state.history().len() as u64,
-        1 + 2 * TIMES + 1 + WAITING + 1
-    );
-    drop(state);
-}
+impl Trial for Lagging {
+    fn work<L: Ledger, R: Wait + Abort>(&self, rt: &R, alloc: Global, handle: &mut Way<L>) {
+        if handle.number() == 1 {
+            let number = watch(rt, alloc, &self.tree, handle);
+            self.subscriber.store(number, Ordering::SeqCst);
+            self.insert_all(rt, alloc, handle, b"one");
+        } else {
+            wait_for_more(rt, &self.subscriber, 0);
+            self.insert_all(rt, alloc, handle, b"other");
+        }
+        if self.ended.fetch_add(1, Ordering::SeqCst) == 1 {
+            self.ask_all(rt, handle);
+        }
+    }
 
-fn lag<L: Ledger + Send + Sync, R: Threads + Wait + Abort + Sync>(
-    rt: &R,
-    alloc: Global,
-    blank: Blank,
-)
-where
-    requires name { blank.name ≡ L.name }
-    requires parts { blank.parts ≡ L.parts }
-    requires each { blank.parts ≡ 3 }
-{
-    let db = new_database(alloc).expect(rt, "a database");
-    let tree = db.default_tree().expect(rt, "a tree");
-    let (shared, one, other) = share_by_two::<L, R>(rt, alloc, db, blank);
-    let mut one = one;
-    let number = watch(rt, alloc, &tree, &mut one);
-    let (one, other) = join(
-        rt,
-        || insert_all(rt, alloc, &tree, one, b"one"),
-        || insert_all(rt, alloc, &tree, other, b"other"),
-    );
-    drop(tree);
-    check_all(rt, alloc, shared, one, other, number);
+    // All calls are noted: the subscription, the inserts, and each that asked for what is next.
+    fn check<L: Ledger, R: Abort>(&self, rt: &R, _alloc: Global, state: Gathered<L>) {
+        require(
+            rt,
+            state.history().len() as u64 == 1 + 2 * TIMES + 1 + WAITING + 1,
+            "all calls are noted",
+        );
+        drop(state);
+    }
 }
 
 #[test]
 fn a_subscriber_lags_behind_two_threads(rt: HostRuntime) {
-    lag::<Brand, _>(&rt, rt.alloc(), Blank::new(3));
+    let db = new_database(&rt, rt.alloc());
+    let tree = db.default_tree().expect(&rt, "a tree");
+    let lagging = Lagging {
+        tree,
+        subscriber: AtomicU64::new(0),
+        ended: AtomicU64::new(0),
+    };
+    try_out(&rt, rt.alloc(), db, 2, &lagging);
+    drop(lagging);
 }

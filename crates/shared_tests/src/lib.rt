@@ -1,11 +1,10 @@
-//! Tests of a database that threads share. Each ends by itself, and comes out the same whatever the schedule.
-//!
-//! A `replay` makes the calls of a gathered history again, on a plain map.
+//! Tests of a database that threads share. Each ends by itself, and comes out the same whatever the schedule, as long as a thread that
+//! waits for another one does not look in vain a hundred million times; then the test fails. `beside` has callers work in threads of their
+//! own, and then looks at what they made; a `replay` makes the calls of a history again, on a plain map.
 #![tactic(auto)]
 
-mod adds;
 #[cfg(test)]
-mod callers;
+mod beside;
 #[cfg(test)]
 mod counter_tests;
 #[cfg(test)]
@@ -18,8 +17,8 @@ mod gather_tests;
 mod handover_tests;
 #[cfg(test)]
 mod lagging_tests;
+#[cfg(test)]
 mod replay;
-mod start;
 #[cfg(test)]
 mod state_tests;
 #[cfg(test)]
@@ -28,7 +27,3 @@ mod taking_tests;
 mod watching;
 #[cfg(test)]
 mod whole_tests;
-
-pub use adds::{Adds, number_of};
-pub use replay::replays;
-pub use start::{Fresh, Gathered, Shared, Way, new_database};

@@ -4,6 +4,7 @@ use sled_model::{Call, Reply};
 use sled_nodes::{Error, IVec, Result};
 use std::alloc::Global;
 use std::collections::BTreeMap;
+use std::process::Abort;
 
 type Plain = BTreeMap<IVec, IVec>;
 
@@ -74,8 +75,8 @@ fn makes_made(map: &mut Plain, made: &Made) -> Result<bool> {
     }
 }
 
-/// Whether a plain map, empty at first, makes each call of the history with the same reply. All calls are on one tree.
-pub fn replays(alloc: Global, history: &[Entry]) -> Result<bool> {
+// Whether a plain map, empty at first, makes each call of the history with the same reply.
+fn replays(alloc: Global, history: &[Entry]) -> Result<bool> {
     let mut map = BTreeMap::new(alloc);
     let mut same = true;
     for entry in history {
@@ -83,4 +84,9 @@ pub fn replays(alloc: Global, history: &[Entry]) -> Result<bool> {
     }
     drop(map);
     Ok(same)
+}
+
+/// The same, of calls that are all on one tree.
+pub fn are_replayed<R: Abort>(rt: &R, alloc: Global, history: &[Entry]) -> bool {
+    replays(alloc, history).expect(rt, "memory")
 }

@@ -1,6 +1,6 @@
 //! A subscriber of a shared database.
-use crate::start::Way;
-use sled_model::{Outcome, Reply, Tree, Whole};
+use crate::beside::Way;
+use sled_model::{Next, Outcome, Reply, Subscriber, Tree, Whole};
 use sled_nodes::IVec;
 use std::alloc::Global;
 use std::process::Abort;
@@ -23,4 +23,42 @@ pub fn watch<L: Ledger, R: Wait + Abort>(
     };
     drop(outcome);
     number
+}
+
+/// What a subscriber is told next.
+#[derive(Clone, Copy)]
+pub enum Told {
+    /// An insert at the key that is this number.
+    Insert(u64),
+    /// So many events that it missed.
+    Missed(u64),
+    /// Nothing, or something else.
+    Nothing,
+}
+
+// The number of eight bytes, the highest first. Of any other count of bytes it is 0.
+fn number_of(bytes: &[u8]) -> u64 {
+    match bytes.first_chunk::<8>() {
+        Some(number) if bytes.len() == 8 => u64::from_be_bytes(*number),
+        _ => 0,
+    }
+}
+
+fn told_of(next: &Next) -> Told {
+    match next {
+        Next::Event(sled_model::Event::Insert { key, .. }) => Told::Insert(number_of(key.as_ref())),
+        Next::Event(_) => Told::Nothing,
+        Next::Missed(count) => Told::Missed(*count),
+    }
+}
+
+/// Asks what a subscriber is told next.
+pub fn told_next<L: Ledger, R: Wait>(rt: &R, handle: &mut Way<L>, number: u64) -> Told {
+    let outcome = handle.whole(rt, Whole::Next(Subscriber(number)));
+    let told = match &outcome {
+        Outcome::Decided(Reply::Next(Some(next))) => told_of(next),
+        _ => Told::Nothing,
+    };
+    drop(outcome);
+    told
 }
