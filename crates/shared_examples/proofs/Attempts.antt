@@ -23,7 +23,7 @@ use Rattle.shared_examples.proofs.Keys.{at_itself}
 
 -- ---- lists
 
-all_of_both : {X : Type 0} (P : X → Type 0) (xs ys : List X) → AllByRecursion P xs → AllByRecursion P ys → AllByRecursion P (xs ++ ys)
+pub all_of_both : {X : Type 0} (P : X → Type 0) (xs ys : List X) → AllByRecursion P xs → AllByRecursion P ys → AllByRecursion P (xs ++ ys)
 all_of_both P [] ys a b = b
 all_of_both P (x ∷ xs) ys a b = (a.0, all_of_both P xs ys a.1 b)
 

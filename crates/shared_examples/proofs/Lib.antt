@@ -4,6 +4,7 @@ pub mod Leaving
 pub mod Merging
 pub mod Swapping
 pub mod Sharing
+pub mod Together
 pub mod Attempts
 pub mod Taking
 pub mod Noting

@@ -14,13 +14,13 @@ use Rattle.shared_examples.specs.Raising.{swapped_by, swapped, swaps_of, SharesL
 shifted : (n m : ℕ) → n < m → suc n < suc m
 shifted n m l = omega arith
 
-first_of_all : {X : Type 0} (P : X → Type 0) (x : X) (xs : List X) → All P (x ∷ xs) → P x
+pub first_of_all : {X : Type 0} (P : X → Type 0) (x : X) (xs : List X) → All P (x ∷ xs) → P x
 first_of_all P x xs h = h 0 x (above (length xs))
   where
     above : (n : ℕ) → 0 < suc n
     above n = omega arith
 
-rest_of_all : {X : Type 0} (P : X → Type 0) (x : X) (xs : List X) → All P (x ∷ xs) → All P xs
+pub rest_of_all : {X : Type 0} (P : X → Type 0) (x : X) (xs : List X) → All P (x ∷ xs) → All P xs
 rest_of_all P x xs h k d l = h (suc k) d (shifted k (length xs) l)
 
 sums_same : {X : Type 0} (f g : X → ℕ) (xs : List X) → All (λ x. f x ≡ g x) xs → sum_by f xs ≡ sum_by g xs

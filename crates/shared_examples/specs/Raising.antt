@@ -68,6 +68,16 @@ is_part tree key (PointMade t (Get k) reply) = (t ≡ tree) × (k ≡ key)
 is_part tree key (PointMade t (CompareAndSwap k old new) reply) = (t ≡ tree) × (k ≡ key) × IsRaise (old, new)
 is_part tree key m = ⊥
 
+-- a caller made nothing but parts of raises
+abbrev pub OnlyRaises : Tree → Key → CallerValue → Type 0
+OnlyRaises tree key c = AllByRecursion (is_part tree key) c.made
+
+-- No raise is lost: where all callers that were gathered made nothing else, the number stands higher by as many as their swaps that succeeded
+abbrev pub RaisedLaw : Type 0
+RaisedLaw = (old new : Maps) (tree : Tree) (key : Key) (history : List EntryValue) (given : ℕ) (callers : List CallerValue) → IsLegal old history new
+    → All (IsMadeIn history) callers → EachOnce given callers → All (IsOfGiven given) history → All (OnlyRaises tree key) callers
+    → number_in (value_at new tree.name key) ≡ number_in (value_at old tree.name key) + sum_by (swaps_of tree.name key) callers
+
 -- the number that was written, if one was
 abbrev pub raised_to : Raised → Option ℕ
 raised_to (To n) = Some n

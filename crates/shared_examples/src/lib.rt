@@ -15,4 +15,4 @@ mod raising;
 pub use counting::{add_one, law_merges};
 pub use places::law_leaves;
 pub use queueing::{law_queue, push, take};
-pub use raising::{Raised, law_raises, law_shares, law_swaps, raise};
+pub use raising::{Raised, law_raised, law_raises, law_shares, law_swaps, raise};

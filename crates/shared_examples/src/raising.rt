@@ -7,7 +7,7 @@ ghost use Rattle.sled_model.specs.declared.outcome.Outcome.TheVariants.{Decided}
 ghost use Rattle.sled_model.specs.declared.reply.Reply.TheVariants.{Swapped};
 ghost use Rattle.sled_shared.specs.Notes.{noted_of};
 ghost use Rattle.examples.specs.Counters.{number_in};
-ghost use Rattle.shared_examples.specs.Raising.{Raises, RaisesLaw, SharesLaw, SwapsLaw, calls_made, overtaken_by, raised_to, swap_wrote};
+ghost use Rattle.shared_examples.specs.Raising.{RaisedLaw, Raises, RaisesLaw, SharesLaw, SwapsLaw, calls_made, overtaken_by, raised_to, swap_wrote};
 
 use examples::number_at;
 use sled_machine::shared::Handle;
@@ -211,4 +211,14 @@ pub fn law_raises()
 /// ```
 pub fn law_shares()
     ensures { SharesLaw }
+{}
+
+/// No raise is lost, whoever made it. Where all callers that were gathered made nothing but raises of one number, it stands higher at the end by as many
+/// as their swaps that succeeded. By what a raise adds to a list, these are one for each raise that answered `To`.
+///
+/// ```
+/// law_raised(); // From here on a proof knows it.
+/// ```
+pub fn law_raised()
+    ensures { RaisedLaw }
 {}
