@@ -32,7 +32,10 @@ impl Held {
     pub fn refuse(self, calls: &[u64]) -> Result<Held, Stopped> {
         match self {
             Held::Kept(kept) => Ok(Held::Kept(kept.refuse(calls)?)),
-            Held::Foreign(pages) => Ok(Held::Foreign(refusing(pages, calls)?)),
+            Held::Foreign(mut pages) => {
+                let done = pages.refuse_at(calls);
+                Ok(Held::Foreign(pages_after(pages, done)?))
+            }
         }
     }
 
@@ -40,7 +43,10 @@ impl Held {
     pub fn unreadable(self, pids: &[u64]) -> Result<Held, Stopped> {
         match self {
             Held::Kept(kept) => Ok(Held::Kept(kept.unreadable(pids)?)),
-            Held::Foreign(pages) => Ok(Held::Foreign(without(pages, pids)?)),
+            Held::Foreign(mut pages) => {
+                let done = take_all(&mut pages, pids);
+                Ok(Held::Foreign(pages_after(pages, done)?))
+            }
         }
     }
 
@@ -52,17 +58,21 @@ impl Held {
                 (Held::Kept(kept), done)
             }
             Held::Foreign(mut pages) => {
-                let done = raise_mark(&mut pages, upto);
+                let is_higher = upto < pages.mark();
+                let done = if is_higher {
+                    Ok(())
+                } else {
+                    pages.set_aside(upto)
+                };
                 (Held::Foreign(pages), done)
             }
         }
     }
 }
 
-// Pages that will refuse their calls of these numbers.
-fn refusing(pages: MemPages, calls: &[u64]) -> Result<MemPages, Stopped> {
-    let mut pages = pages;
-    match pages.refuse_at(calls) {
+/// The pages to which this was done, unless it was refused.
+pub fn pages_after(pages: MemPages, done: Result<(), Error>) -> Result<MemPages, Stopped> {
+    match done {
         Ok(()) => Ok(pages),
         Err(error) => {
             drop(error);
@@ -76,27 +86,6 @@ fn refusing(pages: MemPages, calls: &[u64]) -> Result<MemPages, Stopped> {
 fn take_all(pages: &mut MemPages, pids: &[u64]) -> Result<(), Error> {
     for pid in pids {
         pages.unreadable(Pid(*pid))?;
-    }
-    Ok(())
-}
-
-// Pages of which these cannot be read any more.
-fn without(pages: MemPages, pids: &[u64]) -> Result<MemPages, Stopped> {
-    let mut pages = pages;
-    match take_all(&mut pages, pids) {
-        Ok(()) => Ok(pages),
-        Err(error) => {
-            drop(error);
-            drop(pages);
-            Err(Stopped)
-        }
-    }
-}
-
-// Sets the mark of a store, unless that would lower it.
-fn raise_mark(pages: &mut MemPages, upto: u64) -> Result<(), Error> {
-    if upto >= pages.mark() {
-        pages.set_aside(upto)?;
     }
     Ok(())
 }

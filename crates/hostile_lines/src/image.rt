@@ -1,10 +1,11 @@
 //! Images of pages, which lines note page by page.
 
-use shell_parts::tell::{Result, Told, answered, bytes_of, tell};
+use crate::held::pages_after;
+use shell_parts::tell::{Result, Told, bytes_of, tell};
 use sled_lines::input::Stopped;
 use sled_lines::print::Piece::Text;
 use sled_lines::print::push_text;
-use sled_lines::words::{read_number, read_word};
+use sled_lines::words::{first_word, read_number, read_word};
 use sled_nodes::{Data, IVec, Index, Leaf, Node, Pid};
 use sled_pages::MemPages;
 use sled_store::Pages;
@@ -31,108 +32,60 @@ const NO_PAGE: &str = "is no page number and not -";
 const TOO_FEW: &str =
     "`page` takes PID, leaf, LO HI NEXT, open or merging, and pairs K V; of an index CHILD and pairs K PID";
 
-// What a page has.
+// What a page has behind its frame: a merging child or none, and then pointers or pairs. A leaf with a merging child is odd: only an index
+// may have one.
 #[derive(Clone, Copy)]
-enum Kind {
-    Leaf,
-    // A leaf with a merging child, which only an index may have.
-    OddLeaf,
-    Index,
+struct Kind {
+    has_child: bool,
+    is_index: bool,
 }
 
 fn kind_of(word: &[u8]) -> Option<Kind> {
-    match word {
-        b"leaf" => Some(Kind::Leaf),
-        b"odd-leaf" => Some(Kind::OddLeaf),
-        b"index" => Some(Kind::Index),
-        _ => None,
+    let is_index = word == b"index".as_slice();
+    let has_child = is_index || word == b"odd-leaf".as_slice();
+    if has_child || word == b"leaf".as_slice() {
+        Some(Kind {
+            has_child,
+            is_index,
+        })
+    } else {
+        None
     }
-}
-
-// Whether a page is merging.
-fn merging_of(word: &[u8]) -> Option<bool> {
-    match word {
-        b"open" => Some(false),
-        b"merging" => Some(true),
-        _ => None,
-    }
-}
-
-// The page of a number, or none.
-fn page_or_none(word: &[u8]) -> Option<Option<Pid>> {
-    if word == b"-".as_slice() {
-        return Some(None);
-    }
-    Some(Some(Pid(read_number(word)?)))
 }
 
 // What a word of a page stands for.
 #[derive(Clone, Copy)]
 enum Place {
     Number,
-    Kind,
-    Bytes,
     PageOrNone,
     State,
+    Bytes,
 }
 
-// What the words in front of a page's entries stand for.
-const FRAME: [Place; 6] = [
-    Place::Number,
-    Place::Kind,
-    Place::Bytes,
-    Place::Bytes,
-    Place::PageOrNone,
-    Place::State,
-];
-
-// What the word in this place behind them stands for.
-fn place_behind(kind: Kind, at: usize) -> Place {
-    match kind {
-        Kind::Leaf => Place::Bytes,
-        Kind::OddLeaf | Kind::Index if at == 0 => Place::PageOrNone,
-        Kind::OddLeaf => Place::Bytes,
-        Kind::Index if at % 2 == 1 => Place::Bytes,
-        Kind::Index => Place::Number,
+// What the word in this place of a page stands for, and what is said of it if it does not. The kind was compared before, and is a byte
+// string too.
+fn place_of(kind: Kind, at: usize) -> (Place, &'static str) {
+    match at {
+        0 => (Place::Number, NO_NUMBER),
+        4 => (Place::PageOrNone, NO_PAGE),
+        5 => (Place::State, NO_STATE),
+        6 if kind.has_child => (Place::PageOrNone, NO_PAGE),
+        _ if kind.is_index && at > 6 && at % 2 == 0 => (Place::Number, NO_NUMBER),
+        _ => (Place::Bytes, NO_BYTES),
     }
 }
 
-// What the word in this place of a page stands for.
-fn place_of(kind: Kind, at: usize) -> Place {
-    match FRAME.get(at) {
-        Some(place) => *place,
-        None => place_behind(kind, at.saturating_sub(FRAME.len())),
-    }
-}
-
-// Whether a page of this kind has so many words.
-fn fits(kind: Kind, count: usize) -> bool {
-    let Some(more) = count.checked_sub(FRAME.len()) else {
-        return false;
-    };
-    match kind {
-        Kind::Leaf => more % 2 == 0,
-        Kind::OddLeaf | Kind::Index => more % 2 == 1,
-    }
-}
-
-// What is said where something is missing.
-fn unless(is_there: bool, said: &'static str) -> &'static str {
-    if is_there { "" } else { said }
-}
-
-// What is said of a word that does not stand for this; nothing where it does.
-fn odd(alloc: Global, place: Place, word: &[u8]) -> sled_nodes::Result<&'static str> {
+// Whether a word stands for this.
+fn fits(alloc: Global, place: Place, word: &[u8]) -> sled_nodes::Result<bool> {
     match place {
-        Place::Number => Ok(unless(read_number(word).is_some(), NO_NUMBER)),
-        Place::Kind => Ok(unless(kind_of(word).is_some(), NO_KIND)),
-        Place::PageOrNone => Ok(unless(page_or_none(word).is_some(), NO_PAGE)),
-        Place::State => Ok(unless(merging_of(word).is_some(), NO_STATE)),
+        Place::Number => Ok(read_number(word).is_some()),
+        Place::PageOrNone => Ok(word == b"-".as_slice() || read_number(word).is_some()),
+        Place::State => Ok(word == b"open".as_slice() || word == b"merging".as_slice()),
         Place::Bytes => {
             let bytes = read_word(alloc, word)?;
-            let said = unless(bytes.is_some(), NO_BYTES);
+            let is_there = bytes.is_some();
             drop(bytes);
-            Ok(said)
+            Ok(is_there)
         }
     }
 }
@@ -145,8 +98,8 @@ fn check_words(
     why: &mut Vec<u8>,
 ) -> sled_nodes::Result<()> {
     for (at, word) in words.iter().enumerate() {
-        let said = odd(alloc, place_of(kind, at), *word)?;
-        if !said.is_empty() {
+        let (place, said) = place_of(kind, at);
+        if !fits(alloc, place, *word)? {
             return quote(why, *word, said);
         }
     }
@@ -160,109 +113,78 @@ pub fn check_page(alloc: Global, words: &[&[u8]], why: &mut Vec<u8>) -> sled_nod
     };
     match kind_of(*word) {
         None => quote(why, *word, NO_KIND),
-        Some(kind) if fits(kind, words.len()) => check_words(alloc, kind, words, why),
+        Some(kind) if words.len() >= 6 && (words.len() % 2 == 1) == kind.has_child => {
+            check_words(alloc, kind, words, why)
+        }
         Some(_) => push_text(why, TOO_FEW.as_bytes()),
     }
 }
 
-// Two byte strings.
-fn two_of(alloc: Global, first: &[u8], second: &[u8]) -> Result<(IVec, IVec)> {
-    let first = bytes_of(alloc, first)?;
-    match bytes_of(alloc, second) {
-        Ok(second) => Ok((first, second)),
+// The page of a number, or none.
+fn pid_of(word: &[u8]) -> Option<Pid> {
+    Some(Pid(read_number(word)?))
+}
+
+// What an entry of a page has at its key.
+trait Value: Drop {
+    // That which a word spells.
+    fn read(alloc: Global, word: &[u8]) -> Result<Self>;
+}
+
+impl Value for IVec {
+    fn read(alloc: Global, word: &[u8]) -> Result<IVec> {
+        bytes_of(alloc, word)
+    }
+}
+
+impl Value for Pid {
+    fn read(_alloc: Global, word: &[u8]) -> Result<Pid> {
+        pid_of(word).ok_or(Stopped)
+    }
+}
+
+// The entry that two words spell.
+fn entry_of<V: Value>(alloc: Global, key: &[u8], value: &[u8]) -> Result<(IVec, V)> {
+    let key = bytes_of(alloc, key)?;
+    match V::read(alloc, value) {
+        Ok(value) => Ok((key, value)),
         Err(stopped) => {
-            drop(first);
+            drop(key);
             Err(stopped)
         }
     }
 }
 
-// A key and a page.
-fn pointer_of(alloc: Global, key: &[u8], pid: &[u8]) -> Result<(IVec, Pid)> {
-    let pid = Pid(read_number(pid).ok_or(Stopped)?);
-    Ok((bytes_of(alloc, key)?, pid))
-}
-
-// The pairs that words spell.
-fn pairs_of(alloc: Global, words: &[&[u8]]) -> Result<Vec<(IVec, IVec)>> {
-    let mut pairs = Vec::new(alloc);
-    let mut rest = words;
-    for _ in 0..words.len() {
-        let [key, value, others @ ..] = rest else {
-            break;
-        };
-        pairs.push(two_of(alloc, *key, *value)?)?;
-        rest = others;
+// The entries that words spell.
+fn entries_of<V: Value>(alloc: Global, words: &[&[u8]]) -> Result<Vec<(IVec, V)>> {
+    let mut entries = Vec::new(alloc);
+    for entry in words.chunks(2) {
+        if let [key, value] = entry {
+            entries.push(entry_of(alloc, *key, *value)?)?;
+        }
     }
-    Ok(pairs)
+    Ok(entries)
 }
 
-// The pointers that words spell.
-fn pointers_of(alloc: Global, words: &[&[u8]]) -> Result<Vec<(IVec, Pid)>> {
-    let mut pointers = Vec::new(alloc);
-    let mut rest = words;
-    for _ in 0..words.len() {
-        let [key, pid, others @ ..] = rest else {
-            break;
-        };
-        pointers.push(pointer_of(alloc, *key, *pid)?)?;
-        rest = others;
+// What a leaf holds, or an index, of the words that spell its entries.
+fn content_of(alloc: Global, is_index: bool, words: &[&[u8]]) -> Result<Data> {
+    if is_index {
+        let pointers = entries_of(alloc, words)?;
+        let index = Index::from_pairs(alloc, pointers.as_slice());
+        drop(pointers);
+        return Ok(Data::Index(index?));
     }
-    Ok(pointers)
-}
-
-fn leaf_of(alloc: Global, words: &[&[u8]]) -> Result<Data> {
-    let pairs = pairs_of(alloc, words)?;
+    let pairs = entries_of(alloc, words)?;
     let leaf = Leaf::from_pairs(alloc, pairs.as_slice());
     drop(pairs);
-    Ok(Data::Leaf(answered(leaf)?))
+    Ok(Data::Leaf(leaf?))
 }
 
-fn index_of(alloc: Global, words: &[&[u8]]) -> Result<Data> {
-    let pointers = pointers_of(alloc, words)?;
-    let index = Index::from_pairs(alloc, pointers.as_slice());
-    drop(pointers);
-    Ok(Data::Index(answered(index)?))
-}
-
-// The merging child of a page and its entries, of the words behind its frame.
-fn content_of(alloc: Global, kind: Kind, words: &[&[u8]]) -> Result<(Option<Pid>, Data)> {
-    match (kind, words) {
-        (Kind::Leaf, words) => Ok((None, leaf_of(alloc, words)?)),
-        (Kind::OddLeaf, [child, words @ ..]) => {
-            let child = page_or_none(*child).ok_or(Stopped)?;
-            Ok((child, leaf_of(alloc, words)?))
-        }
-        (Kind::Index, [child, words @ ..]) => {
-            let child = page_or_none(*child).ok_or(Stopped)?;
-            Ok((child, index_of(alloc, words)?))
-        }
-        _ => Err(Stopped),
-    }
-}
-
-// A node within these bounds, with what it holds and the child that it merges.
-fn node_of(
-    alloc: Global,
-    bounds: (&[u8], &[u8]),
-    next: Option<Pid>,
-    merging: bool,
-    holds: (Option<Pid>, Data),
-) -> Result<Node> {
-    let (merging_child, content) = holds;
-    match two_of(alloc, bounds.0, bounds.1) {
-        Ok((lo, hi)) => Ok(Node {
-            lo,
-            hi,
-            next,
-            merging,
-            merging_child,
-            content,
-        }),
-        Err(stopped) => {
-            drop(content);
-            Err(stopped)
-        }
+// The merging child in front of entries, if there is one, and the entries.
+fn child_of<'a, 'b>(words: &'a [&'b [u8]]) -> (Option<Pid>, &'a [&'b [u8]]) {
+    match words {
+        [child, entries @ ..] if words.len() % 2 == 1 => (pid_of(*child), entries),
+        _ => (None, words),
     }
 }
 
@@ -271,17 +193,21 @@ fn page_of(alloc: Global, words: &[&[u8]]) -> Result<(Pid, Node)> {
     let [pid, kind, lo, hi, next, state, words @ ..] = words else {
         return Err(Stopped);
     };
-    let pid = Pid(read_number(*pid).ok_or(Stopped)?);
-    let kind = kind_of(*kind).ok_or(Stopped)?;
-    let next = page_or_none(*next).ok_or(Stopped)?;
-    let merging = merging_of(*state).ok_or(Stopped)?;
-    let node = node_of(
-        alloc,
-        (*lo, *hi),
-        next,
-        merging,
-        content_of(alloc, kind, words)?,
-    )?;
+    let pid = pid_of(*pid).ok_or(Stopped)?;
+    let (merging_child, entries) = child_of(words);
+    let content = content_of(alloc, *kind == b"index".as_slice(), entries)?;
+    let Ok((lo, hi)) = entry_of(alloc, *lo, *hi) else {
+        drop(content);
+        return Err(Stopped);
+    };
+    let node = Node {
+        lo,
+        hi,
+        next: pid_of(*next),
+        merging: *state == b"merging".as_slice(),
+        merging_child,
+        content,
+    };
     Ok((pid, node))
 }
 
@@ -303,20 +229,19 @@ impl Noted {
 
     /// Notes the page that the words behind a line's own spell, and adds that it did.
     pub fn note_page(&mut self, alloc: Global, words: &[u8], out: &mut Told) -> Result<()> {
-        let words = answered(words_of(alloc, Some(words)))?;
-        let page = page_of(alloc, words.as_slice())?;
-        self.pages.push(page)?;
+        let words = words_of(alloc, Some(words))?;
+        let page = page_of(alloc, words.as_slice());
+        drop(words);
+        self.pages.push(page?)?;
         tell(out, &[Text(b"noted\n")])
     }
 
     /// Notes the root that the words behind a line's own spell, and adds that it did.
     pub fn note_root(&mut self, alloc: Global, words: &[u8], out: &mut Told) -> Result<()> {
-        let words = answered(words_of(alloc, Some(words)))?;
-        let [name, pid] = words.as_slice() else {
+        let (name, Some(pid)) = first_word(words) else {
             return Err(Stopped);
         };
-        let root = pointer_of(alloc, *name, *pid)?;
-        self.roots.push(root)?;
+        self.roots.push(entry_of(alloc, name, pid)?)?;
         tell(out, &[Text(b"noted\n")])
     }
 
@@ -325,26 +250,13 @@ impl Noted {
         let pages = std::mem::replace(&mut self.pages, Vec::new(alloc));
         let roots = std::mem::replace(&mut self.roots, Vec::new(alloc));
         let mark = if let Image::Mark = image { mark } else { 0 };
-        let made = answered(MemPages::from_image(alloc, pages, roots, mark))?;
-        match image {
-            Image::Group => with_group(made),
-            _ => Ok(made),
+        let mut made = MemPages::from_image(alloc, pages, roots, mark)?;
+        if let Image::Group = image
+            && !made.in_group()
+        {
+            let done = made.begin_group();
+            return pages_after(made, done);
         }
-    }
-}
-
-// A store in which a group is begun.
-fn with_group(pages: MemPages) -> Result<MemPages> {
-    let mut pages = pages;
-    if pages.in_group() {
-        return Ok(pages);
-    }
-    match pages.begin_group() {
-        Ok(()) => Ok(pages),
-        Err(error) => {
-            drop(error);
-            drop(pages);
-            Err(Stopped)
-        }
+        Ok(made)
     }
 }

@@ -4,7 +4,7 @@
 
 pub mod held;
 pub mod image;
-pub mod parts;
+mod parts;
 pub mod repeats;
 pub mod source;
 pub mod sweeps;

@@ -2,7 +2,6 @@
 
 use crate::parts::Part;
 use crate::source::Source;
-use shell_parts::tell::answered;
 use sled_lines::input::Stopped;
 use sled_lines::print::{push_numbered, push_text};
 use sled_lines::words::first_word;
@@ -39,7 +38,7 @@ enum Asked {
 }
 
 // What a line came to.
-#[derive(Clone, Copy, PartialEq, Eq)]
+#[derive(Clone, Copy)]
 enum Answer {
     Made,
     // The store failed.
@@ -50,22 +49,38 @@ enum Answer {
     Ended,
 }
 
-fn is_end(byte: &u8) -> bool {
+/// Whether a byte ends a line.
+pub fn is_end(byte: &u8) -> bool {
     *byte == b'\n'
 }
 
 // What a line came to that printed this.
 fn answer_of(printed: &[u8]) -> Answer {
     for line in printed.split(is_end) {
-        match line {
-            b"refused E4" => return Answer::Failed,
-            b"refused E8" => return Answer::Closed,
-            b"found -" => return Answer::Ended,
-            line if line.starts_with(b"refused ") => return Answer::Ended,
-            _ => {}
+        if line == b"refused E4".as_slice() {
+            return Answer::Failed;
+        }
+        if line == b"refused E8".as_slice() {
+            return Answer::Closed;
+        }
+        if line == b"found -".as_slice() || line.starts_with(b"refused ") {
+            return Answer::Ended;
         }
     }
     Answer::Made
+}
+
+/// What was seen while lines were run.
+#[derive(Clone, Copy)]
+pub struct Seen {
+    /// Whether each line could be read.
+    pub is_good: bool,
+    /// Whether a line was told of the call that the store refused.
+    pub is_told: bool,
+    /// Whether the call to be refused is the one behind all that were made.
+    pub is_beyond: bool,
+    /// Whether a line made another store, which refuses nothing.
+    pub is_remade: bool,
 }
 
 /// The lines of a text, run for an aim.
@@ -83,9 +98,7 @@ pub struct Repeats<'a> {
     // Whether the line is made again, and whether the store was recovered for it.
     is_again: bool,
     is_recovered: bool,
-    is_told: bool,
-    is_beyond: bool,
-    is_remade: bool,
+    seen: Seen,
 }
 
 impl<'a> Repeats<'a> {
@@ -100,39 +113,18 @@ impl<'a> Repeats<'a> {
             asked: Asked::Nothing,
             is_again: false,
             is_recovered: false,
-            is_told: false,
-            is_beyond: false,
-            is_remade: false,
+            seen: Seen {
+                is_good: true,
+                is_told: false,
+                is_beyond: false,
+                is_remade: false,
+            },
         }
     }
 
-    /// Whether a line was told of the call that the store refused.
-    pub fn is_told(&self) -> bool {
-        self.is_told
-    }
-
-    /// Whether the call to be refused is the one behind all that were made.
-    pub fn is_beyond(&self) -> bool {
-        self.is_beyond
-    }
-
-    /// Whether a line made another store, which refuses nothing.
-    pub fn is_remade(&self) -> bool {
-        self.is_remade
-    }
-
-    // Goes on to the next line of the text; where there is none, to what comes behind them.
-    fn ask_next(&mut self) -> Asked {
-        self.is_again = false;
-        self.is_recovered = false;
-        let Some(text) = self.rest else {
-            return self.ask_behind();
-        };
-        let (line, rest) = cut(text);
-        self.rest = rest;
-        self.line = line;
-        self.is_remade |= remakes(line);
-        self.ask_line()
+    /// What was seen so far.
+    pub fn seen(&self) -> Seen {
+        self.seen
     }
 
     // Makes the line from its beginning.
@@ -144,196 +136,132 @@ impl<'a> Repeats<'a> {
         Asked::Line
     }
 
-    // Dumps what a part of the line left, and goes on to the next part where this one was made.
-    fn ask_dump(&mut self, answer: Answer) -> Asked {
-        self.part = match (self.part, answer) {
-            (Some(part), Answer::Made) => part.next(),
-            _ => None,
+    // Goes on to the next line of the text; where there is none, to what comes behind them.
+    fn ask_next(&mut self) -> Asked {
+        self.is_again = false;
+        self.is_recovered = false;
+        let Some(text) = self.rest else {
+            return match self.aim {
+                Aim::Refusing(_) => Asked::Dump,
+                Aim::Dumps => Asked::End,
+                Aim::Count => Asked::Flush,
+                Aim::Crash(_) => Asked::Crash,
+            };
         };
-        Asked::Dump
+        (self.line, self.rest) = cut(text);
+        self.seen.is_remade |= remakes(self.line);
+        self.ask_line()
     }
 
-    // What comes first behind the lines.
-    fn ask_behind(&self) -> Asked {
-        match self.aim {
-            Aim::Refusing(_) => Asked::Dump,
-            Aim::Dumps => Asked::End,
-            Aim::Count => Asked::Flush,
-            Aim::Crash(_) => Asked::Crash,
+    // What is asked for behind what came to this. A line that is refused is made again once, and once more where the store had to be
+    // recovered.
+    fn ask(&mut self, answer: Answer) -> Asked {
+        match (self.asked, answer) {
+            (Asked::Nothing, _) => Asked::New,
+            (Asked::New | Asked::Line, Answer::Failed) if !self.is_again => {
+                self.seen.is_told = true;
+                self.is_again = true;
+                self.ask_line();
+                self.asked
+            }
+            (Asked::Line, Answer::Closed) if !self.is_recovered => {
+                self.is_recovered = true;
+                Asked::Recover
+            }
+            (Asked::Recover, _) if self.tree.is_some() => Asked::Tree,
+            (Asked::Recover | Asked::Tree, _) => self.ask_line(),
+            (Asked::New | Asked::Line, answer) => self.ask_behind(answer),
+            (Asked::Dump, _) => self.ask_behind_dump(),
+            (Asked::Flush, answer) => {
+                self.seen.is_beyond = matches!(answer, Answer::Failed);
+                Asked::End
+            }
+            (Asked::Crash, _) => Asked::Verify,
+            (Asked::Verify, _) => Asked::Dump,
+            (Asked::End, _) => Asked::End,
         }
     }
 
-    // What is asked for behind an empty store.
-    fn ask_first(&mut self, answer: Answer) -> Asked {
-        if answer == Answer::Failed && !self.is_again {
-            self.is_told = true;
-            self.is_again = true;
-            return Asked::New;
-        }
-        match self.aim {
-            Aim::Dumps => Asked::Dump,
-            _ => self.ask_next(),
-        }
-    }
-
-    // What is asked for behind a line. One that is refused is made again once, and once more where the store had to be recovered.
-    fn ask_after(&mut self, answer: Answer) -> Asked {
-        if answer == Answer::Failed && !self.is_again {
-            self.is_told = true;
-            self.is_again = true;
-            return self.ask_line();
-        }
-        if answer == Answer::Closed && !self.is_recovered {
-            self.is_recovered = true;
-            return Asked::Recover;
-        }
-        if let (b"tree", Some(_)) = first_word(self.line) {
+    // What is asked for behind a line, or a part of one, that is not made again.
+    fn ask_behind(&mut self, answer: Answer) -> Asked {
+        if self.line.starts_with(b"tree ") {
             self.tree = Some(self.line);
         }
         match self.aim {
-            Aim::Dumps => self.ask_dump(answer),
+            Aim::Dumps => {
+                self.part = match (self.part, answer) {
+                    (Some(part), Answer::Made) => part.next(),
+                    _ => None,
+                };
+                Asked::Dump
+            }
             _ => self.ask_next(),
         }
     }
 
     // What is asked for behind a dump.
-    fn ask_after_dump(&mut self) -> Asked {
+    fn ask_behind_dump(&mut self) -> Asked {
         match self.aim {
             Aim::Dumps if self.part.is_some() => Asked::Line,
             Aim::Dumps => self.ask_next(),
-            Aim::Refusing(_) if !self.is_told => Asked::Flush,
+            Aim::Refusing(_) if !self.seen.is_told => Asked::Flush,
             _ => Asked::End,
         }
     }
 
-    // What is asked for behind a flush at the end.
-    fn ask_after_flush(&mut self, answer: Answer) -> Asked {
-        self.is_beyond = answer == Answer::Failed;
-        Asked::End
-    }
-
-    // What is asked for behind a line that came to this.
-    fn ask(&mut self, answer: Answer) -> Asked {
-        match self.asked {
-            Asked::Nothing => Asked::New,
-            Asked::New => self.ask_first(answer),
-            Asked::Line => self.ask_after(answer),
-            Asked::Recover if self.tree.is_some() => Asked::Tree,
-            Asked::Recover | Asked::Tree => self.ask_line(),
-            Asked::Dump => self.ask_after_dump(),
-            Asked::Flush => self.ask_after_flush(answer),
-            Asked::Crash => Asked::Verify,
-            Asked::Verify => Asked::Dump,
-            Asked::End => Asked::End,
-        }
-    }
-
-    // Whether what was printed is kept, of what was asked for so. Of a line that is made again it is not.
-    fn keeps(&self, asked: Asked) -> bool {
+    // What is kept of what was printed, of what was asked for so. Of a line that is made again it is nothing; of how many actions a flush
+    // made durable too, since a call that is made again may make more.
+    fn kept<'b>(&self, asked: Asked, printed: &'b [u8]) -> &'b [u8] {
         match (self.aim, asked) {
-            (Aim::Refusing(_), Asked::Line) => !self.is_again && !self.is_recovered,
-            (Aim::Count, Asked::Flush) => true,
-            (_, Asked::Dump | Asked::Crash | Asked::Verify) => true,
-            _ => false,
+            (Aim::Refusing(_), Asked::Line) if self.is_again || self.is_recovered => b"",
+            (Aim::Refusing(_), Asked::Line) if printed.starts_with(b"flushed ") => b"flushed\n",
+            (Aim::Refusing(_), Asked::Line) | (Aim::Count, Asked::Flush) => printed,
+            (_, Asked::Dump | Asked::Crash | Asked::Verify) => printed,
+            _ => b"",
         }
     }
 
-    // The line that begins a database, and a number behind it.
-    fn beginning(&self) -> (&'a [u8], Option<u64>) {
-        if self.is_again {
-            return (b"reopen", None);
-        }
-        match self.aim {
-            Aim::Refusing(call) => (b"new refuse ", Some(call)),
-            _ => (b"new", None),
-        }
-    }
-
-    // The line that crashes it.
-    fn crash(&self) -> (&'a [u8], Option<u64>) {
-        match self.aim {
-            Aim::Crash(keep) => (b"crash ", Some(keep)),
-            _ => (b"crash 0", None),
-        }
-    }
-
-    // The line that is asked for, and a number behind it; empty where there is none.
-    fn asked_line(&self) -> (&'a [u8], Option<u64>) {
-        match self.asked {
-            Asked::Nothing | Asked::End => (b"", None),
-            Asked::New => self.beginning(),
-            Asked::Line => (self.line, None),
-            Asked::Recover => (b"recover", None),
-            Asked::Tree => match self.tree {
-                Some(line) => (line, None),
-                None => (b"", None),
+    // Adds the line that is asked for, if there is one.
+    fn put(&self, line: &mut Vec<u8>) -> sled_nodes::Result<()> {
+        let text: &[u8] = match (self.asked, self.aim) {
+            (Asked::Nothing | Asked::End, _) => b"",
+            (Asked::New, _) if self.is_again => b"reopen",
+            (Asked::New, Aim::Refusing(call)) => return push_numbered(line, b"new refuse ", call),
+            (Asked::New, _) => b"new",
+            (Asked::Line, _) => match self.part {
+                Some(part) => return part.push(line),
+                None => self.line,
             },
-            Asked::Dump => (b"dump", None),
-            Asked::Flush => (b"flush", None),
-            Asked::Crash => self.crash(),
-            Asked::Verify => (b"verify", None),
-        }
-    }
-
-    // Adds the line that is asked for as a whole.
-    fn put_asked(&self, line: &mut Vec<u8>) -> sled_nodes::Result<()> {
-        match self.asked_line() {
-            (text, Some(number)) => push_numbered(line, text, number),
-            (text, None) => push_text(line, text),
-        }
-    }
-
-    // Puts the line that is asked for into its place: whether there is one.
-    fn put(&self, line: &mut Vec<u8>) -> sled_nodes::Result<bool> {
-        if matches!(self.asked, Asked::Nothing | Asked::End) {
-            return Ok(false);
-        }
-        match (self.asked, self.part) {
-            (Asked::Line, Some(part)) => part.push(line)?,
-            _ => self.put_asked(line)?,
-        }
-        Ok(true)
+            (Asked::Recover, _) => b"recover",
+            (Asked::Tree, _) => self.tree.unwrap_or(b""),
+            (Asked::Dump, _) => b"dump",
+            (Asked::Flush, _) => b"flush",
+            (Asked::Crash, Aim::Crash(keep)) => return push_numbered(line, b"crash ", keep),
+            (Asked::Crash, _) => b"crash 0",
+            (Asked::Verify, _) => b"verify",
+        };
+        push_text(line, text)
     }
 }
 
 // A text up to its first line end, and what stands behind it, if there is something.
 fn cut(text: &[u8]) -> (&[u8], Option<&[u8]>) {
     for (at, byte) in text.iter().enumerate() {
-        if !is_end(byte) {
-            continue;
+        if is_end(byte) {
+            let rest = &text[at + 1..];
+            return (&text[..at], if rest.is_empty() { None } else { Some(rest) });
         }
-        if at + 1 == text.len() {
-            return (&text[..at], None);
-        }
-        return (&text[..at], Some(&text[at + 1..]));
     }
     (text, None)
-}
-
-// Whether a line makes another store, or names other calls to be refused.
-fn remakes(line: &[u8]) -> bool {
-    let (word, words) = first_word(line);
-    MAKES_ANOTHER.iter().any(|maker| *maker == word)
-        || word == b"reopen".as_slice() && names_calls(words)
 }
 
 // The words that make another store.
 const MAKES_ANOTHER: [&[u8]; 4] = [b"new", b"crash", b"recover", b"image"];
 
-// Whether the words behind `reopen` name calls to be refused.
-fn names_calls(words: Option<&[u8]>) -> bool {
-    match words {
-        Some(words) => words.starts_with(b"refuse "),
-        None => false,
-    }
-}
-
-// What is kept of what was printed: of how many actions a flush made durable nothing, since a call that is made again may make more.
-fn kept_of(aim: Aim, printed: &[u8]) -> &[u8] {
-    match aim {
-        Aim::Refusing(_) if printed.starts_with(b"flushed ") => b"flushed\n",
-        _ => printed,
-    }
+// Whether a line makes another store, or names other calls to be refused.
+fn remakes(line: &[u8]) -> bool {
+    let (word, _) = first_word(line);
+    line.starts_with(b"reopen refuse ") || MAKES_ANOTHER.contains(&word)
 }
 
 impl Source<Vec<u8>> for Repeats<'_> {
@@ -343,13 +271,12 @@ impl Source<Vec<u8>> for Repeats<'_> {
         output: &mut Vec<u8>,
         line: &mut Vec<u8>,
     ) -> Result<bool, Stopped> {
-        let next = self.ask(answer_of(printed.as_slice()));
-        if self.keeps(self.asked) {
-            answered(push_text(output, kept_of(self.aim, printed.as_slice())))?;
-        }
-        self.asked = next;
+        let asked = self.asked;
+        self.asked = self.ask(answer_of(printed.as_slice()));
+        push_text(output, self.kept(asked, printed.as_slice()))?;
         printed.clear();
         line.clear();
-        answered(self.put(line))
+        self.put(line)?;
+        Ok(!matches!(self.asked, Asked::Nothing | Asked::End))
     }
 }

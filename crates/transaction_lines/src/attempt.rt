@@ -1,16 +1,15 @@
 //! One attempt of a transaction: its parts are done one after the other, and what each of them answers is taken down.
 
-use crate::inside::Inside;
+use crate::inside::{Answer, Inside};
 use crate::script::{Act, End, Part, Script};
 use sled::{
     ConflictableTransactionError, ConflictableTransactionResult, UnabortableTransactionError,
     UnabortableTransactionResult, abort,
 };
-use sled_lines::print::Piece::{Text, Word};
-use sled_lines::print::{push_numbered, push_pieces, push_refused, push_text};
-use sled_nodes::{Error, IVec, Result};
+use sled_lines::print::Piece::{self, Number, Text, Word};
+use sled_lines::print::{push_pieces, push_refused, push_text};
+use sled_nodes::Result;
 use std::alloc::Global;
-use std::cell::RefCell;
 
 /// Why a transaction is given up.
 #[derive(Clone, Copy)]
@@ -24,15 +23,6 @@ pub(crate) enum GivenUp {
 /// What an attempt comes to.
 pub(crate) type Attempted = ConflictableTransactionResult<(), GivenUp>;
 
-// What a part answers.
-#[derive(Drop)]
-enum Answer {
-    Old(Option<IVec>),
-    Value(Option<IVec>),
-    Id(u64),
-    Done,
-}
-
 /// What the parts of an attempt answered.
 #[derive(Drop)]
 pub(crate) struct Answers {
@@ -44,11 +34,23 @@ pub(crate) struct Answers {
     last_id: u64,
 }
 
-// Adds the line of a value, or of none.
-fn push_value(out: &mut Vec<u8>, name: &'static [u8], value: &Option<IVec>) -> Result<()> {
-    match value {
-        Some(value) => push_pieces(out, &[Text(name), Word(value.as_ref()), Text(b"\n")]),
-        None => push_pieces(out, &[Text(name), Text(b"-\n")]),
+// What the line of an answer begins with.
+fn name_of(act: &Act) -> &'static [u8] {
+    match act {
+        Act::Get(_) => b"in value ",
+        Act::Insert(_, _) | Act::Remove(_) => b"in old ",
+        Act::Batch(_) | Act::Flush => b"in done",
+        Act::Id => b"in number ",
+    }
+}
+
+// .. and what it says behind that.
+fn piece_of(answer: &Answer) -> Piece<'_> {
+    match answer {
+        Answer::Value(Some(value)) => Word(value.as_ref()),
+        Answer::Value(None) => Text(b"-"),
+        Answer::Id(id) => Number(*id),
+        Answer::Done => Text(b""),
     }
 }
 
@@ -62,121 +64,50 @@ impl Answers {
         }
     }
 
-    // None, as at the begin of each attempt.
-    fn clear(&mut self) {
-        self.text.clear();
-        self.is_refused = false;
-        self.last_id = 0;
-    }
-
-    // Adds the line of an answer.
-    fn push(&mut self, answer: &Answer) -> Result<()> {
-        match answer {
-            Answer::Old(value) => push_value(&mut self.text, b"in old ", value),
-            Answer::Value(value) => push_value(&mut self.text, b"in value ", value),
-            Answer::Id(id) => {
-                self.last_id = *id;
-                push_numbered(&mut self.text, b"in number ", *id)
+    // Adds the line of what a part answers, or of its refusal.
+    fn take_down(&mut self, act: &Act, done: &UnabortableTransactionResult<Answer>) -> Result<()> {
+        if let Ok(Answer::Id(id)) = done {
+            self.last_id = *id;
+        }
+        match done {
+            Ok(answer) => push_pieces(
+                &mut self.text,
+                &[Text(name_of(act)), piece_of(answer), Text(b"\n")],
+            ),
+            Err(UnabortableTransactionError::Storage(error)) => {
+                self.is_refused = true;
+                push_text(&mut self.text, b"in ")?;
+                push_refused(&mut self.text, error)
             }
-            Answer::Done => push_text(&mut self.text, b"in done\n"),
+            Err(UnabortableTransactionError::Conflict) => Ok(()),
         }
     }
 
-    // Adds the line of a refusal.
-    fn push_refusal(&mut self, error: &Error) -> Result<()> {
-        self.is_refused = true;
-        push_text(&mut self.text, b"in ")?;
-        push_refused(&mut self.text, error)
-    }
-
-    // Takes an answer down.
-    fn take_down(&mut self, answer: Answer) -> Attempted {
-        let pushed = self.push(&answer);
-        drop(answer);
-        match pushed {
-            Ok(()) => Ok(()),
-            Err(e) => {
-                drop(e);
-                abort(GivenUp::Stopped)
-            }
-        }
-    }
-
-    // Takes a refusal down, with which the attempt ends.
-    fn refuse(&mut self, error: Error) -> Attempted {
-        match self.push_refusal(&error) {
-            Ok(()) => Err(ConflictableTransactionError::Storage(error)),
-            Err(e) => {
-                drop(e);
+    // Does a part, and takes down what it answers.
+    fn do_part<I: Inside>(&mut self, inside: &mut I, part: &Part) -> Attempted {
+        let done = inside.perform(part);
+        match self.take_down(&part.act, &done) {
+            Ok(()) => Ok(drop(done?)),
+            Err(error) => {
                 drop(error);
+                drop(done);
                 abort(GivenUp::Stopped)
             }
         }
     }
-}
 
-// Does a part.
-fn perform<I: Inside>(inside: &mut I, part: &Part) -> UnabortableTransactionResult<Answer> {
-    let position = part.position;
-    match &part.act {
-        Act::Get(key) => inside.get_at(position, key.as_ref()).map(Answer::Value),
-        Act::Insert(key, value) => {
-            let stood = inside.insert_at(position, key.as_ref(), value.as_ref());
-            stood.map(Answer::Old)
+    /// Does all parts of a script, up to one that is refused, and ends as it says.
+    pub(crate) fn do_all<I: Inside>(&mut self, inside: &mut I, script: &Script) -> Attempted {
+        for part in script.parts.as_slice() {
+            self.do_part(inside, part)?;
         }
-        Act::Remove(key) => inside.remove_at(position, key.as_ref()).map(Answer::Old),
-        Act::Batch(batch) => inside.apply_at(position, batch).map(|()| Answer::Done),
-        Act::Flush => {
-            inside.ask_flush();
-            Ok(Answer::Done)
-        }
-        Act::Id => Ok(Answer::Id(inside.take_id()?)),
-    }
-}
-
-// Does a part, and takes down what it answers.
-fn do_part<I: Inside>(inside: &mut I, part: &Part, answers: &mut Answers) -> Attempted {
-    match perform(inside, part) {
-        Ok(answer) => answers.take_down(answer),
-        Err(UnabortableTransactionError::Storage(e)) => answers.refuse(e),
-        Err(UnabortableTransactionError::Conflict) => Err(ConflictableTransactionError::Conflict),
-    }
-}
-
-// Ends an attempt that did all parts, by the id that it took last.
-fn end_by(end: End, last_id: u64) -> Attempted {
-    match end {
-        End::Commit => Ok(()),
-        End::Abort => abort(GivenUp::Asked),
-        End::Conflict => Err(ConflictableTransactionError::Conflict),
-        End::ConflictBelow(number) => {
-            if last_id < number {
+        match script.end {
+            End::Abort => abort(GivenUp::Asked),
+            End::Conflict => Err(ConflictableTransactionError::Conflict),
+            End::ConflictBelow(number) if self.last_id < number => {
                 Err(ConflictableTransactionError::Conflict)
-            } else {
-                Ok(())
             }
+            End::Commit | End::ConflictBelow(_) => Ok(()),
         }
-    }
-}
-
-// Does all parts, up to one that is refused, and ends.
-fn do_all<I: Inside>(inside: &mut I, script: &Script, answers: &mut Answers) -> Attempted {
-    answers.clear();
-    for part in script.parts.as_slice() {
-        do_part(inside, part, answers)?;
-    }
-    end_by(script.end, answers.last_id)
-}
-
-/// Runs a script once. What its parts answered in an attempt before is forgotten.
-pub(crate) fn run_once<I: Inside>(
-    inside: &mut I,
-    script: &Script,
-    answers: &RefCell<Answers>,
-) -> Attempted {
-    match answers.try_borrow_mut() {
-        Ok(mut answers) => do_all(inside, script, &mut *answers),
-        // Nobody else has the cell, so this does not come.
-        Err(_) => abort(GivenUp::Stopped),
     }
 }

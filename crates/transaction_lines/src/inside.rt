@@ -1,106 +1,67 @@
 //! What parts do inside a transaction, of one tree or of several.
 
-use sled::{TransactionalTree, TransactionalTrees, UnabortableTransactionResult};
-use sled_batch::Batch;
+use crate::script::{Act, Part};
+use sled::{
+    TransactionalTree, TransactionalTrees, UnabortableTransactionError,
+    UnabortableTransactionResult,
+};
 use sled_nodes::{IVec, Result};
 use sled_pages::MemPages;
 
-/// A transaction from within. A position is that of a tree in its list; a transaction of one tree passes it over.
+/// What a part answers.
+#[derive(Drop)]
+pub(crate) enum Answer {
+    // The value that stands, or stood where the part writes.
+    Value(Option<IVec>),
+    Id(u64),
+    Done,
+}
+
+/// A transaction from within.
 pub(crate) trait Inside {
-    /// The value at a key.
-    fn get_at(&self, position: usize, key: &[u8]) -> UnabortableTransactionResult<Option<IVec>>;
-
-    /// Writes a value, and answers the one that stood.
-    fn insert_at(
-        &mut self,
-        position: usize,
-        key: &[u8],
-        value: &[u8],
-    ) -> UnabortableTransactionResult<Option<IVec>>;
-
-    /// Takes a key out, and answers the value that stood.
-    fn remove_at(
-        &mut self,
-        position: usize,
-        key: &[u8],
-    ) -> UnabortableTransactionResult<Option<IVec>>;
-
-    /// Makes the writes of a batch.
-    fn apply_at(&mut self, position: usize, batch: &Batch) -> UnabortableTransactionResult<()>;
-
-    /// Asks for a flush.
-    fn ask_flush(&mut self);
-
-    /// Takes an id.
-    fn take_id(&mut self) -> Result<u64>;
+    /// Does a part. A transaction of one tree passes its position over.
+    fn perform(&mut self, part: &Part) -> UnabortableTransactionResult<Answer>;
 }
 
 impl Inside for TransactionalTree<'_, MemPages> {
-    fn get_at(&self, _position: usize, key: &[u8]) -> UnabortableTransactionResult<Option<IVec>> {
-        self.get(key)
-    }
-
-    fn insert_at(
-        &mut self,
-        _position: usize,
-        key: &[u8],
-        value: &[u8],
-    ) -> UnabortableTransactionResult<Option<IVec>> {
-        self.insert(key, value)
-    }
-
-    fn remove_at(
-        &mut self,
-        _position: usize,
-        key: &[u8],
-    ) -> UnabortableTransactionResult<Option<IVec>> {
-        self.remove(key)
-    }
-
-    fn apply_at(&mut self, _position: usize, batch: &Batch) -> UnabortableTransactionResult<()> {
-        self.apply_batch(batch)
-    }
-
-    fn ask_flush(&mut self) {
-        self.flush();
-    }
-
-    fn take_id(&mut self) -> Result<u64> {
-        self.generate_id()
+    fn perform(&mut self, part: &Part) -> UnabortableTransactionResult<Answer> {
+        let value = match &part.act {
+            Act::Get(key) => self.get(key.as_ref()),
+            Act::Insert(key, value) => self.insert(key.as_ref(), value.as_ref()),
+            Act::Remove(key) => self.remove(key.as_ref()),
+            Act::Batch(batch) => return self.apply_batch(batch).and(Ok(Answer::Done)),
+            Act::Flush => {
+                self.flush();
+                return Ok(Answer::Done);
+            }
+            Act::Id => return answer_id(self.generate_id()),
+        };
+        value.map(Answer::Value)
     }
 }
 
 impl Inside for TransactionalTrees<'_, MemPages> {
-    fn get_at(&self, position: usize, key: &[u8]) -> UnabortableTransactionResult<Option<IVec>> {
-        self.get(position, key)
+    fn perform(&mut self, part: &Part) -> UnabortableTransactionResult<Answer> {
+        let at = part.position;
+        let value = match &part.act {
+            Act::Get(key) => self.get(at, key.as_ref()),
+            Act::Insert(key, value) => self.insert(at, key.as_ref(), value.as_ref()),
+            Act::Remove(key) => self.remove(at, key.as_ref()),
+            Act::Batch(batch) => return self.apply_batch(at, batch).and(Ok(Answer::Done)),
+            Act::Flush => {
+                self.flush();
+                return Ok(Answer::Done);
+            }
+            Act::Id => return answer_id(self.generate_id()),
+        };
+        value.map(Answer::Value)
     }
+}
 
-    fn insert_at(
-        &mut self,
-        position: usize,
-        key: &[u8],
-        value: &[u8],
-    ) -> UnabortableTransactionResult<Option<IVec>> {
-        self.insert(position, key, value)
-    }
-
-    fn remove_at(
-        &mut self,
-        position: usize,
-        key: &[u8],
-    ) -> UnabortableTransactionResult<Option<IVec>> {
-        self.remove(position, key)
-    }
-
-    fn apply_at(&mut self, position: usize, batch: &Batch) -> UnabortableTransactionResult<()> {
-        self.apply_batch(position, batch)
-    }
-
-    fn ask_flush(&mut self) {
-        self.flush();
-    }
-
-    fn take_id(&mut self) -> Result<u64> {
-        self.generate_id()
+// What taking an id answers.
+fn answer_id(taken: Result<u64>) -> UnabortableTransactionResult<Answer> {
+    match taken {
+        Ok(id) => Ok(Answer::Id(id)),
+        Err(error) => Err(UnabortableTransactionError::Storage(error)),
     }
 }

@@ -81,9 +81,11 @@ pub fn trees_of<N: TreeNames>(
 /// Adds why words can name no trees, if one of them is no byte string.
 pub fn check_names(alloc: Global, words: &[&[u8]], why: &mut Vec<u8>) -> sled_nodes::Result<()> {
     for word in words {
-        match read_value(alloc, *word)? {
-            Some(name) => drop(name),
-            None => return quote(why, *word, NO_BYTES),
+        let name = read_value(alloc, *word)?;
+        let is_name = name.is_some();
+        drop(name);
+        if !is_name {
+            return quote(why, *word, NO_BYTES);
         }
     }
     Ok(())

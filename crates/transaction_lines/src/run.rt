@@ -1,11 +1,11 @@
 //! Transactions that lines spell, run and told.
 
-use crate::attempt::{Answers, Attempted, GivenUp, run_once};
+use crate::attempt::{Answers, Attempted, GivenUp};
 use crate::inside::Inside;
 use crate::names::{TreeNames, trees_of};
 use crate::script::{Reach, Script, cut_first, read_script};
 use crate::words::words_of;
-use shell_parts::tell::{Result, Told, answered, tell, tell_refused};
+use shell_parts::tell::{Result, Told, tell, tell_refused};
 use sled::{Db, TransactionError, TransactionResult};
 use sled_lines::input::{Stopped, without_end};
 use sled_lines::print::Piece::Text;
@@ -14,46 +14,60 @@ use sled_lines::words::first_word;
 use sled_model::{MergeOperator, Tree};
 use sled_pages::MemPages;
 use std::alloc::Global;
-use std::cell::RefCell;
+use std::cell::Cell;
 
-// A transaction while it is run: what it does, and what its parts answered.
-#[derive(Drop)]
+// What a transaction came to.
+type Ended = TransactionResult<(), GivenUp>;
+
+// A transaction while it is run: what it does, and what the parts of its last attempt answered.
 struct Run {
+    alloc: Global,
     script: Script,
-    answers: RefCell<Answers>,
+    answers: Cell<Answers>,
 }
 
 impl Run {
     // What words spell, not yet run. They were compared before.
     fn new(alloc: Global, words: &[&[u8]], reach: Reach) -> Result<Run> {
-        Ok(Run {
-            script: script_of(alloc, words, reach)?,
-            answers: RefCell::new(Answers::none(alloc)),
-        })
+        match read_script(alloc, words, reach) {
+            Ok(script) => Ok(Run {
+                alloc,
+                script,
+                answers: Cell::new(Answers::none(alloc)),
+            }),
+            Err(_) => Err(Stopped),
+        }
     }
 
-    // One attempt.
+    // What a text spells on one tree, not yet run.
+    fn on_one_tree(alloc: Global, text: Option<&[u8]>) -> Result<Run> {
+        let words = words_of(alloc, text)?;
+        let run = Run::new(alloc, words.as_slice(), Reach::One);
+        drop(words);
+        run
+    }
+
+    // One attempt. What the parts answered in an attempt before is forgotten.
     fn attempt<I: Inside>(&self, inside: &mut I) -> Attempted {
-        run_once(inside, &self.script, &self.answers)
+        let mut answers = Answers::none(self.alloc);
+        let attempted = answers.do_all(inside, &self.script);
+        self.answers.set(answers);
+        attempted
     }
 
     // Adds what the parts answered, and what the transaction came to.
     fn tell(self, out: &mut Told, ended: Ended) -> Result<()> {
-        let Run { script, answers } = self;
+        let Run {
+            alloc: _,
+            script,
+            answers,
+        } = self;
         drop(script);
-        tell_run(out, answers.into_inner(), ended)
+        let answers = answers.into_inner();
+        let told = tell(out, &[Text(shown_of(&answers, &ended))]);
+        drop(answers);
+        told.and(tell_ending(out, ended))
     }
-}
-
-// What a transaction came to.
-type Ended = TransactionResult<(), GivenUp>;
-
-// The script that words spell, which were compared before.
-fn script_of(alloc: Global, words: &[&[u8]], reach: Reach) -> Result<Script> {
-    let mut why = Vec::new(alloc);
-    let script = answered(read_script(alloc, words, reach, &mut why))?;
-    drop(why);
-    script.ok_or(Stopped)
 }
 
 // What is printed of the parts: nothing where it was none of them that was refused, but the transaction.
@@ -74,11 +88,23 @@ fn tell_ending(out: &mut Told, ended: Ended) -> Result<()> {
     }
 }
 
-// Adds what the parts answered, and what the transaction came to.
-fn tell_run(out: &mut Told, answers: Answers, ended: Ended) -> Result<()> {
-    let told = tell(out, &[Text(shown_of(&answers, &ended))]);
-    drop(answers);
-    told.and(tell_ending(out, ended))
+// Runs it on the current tree. Nothing is said of what that does, so that nobody who tells it has more to prove; nor below.
+fn run_on_current<M: MergeOperator>(session: &mut Session<MemPages, M>, run: &Run) -> Ended {
+    session.transaction(|tree| run.attempt(tree))
+}
+
+// Runs it on a tree of a database.
+fn run_on_tree<M: MergeOperator>(db: &mut Db<MemPages, M>, tree: &Tree, run: &Run) -> Ended {
+    db.transaction(tree, |tree| run.attempt(tree))
+}
+
+// Runs it on trees.
+fn run_on_trees<M: MergeOperator>(
+    session: &mut Session<MemPages, M>,
+    trees: &[&Tree],
+    run: &Run,
+) -> Ended {
+    session.transaction_all(trees, |trees| run.attempt(trees))
 }
 
 /// Runs the transaction that a line spells on the current tree, and adds what each part answers and how that came out.
@@ -88,9 +114,8 @@ pub fn tell_transaction<M: MergeOperator>(
     line: &[u8],
     out: &mut Told,
 ) -> Result<()> {
-    let words = words_of(alloc, first_word(without_end(line)).1)?;
-    let run = Run::new(alloc, words.as_slice(), Reach::One)?;
-    let ended: Ended = session.transaction(|tree| run.attempt(tree));
+    let run = Run::on_one_tree(alloc, first_word(without_end(line)).1)?;
+    let ended = run_on_current(session, &run);
     run.tell(out, ended)
 }
 
@@ -102,28 +127,9 @@ pub fn tell_owned_transaction<M: MergeOperator>(
     words: &[u8],
     out: &mut Told,
 ) -> Result<()> {
-    let words = words_of(alloc, Some(words))?;
-    let run = Run::new(alloc, words.as_slice(), Reach::One)?;
-    let ended: Ended = db.transaction(tree, |tree| run.attempt(tree));
+    let run = Run::on_one_tree(alloc, Some(words))?;
+    let ended = run_on_tree(db, tree, &run);
     run.tell(out, ended)
-}
-
-// Trees, lent.
-fn lend(alloc: Global, trees: &[Tree]) -> Result<Vec<&Tree>> {
-    let mut lent = Vec::new(alloc);
-    for tree in trees {
-        lent.push(tree)?;
-    }
-    Ok(lent)
-}
-
-// Runs it on trees. Nothing is said of that, so that nobody who tells it has more to prove than that.
-fn run_on_trees<M: MergeOperator>(
-    session: &mut Session<MemPages, M>,
-    trees: &[&Tree],
-    run: &Run,
-) -> Ended {
-    session.transaction_all(trees, |trees| run.attempt(trees))
 }
 
 // Runs the transaction that words spell on trees.
@@ -134,10 +140,30 @@ fn tell_on_trees<M: MergeOperator>(
     words: &[&[u8]],
     out: &mut Told,
 ) -> Result<()> {
-    let lent = lend(alloc, trees)?;
+    let lent: Vec<&Tree> = trees.iter().collect(alloc)?;
     let run = Run::new(alloc, words, Reach::List)?;
     let ended = run_on_trees(session, lent.as_slice(), &run);
     run.tell(out, ended)
+}
+
+// Runs the transaction that words spell on the trees that those before the first `;` name; or adds why they name none.
+fn tell_listed<M: MergeOperator, N: TreeNames>(
+    alloc: Global,
+    session: &mut Session<MemPages, M>,
+    names: &N,
+    words: &[&[u8]],
+    out: &mut Told,
+    why: &mut Vec<u8>,
+) -> Result<()> {
+    let (listed, words) = cut_first(words);
+    let trees = trees_of(alloc, session.tree(), names, listed, why)?;
+    let told = if why.is_empty() {
+        tell_on_trees(alloc, session, trees.as_slice(), words, out)
+    } else {
+        Ok(())
+    };
+    drop(trees);
+    told
 }
 
 /// Runs the transaction that a line spells on the trees that it names; or adds why it names none.
@@ -150,13 +176,7 @@ pub fn tell_transaction_all<M: MergeOperator, N: TreeNames>(
     why: &mut Vec<u8>,
 ) -> Result<()> {
     let words = words_of(alloc, first_word(without_end(line)).1)?;
-    let (listed, words) = cut_first(words.as_slice());
-    let trees = trees_of(alloc, session.tree(), names, listed, why)?;
-    if !why.is_empty() {
-        drop(trees);
-        return Ok(());
-    }
-    let told = tell_on_trees(alloc, session, trees.as_slice(), words, out);
-    drop(trees);
+    let told = tell_listed(alloc, session, names, words.as_slice(), out, why);
+    drop(words);
     told
 }

@@ -3,11 +3,10 @@
 use crate::names::check_names;
 use crate::words::{NO_BYTES, NO_NUMBER, is_semicolon, quote};
 use sled_batch::Batch;
-use sled_lines::print::Piece::Text;
-use sled_lines::print::{push_pieces, push_text};
-use sled_lines::words::{read_number, read_value, read_word};
-use sled_nodes::{IVec, Result};
-use std::alloc::Global;
+use sled_lines::print::push_text;
+use sled_lines::words::{read_number, read_word};
+use sled_nodes::{Error, IVec, Result};
+use std::alloc::{AllocFailed, Global};
 
 const NO_PART: &str = "is no part of a transaction: insert, get, remove, batch, flush and id are";
 
@@ -30,6 +29,38 @@ pub enum Reach {
     One,
     /// Those of a list, which stands in front. A part has the position of its tree in front.
     List,
+}
+
+// What a part may do.
+#[derive(Clone, Copy)]
+enum Verb {
+    Get,
+    Insert,
+    Remove,
+    Batch,
+    Flush,
+    Id,
+}
+
+const VERBS: [(&[u8], Verb); 6] = [
+    (b"get", Verb::Get),
+    (b"insert", Verb::Insert),
+    (b"remove", Verb::Remove),
+    (b"batch", Verb::Batch),
+    (b"flush", Verb::Flush),
+    (b"id", Verb::Id),
+];
+
+impl Verb {
+    // What is said of it where it stands before other words than it takes.
+    fn takes(self) -> &'static str {
+        match self {
+            Verb::Get | Verb::Remove => "takes K, one word",
+            Verb::Insert => "takes K V, two words",
+            Verb::Batch => "takes K NEW .., pairs",
+            Verb::Flush | Verb::Id => "takes no words",
+        }
+    }
 }
 
 /// What a part does.
@@ -62,6 +93,14 @@ pub(crate) enum End {
     ConflictBelow(u64),
 }
 
+// The number of the last one stands behind its word.
+const ENDS: [(&[u8], End); 4] = [
+    (b"commit", End::Commit),
+    (b"abort", End::Abort),
+    (b"conflict", End::Conflict),
+    (b"conflict-below", End::ConflictBelow(0)),
+];
+
 /// What a transaction does.
 #[derive(Drop)]
 pub(crate) struct Script {
@@ -69,262 +108,187 @@ pub(crate) struct Script {
     pub(crate) end: End,
 }
 
-// Adds what a word takes behind it.
-fn tell_taken(why: &mut Vec<u8>, name: &'static str, taken: &'static str) -> Result<()> {
-    push_pieces(
-        why,
-        &[
-            Text(b"`"),
-            Text(name.as_bytes()),
-            Text(b"` takes "),
-            Text(taken.as_bytes()),
-        ],
-    )
+/// Why words spell no transaction.
+#[derive(Clone, Copy)]
+pub(crate) enum Misfit<'a> {
+    NoMemory,
+    // What is said of a word.
+    Word(&'a [u8], &'static str),
+    // What is said where words are missing.
+    Missing(&'static [u8]),
 }
 
-// What a word alone stands for. Where others stand behind it, that is added.
-fn alone<T: Drop>(
-    why: &mut Vec<u8>,
-    words: &[&[u8]],
-    name: &'static str,
-    value: T,
-) -> Result<Option<T>> {
-    if words.is_empty() {
-        return Ok(Some(value));
-    }
-    drop(value);
-    tell_taken(why, name, "no words").map(|()| None)
-}
+/// What words spell.
+type Spelled<'a, T> = std::result::Result<T, Misfit<'a>>;
 
-// The byte string that a word is; or why it is none.
-fn read_bytes(alloc: Global, word: &[u8], why: &mut Vec<u8>) -> Result<Option<IVec>> {
-    match read_word(alloc, word) {
-        Ok(None) => quote(why, word, NO_BYTES).map(|()| None),
-        read => read,
+impl From<Error> for Misfit<'_> {
+    fn from(error: Error) -> Self {
+        drop(error);
+        Misfit::NoMemory
     }
 }
 
-// The value that a word is, or none; or why it is neither.
-fn read_written(alloc: Global, word: &[u8], why: &mut Vec<u8>) -> Result<Option<Option<IVec>>> {
-    match read_value(alloc, word) {
-        Ok(None) => quote(why, word, NO_BYTES).map(|()| None),
-        read => read,
+impl From<AllocFailed<Part>> for Misfit<'_> {
+    fn from(failed: AllocFailed<Part>) -> Self {
+        drop(failed);
+        Misfit::NoMemory
     }
 }
 
-fn get_of(alloc: Global, words: &[&[u8]], why: &mut Vec<u8>) -> Result<Option<Act>> {
-    match words {
-        [key] => Ok(read_bytes(alloc, *key, why)?.map(Act::Get)),
-        _ => tell_taken(why, "get", "K, one word").map(|()| None),
-    }
-}
-
-fn remove_of(alloc: Global, words: &[&[u8]], why: &mut Vec<u8>) -> Result<Option<Act>> {
-    match words {
-        [key] => Ok(read_bytes(alloc, *key, why)?.map(Act::Remove)),
-        _ => tell_taken(why, "remove", "K, one word").map(|()| None),
-    }
-}
-
-// The insert of two words.
-fn insert_pair(alloc: Global, key: &[u8], value: &[u8], why: &mut Vec<u8>) -> Result<Option<Act>> {
-    let Some(key) = read_bytes(alloc, key, why)? else {
-        return Ok(None);
-    };
-    match read_bytes(alloc, value, why) {
-        Ok(Some(value)) => Ok(Some(Act::Insert(key, value))),
-        other => {
-            drop(key);
-            other.map(|_| None)
+// What a word stands for by a table.
+fn find<T: Copy>(table: &[(&[u8], T)], word: &[u8]) -> Option<T> {
+    for (name, meant) in table {
+        if word == *name {
+            return Some(*meant);
         }
     }
+    None
 }
 
-fn insert_of(alloc: Global, words: &[&[u8]], why: &mut Vec<u8>) -> Result<Option<Act>> {
-    match words {
-        [key, value] => insert_pair(alloc, *key, *value, why),
-        _ => tell_taken(why, "insert", "K V, two words").map(|()| None),
-    }
-}
-
-// Adds a write to a batch.
-fn write(alloc: Global, batch: &mut Batch, key: &IVec, value: &Option<IVec>) -> Result<()> {
-    match value {
-        Some(value) => batch.insert(alloc, key.as_ref(), value.as_ref()),
-        None => batch.remove(alloc, key.as_ref()),
-    }
-}
-
-// Adds the write of two words to a batch: whether they are a key, and a value or none.
-fn add_write(
-    alloc: Global,
-    batch: &mut Batch,
-    key: &[u8],
-    value: &[u8],
-    why: &mut Vec<u8>,
-) -> Result<bool> {
-    let Some(key) = read_bytes(alloc, key, why)? else {
-        return Ok(false);
-    };
-    let value = match read_written(alloc, value, why) {
-        Ok(Some(value)) => value,
-        other => {
-            drop(key);
-            return other.map(|_| false);
-        }
-    };
-    let written = write(alloc, batch, &key, &value);
-    drop(key);
-    drop(value);
-    written.map(|()| true)
-}
-
-// Adds the writes of words to a batch: whether they are keys and values in turn.
-fn add_writes(
-    alloc: Global,
-    batch: &mut Batch,
-    words: &[&[u8]],
-    why: &mut Vec<u8>,
-) -> Result<bool> {
-    for place in 0..words.len() / 2 {
-        if !add_write(alloc, batch, words[2 * place], words[2 * place + 1], why)? {
-            return Ok(false);
-        }
-    }
-    Ok(true)
-}
-
-fn batch_of(alloc: Global, words: &[&[u8]], why: &mut Vec<u8>) -> Result<Option<Act>> {
-    if words.len() % 2 != 0 {
-        return tell_taken(why, "batch", "K NEW .., pairs").map(|()| None);
-    }
-    let mut batch = Batch::default(alloc);
-    match add_writes(alloc, &mut batch, words, why) {
-        Ok(true) => Ok(Some(Act::Batch(batch))),
-        other => {
-            drop(batch);
-            other.map(|_| None)
-        }
-    }
-}
-
-// What words say that a part does; or why they say nothing.
-fn act_of(alloc: Global, words: &[&[u8]], why: &mut Vec<u8>) -> Result<Option<Act>> {
-    let [name, words @ ..] = words else {
-        return push_text(why, MISSING_PART).map(|()| None);
-    };
-    if *name == b"get".as_slice() {
-        get_of(alloc, words, why)
-    } else if *name == b"insert".as_slice() {
-        insert_of(alloc, words, why)
-    } else if *name == b"remove".as_slice() {
-        remove_of(alloc, words, why)
-    } else if *name == b"batch".as_slice() {
-        batch_of(alloc, words, why)
-    } else if *name == b"flush".as_slice() {
-        alone(why, words, "flush", Act::Flush)
-    } else if *name == b"id".as_slice() {
-        alone(why, words, "id", Act::Id)
-    } else {
-        quote(why, *name, NO_PART).map(|()| None)
-    }
-}
-
-// The part that words spell, at a position; or why they spell none.
-fn part_at(
-    alloc: Global,
-    position: usize,
-    words: &[&[u8]],
-    why: &mut Vec<u8>,
-) -> Result<Option<Part>> {
-    match act_of(alloc, words, why) {
-        Ok(Some(act)) => Ok(Some(Part { position, act })),
-        other => other.map(|_| None),
-    }
+// What a part of this name does.
+fn verb_of<'a>(name: &'a [u8]) -> Spelled<'a, Verb> {
+    find(&VERBS, name).ok_or(Misfit::Word(name, NO_PART))
 }
 
 // Whether a part of this name is on no tree of its own.
 fn is_on_none(name: &[u8]) -> bool {
-    name == b"flush".as_slice() || name == b"id".as_slice()
+    matches!(verb_of(name), Ok(Verb::Flush | Verb::Id))
 }
 
-// The part that words spell behind its position; or why they spell none.
-fn part_behind(
-    alloc: Global,
-    position: &[u8],
-    words: &[&[u8]],
-    why: &mut Vec<u8>,
-) -> Result<Option<Part>> {
-    let Some(number) = read_number(position) else {
-        return quote(why, position, NO_POSITION).map(|()| None);
-    };
-    match words.first() {
-        Some(name) if is_on_none(*name) => quote(why, *name, NEEDS_NO_POSITION).map(|()| None),
-        _ => part_at(
-            alloc,
-            usize::try_from(number).unwrap_or(usize::MAX),
-            words,
-            why,
-        ),
+// The byte string that a word is.
+fn read_bytes<'a>(alloc: Global, word: &'a [u8]) -> Spelled<'a, IVec> {
+    match read_word(alloc, word)? {
+        Some(bytes) => Ok(bytes),
+        None => Err(Misfit::Word(word, NO_BYTES)),
     }
 }
 
-// The part that words spell; or why they spell none.
-fn part_of(
-    alloc: Global,
-    words: &[&[u8]],
-    reach: Reach,
-    why: &mut Vec<u8>,
-) -> Result<Option<Part>> {
-    match (reach, words) {
-        (Reach::List, [first, words @ ..]) if !is_on_none(*first) => {
-            part_behind(alloc, *first, words, why)
-        }
-        _ => part_at(alloc, 0, words, why),
-    }
-}
-
-// The parts that words spell, up to the first that cannot be read; of it is added why.
-fn parts_of(alloc: Global, words: &[&[u8]], reach: Reach, why: &mut Vec<u8>) -> Result<Vec<Part>> {
-    let mut parts = Vec::new(alloc);
-    for words in words.split(is_semicolon) {
-        match part_of(alloc, words, reach, why) {
-            Ok(Some(part)) => parts.push(part)?,
-            Ok(None) => break,
-            Err(e) => {
-                drop(parts);
-                return Err(e);
-            }
+// The insert of two words.
+fn insert_of<'a>(alloc: Global, key: &'a [u8], value: &'a [u8]) -> Spelled<'a, Act> {
+    let key = read_bytes(alloc, key)?;
+    match read_bytes(alloc, value) {
+        Ok(value) => Ok(Act::Insert(key, value)),
+        Err(misfit) => {
+            drop(key);
+            Err(misfit)
         }
     }
-    Ok(parts)
 }
 
-fn below_of(words: &[&[u8]], why: &mut Vec<u8>) -> Result<Option<End>> {
-    let [word] = words else {
-        return tell_taken(why, "conflict-below", "N, one word").map(|()| None);
-    };
-    match read_number(*word) {
-        Some(number) => Ok(Some(End::ConflictBelow(number))),
-        None => quote(why, *word, NO_NUMBER).map(|()| None),
-    }
-}
-
-// The end that words spell; or why they spell none.
-fn end_of(words: &[&[u8]], why: &mut Vec<u8>) -> Result<Option<End>> {
-    let [name, words @ ..] = words else {
-        return push_text(why, MISSING_END).map(|()| None);
-    };
-    if *name == b"commit".as_slice() {
-        alone(why, words, "commit", End::Commit)
-    } else if *name == b"abort".as_slice() {
-        alone(why, words, "abort", End::Abort)
-    } else if *name == b"conflict".as_slice() {
-        alone(why, words, "conflict", End::Conflict)
-    } else if *name == b"conflict-below".as_slice() {
-        below_of(words, why)
+// Adds the write of a key to a batch, by the word of its value, or of none.
+fn write<'a>(alloc: Global, batch: &mut Batch, key: &[u8], value: &'a [u8]) -> Spelled<'a, ()> {
+    let written = if value == b"-".as_slice() {
+        batch.remove(alloc, key)
     } else {
-        quote(why, *name, NO_END).map(|()| None)
+        let value = read_bytes(alloc, value)?;
+        let written = batch.insert(alloc, key, value.as_ref());
+        drop(value);
+        written
+    };
+    Ok(written?)
+}
+
+// Adds the write of two words to a batch.
+fn add_write<'a>(
+    alloc: Global,
+    batch: &mut Batch,
+    key: &'a [u8],
+    value: &'a [u8],
+) -> Spelled<'a, ()> {
+    let key = read_bytes(alloc, key)?;
+    let written = write(alloc, batch, key.as_ref(), value);
+    drop(key);
+    written
+}
+
+// Adds the writes of words, keys and values in turn, to a batch.
+fn add_writes<'a>(alloc: Global, batch: &mut Batch, words: &'a [&'a [u8]]) -> Spelled<'a, ()> {
+    let (pairs, _) = words.as_chunks::<2>();
+    for [key, value] in pairs {
+        add_write(alloc, batch, *key, *value)?;
+    }
+    Ok(())
+}
+
+// The batch of keys and values in turn.
+fn batch_of<'a>(alloc: Global, words: &'a [&'a [u8]]) -> Spelled<'a, Act> {
+    let mut batch = Batch::default(alloc);
+    match add_writes(alloc, &mut batch, words) {
+        Ok(()) => Ok(Act::Batch(batch)),
+        Err(misfit) => {
+            drop(batch);
+            Err(misfit)
+        }
+    }
+}
+
+// What a part of this name does by the words behind it.
+fn act_by<'a>(
+    alloc: Global,
+    verb: Verb,
+    name: &'a [u8],
+    words: &'a [&'a [u8]],
+) -> Spelled<'a, Act> {
+    match (verb, words) {
+        (Verb::Get, [key]) => read_bytes(alloc, *key).map(Act::Get),
+        (Verb::Remove, [key]) => read_bytes(alloc, *key).map(Act::Remove),
+        (Verb::Insert, [key, value]) => insert_of(alloc, *key, *value),
+        (Verb::Batch, _) if words.len() % 2 == 0 => batch_of(alloc, words),
+        (Verb::Flush, []) => Ok(Act::Flush),
+        (Verb::Id, []) => Ok(Act::Id),
+        _ => Err(Misfit::Word(name, verb.takes())),
+    }
+}
+
+// What words say that a part does.
+fn act_of<'a>(alloc: Global, words: &'a [&'a [u8]]) -> Spelled<'a, Act> {
+    match words {
+        [name, words @ ..] => act_by(alloc, verb_of(*name)?, *name, words),
+        [] => Err(Misfit::Missing(MISSING_PART)),
+    }
+}
+
+// The position that stands before the words of a part.
+fn position_of<'a>(position: &'a [u8], words: &'a [&'a [u8]]) -> Spelled<'a, usize> {
+    let Some(number) = read_number(position) else {
+        return Err(Misfit::Word(position, NO_POSITION));
+    };
+    match words {
+        [name, ..] if is_on_none(*name) => Err(Misfit::Word(*name, NEEDS_NO_POSITION)),
+        _ => Ok(usize::try_from(number).unwrap_or(usize::MAX)),
+    }
+}
+
+// The part that words spell.
+fn part_of<'a>(alloc: Global, words: &'a [&'a [u8]], reach: Reach) -> Spelled<'a, Part> {
+    let (position, words) = match (reach, words) {
+        (Reach::List, [first, words @ ..]) if !is_on_none(*first) => {
+            (position_of(*first, words)?, words)
+        }
+        _ => (0, words),
+    };
+    Ok(Part {
+        position,
+        act: act_of(alloc, words)?,
+    })
+}
+
+// The end that words spell.
+fn end_of<'a>(words: &'a [&'a [u8]]) -> Spelled<'a, End> {
+    let [name, words @ ..] = words else {
+        return Err(Misfit::Missing(MISSING_END));
+    };
+    let Some(end) = find(&ENDS, *name) else {
+        return Err(Misfit::Word(*name, NO_END));
+    };
+    match (end, words) {
+        (End::ConflictBelow(_), [word]) => match read_number(*word) {
+            Some(number) => Ok(End::ConflictBelow(number)),
+            None => Err(Misfit::Word(*word, NO_NUMBER)),
+        },
+        (End::ConflictBelow(_), _) => Err(Misfit::Word(*name, "takes N, one word")),
+        (end, []) => Ok(end),
+        _ => Err(Misfit::Word(*name, "takes no words")),
     }
 }
 
@@ -338,48 +302,48 @@ pub(crate) fn cut_first<'a, 'b>(words: &'a [&'b [u8]]) -> (&'a [&'b [u8]], &'a [
     (words, &words[words.len()..])
 }
 
-// Words up to the last `;`, if there is one, and those behind it.
-fn cut_last<'a, 'b>(words: &'a [&'b [u8]]) -> (Option<&'a [&'b [u8]]>, &'a [&'b [u8]]) {
-    for back in 0..words.len() {
-        let place = words.len() - 1 - back;
-        if is_semicolon(&words[place]) {
-            return (Some(&words[..place]), &words[place + 1..]);
-        }
+// Adds the parts that words spell, and answers how they end.
+fn add_parts<'a>(
+    alloc: Global,
+    parts: &mut Vec<Part>,
+    words: &'a [&'a [u8]],
+    reach: Reach,
+) -> Spelled<'a, End> {
+    let mut pieces = words.split(is_semicolon);
+    let last = pieces.next_back();
+    for words in pieces {
+        parts.push(part_of(alloc, words, reach)?)?;
     }
-    (None, words)
+    end_of(last.unwrap_or(&[]))
 }
 
-/// What words say that a transaction does; or why they say nothing.
-pub(crate) fn read_script(
+/// What words say that a transaction does.
+pub(crate) fn read_script<'a>(
     alloc: Global,
-    words: &[&[u8]],
+    words: &'a [&'a [u8]],
     reach: Reach,
-    why: &mut Vec<u8>,
-) -> Result<Option<Script>> {
-    let (before, last) = cut_last(words);
-    let parts = match before {
-        Some(words) => parts_of(alloc, words, reach, why)?,
-        None => Vec::new(alloc),
-    };
-    let end = if why.is_empty() {
-        end_of(last, why)
-    } else {
-        Ok(None)
-    };
-    match end {
-        Ok(Some(end)) => Ok(Some(Script { parts, end })),
-        other => {
+) -> Spelled<'a, Script> {
+    let mut parts = Vec::new(alloc);
+    match add_parts(alloc, &mut parts, words, reach) {
+        Ok(end) => Ok(Script { parts, end }),
+        Err(misfit) => {
             drop(parts);
-            other.map(|_| None)
+            Err(misfit)
         }
     }
 }
 
 // Adds why words spell no script, if they do not.
 fn check_parts(alloc: Global, words: &[&[u8]], reach: Reach, why: &mut Vec<u8>) -> Result<()> {
-    let script = read_script(alloc, words, reach, why)?;
-    drop(script);
-    Ok(())
+    match read_script(alloc, words, reach) {
+        Ok(script) => {
+            drop(script);
+            Ok(())
+        }
+        Err(Misfit::NoMemory) => Err(Error::NoMemory),
+        Err(Misfit::Word(word, said)) => quote(why, word, said),
+        Err(Misfit::Missing(said)) => push_text(why, said),
+    }
 }
 
 /// Adds why words spell no transaction, if they do not.
