@@ -1,9 +1,8 @@
 //! Steps of a machine that keep copies of the reply.
-use crate::calls::add;
-use sled::{Call, Db, MemPages, Outcome, Reply, Result, Slot, Subscriber, Tree, empty_pages};
+use crate::calls::watched;
+use crate::report::Report;
+use sled::{Call, Db, MemPages, Outcome, Reply, Result, Slot, Subscriber, Tree};
 use sled_calls::Machine;
-use std::alloc::Global;
-use std::io;
 use std::ops::Bound;
 
 // More steps than any of the calls takes.
@@ -19,181 +18,79 @@ fn step(machine: &mut Machine<MemPages>, slot: Slot) -> (Outcome, Option<(Reply,
 }
 
 // Prints how a step came out, and the copies that are kept of its reply. Tells whether the call goes on.
-fn tell_step(rt: &HostRuntime, machine: &mut Machine<MemPages>, slot: Slot) -> io::Result<bool> {
+fn tell_step(report: &Report, machine: &mut Machine<MemPages>, slot: Slot) -> bool {
     let told = step(machine, slot);
     let goes_on = matches!(&told.0, Outcome::Moved | Outcome::Yielded(..));
-    let printed = println!(rt; "{:?}, kept: {:?}", told.0, told.1);
+    report.tell(format_args!("{:?}, kept: {:?}", told.0, told.1));
     drop(told);
-    printed.map(|()| goes_on)
+    goes_on
+}
+
+// Prints all steps of a call that has begun, or why it has not.
+fn tell_steps(report: &Report, machine: &mut Machine<MemPages>, begun: Result<Slot>) {
+    match begun {
+        Ok(slot) => {
+            for _ in 0..STEPS {
+                if !tell_step(report, machine, slot) {
+                    return;
+                }
+            }
+        }
+        Err(e) => report.tell(e),
+    }
 }
 
 // Prints all steps of a call.
-fn tell_steps(
-    rt: &HostRuntime,
-    machine: &mut Machine<MemPages>,
-    tree: &Tree,
-    call: Call,
-) -> io::Result<()> {
-    let slot = match begin(machine, tree, call) {
-        Ok(slot) => slot,
-        Err(e) => return println!(rt; "{e}"),
-    };
-    for _ in 0..STEPS {
-        if !tell_step(rt, machine, slot)? {
-            return Ok(());
-        }
+fn tell_call(report: &Report, machine: &mut Machine<MemPages>, tree: &Tree, call: Result<Call>) {
+    if let Some(call) = report.keep(call) {
+        let begun = begin(machine, tree, call);
+        tell_steps(report, machine, begun);
     }
-    Ok(())
 }
 
-// A call of each kind at one key, one that finds nothing to change, and a scan.
-fn add_all(alloc: Global, calls: &mut Vec<Call>) -> Result<()> {
-    add(calls, Call::insert(alloc, b"ulm", b"21"))?;
-    add(calls, Call::insert(alloc, b"ulm", b"21"))?;
-    add(calls, Call::insert(alloc, b"bern", b"17"))?;
-    add(calls, Call::get(alloc, b"ulm"))?;
-    add(
-        calls,
-        Call::compare_and_swap(alloc, b"ulm", Some(b"20"), None),
-    )
+// Prints all steps of calls, some of which find nothing to change.
+fn tell_changes(report: &Report, machine: &mut Machine<MemPages>, tree: &Tree) {
+    let alloc = report.alloc();
+    tell_call(report, machine, tree, Call::insert(alloc, b"ulm", b"21"));
+    tell_call(report, machine, tree, Call::insert(alloc, b"ulm", b"21"));
+    tell_call(report, machine, tree, Call::insert(alloc, b"bern", b"17"));
+    tell_call(report, machine, tree, Call::get(alloc, b"ulm"));
+    let swap = Call::compare_and_swap(alloc, b"ulm", Some(b"20"), None);
+    tell_call(report, machine, tree, swap);
 }
 
-// More of them.
-fn add_more(alloc: Global, calls: &mut Vec<Call>) -> Result<()> {
-    add(
-        calls,
-        Call::compare_and_swap(alloc, b"ulm", Some(b"21"), Some(b"22")),
-    )?;
-    add(calls, Call::merge(alloc, b"ulm", b"1"))?;
-    add(calls, Call::remove(alloc, b"ulm"))?;
-    add(calls, Call::remove(alloc, b"ulm"))?;
-    add(
-        calls,
-        Call::scan(alloc, Bound::Unbounded, Bound::Unbounded, false),
-    )
-}
-
-fn add_both(alloc: Global, calls: &mut Vec<Call>) -> Result<()> {
-    add_all(alloc, calls)?;
-    add_more(alloc, calls)
-}
-
-// The same in a list of their own.
-fn calls(alloc: Global) -> Result<Vec<Call>> {
-    let mut calls = Vec::new(alloc);
-    match add_both(alloc, &mut calls) {
-        Ok(()) => Ok(calls),
-        Err(e) => {
-            drop(calls);
-            Err(e)
-        }
-    }
+// .. and of others after them, with a scan at the end.
+fn tell_others(report: &Report, machine: &mut Machine<MemPages>, tree: &Tree) {
+    let alloc = report.alloc();
+    let swap = Call::compare_and_swap(alloc, b"ulm", Some(b"21"), Some(b"22"));
+    tell_call(report, machine, tree, swap);
+    tell_call(report, machine, tree, Call::merge(alloc, b"ulm", b"1"));
+    tell_call(report, machine, tree, Call::remove(alloc, b"ulm"));
+    tell_call(report, machine, tree, Call::remove(alloc, b"ulm"));
+    let scan = Call::scan(alloc, Bound::Unbounded, Bound::Unbounded, false);
+    tell_call(report, machine, tree, scan);
 }
 
 // Prints what a subscriber is told, until nothing waits.
-fn tell_events(rt: &HostRuntime, db: &mut Db<MemPages>, subscriber: &Subscriber) -> io::Result<()> {
+fn tell_events(report: &Report, db: &mut Db<MemPages>, subscriber: &Subscriber) {
     for _ in 0..STEPS {
-        match db.next(subscriber) {
-            Some(next) => {
-                let told = println!(rt; "told: {:?}", next);
-                drop(next);
-                told?;
-            }
-            None => return Ok(()),
-        }
-    }
-    Ok(())
-}
-
-// Prints all steps of a call like this.
-fn tell_copy(
-    rt: &HostRuntime,
-    machine: &mut Machine<MemPages>,
-    tree: &Tree,
-    call: &Call,
-) -> io::Result<()> {
-    match call.clone() {
-        Ok(call) => tell_steps(rt, machine, tree, call),
-        Err(e) => println!(rt; "{e}"),
+        let Some(next) = db.next(subscriber) else {
+            return;
+        };
+        report.show("told:", next);
     }
 }
 
-// Prints all steps of all calls.
-fn tell_calls(
-    rt: &HostRuntime,
-    machine: &mut Machine<MemPages>,
-    tree: &Tree,
-    calls: &[Call],
-) -> io::Result<()> {
-    for call in calls {
-        tell_copy(rt, machine, tree, call)?;
-    }
-    Ok(())
-}
-
-// The same on a machine of its own. The database comes back.
-fn tell_machine(
-    rt: &HostRuntime,
-    db: Db<MemPages>,
-    tree: &Tree,
-    calls: &[Call],
-) -> (Db<MemPages>, io::Result<()>) {
+/// Prints how calls came out step by step, what was kept of their replies, and which events a subscriber was told. The database comes
+/// back.
+pub fn tell_on(report: &Report, mut db: Db<MemPages>, tree: &Tree) -> Db<MemPages> {
+    let subscriber = report.keep(watched(&mut db, tree, b""));
     let mut machine = Machine::new(db);
-    let told = tell_calls(rt, &mut machine, tree, calls);
-    (machine.into_db(), told)
-}
-
-// The default tree, and a subscriber to it.
-fn watched(db: &mut Db<MemPages>) -> Result<(Tree, Subscriber)> {
-    let tree = db.default_tree()?;
-    match db.watch_prefix(&tree, b"") {
-        Ok(subscriber) => Ok((tree, subscriber)),
-        Err(e) => {
-            drop(tree);
-            Err(e)
-        }
+    tell_changes(report, &mut machine, tree);
+    tell_others(report, &mut machine, tree);
+    let mut db = machine.into_db();
+    if let Some(subscriber) = subscriber {
+        tell_events(report, &mut db, &subscriber);
     }
-}
-
-fn tell_all(rt: &HostRuntime, db: Db<MemPages>, calls: &[Call]) -> io::Result<()> {
-    let mut db = db;
-    match watched(&mut db) {
-        Ok((tree, subscriber)) => {
-            let (mut db, told) = tell_machine(rt, db, &tree, calls);
-            drop(tree);
-            let more = tell_events(rt, &mut db, &subscriber);
-            drop(db.into_pages());
-            told.and(more)
-        }
-        Err(e) => {
-            drop(db.into_pages());
-            println!(rt; "{e}")
-        }
-    }
-}
-
-// The same of calls that come from a list.
-fn tell_listed(rt: &HostRuntime, db: Db<MemPages>) -> io::Result<()> {
-    match calls(rt.alloc()) {
-        Ok(calls) => {
-            let told = tell_all(rt, db, calls.as_slice());
-            drop(calls);
-            told
-        }
-        Err(e) => {
-            drop(db.into_pages());
-            println!(rt; "{e}")
-        }
-    }
-}
-
-/// Prints how calls came out step by step, what was kept of their replies, and which events a subscriber was told.
-pub fn tell(rt: &HostRuntime) -> io::Result<()> {
-    match Db::open(rt.alloc(), empty_pages(rt.alloc()), b"weather") {
-        Ok(db) => tell_listed(rt, db),
-        Err((pages, e)) => {
-            drop(pages);
-            println!(rt; "{e}")
-        }
-    }
+    db
 }

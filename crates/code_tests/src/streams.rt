@@ -1,9 +1,9 @@
 //! Readers and writers that fail, and a reader that waits for each answer.
+use crate::report::Report;
 use sled_lines::serve::serve;
 use std::alloc::Global;
-use std::io::{self, BufRead, Read, Write};
-use std::sync::Arc;
-use std::sync::atomic::{AtomicU64, Ordering};
+use std::cell::Cell;
+use std::io::{self, BufRead, ErrorKind, Read, Write};
 
 // A reader that gives one line at a time. It fails where a line is not answered yet, and at its end if it is cut.
 #[derive(Drop)]
@@ -11,7 +11,7 @@ struct Lines<'a> {
     rest: &'a [u8],
     is_cut: bool,
     given: u64,
-    answers: Arc<AtomicU64>,
+    answers: &'a Cell<u64>,
 }
 
 impl<'a> Read for Lines<'a> {
@@ -23,8 +23,8 @@ impl<'a> Read for Lines<'a> {
 impl<'a> BufRead for Lines<'a> {
     fn fill_buf(&mut self) -> io::Result<&[u8]> {
         let is_over = self.rest.is_empty() && self.is_cut;
-        if is_over || self.answers.load(Ordering::SeqCst) < self.given {
-            return Err(io::Error::from(io::ErrorKind::Other));
+        if is_over || self.answers.get() < self.given {
+            return Err(io::Error::from(ErrorKind::Other));
         }
         let line = self.rest.split_inclusive(|byte| *byte == b'\n').next();
         Ok(line.unwrap_or(self.rest))
@@ -36,22 +36,51 @@ impl<'a> BufRead for Lines<'a> {
     }
 }
 
-// A writer that takes so many bytes and then fails, and may fail at a flush. It counts the lines.
+// A reader that holds all of its lines. It fails when it is looked at for the third time, which is for the second line.
 #[derive(Drop)]
-struct Page {
-    room: usize,
-    flushes: bool,
-    answers: Arc<AtomicU64>,
+struct Held<'a> {
+    rest: &'a [u8],
+    kind: ErrorKind,
+    looks: u64,
 }
 
-impl Write for Page {
+impl<'a> Read for Held<'a> {
+    fn read(&mut self, buf: &mut [u8]) -> io::Result<usize> {
+        self.rest.read(buf)
+    }
+}
+
+impl<'a> BufRead for Held<'a> {
+    fn fill_buf(&mut self) -> io::Result<&[u8]> {
+        self.looks = self.looks.wrapping_add(1);
+        if self.looks == 3 {
+            return Err(io::Error::from(self.kind));
+        }
+        Ok(self.rest)
+    }
+
+    fn consume(&mut self, amount: usize) {
+        self.rest.consume(amount)
+    }
+}
+
+// A writer that takes so many bytes and then fails, and may fail at a flush. It counts the lines.
+#[derive(Drop)]
+struct Page<'a> {
+    room: usize,
+    flushes: bool,
+    answers: &'a Cell<u64>,
+}
+
+impl<'a> Write for Page<'a> {
     fn write(&mut self, buf: &[u8]) -> io::Result<usize> {
         if self.room < buf.len() {
-            return Err(io::Error::from(io::ErrorKind::Other));
+            return Err(io::Error::from(ErrorKind::Other));
         }
         self.room -= buf.len();
         let lines = buf.iter().filter(|byte| **byte == b'\n').count();
-        self.answers.fetch_add(lines as u64, Ordering::SeqCst);
+        self.answers
+            .set(self.answers.get().wrapping_add(lines as u64));
         Ok(buf.len())
     }
 
@@ -59,17 +88,17 @@ impl Write for Page {
         if self.flushes {
             Ok(())
         } else {
-            Err(io::Error::from(io::ErrorKind::Other))
+            Err(io::Error::from(ErrorKind::Other))
         }
     }
 }
 
-/// What a case shows; its lines, whether the reader fails at their end, how many bytes the writer takes, and whether it can be
-/// flushed.
-pub type Case = (&'static str, &'static [u8], bool, usize, bool);
+// What a case shows; its lines, whether the reader fails at their end, how many bytes the writer takes, and whether it can be
+// flushed.
+type Case = (&'static str, &'static [u8], bool, usize, bool);
 
-/// Output is flushed before the first line is waited for, so where that fails no line is answered.
-pub const CASES: [Case; 7] = [
+// Output is flushed before the first line is waited for, so where that fails no line is answered.
+const CASES: [Case; 7] = [
     (
         "a read fails within a line",
         b"insert a 1\nget a\nge",
@@ -97,21 +126,58 @@ pub const CASES: [Case; 7] = [
     ),
 ];
 
-/// The exit status, and how many lines were written.
-pub fn served(alloc: Global, case: &Case) -> io::Result<(u8, u64)> {
+// The exit status, and how many lines were written.
+fn served(alloc: Global, case: &Case) -> (u8, u64) {
     let (_, rest, is_cut, room, flushes) = *case;
-    let answers = Arc::new(alloc, AtomicU64::new(0))?;
+    let answers = Cell::new(0);
     let mut input = Lines {
         rest,
         is_cut,
         given: 0,
-        answers: Arc::try_clone(&answers)?,
+        answers: &answers,
     };
     let mut output = Page {
         room,
         flushes,
-        answers: Arc::try_clone(&answers)?,
+        answers: &answers,
     };
-    let ended = serve(alloc, &mut input, &mut output);
-    Ok((ended, answers.load(Ordering::SeqCst)))
+    let status = serve(alloc, &mut input, &mut output);
+    (status, answers.get())
+}
+
+// The same of two lines that the reader holds, of which the second is not read at once.
+fn served_held(alloc: Global, kind: ErrorKind) -> (u8, u64) {
+    let answers = Cell::new(0);
+    let mut input = Held {
+        rest: b"get a\nget a\n",
+        kind,
+        looks: 0,
+    };
+    let mut output = Page {
+        room: 99,
+        flushes: true,
+        answers: &answers,
+    };
+    let status = serve(alloc, &mut input, &mut output);
+    (status, answers.get())
+}
+
+fn tell_served(report: &Report, what: &str, (status, lines): (u8, u64)) {
+    report.tell(format_args!("{what}: status {status} and {lines} lines"));
+}
+
+/// Prints what comes of each case.
+pub fn tell(report: &Report) {
+    let alloc = report.alloc();
+    for case in &CASES {
+        tell_served(report, case.0, served(alloc, case));
+    }
+    let failed = served_held(alloc, ErrorKind::Other);
+    tell_served(report, "the read of a held line fails", failed);
+    let interrupted = served_held(alloc, ErrorKind::Interrupted);
+    tell_served(
+        report,
+        "the read of a held line is interrupted",
+        interrupted,
+    );
 }

@@ -1,67 +1,59 @@
 //! The errors of transactions, with their texts and clones, and how often a closure is run.
+use crate::report::{Report, is_same};
 use sled::{
     ConflictableTransactionError, Db, MemPages, TransactionError, TransactionResult,
-    UnabortableTransactionError, empty_pages,
+    UnabortableTransactionError,
 };
 use sled_model::Tree;
 use sled_nodes::{Error, IVec, Result};
-use std::alloc::Global;
 use std::cell::Cell;
+use std::fmt::{Debug, Display};
 
-/// Why a call inside is refused.
-pub fn refusals() -> [UnabortableTransactionError; 2] {
-    [
-        UnabortableTransactionError::Conflict,
+// Prints an error, and whether its clone is the same.
+fn tell_error<E: Debug + Display + PartialEq + Drop>(report: &Report, error: E, copy: Result<E>) {
+    let is_same = is_same(&error, copy).unwrap_or(false);
+    report.tell(format_args!("{error}; {error:?}; its clone is the same: {is_same}"));
+    drop(error);
+}
+
+// Why a call inside is refused.
+fn tell_refusal(report: &Report, refusal: UnabortableTransactionError) {
+    let copy = refusal.clone();
+    tell_error(report, refusal, copy);
+}
+
+// How a closure ends.
+fn tell_ending(report: &Report, ending: ConflictableTransactionError<u64>) {
+    let copy = ending.clone();
+    tell_error(report, ending, copy);
+}
+
+// What a transaction answers that does not answer `Ok`.
+fn tell_answer(report: &Report, answer: TransactionError<u64>) {
+    let copy = answer.clone();
+    tell_error(report, answer, copy);
+}
+
+/// Prints all of them.
+pub fn tell_errors(report: &Report) {
+    tell_refusal(report, UnabortableTransactionError::Conflict);
+    tell_refusal(
+        report,
         UnabortableTransactionError::Storage(Error::NoMemory),
-    ]
-}
-
-/// Whether a clone of a refusal is the same.
-pub fn is_refused_alike(refusal: &UnabortableTransactionError) -> Result<bool> {
-    let copy = refusal.clone()?;
-    let is_same = copy == *refusal;
-    drop(copy);
-    Ok(is_same)
-}
-
-/// How a closure may end.
-pub fn endings() -> [ConflictableTransactionError<u64>; 3] {
-    [
-        ConflictableTransactionError::Abort(7),
-        ConflictableTransactionError::Conflict,
+    );
+    tell_ending(report, ConflictableTransactionError::Abort(7));
+    tell_ending(report, ConflictableTransactionError::Conflict);
+    tell_ending(
+        report,
         ConflictableTransactionError::Storage(Error::NoMemory),
-    ]
+    );
+    tell_answer(report, TransactionError::Abort(7));
+    tell_answer(report, TransactionError::Storage(Error::NoMemory));
 }
 
-/// Whether a clone of an ending is the same.
-pub fn is_ended_alike(ending: &ConflictableTransactionError<u64>) -> Result<bool> {
-    let copy = ending.clone()?;
-    let is_same = copy == *ending;
-    drop(copy);
-    Ok(is_same)
-}
-
-/// What a transaction answers that does not answer `Ok`.
-pub fn answers() -> [TransactionError<u64>; 2] {
-    [
-        TransactionError::Abort(7),
-        TransactionError::Storage(Error::NoMemory),
-    ]
-}
-
-/// Whether a clone of an answer is the same.
-pub fn is_answered_alike(answer: &TransactionError<u64>) -> Result<bool> {
-    let copy = answer.clone()?;
-    let is_same = copy == *answer;
-    drop(copy);
-    Ok(is_same)
-}
-
-/// How often a closure was run, and whether its transaction was made.
-pub type Runs = (u32, bool);
-
-// A transaction that meets so many conflicts before it writes, and takes no id.
-fn count_runs(db: &mut Db<MemPages>, tree: &Tree, conflicts: u32) -> Runs {
+// How often the closure of a transaction is run that meets so many conflicts before it writes and takes no id, and whether the
+// transaction is made.
+fn runs(db: &mut Db<MemPages>, tree: &Tree, conflicts: u32) -> (u32, bool) {
     let count = Cell::new(0u32);
     let ended: TransactionResult<(), ()> = db.transaction(tree, |inside| {
         count.set(count.get().wrapping_add(1));
@@ -81,59 +73,44 @@ fn is_moved(db: &Db<MemPages>, from: &Tree, to: &Tree) -> Result<bool> {
     Ok(!db.contains_key(from, b"ulm")? && db.contains_key(to, b"ulm")?)
 }
 
-// Moves the value of `ulm` from the first tree to the second: what it was, and whether it is gone from the one and in the other.
-fn move_value(db: &mut Db<MemPages>, from: &Tree, to: &Tree) -> Result<(Option<IVec>, bool)> {
-    drop(db.insert(from, b"ulm", b"21")?);
+// Moves the value of `ulm` from the first tree to the second: what it was.
+fn take(db: &mut Db<MemPages>, from: &Tree, to: &Tree) -> Option<IVec> {
     let ended: TransactionResult<Option<IVec>, ()> = db.transaction_all(&[from, to], |both| {
         let value = both.remove(0, b"ulm")?;
         both.insert(1, b"ulm", b"22")?;
         Ok(value)
     });
-    let value = ended.unwrap_or(None);
-    match is_moved(db, from, to) {
-        Ok(is_moved) => Ok((value, is_moved)),
-        Err(e) => {
-            drop(value);
-            Err(e)
-        }
+    ended.unwrap_or(None)
+}
+
+// The same after `ulm` was given a value, and whether it is gone from the one tree and in the other.
+fn move_value(db: &mut Db<MemPages>, from: &Tree, to: &Tree) -> Result<(Option<IVec>, bool)> {
+    drop(db.insert(from, b"ulm", b"21")?);
+    let value = take(db, from, to);
+    Ok((value, is_moved(db, from, to)?))
+}
+
+// Prints what comes of closures that meet a few conflicts, as many as there may be, and one more.
+fn tell_runs(report: &Report, db: &mut Db<MemPages>, tree: &Tree) {
+    let few = runs(db, tree, 3);
+    let most = runs(db, tree, 999_999);
+    let more = runs(db, tree, 1_000_000);
+    let words = "3, 999,999 and 1,000,000 conflicts: closures were run";
+    report.show(words, (few, most, more));
+}
+
+// Prints what comes of a value that is moved to another tree.
+fn tell_move(report: &Report, db: &mut Db<MemPages>, from: &Tree) {
+    if let Some(to) = report.keep(db.open_tree(b"other")) {
+        let moved = move_value(db, from, &to);
+        drop(to);
+        report.show("a value is moved to another tree:", moved);
     }
 }
 
-// The same between the default tree and another one.
-fn move_on(db: &mut Db<MemPages>) -> Result<(Option<IVec>, bool)> {
-    let from = db.default_tree()?;
-    let to = db.open_tree(b"other")?;
-    let moved = move_value(db, &from, &to);
-    drop(from);
-    drop(to);
-    moved
-}
-
-// The same in the default tree, of a few conflicts, as many as there may be, and one more.
-fn runs_on(db: &mut Db<MemPages>) -> Result<(Runs, Runs, Runs)> {
-    let tree = db.default_tree()?;
-    let runs = (
-        count_runs(db, &tree, 3),
-        count_runs(db, &tree, 999_999),
-        count_runs(db, &tree, 1_000_000),
-    );
-    drop(tree);
-    Ok(runs)
-}
-
-/// What comes of closures that meet 3, 999,999 and 1,000,000 conflicts; and what a value was that one moves from a tree to another, and
-/// whether it is moved.
-pub fn runs(alloc: Global) -> Result<((Runs, Runs, Runs), Result<(Option<IVec>, bool)>)> {
-    match Db::open(alloc, empty_pages(alloc), b"weather") {
-        Ok(mut db) => {
-            let runs = runs_on(&mut db);
-            let moved = move_on(&mut db);
-            drop(db.into_pages());
-            Ok((runs?, moved))
-        }
-        Err((pages, e)) => {
-            drop(pages);
-            Err(e)
-        }
-    }
+/// Prints what comes of transactions. The database comes back.
+pub fn tell_on(report: &Report, mut db: Db<MemPages>, tree: &Tree) -> Db<MemPages> {
+    tell_runs(report, &mut db, tree);
+    tell_move(report, &mut db, tree);
+    db
 }

@@ -1,4 +1,5 @@
 //! The load by batches in `examples`, into the first tree.
+use crate::pairs::pair;
 use crate::trial::Trial;
 use examples::load;
 use sled_nodes::{IVec, Result};
@@ -7,38 +8,30 @@ use std::alloc::Global;
 // So many pairs, in two batches and a half.
 const COUNT: u64 = 250;
 
-fn pair(alloc: Global, number: u64) -> Result<(IVec, IVec)> {
-    let key = IVec::from_slice(alloc, &number.to_be_bytes())?;
-    match IVec::from_slice(alloc, b"new") {
-        Ok(value) => Ok((key, value)),
-        Err(e) => {
-            drop(key);
-            Err(e)
-        }
-    }
-}
-
+// Adds all pairs of the load.
 fn fill(alloc: Global, pairs: &mut Vec<(IVec, IVec)>) -> Result<()> {
     for number in 0..COUNT {
-        pairs.push(pair(alloc, number)?)?;
+        pairs.push(pair(alloc, &number.to_be_bytes(), b"new")?)?;
     }
     Ok(())
 }
 
+// Loads these pairs.
+fn load_pairs(trial: &mut Trial, pairs: &[(IVec, IVec)]) {
+    let loaded = load(&mut trial.db, &trial.first, pairs);
+    trial.seen.made(loaded);
+}
+
 /// Loads pairs.
-pub fn loads(trial: &mut Trial) {
+pub fn load_all(trial: &mut Trial) {
     let alloc = trial.db.allocator();
     let mut pairs = Vec::new(alloc);
     trial.seen.made(fill(alloc, &mut pairs));
-    let loaded = load(&mut trial.db, &trial.first, pairs.as_slice());
+    load_pairs(trial, pairs.as_slice());
     drop(pairs);
-    trial.seen.made(loaded);
 }
 
 /// Whether so many pairs are there.
 pub fn are_loaded(trial: &mut Trial, count: usize) {
-    match trial.db.len(&trial.first) {
-        Ok(len) => trial.seen.that(len == count),
-        Err(e) => trial.seen.refuse(e),
-    }
+    trial.seen.told(trial.db.len(&trial.first), count);
 }

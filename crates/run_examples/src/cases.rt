@@ -1,21 +1,22 @@
 //! What the examples are run for.
+use crate::batches::{are_loaded, load_all};
 use crate::copies::copies_all;
 use crate::counters::counts;
-use crate::crashes::Example;
 use crate::endings::{begins_anew, follows};
 use crate::events::reads_events;
 use crate::fresh::{Fresh, opened};
 use crate::index::finds_entries;
-use crate::jobs::takes;
+use crate::jobs::{are_in_one, take_both, takes};
 use crate::seen::Seen;
 use crate::stock::moves;
-use crate::transfers::pays;
-use crate::trial::Trial;
+use crate::transfers::{come_to_hundred, fill_till, pay_twice, pays};
+use crate::trial::{Trial, run};
 use crate::typed::reads_readings;
-use crate::users::gives;
+use crate::users::{are_in_step, gives};
 use std::alloc::Global;
 
-/// A case of a new database.
+/// What is done with the two trees of a database at a time: the cases of a new one, and then those that only change it before a crash, and
+/// those that only see whether it is after one as it should be.
 #[derive(Clone, Copy)]
 pub enum Case {
     FindsEntries,
@@ -26,13 +27,22 @@ pub enum Case {
     Follows,
     BeginsAnew,
     Moves,
+    Gives,
     Pays,
     Takes,
-    Gives,
+    Load,
+    TakeBoth,
+    PayTwice,
+    FillTill,
+    AreAsMany,
+    AreLoaded(usize),
+    AreInStep,
+    AreInOne,
+    ComeToHundred,
 }
 
 impl Case {
-    fn run(self, trial: &mut Trial) {
+    pub fn run(self, trial: &mut Trial) {
         match self {
             Case::FindsEntries => finds_entries(trial),
             Case::ReadsReadings => reads_readings(trial),
@@ -42,54 +52,33 @@ impl Case {
             Case::Follows => follows(trial),
             Case::BeginsAnew => begins_anew(trial),
             Case::Moves => moves(trial),
+            Case::Gives => gives(trial),
             Case::Pays => pays(trial),
             Case::Takes => takes(trial),
-            Case::Gives => gives(trial),
+            Case::Load => load_all(trial),
+            Case::TakeBoth => take_both(trial),
+            Case::PayTwice => pay_twice(trial),
+            Case::FillTill => fill_till(trial),
+            Case::AreAsMany => trial.are_as_many(),
+            Case::AreLoaded(count) => are_loaded(trial, count),
+            Case::AreInStep => are_in_step(trial),
+            Case::AreInOne => are_in_one(trial),
+            Case::ComeToHundred => come_to_hundred(trial),
         }
-    }
-}
-
-/// What is done with a database at a time: a case, the changes of an example, or the look at what should hold after a crash.
-#[derive(Clone, Copy)]
-pub enum Part {
-    Case(Case),
-    Change(Example),
-    Look(Example),
-}
-
-impl Part {
-    fn run(self, trial: &mut Trial) {
-        match self {
-            Part::Case(case) => case.run(trial),
-            Part::Change(example) => example.change(trial),
-            Part::Look(example) => example.look(trial),
-        }
-    }
-}
-
-/// What is seen of a database. It comes back.
-pub fn run(db: Fresh, part: Part) -> (Seen, Fresh) {
-    match Trial::of(db) {
-        Ok(trial) => {
-            let mut trial = trial;
-            part.run(&mut trial);
-            trial.end()
-        }
-        Err(db) => (Seen::Refused, db),
     }
 }
 
 /// What is seen of a database, the last of it.
-pub fn run_last(db: Fresh, part: Part) -> Seen {
-    let (seen, db) = run(db, part);
+pub fn run_last(db: Fresh, case: Case) -> Seen {
+    let (seen, db) = run(db, case);
     drop(db.into_pages());
     seen
 }
 
-/// What is seen of a case.
+/// What is seen of a case in a new database.
 pub fn seen_of(alloc: Global, case: Case) -> Seen {
     match opened(alloc, b"shop") {
-        Ok(db) => run_last(db, Part::Case(case)),
+        Ok(db) => run_last(db, case),
         Err(e) => Seen::refused(e),
     }
 }

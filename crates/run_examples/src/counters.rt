@@ -20,13 +20,13 @@ pub fn add(trial: &mut Trial, name: &str, n: u64) {
 /// Sees whether a counter stands at a number.
 pub fn stands(trial: &mut Trial, name: &str, n: u64) {
     let count = count(&trial.db, &trial.first, name.as_bytes());
-    trial.seen.number(count, n);
+    trial.seen.told(count, n);
 }
 
 // Takes a ticket. Whether it has this number.
 fn take_ticket(trial: &mut Trial, name: &str, n: u64) {
     let ticket = next_ticket(&mut trial.db, &trial.first, name.as_bytes());
-    trial.seen.number(ticket, n);
+    trial.seen.told(ticket, n);
 }
 
 // How often a closure is asked by a call on this tree.
@@ -43,7 +43,7 @@ fn asks(db: &mut Fresh, tree: &Tree) -> u64 {
 // Whether a closure is asked once, and not at all for a tree that was dropped.
 fn asks_once(trial: &mut Trial) {
     let before = asks(&mut trial.db, &trial.second);
-    trial.seen.told(trial.db.drop_tree(b"second"));
+    trial.seen.told(trial.db.drop_tree(b"second"), true);
     let after = asks(&mut trial.db, &trial.second);
     trial.seen.that(before == 1 && after == 0);
 }

@@ -1,42 +1,42 @@
 //! The index by endings in `examples`, which follows the first tree, and begins anew where it missed events.
+use crate::seen::Seen;
 use crate::trial::Trial;
 use examples::{Endings, Progress, index_follows};
 use sled_model::QUEUE_LIMIT;
 
+// Three files are there.
 fn fill(trial: &mut Trial) {
-    trial.insert("src/lib.rs", "1");
-    trial.insert("src/old.rs", "2");
-    trial.insert("other.rs", "3");
+    trial.insert(b"src/lib.rs", b"1");
+    trial.insert(b"src/old.rs", b"2");
+    trial.insert(b"other.rs", b"3");
 }
 
 /// Whether the two files are found of which one was there before the index and one came after it, and not the one that went.
 pub fn follows(trial: &mut Trial) {
     fill(trial);
-    let (new, old) = (b"src/a.rs", b"src/old.rs");
-    let found = index_follows(&mut trial.db, &trial.first, b"src/", new, b"4", old, b".rs");
-    trial.found(found, &[("src/a.rs", "4"), ("src/lib.rs", "1")]);
+    let (db, files) = (&mut trial.db, &trial.first);
+    let found = index_follows(db, files, b"src/", b"src/a.rs", b"4", b"src/old.rs", b".rs");
+    trial.found(found, ("src/a.rs", "4"), ("src/lib.rs", "1"));
 }
 
 // More changes of one file than may wait for a subscriber. The last value is 6.
 fn change_often(trial: &mut Trial) {
     for _ in 0..QUEUE_LIMIT / 2 + 1 {
-        trial.insert("src/lib.rs", "5");
-        trial.insert("src/lib.rs", "6");
+        trial.insert(b"src/lib.rs", b"5");
+        trial.insert(b"src/lib.rs", b"6");
     }
 }
 
 // Takes an event, if one waits. Whether the index comes so far.
 fn catch_up(trial: &mut Trial, index: &mut Endings, to: Progress) {
-    match index.catch_up(&mut trial.db, 1) {
-        Ok(progress) => trial.seen.that(progress == to),
-        Err(e) => trial.seen.refuse(e),
-    }
+    let progress = index.catch_up(&mut trial.db, 1);
+    trial.seen.told(progress, to);
 }
 
 // Whether an index finds two files, the first with this value, and knows that it has all there is.
 fn has_both(trial: &mut Trial, index: &mut Endings, value: &str) {
     let found = index.find(&mut trial.db, b".rs");
-    trial.found(found, &[("src/lib.rs", value), ("src/old.rs", "2")]);
+    trial.found(found, ("src/lib.rs", value), ("src/old.rs", "2"));
     trial.seen.that(!index.is_lost());
 }
 
@@ -49,14 +49,9 @@ fn finds_again(trial: &mut Trial, index: &mut Endings) {
     trial.seen.that(index.is_lost());
     has_both(trial, index, "6");
     change_often(trial);
-    follows_on(trial, index);
-}
-
-// .. which is once before it was told, and once more as it follows again.
-fn follows_on(trial: &mut Trial, index: &mut Endings) {
-    trial.insert("src/lib.rs", "7");
+    trial.insert(b"src/lib.rs", b"7");
     has_both(trial, index, "7");
-    trial.insert("src/lib.rs", "8");
+    trial.insert(b"src/lib.rs", b"8");
     catch_up(trial, index, Progress::Partly);
     has_both(trial, index, "8");
 }
@@ -70,6 +65,6 @@ pub fn begins_anew(trial: &mut Trial) {
             finds_again(trial, &mut index);
             index.end(&mut trial.db);
         }
-        Err(e) => trial.seen.refuse(e),
+        Err(e) => trial.seen = Seen::refused(e),
     }
 }

@@ -1,24 +1,20 @@
 //! The jobs in `transaction_examples`: those that are ready, the first tree, and those that run, the second.
 use crate::seen::Seen;
 use crate::trial::Trial;
-use sled::TransactionError;
 use sled_nodes::Result;
-use transaction_examples::{settle, take_job};
+use transaction_examples::take_job;
 
 // Two jobs are ready.
 fn add_two(trial: &mut Trial) {
-    trial.insert("bern", "print");
-    trial.insert("ulm", "paint");
+    trial.insert(b"bern", b"print");
+    trial.insert(b"ulm", b"paint");
 }
 
 // Takes a job. Whether it was ready.
 fn take(trial: &mut Trial, job: &str, is_ready: bool) {
     let (ready, running) = (&trial.first, &trial.second);
-    match take_job(&mut trial.db, ready, running, job.as_bytes()) {
-        Ok(taken) => trial.seen.that(taken == is_ready),
-        Err(TransactionError::Abort(())) => trial.seen.that(!is_ready),
-        Err(TransactionError::Storage(e)) => trial.seen.refuse(e),
-    }
+    let taken = take_job(&mut trial.db, ready, running, job.as_bytes());
+    trial.seen.ended(taken, Ok(is_ready));
 }
 
 /// Whether a job is taken once, with its value, and the others stay.
@@ -33,8 +29,7 @@ pub fn takes(trial: &mut Trial) {
 /// Takes two jobs, whatever becomes of each. No crash takes back that they were ready.
 pub fn take_both(trial: &mut Trial) {
     add_two(trial);
-    trial.seen.made(settle(&mut trial.db));
-    if trial.seen.is_yes() {
+    if trial.is_settled() {
         take(trial, "ulm", true);
         take(trial, "bern", true);
         trial.seen = Seen::Yes;
@@ -49,7 +44,7 @@ fn is_in_one(trial: &Trial, job: &[u8]) -> Result<bool> {
 /// Whether each of the two is in one tree alone.
 pub fn are_in_one(trial: &mut Trial) {
     let first = is_in_one(trial, b"bern");
-    trial.seen.told(first);
+    trial.seen.told(first, true);
     let second = is_in_one(trial, b"ulm");
-    trial.seen.told(second);
+    trial.seen.told(second, true);
 }

@@ -10,11 +10,11 @@ mod counters;
 mod crashes;
 mod endings;
 mod events;
+mod flights;
 mod fresh;
 mod index;
 mod jobs;
 mod pairs;
-mod scans;
 mod seen;
 mod stock;
 mod stores;
@@ -23,12 +23,13 @@ mod trial;
 mod typed;
 mod users;
 
-use callers::{is_got, is_read, survives};
+use callers::{is_read, survives};
 use cases::{Case, seen_of};
-use crashes::{Example, after_crashes, leaves_batches, throughout};
-use scans::gives_pairs;
+use crashes::{
+    Example, JOBS, ONE_TRANSFER, STOCK, TRANSFERS, USERS, after_crashes, leaves_batches, throughout,
+};
+use flights::{Flight, answers};
 use seen::Seen;
-use std::alloc::Global;
 use std::process::ExitCode;
 use stores::small_store_works;
 
@@ -47,60 +48,73 @@ impl Lines<'_> {
             self.are_printed = false;
         }
     }
+
+    // Prints what is seen of a case in a new database.
+    fn tell_case(&mut self, what: &str, case: Case) {
+        let seen = seen_of(self.rt.alloc(), case);
+        self.tell(what, seen);
+    }
+
+    // Prints what is seen of an example after each crash and each refusal.
+    fn tell_throughout(&mut self, what: &str, example: Example) {
+        let seen = throughout(self.rt.alloc(), example);
+        self.tell(what, seen);
+    }
 }
 
 // The callers in `examples`, and the database over the small store.
-fn run(lines: &mut Lines, alloc: Global) {
+fn run(lines: &mut Lines) {
+    let alloc = lines.rt.alloc();
     lines.tell("what was inserted is read", Seen::of(is_read(alloc)));
     let what = "a get of a borrowed key reads what was inserted";
-    lines.tell(what, Seen::of(is_got(alloc)));
+    lines.tell(what, Seen::of(answers(alloc, Flight::Gets)));
     let what = "a scan in flight gives each pair of its range";
-    lines.tell(what, Seen::of(gives_pairs(alloc)));
+    lines.tell(what, Seen::of(answers(alloc, Flight::Scans)));
     let what = "a new database survives a crash";
     lines.tell(what, Seen::of(survives(alloc)));
     let what = "the entries of an index under a number are found";
-    lines.tell(what, seen_of(alloc, Case::FindsEntries));
+    lines.tell_case(what, Case::FindsEntries);
     let what = "readings of a user's own type are read in their order";
-    lines.tell(what, seen_of(alloc, Case::ReadsReadings));
+    lines.tell_case(what, Case::ReadsReadings);
     let what = "a database over the small store reads what it wrote and keeps what it flushed";
     lines.tell(what, small_store_works(alloc));
-    let what = "counters count and tickets rise";
-    lines.tell(what, seen_of(alloc, Case::Counts));
+    lines.tell_case("counters count and tickets rise", Case::Counts);
     let what = "all trees of a database are copied into a new one";
-    lines.tell(what, seen_of(alloc, Case::CopiesAll));
+    lines.tell_case(what, Case::CopiesAll);
 }
 
 // .. and those of them that came later.
-fn run_more(lines: &mut Lines, alloc: Global) {
+fn run_more(lines: &mut Lines) {
     let what = "events of a stream are read from an id on";
-    lines.tell(what, seen_of(alloc, Case::ReadsEvents));
+    lines.tell_case(what, Case::ReadsEvents);
     let what = "an index by endings follows its tree";
-    lines.tell(what, seen_of(alloc, Case::Follows));
+    lines.tell_case(what, Case::Follows);
     let what = "an index that missed events begins anew";
-    lines.tell(what, seen_of(alloc, Case::BeginsAnew));
+    lines.tell_case(what, Case::BeginsAnew);
     let what = "items lie where they were put last";
-    lines.tell(what, seen_of(alloc, Case::Moves));
+    lines.tell_case(what, Case::Moves);
     let what = "an index agrees with its table after each crash and each refusal";
-    lines.tell(what, throughout(alloc, Example::Stock));
+    lines.tell_throughout(what, STOCK);
     let what = "a crash leaves whole batches of a load";
-    lines.tell(what, leaves_batches(alloc));
+    lines.tell(what, leaves_batches(lines.rt.alloc()));
 }
 
 // .. and those of transactions.
-fn run_transactions(lines: &mut Lines, alloc: Global) {
+fn run_transactions(lines: &mut Lines) {
     let what = "an amount goes from one counter to another, or nothing changes";
-    lines.tell(what, seen_of(alloc, Case::Pays));
+    lines.tell_case(what, Case::Pays);
     let what = "two counters come to the same after each crash and each refusal";
-    let seen = throughout(alloc, Example::Transfers);
-    lines.tell(what, seen.and(after_crashes(alloc, Example::OneTransfer)));
+    let alloc = lines.rt.alloc();
+    let seen = throughout(alloc, TRANSFERS);
+    lines.tell(what, seen.and(after_crashes(alloc, ONE_TRANSFER)));
     let what = "a job is taken once, with its value";
-    lines.tell(what, seen_of(alloc, Case::Takes));
+    lines.tell_case(what, Case::Takes);
     let what = "no job is lost or in both trees after each crash and each refusal";
-    lines.tell(what, throughout(alloc, Example::Jobs));
+    lines.tell_throughout(what, JOBS);
     let what = "users have the addresses that they were given last";
-    lines.tell(what, seen_of(alloc, Case::Gives));
+    lines.tell_case(what, Case::Gives);
     let what = "an index of addresses agrees with its table after each crash and each refusal";
-    lines.tell(what, throughout(alloc, Example::Users));
+    lines.tell_throughout(what, USERS);
 }
 
 fn main(rt: HostRuntime) -> ExitCode {
@@ -108,10 +122,9 @@ fn main(rt: HostRuntime) -> ExitCode {
         rt: &rt,
         are_printed: true,
     };
-    let alloc = rt.alloc();
-    run(&mut lines, alloc);
-    run_more(&mut lines, alloc);
-    run_transactions(&mut lines, alloc);
+    run(&mut lines);
+    run_more(&mut lines);
+    run_transactions(&mut lines);
     if lines.are_printed {
         ExitCode::SUCCESS
     } else {

@@ -1,4 +1,5 @@
 //! What is seen of a case.
+use sled::{TransactionError, TransactionResult};
 use sled_nodes::{Error, Result};
 
 /// Whether all that was seen so far is as it should be, or that a call was refused.
@@ -19,6 +20,7 @@ impl Seen {
         }
     }
 
+    /// Whether all is as it should be.
     pub fn is_yes(self) -> bool {
         matches!(self, Seen::Yes)
     }
@@ -34,7 +36,7 @@ impl Seen {
     /// What is seen of something that a call tells.
     pub fn of(is: Result<bool>) -> Seen {
         let mut seen = Seen::Yes;
-        seen.told(is);
+        seen.told(is, true);
         seen
     }
 
@@ -44,12 +46,6 @@ impl Seen {
         Seen::Refused
     }
 
-    /// Sees that a call was refused.
-    pub fn refuse(&mut self, e: Error) {
-        drop(e);
-        *self = Seen::Refused;
-    }
-
     /// Sees whether something is so.
     pub fn that(&mut self, is: bool) {
         if !is {
@@ -57,19 +53,50 @@ impl Seen {
         }
     }
 
-    /// Sees whether what a call tells is so.
-    pub fn told(&mut self, is: Result<bool>) {
-        match is {
-            Ok(is) => self.that(is),
-            Err(e) => self.refuse(e),
+    /// Sees whether a call tells this.
+    pub fn told<T: PartialEq + Drop>(&mut self, told: Result<T>, wanted: T) {
+        match told {
+            Ok(told) => {
+                self.that(told == wanted);
+                drop(told);
+            }
+            Err(e) => *self = Seen::refused(e),
+        }
+        drop(wanted);
+    }
+
+    /// Sees whether two calls tell the same.
+    pub fn alike<T: PartialEq + Drop>(&mut self, one: Result<T>, other: Result<T>) {
+        match one {
+            Ok(one) => self.told(other, one),
+            Err(e) => {
+                drop(other);
+                *self = Seen::refused(e);
+            }
         }
     }
 
-    /// Sees whether a call tells this number.
-    pub fn number(&mut self, told: Result<u64>, number: u64) {
-        match told {
-            Ok(told) => self.that(told == number),
-            Err(e) => self.refuse(e),
+    /// Sees whether a call lists so many.
+    pub fn counted<T: Drop>(&mut self, list: Result<Vec<T>>, count: usize) {
+        match list {
+            Ok(list) => {
+                self.that(list.len() == count);
+                drop(list);
+            }
+            Err(e) => *self = Seen::refused(e),
+        }
+    }
+
+    /// Sees whether a transaction answers this, or is given up for this reason.
+    pub fn ended<T: PartialEq + Copy, A: PartialEq + Copy>(
+        &mut self,
+        ended: TransactionResult<T, A>,
+        wanted: std::result::Result<T, A>,
+    ) {
+        match ended {
+            Ok(answer) => self.that(wanted == Ok(answer)),
+            Err(TransactionError::Abort(why)) => self.that(wanted == Err(why)),
+            Err(TransactionError::Storage(e)) => *self = Seen::refused(e),
         }
     }
 
@@ -77,7 +104,7 @@ impl Seen {
     pub fn made<T: Drop>(&mut self, call: Result<T>) {
         match call {
             Ok(answer) => drop(answer),
-            Err(e) => self.refuse(e),
+            Err(e) => *self = Seen::refused(e),
         }
     }
 }

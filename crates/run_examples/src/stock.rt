@@ -29,5 +29,5 @@ pub fn moves(trial: &mut Trial) {
     put(trial, "nut", None);
     trial
         .seen
-        .told(has(&trial.db, &trial.first, b"bolt", b"shelf 2"));
+        .told(has(&trial.db, &trial.first, b"bolt", b"shelf 2"), true);
 }

@@ -13,24 +13,18 @@ fn fill(db: &mut Db<LogPages>, tree: &Tree, seen: &mut Seen) {
     }
     match db.flush() {
         Ok(count) => seen.that(count > 40),
-        Err(e) => seen.refuse(e),
+        Err(e) => *seen = Seen::refused(e),
     }
     seen.made(db.insert(tree, b"ulm", b"21"));
-    seen.told(has(db, tree, &[7], b"old"));
-    seen.told(has(db, tree, b"ulm", b"21"));
+    seen.told(has(db, tree, &[7], b"old"), true);
+    seen.told(has(db, tree, b"ulm", b"21"), true);
 }
 
 // Whether what was flushed is there, and what was not is gone.
 fn is_as_flushed(db: &Db<LogPages>, tree: &Tree, seen: &mut Seen) {
-    seen.told(has(db, tree, &[39], b"old"));
-    match db.len(tree) {
-        Ok(len) => seen.that(len == 40),
-        Err(e) => seen.refuse(e),
-    }
-    match db.contains_key(tree, b"ulm") {
-        Ok(is_there) => seen.that(!is_there),
-        Err(e) => seen.refuse(e),
-    }
+    seen.told(has(db, tree, &[39], b"old"), true);
+    seen.told(db.len(tree), 40);
+    seen.told(db.contains_key(tree, b"ulm"), false);
 }
 
 // What is seen of the default tree, as it is filled or afterwards.
@@ -45,7 +39,7 @@ fn seen_in(db: &mut Db<LogPages>, is_new: bool) -> Seen {
             }
             drop(tree);
         }
-        Err(e) => seen.refuse(e),
+        Err(e) => seen = Seen::refused(e),
     }
     seen
 }

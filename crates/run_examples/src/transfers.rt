@@ -4,18 +4,16 @@ use crate::fresh::Fresh;
 use crate::seen::Seen;
 use crate::trial::Trial;
 use examples::{count, open_part};
-use sled::TransactionError;
 use sled_nodes::Result;
 use std::alloc::Global;
-use transaction_examples::{TransferError, settle, transfer, transfer_and_crash};
+use transaction_examples::{TransferError, transfer, transfer_and_crash};
 
-// Makes a transfer from the till. Whether it is given up for this reason, or made where there is none.
-fn pay(trial: &mut Trial, to: &str, amount: u64, why: Option<TransferError>) {
-    match transfer(&mut trial.db, &trial.first, b"till", to.as_bytes(), amount) {
-        Ok(()) => trial.seen.that(why.is_none()),
-        Err(TransactionError::Abort(e)) => trial.seen.that(why == Some(e)),
-        Err(TransactionError::Storage(e)) => trial.seen.refuse(e),
-    }
+type Paid = std::result::Result<(), TransferError>;
+
+// Makes a transfer from the till. Whether it is made, or given up for a reason.
+fn pay(trial: &mut Trial, to: &str, amount: u64, wanted: Paid) {
+    let paid = transfer(&mut trial.db, &trial.first, b"till", to.as_bytes(), amount);
+    trial.seen.ended(paid, wanted);
 }
 
 // Sees whether the two counters stand so.
@@ -33,24 +31,23 @@ pub fn fill_till(trial: &mut Trial) {
 /// Whether an amount goes over, no more than there is, and no counter passes the greatest number.
 pub fn pays(trial: &mut Trial) {
     fill_till(trial);
-    pay(trial, "bank", 30, None);
+    pay(trial, "bank", 30, Ok(()));
     stand(trial, 70, 30);
-    pay(trial, "bank", 71, Some(TransferError::NotEnough));
-    pay(trial, "till", 1, Some(TransferError::SameCounter));
+    pay(trial, "bank", 71, Err(TransferError::NotEnough));
+    pay(trial, "till", 1, Err(TransferError::SameCounter));
     stand(trial, 70, 30);
     add(trial, "bank", u64::MAX - 35);
-    pay(trial, "bank", 6, Some(TransferError::TooMuch));
-    pay(trial, "bank", 5, None);
+    pay(trial, "bank", 6, Err(TransferError::TooMuch));
+    pay(trial, "bank", 5, Ok(()));
     stand(trial, 65, u64::MAX);
 }
 
 /// Two transfers from a till that has 100, whatever becomes of each. No crash takes back that it had them.
 pub fn pay_twice(trial: &mut Trial) {
     fill_till(trial);
-    trial.seen.made(settle(&mut trial.db));
-    if trial.seen.is_yes() {
-        pay(trial, "bank", 30, None);
-        pay(trial, "bank", 20, None);
+    if trial.is_settled() {
+        pay(trial, "bank", 30, Ok(()));
+        pay(trial, "bank", 20, Ok(()));
         trial.seen = Seen::Yes;
     }
 }
@@ -64,7 +61,7 @@ fn sum(trial: &Trial) -> Result<u64> {
 /// Whether the two counters come to 100.
 pub fn come_to_hundred(trial: &mut Trial) {
     let sum = sum(trial);
-    trial.seen.number(sum, 100);
+    trial.seen.told(sum, 100);
 }
 
 /// What is left of a till that has 100 by a transfer and a crash that keeps so many actions.

@@ -1,10 +1,12 @@
 //! Databases on which the examples are run.
+use crate::cases::Case;
 use crate::fresh::Fresh;
 use crate::pairs::{are, has_all};
 use crate::seen::Seen;
 use examples::{open_part, open_stream};
 use sled_model::Tree;
 use sled_nodes::{IVec, Result};
+use transaction_examples::settle;
 
 /// A database with two trees, and what was seen of it.
 pub struct Trial {
@@ -29,64 +31,71 @@ fn trees_of(db: &mut Fresh) -> Result<(Tree, Tree)> {
     }
 }
 
-impl Trial {
-    /// Opens the two trees of a database. Where that is refused it comes back.
-    pub fn of(db: Fresh) -> std::result::Result<Trial, Fresh> {
-        let mut db = db;
-        match trees_of(&mut db) {
-            Ok((first, second)) => Ok(Trial {
+/// What is seen of a database. It comes back.
+pub fn run(db: Fresh, case: Case) -> (Seen, Fresh) {
+    let mut db = db;
+    match trees_of(&mut db) {
+        Ok((first, second)) => {
+            let mut trial = Trial {
                 db,
                 first,
                 second,
                 seen: Seen::Yes,
-            }),
-            Err(e) => {
-                drop(e);
-                Err(db)
-            }
+            };
+            case.run(&mut trial);
+            let Trial {
+                db,
+                first,
+                second,
+                seen,
+            } = trial;
+            drop(first);
+            drop(second);
+            (seen, db)
         }
+        Err(e) => (Seen::refused(e), db),
     }
+}
 
-    /// What was seen of it, and the database.
-    pub fn end(self) -> (Seen, Fresh) {
-        let Trial {
-            db,
-            first,
-            second,
-            seen,
-        } = self;
-        drop(first);
-        drop(second);
-        (seen, db)
-    }
-
+impl Trial {
     /// Inserts a pair into the first tree.
-    pub fn insert(&mut self, key: &str, value: &str) {
-        let stood = self
-            .db
-            .insert(&self.first, key.as_bytes(), value.as_bytes());
+    pub fn insert(&mut self, key: &[u8], value: &[u8]) {
+        let stood = self.db.insert(&self.first, key, value);
         self.seen.made(stood);
     }
 
     /// Sees whether the two trees have these pairs, and no others.
     pub fn holds(&mut self, first: &[(&str, &str)], second: &[(&str, &str)]) {
-        self.seen.told(has_all(&self.db, &self.first, first));
-        self.seen.told(has_all(&self.db, &self.second, second));
+        has_all(&self.db, &self.first, first, &mut self.seen);
+        has_all(&self.db, &self.second, second, &mut self.seen);
     }
 
-    /// Sees whether a call found these pairs, and no others.
-    pub fn found(&mut self, found: Result<Vec<(IVec, IVec)>>, pairs: &[(&str, &str)]) {
+    /// Sees whether a call found these two pairs, and no others.
+    pub fn found(
+        &mut self,
+        found: Result<Vec<(IVec, IVec)>>,
+        first: (&str, &str),
+        second: (&str, &str),
+    ) {
         match found {
             Ok(found) => {
-                self.seen.that(are(found.as_slice(), pairs));
+                self.seen.that(are(found.as_slice(), first, second));
                 drop(found);
             }
-            Err(e) => self.seen.refuse(e),
+            Err(e) => self.seen = Seen::refused(e),
         }
     }
-}
 
-/// Whether both trees have as many pairs.
-pub fn are_as_many(trial: &Trial) -> Result<bool> {
-    Ok(trial.db.len(&trial.first)? == trial.db.len(&trial.second)?)
+    /// Sees whether both trees have as many pairs.
+    pub fn are_as_many(&mut self) {
+        let (first, second) = (self.db.len(&self.first), self.db.len(&self.second));
+        self.seen.alike(first, second);
+    }
+
+    /// Makes all durable. Whether all calls were made so far.
+    pub fn is_settled(&mut self) -> bool {
+        let settled = settle(&mut self.db);
+        self.seen.made(settled);
+        self.seen.is_yes()
+    }
 }

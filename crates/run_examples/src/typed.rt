@@ -1,4 +1,5 @@
 //! The typed map in `examples`, with readings of two stations in the first tree.
+use crate::seen::Seen;
 use crate::trial::Trial;
 use examples::{Reading, TypedError, TypedResult, look_up, put, walk};
 use sled_nodes::{IVec, Result};
@@ -13,6 +14,7 @@ fn reading(alloc: Global, station: &str, hour: u64) -> Result<Reading> {
     }
 }
 
+// Puts a value at a reading.
 fn put_value(trial: &mut Trial, station: &str, hour: u64, value: u64) {
     match reading(trial.db.allocator(), station, hour) {
         Ok(key) => {
@@ -20,17 +22,32 @@ fn put_value(trial: &mut Trial, station: &str, hour: u64, value: u64) {
             drop(key);
             trial.seen.made(done);
         }
-        Err(e) => trial.seen.refuse(e),
+        Err(e) => trial.seen = Seen::refused(e),
+    }
+}
+
+// The hours of Ulm between which there are two readings.
+fn bounds(alloc: Global) -> Result<(Reading, Reading)> {
+    let lo = reading(alloc, "Ulm", 0)?;
+    match reading(alloc, "Ulm", 301) {
+        Ok(hi) => Ok((lo, hi)),
+        Err(e) => {
+            drop(lo);
+            Err(e)
+        }
     }
 }
 
 // Whether the two readings of Ulm are walked, in the order of their hours.
-fn walks_two(trial: &Trial, lo: &Reading, hi: &Reading) -> TypedResult<bool> {
-    let (lo, hi) = (Bound::Included(lo), Bound::Excluded(hi));
-    let found: Vec<(Reading, u64)> = walk(&trial.db, &trial.first, lo, hi)?;
+fn walks(trial: &Trial) -> TypedResult<bool> {
+    let bounds = bounds(trial.db.allocator())?;
+    let (lo, hi) = (Bound::Included(&bounds.0), Bound::Excluded(&bounds.1));
+    let found = walk(&trial.db, &trial.first, lo, hi);
+    drop(bounds);
+    let found: Vec<(Reading, u64)> = found?;
     let is_found = match found.as_slice() {
         [first, second] => {
-            (first.0.hour, first.1) == (2, 19) && (second.0.hour, second.1) == (300, 20)
+            first.0.hour == 2 && first.1 == 19 && second.0.hour == 300 && second.1 == 20
         }
         _ => false,
     };
@@ -38,37 +55,20 @@ fn walks_two(trial: &Trial, lo: &Reading, hi: &Reading) -> TypedResult<bool> {
     Ok(is_found)
 }
 
-fn walks_from(trial: &Trial, lo: &Reading) -> Result<bool> {
-    let hi = reading(trial.db.allocator(), "Ulm", 301)?;
-    let walks = walks_two(trial, lo, &hi);
-    drop(hi);
-    told(walks)
-}
-
-fn walks(trial: &Trial) -> Result<bool> {
-    let lo = reading(trial.db.allocator(), "Ulm", 0)?;
-    let walks = walks_from(trial, &lo);
-    drop(lo);
-    walks
-}
-
 // Whether the reading of Bern is found.
-fn looks_up(trial: &Trial) -> Result<bool> {
+fn looks_up(trial: &Trial) -> TypedResult<bool> {
     let key = reading(trial.db.allocator(), "Bern", 5)?;
     let found: TypedResult<Option<u64>> = look_up(&trial.db, &trial.first, &key);
     drop(key);
-    match found {
-        Ok(found) => Ok(found == Some(17)),
-        Err(e) => told(Err(e)),
-    }
+    Ok(found? == Some(17))
 }
 
-/// What a typed read told; it is not so where the tree has something foreign.
-pub fn told(is: TypedResult<bool>) -> Result<bool> {
+/// Sees whether a typed read told that something is so. It is not where the tree has something foreign.
+pub fn tells(trial: &mut Trial, is: TypedResult<bool>) {
     match is {
-        Ok(is) => Ok(is),
-        Err(TypedError::Foreign) => Ok(false),
-        Err(TypedError::Refused(e)) => Err(e),
+        Ok(is) => trial.seen.that(is),
+        Err(TypedError::Foreign) => trial.seen.that(false),
+        Err(TypedError::Refused(e)) => trial.seen = Seen::refused(e),
     }
 }
 
@@ -79,7 +79,7 @@ pub fn reads_readings(trial: &mut Trial) {
     put_value(trial, "Ulm", 2, 19);
     put_value(trial, "Ulm", 300, 20);
     let is_found = looks_up(trial);
-    trial.seen.told(is_found);
+    tells(trial, is_found);
     let walks = walks(trial);
-    trial.seen.told(walks);
+    tells(trial, walks);
 }

@@ -1,6 +1,7 @@
 //! The indexed table in `transaction_examples`: the addresses of users, the first tree, and their index, the second.
 use crate::pairs::has;
-use crate::trial::{Trial, are_as_many};
+use crate::seen::Seen;
+use crate::trial::Trial;
 use sled::TransactionError;
 use sled_nodes::Result;
 use transaction_examples::put_indexed;
@@ -16,7 +17,7 @@ fn give(trial: &mut Trial, id: &str, email: &str, is_given: bool) {
                 trial.seen.that(is_given);
             }
             Err(TransactionError::Abort(_)) => trial.seen.that(!is_given),
-            Err(TransactionError::Storage(e)) => trial.seen.refuse(e),
+            Err(TransactionError::Storage(e)) => trial.seen = Seen::refused(e),
         }
     }
 }
@@ -55,9 +56,8 @@ fn is_in_step(trial: &Trial, id: &[u8]) -> Result<bool> {
 /// Whether the index has an entry for each user, and no others.
 pub fn are_in_step(trial: &mut Trial) {
     let first = is_in_step(trial, b"1");
-    trial.seen.told(first);
+    trial.seen.told(first, true);
     let second = is_in_step(trial, b"2");
-    trial.seen.told(second);
-    let are_as_many = are_as_many(trial);
-    trial.seen.told(are_as_many);
+    trial.seen.told(second, true);
+    trial.are_as_many();
 }

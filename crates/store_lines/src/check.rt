@@ -5,7 +5,7 @@ use crate::text::Text;
 use crate::values::{compare_values, kind_of};
 use line_files::Program;
 use sled_nodes::{Error, Result};
-use std::alloc::Global;
+use std::alloc::{AllocError, Global};
 use std::str;
 
 /// What the lines of a text print, from a fresh store on.
@@ -25,12 +25,15 @@ pub fn printed_by(alloc: Global, text: &str) -> Text {
 
 // Adds what the line of this number comes to.
 fn run_line(store: &mut Store, number: u64, text: &str, out: &mut Text) {
-    let mut line = Line::new(out.alloc());
+    let mut line = Line::new(out.alloc);
     match kind_of(text) {
         Some((kind, items)) => compare_values(kind, items, &mut line),
-        None => run_command(store, text, &mut line),
+        None => {
+            line.start(text);
+            run_command(store, &mut line);
+        }
     }
-    if line.is_bad() {
+    if line.is_bad {
         line.out.clear();
         line.out.push_numbered("bad line", number);
     }
@@ -38,25 +41,19 @@ fn run_line(store: &mut Store, number: u64, text: &str, out: &mut Text) {
     drop(line);
 }
 
-fn run_command(store: &mut Store, text: &str, line: &mut Line) {
-    line.start(text);
-    if line.takes("repeat") {
-        repeat(store, line);
-    } else {
-        store.run(line);
+// Runs a command; of `repeat N COMMAND` what counts is what the last of N times comes to.
+fn run_command(store: &mut Store, line: &mut Line) {
+    if !line.takes("repeat") {
+        return store.run(line);
     }
-}
-
-// `repeat N COMMAND`: what the last of N times comes to.
-fn repeat(store: &mut Store, line: &mut Line) {
     let count = line.number();
-    let place = line.place();
+    let place = line.at;
     for _ in 0..count {
-        if line.is_bad() {
+        if line.is_bad {
             break;
         }
         line.out.clear();
-        line.read_from(place);
+        line.at = place;
         store.run(line);
     }
 }
@@ -71,15 +68,11 @@ impl Program for Texts {
             return Err(Error::Unsupported("lines that are no text"));
         };
         let answers = printed_by(alloc, text);
-        let added = add(printed, &answers);
+        let added = match answers.text() {
+            Some(text) => printed.extend_from_slice(text.as_bytes()),
+            None => Err(AllocError),
+        };
         drop(answers);
-        added
-    }
-}
-
-fn add(printed: &mut Vec<u8>, answers: &Text) -> Result<()> {
-    match answers.text() {
-        Some(text) => Ok(printed.extend_from_slice(text.as_bytes())?),
-        None => Err(Error::NoMemory),
+        Ok(added?)
     }
 }

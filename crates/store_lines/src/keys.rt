@@ -1,7 +1,8 @@
 //! Keys of several parts, spelled and read again.
-use crate::line::{Line, Word};
+use crate::line::{Line, Print, Word, push_all};
 use crate::text::Text;
 use ordered_keys::{Kind, Part, key_of, parts_of};
+use sled_nodes::IVec;
 
 // A number stands behind `#`. So a text that begins with that byte has it by its digits.
 impl Word for Part {
@@ -9,12 +10,17 @@ impl Word for Part {
         if line.takes_mark('#') {
             return Some(Part::Number(line.number()));
         }
-        line.string().map(Part::Text)
+        Some(Part::Text(IVec::read(line)?))
     }
+}
 
+impl Print for Part {
     fn print(&self, out: &mut Text) {
         match self {
-            Part::Number(number) => out.push_part(*number),
+            Part::Number(number) => {
+                out.push("#");
+                out.show(number);
+            }
             Part::Text(text) => push_text(out, text.as_ref()),
         }
     }
@@ -23,13 +29,10 @@ impl Word for Part {
 fn push_text(out: &mut Text, text: &[u8]) {
     match text {
         [b'#', rest @ ..] => {
-            out.push(" %23");
+            out.push("%23");
             out.push_bytes(rest);
         }
-        _ => {
-            out.push(" ");
-            out.push_word(text);
-        }
+        _ => out.push_word(text),
     }
 }
 
@@ -37,37 +40,25 @@ fn push_text(out: &mut Text, text: &[u8]) {
 pub fn spell(line: &mut Line) {
     let parts = line.list::<Part>();
     if line.is_read() {
-        push_key(line, parts.as_slice());
+        let key = key_of(line.out.alloc, parts.as_slice());
+        if let Some(key) = line.out.kept(key) {
+            line.out.push("key ");
+            key.print(&mut line.out);
+            drop(key);
+        }
     }
     drop(parts);
 }
 
-fn push_key(line: &mut Line, parts: &[Part]) {
-    let key = key_of(line.alloc(), parts);
-    if let Some(key) = line.out.kept(key) {
-        line.out.push("key");
-        key.print(&mut line.out);
-        drop(key);
-    }
-}
-
-// The kind of a part, by its letter.
-fn kind_of(letter: u8) -> Option<Kind> {
-    match letter {
-        b'n' => Some(Kind::Number),
-        b't' => Some(Kind::Text),
-        _ => None,
-    }
-}
-
 // The kinds of the parts of a key, each by its letter in a byte string.
 fn read_shape(line: &mut Line) -> Vec<Kind> {
-    let mut shape = Vec::new(line.alloc());
+    let mut shape = Vec::new(line.out.alloc);
     let letters = line.bytes();
     for letter in letters.as_slice() {
-        match kind_of(*letter) {
-            Some(kind) => line.out.keep(&mut shape, kind),
-            None => line.fail(),
+        match *letter {
+            b'n' => line.out.keep(&mut shape, Kind::Number),
+            b't' => line.out.keep(&mut shape, Kind::Text),
+            _ => line.is_bad = true,
         }
     }
     drop(letters);
@@ -75,18 +66,14 @@ fn read_shape(line: &mut Line) -> Vec<Kind> {
 }
 
 // Adds the parts of a key of this shape.
-fn push_parts(line: &mut Line, shape: &[Kind], key: &[u8]) {
-    let parts = parts_of(line.alloc(), shape, key);
-    match line.out.kept(parts) {
-        Some(Some(parts)) => {
-            line.out.push("parts");
-            for part in parts.as_slice() {
-                part.print(&mut line.out);
-            }
+fn push_parts(out: &mut Text, shape: &[Kind], key: &[u8]) {
+    match out.kept(parts_of(out.alloc, shape, key)).flatten() {
+        Some(parts) => {
+            out.push("parts");
+            push_all(out, parts.as_slice());
             drop(parts);
         }
-        Some(None) => line.out.push("none"),
-        None => {}
+        None => out.push("none"),
     }
 }
 
@@ -95,7 +82,7 @@ pub fn read_key(line: &mut Line) {
     let shape = read_shape(line);
     let key = line.bytes();
     if line.is_read() {
-        push_parts(line, shape.as_slice(), key.as_slice());
+        push_parts(&mut line.out, shape.as_slice(), key.as_slice());
     }
     drop(shape);
     drop(key);

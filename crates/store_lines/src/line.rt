@@ -10,11 +10,11 @@ use std::ops::Bound;
 pub struct Line {
     pub out: Text,
     words: Vec<String>,
-    // The place of the next word.
-    at: usize,
-    // What stands before what is read of that word.
-    mark: Option<char>,
-    is_bad: bool,
+    /// The place of the next word.
+    pub at: usize,
+    // How many bytes of that word were read.
+    begun: usize,
+    pub is_bad: bool,
 }
 
 /// The value beside a word in a table.
@@ -27,14 +27,11 @@ pub fn named<T: Copy>(table: &[(&str, T)], word: &str) -> Option<T> {
     None
 }
 
-// The word of a place, behind a mark.
-fn word_at(words: &[String], at: usize, mark: Option<char>) -> &str {
-    let Some(word) = words.get(at) else {
-        return "";
-    };
-    match mark {
-        Some(mark) => word.as_str().strip_prefix(mark).unwrap_or(""),
-        None => word.as_str(),
+// The word of a place, but for so many bytes at its front.
+fn word_at(words: &[String], at: usize, begun: usize) -> &str {
+    match words.get(at) {
+        Some(word) => word.as_str().get(begun..).unwrap_or(""),
+        None => "",
     }
 }
 
@@ -44,13 +41,9 @@ impl Line {
             out: Text::new(alloc),
             words: Vec::new(alloc),
             at: 0,
-            mark: None,
+            begun: 0,
             is_bad: false,
         }
-    }
-
-    pub fn alloc(&self) -> Global {
-        self.out.alloc()
     }
 
     /// Goes on with the words of this text.
@@ -58,34 +51,11 @@ impl Line {
         self.words.clear();
         self.at = 0;
         for word in text.split(' ') {
-            self.add(word);
+            match String::from_str(self.out.alloc, word) {
+                Ok(word) => self.out.keep(&mut self.words, word),
+                Err(_) => self.out.is_cut = true,
+            }
         }
-    }
-
-    fn add(&mut self, word: &str) {
-        match String::from_str(self.alloc(), word) {
-            Ok(word) => self.out.keep(&mut self.words, word),
-            Err(_) => self.out.cut(),
-        }
-    }
-
-    /// The line cannot be read.
-    pub fn fail(&mut self) {
-        self.is_bad = true;
-    }
-
-    pub fn is_bad(&self) -> bool {
-        self.is_bad
-    }
-
-    /// The place of the next word.
-    pub fn place(&self) -> usize {
-        self.at
-    }
-
-    /// Reads on from a place.
-    pub fn read_from(&mut self, place: usize) {
-        self.at = place;
     }
 
     /// Whether there is another word.
@@ -96,7 +66,7 @@ impl Line {
     /// Whether the line ends here, could be read, and there was memory for it.
     pub fn is_read(&mut self) -> bool {
         self.is_bad |= self.has_more();
-        !self.is_bad && !self.out.is_cut()
+        !self.is_bad && !self.out.is_cut
     }
 
     /// What was read, if the line ends with it.
@@ -111,30 +81,30 @@ impl Line {
     // Goes behind the next word.
     fn go_on(&mut self) {
         self.at = self.at.saturating_add(1);
-        self.mark = None;
+        self.begun = 0;
     }
 
     /// Whether the next word is this one, which is read then.
     pub fn takes(&mut self, word: &str) -> bool {
-        let takes = word_at(self.words.as_slice(), self.at, None) == word;
+        let takes = word_at(self.words.as_slice(), self.at, 0) == word;
         if takes {
             self.go_on();
         }
         takes
     }
 
-    /// Whether the next word begins with a mark, behind which it is read then.
+    /// Whether the next word begins with a mark of one byte, behind which it is read then.
     pub fn takes_mark(&mut self, mark: char) -> bool {
-        let takes = word_at(self.words.as_slice(), self.at, None).starts_with(mark);
+        let takes = word_at(self.words.as_slice(), self.at, 0).starts_with(mark);
         if takes {
-            self.mark = Some(mark);
+            self.begun = 1;
         }
         takes
     }
 
     /// The next word.
     pub fn word(&mut self) -> &str {
-        let word = word_at(self.words.as_slice(), self.at, None);
+        let word = word_at(self.words.as_slice(), self.at, 0);
         self.is_bad |= word.is_empty();
         self.at = self.at.saturating_add(1);
         word
@@ -148,62 +118,25 @@ impl Line {
     }
 
     pub fn number(&mut self) -> u64 {
-        let number = word_at(self.words.as_slice(), self.at, self.mark).parse::<u64>();
+        let number = word_at(self.words.as_slice(), self.at, self.begun).parse::<u64>();
         self.is_bad |= number.is_err();
         self.go_on();
         number.unwrap_or(0)
     }
 
-    /// The number of a page, or `-`, which is none.
-    pub fn page(&mut self) -> Option<Pid> {
-        if self.takes("-") {
-            return None;
-        }
-        Some(Pid(self.number()))
-    }
-
     /// The bytes that a word spells. `%` is the empty string; elsewhere a `%` and two digits stand for one byte, and all else
     /// for itself.
     pub fn bytes(&mut self) -> Vec<u8> {
-        let mut bytes = Vec::new(self.alloc());
-        let word = word_at(self.words.as_slice(), self.at, self.mark).as_bytes();
+        let mut bytes = Vec::new(self.out.alloc);
+        let word = word_at(self.words.as_slice(), self.at, self.begun).as_bytes();
         self.is_bad |= !push_spelled(word, &mut bytes, &mut self.out);
         self.go_on();
         bytes
     }
 
-    /// The byte string that a word spells.
-    pub fn string(&mut self) -> Option<IVec> {
-        let bytes = self.bytes();
-        let string = IVec::from_slice(self.alloc(), bytes.as_slice());
-        drop(bytes);
-        self.out.kept(string)
-    }
-
-    /// The bound that a word is: `[K`, `(K` or `..`.
-    pub fn bound(&mut self) -> Option<Bound<IVec>> {
-        if self.takes("..") {
-            return Some(Bound::Unbounded);
-        }
-        let is_included = self.takes_mark('[');
-        if !is_included && !self.takes_mark('(') {
-            self.fail();
-        }
-        let key = self.string();
-        if is_included {
-            key.map(Bound::Included)
-        } else {
-            key.map(Bound::Excluded)
-        }
-    }
-
-    pub fn read<W: Word>(&mut self) -> Option<W> {
-        W::read(self)
-    }
-
     /// Reads words to the end of the line.
     pub fn list<W: Word>(&mut self) -> Vec<W> {
-        let mut list = Vec::new(self.alloc());
+        let mut list = Vec::new(self.out.alloc);
         for _ in 0..u64::MAX {
             if !self.has_more() {
                 break;
@@ -235,15 +168,10 @@ fn push_spelled(word: &[u8], bytes: &mut Vec<u8>, out: &mut Text) -> bool {
 // The byte that a spelling begins with, and what follows it.
 fn first_byte(word: &[u8]) -> Option<(u8, &[u8])> {
     match word {
-        [b'%', high, low, rest @ ..] => Some((byte_of(*high, *low)?, rest)),
+        [b'%', high, low, rest @ ..] => Some((hex_value(*high)? << 4 | hex_value(*low)?, rest)),
         [byte, rest @ ..] if *byte != b'%' && byte.is_ascii_graphic() => Some((*byte, rest)),
         _ => None,
     }
-}
-
-// The byte of two hexadecimal digits.
-fn byte_of(high: u8, low: u8) -> Option<u8> {
-    Some(hex_value(high)? << 4 | hex_value(low)?)
 }
 
 // What a hexadecimal digit counts.
@@ -259,18 +187,11 @@ fn hex_value(digit: u8) -> Option<u8> {
 pub trait Word: Drop {
     /// Reads it; `None` where the line cannot be read or there was no memory.
     fn read(line: &mut Line) -> Option<Self>;
-
-    /// Adds a space and the word.
-    fn print(&self, out: &mut Text);
 }
 
 impl Word for u64 {
     fn read(line: &mut Line) -> Option<u64> {
         Some(line.number())
-    }
-
-    fn print(&self, out: &mut Text) {
-        out.push_number(*self);
     }
 }
 
@@ -278,20 +199,28 @@ impl Word for Pid {
     fn read(line: &mut Line) -> Option<Pid> {
         Some(Pid(line.number()))
     }
-
-    fn print(&self, out: &mut Text) {
-        out.push_number(self.0);
-    }
 }
 
 impl Word for IVec {
     fn read(line: &mut Line) -> Option<IVec> {
-        line.string()
+        let bytes = line.bytes();
+        let string = IVec::from_slice(line.out.alloc, bytes.as_slice());
+        drop(bytes);
+        line.out.kept(string)
     }
+}
 
-    fn print(&self, out: &mut Text) {
-        out.push(" ");
-        out.push_word(self.as_ref());
+// `[K`, `(K` or `..`.
+impl Word for Bound<IVec> {
+    fn read(line: &mut Line) -> Option<Bound<IVec>> {
+        if line.takes("..") {
+            return Some(Bound::Unbounded);
+        }
+        if line.takes_mark('[') {
+            return Some(Bound::Included(IVec::read(line)?));
+        }
+        line.is_bad |= !line.takes_mark('(');
+        Some(Bound::Excluded(IVec::read(line)?))
     }
 }
 
@@ -301,14 +230,7 @@ impl<W: Word> Word for Option<W> {
         if line.takes("-") {
             return Some(None);
         }
-        W::read(line).map(Some)
-    }
-
-    fn print(&self, out: &mut Text) {
-        match self {
-            Some(word) => word.print(out),
-            None => out.push(" -"),
-        }
+        Some(Some(W::read(line)?))
     }
 }
 
@@ -317,19 +239,47 @@ impl<A: Word, B: Word> Word for (A, B) {
         let first = A::read(line);
         first.zip(B::read(line))
     }
+}
 
+/// What is printed as a word, or as several.
+pub trait Print: Drop {
+    /// Adds the word.
+    fn print(&self, out: &mut Text);
+}
+
+impl Print for Pid {
+    fn print(&self, out: &mut Text) {
+        out.show(&self.0);
+    }
+}
+
+impl Print for IVec {
+    fn print(&self, out: &mut Text) {
+        out.push_word(self.as_ref());
+    }
+}
+
+impl<P: Print> Print for Option<P> {
+    fn print(&self, out: &mut Text) {
+        match self {
+            Some(word) => word.print(out),
+            None => out.push("-"),
+        }
+    }
+}
+
+impl<A: Print, B: Print> Print for (A, B) {
     fn print(&self, out: &mut Text) {
         self.0.print(out);
+        out.push(" ");
         self.1.print(out);
     }
 }
 
-/// Adds what is in a list, if there was memory for it.
-pub fn push_all<W: Word>(out: &mut Text, list: sled_nodes::Result<Vec<W>>) {
-    if let Some(list) = out.kept(list) {
-        for item in list.as_slice() {
-            item.print(out);
-        }
-        drop(list);
+/// Adds what is in a list, with a space before each.
+pub fn push_all<P: Print>(out: &mut Text, list: &[P]) {
+    for item in list {
+        out.push(" ");
+        item.print(out);
     }
 }

@@ -92,46 +92,43 @@ trees TREE, ..
 ";
 
 // Prints what a text of lines prints.
-fn run_text(rt: &HostRuntime, text: &str) -> io::Result<()> {
-    let printed = printed_by(rt.alloc(), text);
-    match printed.text() {
+fn run_text(rt: &HostRuntime, text: io::Result<String>) -> io::Result<()> {
+    let text = text?;
+    let printed = printed_by(rt.alloc(), text.as_str());
+    drop(text);
+    let done = match printed.text() {
         Some(text) => rt.print(text),
         None => Err(io::Error::from(io::ErrorKind::OutOfMemory)),
-    }
+    };
+    drop(printed);
+    done
 }
 
 fn run_files(rt: &HostRuntime, files: &[String]) -> io::Result<()> {
     for file in files {
-        let text = fs::read_to_string(rt, file.as_str())?;
-        run_text(rt, text.as_str())?;
+        run_text(rt, fs::read_to_string(rt, file.as_str()))?;
     }
     Ok(())
 }
 
-fn run_input(rt: &HostRuntime) -> io::Result<()> {
-    let text = io::read_to_string(rt.alloc(), rt.reader())?;
-    run_text(rt, text.as_str())
-}
-
-// Whether the lines of each name print what they should. Says so.
-fn check_names(rt: &HostRuntime, names: &[String]) -> io::Result<bool> {
-    check(rt, &Texts, names, &mut io::writer(rt))
-}
-
 // Whether no file printed something else than it should.
 fn run(rt: &HostRuntime, arguments: &[String]) -> io::Result<bool> {
-    let done = match arguments {
-        [] => run_input(rt),
-        [first, names @ ..] if first.as_str() == "check" => return check_names(rt, names),
-        [first, ..] if first.as_str() == "help" => rt.print(HELP),
-        files => run_files(rt, files),
-    };
-    done.map(|()| true)
+    match arguments {
+        [] => run_text(rt, io::read_to_string(rt.alloc(), rt.reader()))?,
+        [first, names @ ..] if first.as_str() == "check" => {
+            return check(rt, &Texts, names, &mut io::writer(rt));
+        }
+        [first, ..] if first.as_str() == "help" => rt.print(HELP)?,
+        files => run_files(rt, files)?,
+    }
+    Ok(true)
 }
 
 fn run_arguments(rt: &HostRuntime) -> io::Result<bool> {
     let arguments: Vec<String> = env::args(rt)?.skip(1).collect(rt.alloc())?;
-    run(rt, arguments.as_slice())
+    let passed = run(rt, arguments.as_slice());
+    drop(arguments);
+    passed
 }
 
 fn main(rt: HostRuntime) -> ExitCode {

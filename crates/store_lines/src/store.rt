@@ -1,14 +1,12 @@
 //! A store in memory, to which each line makes one call.
 use crate::keys::{read_key, spell};
-use crate::line::{Line, Word, push_all};
-use crate::nodes::{Act, Change, Make, Nodes, Question, Search, push_node, read_link};
+use crate::line::{Line, Print, Word, push_all};
+use crate::nodes::{Act, Nodes, Question, Search, push_node, read_link};
 use crate::text::Text;
 use sled_nodes::{IVec, Node, Pid, Result, Version};
 use sled_pages::MemPages;
 use sled_store::{Pages, View};
 use std::alloc::Global;
-
-type Changed = Result<std::result::Result<Version, Option<Version>>>;
 
 // A call of one word.
 #[derive(Clone, Copy)]
@@ -84,21 +82,30 @@ const CALLS: [(&str, Call); 46] = [
     ("refuse", Call::Refuse),
     ("image-page", Call::ImagePage),
     ("image-root", Call::ImageRoot),
-    ("leaf", Call::Node(Act::Make(Make::Leaf))),
-    ("index", Call::Node(Act::Make(Make::Index))),
-    ("clone", Call::Node(Act::Make(Make::Clone))),
-    ("receive", Call::Node(Act::Make(Make::Receive))),
-    ("split", Call::Node(Act::Make(Make::Split))),
-    ("apply", Call::Node(Act::Change(Change::Apply))),
-    ("next", Call::Node(Act::Change(Change::Next))),
-    ("post", Call::Node(Act::Change(Change::Post))),
-    ("show", Call::Node(Act::Ask(Question::Show))),
-    ("len", Call::Node(Act::Ask(Question::Len))),
-    ("should-split", Call::Node(Act::Ask(Question::ShouldSplit))),
-    ("should-merge", Call::Node(Act::Ask(Question::ShouldMerge))),
+    ("leaf", Call::Node(Act::Leaf)),
+    ("index", Call::Node(Act::Index)),
+    ("clone", Call::Node(Act::Clone)),
+    ("receive", Call::Node(Act::Receive)),
+    ("split", Call::Node(Act::Split)),
+    ("apply", Call::Node(Act::Apply)),
+    ("next", Call::Node(Act::Next)),
+    ("post", Call::Node(Act::Post)),
+    (
+        "show",
+        Call::Node(Act::Find(Search::Answer(Question::Show))),
+    ),
+    ("len", Call::Node(Act::Find(Search::Answer(Question::Len)))),
+    (
+        "should-split",
+        Call::Node(Act::Find(Search::Answer(Question::ShouldSplit))),
+    ),
+    (
+        "should-merge",
+        Call::Node(Act::Find(Search::Answer(Question::ShouldMerge))),
+    ),
     (
         "can-merge-child",
-        Call::Node(Act::Ask(Question::CanMergeChild)),
+        Call::Node(Act::Find(Search::Answer(Question::CanMergeChild))),
     ),
     ("get", Call::Node(Act::Find(Search::Get))),
     (
@@ -106,10 +113,10 @@ const CALLS: [(&str, Call); 46] = [
         Call::Node(Act::Find(Search::PointerBefore)),
     ),
     ("pointer", Call::Node(Act::Find(Search::Pointer))),
-    ("successor", Call::Node(Act::Find(Search::Successor))),
-    ("predecessor", Call::Node(Act::Find(Search::Predecessor))),
-    ("within", Call::Node(Act::Find(Search::Within))),
-    ("within-back", Call::Node(Act::Find(Search::WithinBack))),
+    ("successor", Call::Node(Act::Find(Search::Pair(false)))),
+    ("predecessor", Call::Node(Act::Find(Search::Pair(true)))),
+    ("within", Call::Node(Act::Find(Search::Within(false)))),
+    ("within-back", Call::Node(Act::Find(Search::Within(true)))),
     ("spell", Call::Spell),
     ("parts", Call::Parts),
 ];
@@ -144,70 +151,91 @@ impl Store {
 
     /// Does what a line says, and adds what that comes to.
     pub fn run(&mut self, line: &mut Line) {
-        if let Some(call) = line.named(&CALLS) {
-            self.call(call, line);
+        let Some(call) = line.named(&CALLS) else {
+            return;
+        };
+        match self.call(call, line) {
+            Ok(()) => line.out.end(),
+            Err(error) => {
+                line.out.push("refused: ");
+                line.out.push_error(&error);
+                drop(error);
+            }
         }
     }
 
-    fn call(&mut self, call: Call, line: &mut Line) {
+    fn call(&mut self, call: Call, line: &mut Line) -> Result<()> {
         match call {
-            Call::Alone(call) => self.alone(call, line),
-            Call::Numbered(call) => self.numbered(call, line),
-            Call::Versioned(call) => self.versioned(call, line),
-            Call::Allocate => self.allocate(line),
-            Call::Read => self.read(line),
+            Call::Alone(call) => return self.alone(call, line),
+            Call::Numbered(call) => return self.numbered(call, line),
+            Call::Versioned(call) => return self.versioned(call, line),
+            Call::Allocate => return self.allocate(line),
+            Call::Read => return self.read(line),
+            Call::Swap => return self.swap(line),
+            Call::Refuse => return self.refuse(line),
             Call::Root => self.root(line),
-            Call::Swap => self.swap(line),
-            Call::Refuse => self.refuse(line),
             Call::ImagePage => self.image_page(line),
             Call::ImageRoot => self.image_root(line),
             Call::Node(act) => self.nodes.run(act, line),
             Call::Spell => spell(line),
             Call::Parts => read_key(line),
         }
+        Ok(())
     }
 
-    fn alone(&mut self, call: Alone, line: &mut Line) {
-        if line.is_read() {
-            self.act(call, &mut line.out);
+    fn alone(&mut self, call: Alone, line: &mut Line) -> Result<()> {
+        if !line.is_read() {
+            return Ok(());
         }
-    }
-
-    fn act(&mut self, call: Alone, out: &mut Text) {
+        let out = &mut line.out;
         match call {
+            Alone::Begin | Alone::Seal | Alone::Flush => return self.grouped(call, out),
             Alone::Roots => self.roots(out),
-            Alone::Begin => self.begin(out),
-            Alone::Seal => self.seal(out),
             Alone::InGroup => out.push_whether(self.pages.in_group()),
-            Alone::Flush => self.flush(out),
             Alone::Mark => out.push_numbered("number", self.pages.mark()),
             Alone::WasRecovered => out.push_whether(self.pages.was_recovered()),
-            Alone::New => self.renew(Ok(MemPages::new(self.alloc)), out),
-            Alone::LetGo => {
-                self.held.clear();
-                out.done();
+            Alone::New => {
+                self.versions.clear();
+                self.put(Ok(MemPages::new(self.alloc)), out);
+            }
+            Alone::LetGo => self.held.clear(),
+        }
+        Ok(())
+    }
+
+    // Begins or seals a group, or flushes where there is none.
+    fn grouped(&mut self, call: Alone, out: &mut Text) -> Result<()> {
+        match (call, self.pages.in_group()) {
+            (Alone::Begin, false) => self.pages.begin_group()?,
+            (Alone::Seal, true) => self.pages.seal_group()?,
+            (Alone::Flush, false) => out.push_numbered("flushed", self.pages.flush()? as u64),
+            _ => out.push("barred"),
+        }
+        Ok(())
+    }
+
+    fn numbered(&mut self, call: Numbered, line: &mut Line) -> Result<()> {
+        let number = line.number();
+        if !line.is_read() {
+            return Ok(());
+        }
+        let out = &mut line.out;
+        match call {
+            Numbered::SetAside if number < self.pages.mark() => out.push("barred"),
+            Numbered::SetAside => return self.pages.set_aside(number),
+            Numbered::Unreadable => return self.pages.unreadable(Pid(number)),
+            Numbered::Crash => self.crash(number, out),
+            Numbered::Image => self.image(number, out),
+            Numbered::Hold => {
+                if let Some(view) = self.pages.read(self.alloc, Pid(number))? {
+                    out.keep(&mut self.held, view);
+                }
             }
         }
+        Ok(())
     }
 
-    fn numbered(&mut self, call: Numbered, line: &mut Line) {
-        let number = line.number();
-        if line.is_read() {
-            self.act_on(call, number, &mut line.out);
-        }
-    }
-
-    fn act_on(&mut self, call: Numbered, number: u64, out: &mut Text) {
-        match call {
-            Numbered::SetAside => self.set_aside(number, out),
-            Numbered::Crash => self.crash(number, out),
-            Numbered::Unreadable => out.push_answer(self.pages.unreadable(Pid(number))),
-            Numbered::Image => self.image(number, out),
-            Numbered::Hold => self.hold(Pid(number), out),
-        }
-    }
-
-    fn versioned(&mut self, call: Versioned, line: &mut Line) {
+    fn versioned(&mut self, call: Versioned, line: &mut Line) -> Result<()> {
         let pid = Pid(line.number());
         let version = self.version(line);
         match call {
@@ -217,17 +245,41 @@ impl Store {
         }
     }
 
-    fn link(&mut self, pid: Pid, version: Version, line: &mut Line) {
+    fn link(&mut self, pid: Pid, version: Version, line: &mut Line) -> Result<()> {
         if let Some(link) = read_link(line) {
-            let answer = self.pages.link(pid, version, link);
-            self.push_changed(answer, &mut line.out);
+            let changed = self.pages.link(pid, version, link)?;
+            self.push_changed(changed, &mut line.out);
         }
+        Ok(())
     }
 
-    fn replace(&mut self, pid: Pid, version: Version, line: &mut Line) {
+    fn replace(&mut self, pid: Pid, version: Version, line: &mut Line) -> Result<()> {
         if let Some(node) = self.nodes.last(line) {
-            let answer = self.pages.replace(pid, version, node);
-            self.push_changed(answer, &mut line.out);
+            let changed = self.pages.replace(pid, version, node)?;
+            self.push_changed(changed, &mut line.out);
+        }
+        Ok(())
+    }
+
+    fn free(&mut self, pid: Pid, version: Version, line: &mut Line) -> Result<()> {
+        if line.is_read() {
+            if let Err(present) = self.pages.free(pid, version)? {
+                self.push_changed(Err(present), &mut line.out);
+            }
+        }
+        Ok(())
+    }
+
+    // Adds the version that a page has now, or the one that it had before.
+    fn push_changed(
+        &mut self,
+        changed: std::result::Result<Version, Option<Version>>,
+        out: &mut Text,
+    ) {
+        match changed {
+            Ok(version) => self.push_version("changed version", version, out),
+            Err(Some(version)) => self.push_version("found version", version, out),
+            Err(None) => out.push("found -"),
         }
     }
 
@@ -236,21 +288,15 @@ impl Store {
         if let Some(pages) = out.kept(made) {
             let old = std::mem::replace(&mut self.pages, pages);
             drop(old);
-            out.done();
         }
-    }
-
-    // The same with a store of which no version was met.
-    fn renew(&mut self, made: Result<MemPages>, out: &mut Text) {
-        self.versions.clear();
-        self.put(made, out);
     }
 
     // The version of this place among those that were met; where there is none, the version of this number.
     fn version(&self, line: &mut Line) -> Version {
         let met = self.versions.as_slice();
         if line.takes("last") {
-            return last_of(met, line);
+            line.is_bad |= met.is_empty();
+            return met.last().copied().unwrap_or(Version(0));
         }
         let number = line.number();
         let place = usize::try_from(number).unwrap_or(usize::MAX);
@@ -258,71 +304,46 @@ impl Store {
     }
 
     // Adds the place of a version, which is a new one where it was not met before.
-    fn push_version(&mut self, version: Version, out: &mut Text) {
+    fn push_version(&mut self, word: &str, version: Version, out: &mut Text) {
         let place = place_of(self.versions.as_slice(), version);
         if place == self.versions.len() {
             out.keep(&mut self.versions, version);
         }
-        out.push_numbered(" version", place as u64);
-    }
-
-    // Adds the line of a page that has another version, or is not there.
-    fn push_found(&mut self, present: Option<Version>, out: &mut Text) {
-        out.push("found");
-        match present {
-            Some(version) => self.push_version(version, out),
-            None => out.push(" -"),
-        }
-    }
-
-    fn push_changed(&mut self, answer: Changed, out: &mut Text) {
-        match answer {
-            Ok(Ok(version)) => {
-                out.push("changed");
-                self.push_version(version, out);
-            }
-            Ok(Err(present)) => self.push_found(present, out),
-            Err(error) => out.push_refused(error),
-        }
+        out.push_numbered(word, place as u64);
     }
 
     // Adds the number of a page and the place of its version.
     fn push_page(&mut self, pid: Pid, version: Version, out: &mut Text) {
         out.push_numbered("page", pid.0);
-        self.push_version(version, out);
+        self.push_version(" version", version, out);
     }
 
-    fn allocate(&mut self, line: &mut Line) {
-        let Some(node) = self.nodes.last(line) else {
-            return;
-        };
-        match self.pages.allocate(node) {
-            Ok((pid, version)) => self.push_page(pid, version, &mut line.out),
-            Err(error) => line.out.push_refused(error),
+    fn allocate(&mut self, line: &mut Line) -> Result<()> {
+        if let Some(node) = self.nodes.last(line) {
+            let (pid, version) = self.pages.allocate(node)?;
+            self.push_page(pid, version, &mut line.out);
         }
+        Ok(())
     }
 
-    fn read(&mut self, line: &mut Line) {
+    fn read(&mut self, line: &mut Line) -> Result<()> {
         let pid = Pid(line.number());
         let name = if line.has_more() {
             Some(self.nodes.place(line))
         } else {
             None
         };
-        if line.is_read() {
-            self.read_page(pid, name, &mut line.out);
+        if !line.is_read() {
+            return Ok(());
         }
-    }
-
-    fn read_page(&mut self, pid: Pid, name: Option<usize>, out: &mut Text) {
-        match self.pages.read(self.alloc, pid) {
-            Ok(Some(view)) => {
-                self.show(&view, name, out);
+        match self.pages.read(self.alloc, pid)? {
+            Some(view) => {
+                self.show(&view, name, &mut line.out);
                 drop(view);
             }
-            Ok(None) => out.push("none"),
-            Err(error) => out.push_refused(error),
+            None => line.out.push("none"),
         }
+        Ok(())
     }
 
     // Adds the line of a page, and keeps a copy of its node under the name.
@@ -331,76 +352,38 @@ impl Store {
         out.push(" ");
         push_node(out, &view.node);
         if let Some(name) = name {
-            let copy = view.node.clone(self.alloc);
-            self.nodes.put(name, copy, out);
+            let copy = out.kept(view.node.clone(self.alloc));
+            self.nodes.set(name, copy);
         }
     }
 
-    fn free(&mut self, pid: Pid, version: Version, line: &mut Line) {
-        if !line.is_read() {
-            return;
-        }
-        match self.pages.free(pid, version) {
-            Ok(Ok(())) => line.out.done(),
-            Ok(Err(present)) => self.push_found(present, &mut line.out),
-            Err(error) => line.out.push_refused(error),
-        }
-    }
-
-    fn swap(&mut self, line: &mut Line) {
+    fn swap(&mut self, line: &mut Line) -> Result<()> {
         let name = line.bytes();
-        let (old, new) = (line.page(), line.page());
-        if line.is_read() {
-            let answer = self.pages.cas_root(name.as_slice(), old, new);
-            push_swapped(answer, &mut line.out);
-        }
+        let pages = Word::read(line);
+        let swapped = match line.whole(pages) {
+            Some((old, new)) => self.pages.cas_root(name.as_slice(), old, new),
+            None => Ok(Ok(())),
+        };
         drop(name);
+        if let Err(present) = swapped? {
+            push_root(&mut line.out, "found ", present);
+        }
+        Ok(())
     }
 
     fn root(&self, line: &mut Line) {
         let name = line.bytes();
         if line.is_read() {
-            push_root(&mut line.out, "root", self.pages.root(name.as_slice()));
+            push_root(&mut line.out, "root ", self.pages.root(name.as_slice()));
         }
         drop(name);
     }
 
     fn roots(&self, out: &mut Text) {
         out.push("roots");
-        push_all(out, self.pages.roots(self.alloc));
-    }
-
-    fn begin(&mut self, out: &mut Text) {
-        if self.pages.in_group() {
-            out.push("barred");
-        } else {
-            out.push_answer(self.pages.begin_group());
-        }
-    }
-
-    fn seal(&mut self, out: &mut Text) {
-        if self.pages.in_group() {
-            out.push_answer(self.pages.seal_group());
-        } else {
-            out.push("barred");
-        }
-    }
-
-    fn flush(&mut self, out: &mut Text) {
-        if self.pages.in_group() {
-            return out.push("barred");
-        }
-        match self.pages.flush() {
-            Ok(count) => out.push_numbered("flushed", count as u64),
-            Err(error) => out.push_refused(error),
-        }
-    }
-
-    fn set_aside(&mut self, upto: u64, out: &mut Text) {
-        if upto < self.pages.mark() {
-            out.push("barred");
-        } else {
-            out.push_answer(self.pages.set_aside(upto));
+        if let Some(roots) = out.kept(self.pages.roots(self.alloc)) {
+            push_all(out, roots.as_slice());
+            drop(roots);
         }
     }
 
@@ -410,28 +393,28 @@ impl Store {
         self.put(pages.crash(keep), out);
     }
 
-    fn refuse(&mut self, line: &mut Line) {
+    fn refuse(&mut self, line: &mut Line) -> Result<()> {
         let calls = line.list::<u64>();
-        if line.is_read() {
-            let answer = self.pages.refuse_at(calls.as_slice());
-            line.out.push_answer(answer);
-        }
+        let answer = if line.is_read() {
+            self.pages.refuse_at(calls.as_slice())
+        } else {
+            Ok(())
+        };
         drop(calls);
+        answer
     }
 
     fn image_page(&mut self, line: &mut Line) {
         let pid = Pid(line.number());
         if let Some(node) = self.nodes.last(line) {
             line.out.keep(&mut self.image_pages, (pid, node));
-            line.out.done();
         }
     }
 
     fn image_root(&mut self, line: &mut Line) {
-        let root = line.read();
+        let root = Word::read(line);
         if let Some(root) = line.whole(root) {
             line.out.keep(&mut self.image_roots, root);
-            line.out.done();
         }
     }
 
@@ -439,32 +422,8 @@ impl Store {
         let pages = std::mem::replace(&mut self.image_pages, Vec::new(self.alloc));
         let roots = std::mem::replace(&mut self.image_roots, Vec::new(self.alloc));
         let made = MemPages::from_image(self.alloc, pages, roots, mark);
-        self.renew(made, out);
-    }
-
-    fn hold(&mut self, pid: Pid, out: &mut Text) {
-        match self.pages.read(self.alloc, pid) {
-            Ok(view) => self.hold_on(view, out),
-            Err(error) => out.push_refused(error),
-        }
-    }
-
-    fn hold_on(&mut self, view: Option<View>, out: &mut Text) {
-        if let Some(view) = view {
-            out.keep(&mut self.held, view);
-        }
-        out.done();
-    }
-}
-
-// The version that was met last.
-fn last_of(met: &[Version], line: &mut Line) -> Version {
-    match met.last() {
-        Some(version) => *version,
-        None => {
-            line.fail();
-            Version(0)
-        }
+        self.versions.clear();
+        self.put(made, out);
     }
 }
 
@@ -476,14 +435,6 @@ fn place_of(met: &[Version], version: Version) -> usize {
         }
     }
     met.len()
-}
-
-fn push_swapped(answer: Result<std::result::Result<(), Option<Pid>>>, out: &mut Text) {
-    match answer {
-        Ok(Ok(())) => out.done(),
-        Ok(Err(present)) => push_root(out, "found", present),
-        Err(error) => out.push_refused(error),
-    }
 }
 
 fn push_root(out: &mut Text, word: &str, root: Option<Pid>) {

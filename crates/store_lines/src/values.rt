@@ -36,118 +36,112 @@ pub fn kind_of(line: &str) -> Option<(Kind, &str)> {
     Some((named(&KINDS, name)?, items))
 }
 
-// Values that lines compare.
-trait Sample: PartialEq + Drop {
-    fn sample(line: &mut Line) -> Option<Self>;
+// A value that lines compare. An event is one that a subscriber is told.
+#[derive(Drop)]
+enum Value {
+    String(IVec),
+    Next(Next),
+    Conflict(CompareAndSwapError),
+    Error(Error),
+    Call(Call),
+    Whole(Whole),
+    Tree(Tree),
+}
 
-    fn copy(&self) -> Result<Self>;
+impl Value {
+    fn read(kind: Kind, line: &mut Line) -> Option<Value> {
+        match kind {
+            Kind::String => Some(Value::String(Word::read(line)?)),
+            Kind::Event => read_event(line),
+            Kind::Next => read_next(line),
+            Kind::Conflict => read_conflict(line),
+            Kind::Error => read_error(line),
+            Kind::Call => read_call(line),
+            Kind::Whole => read_whole(line),
+            Kind::Tree => Some(Value::Tree(Word::read(line)?)),
+        }
+    }
+
+    fn copy(&self) -> Result<Value> {
+        match self {
+            Value::String(string) => string.clone().map(Value::String),
+            Value::Next(Next::Event(event)) => Ok(Value::Next(Next::Event(event.clone()?))),
+            Value::Next(Next::Missed(count)) => Ok(Value::Next(Next::Missed(*count))),
+            Value::Conflict(conflict) => conflict.clone().map(Value::Conflict),
+            Value::Error(error) => error.clone().map(Value::Error),
+            Value::Call(call) => call.clone().map(Value::Call),
+            Value::Whole(whole) => whole.clone().map(Value::Whole),
+            Value::Tree(tree) => tree.clone().map(Value::Tree),
+        }
+    }
 
     // Adds its text or its name.
-    fn show(&self, out: &mut Text);
+    fn show(&self, out: &mut Text) {
+        match self {
+            Value::String(string) => out.push_word(string.as_ref()),
+            Value::Next(Next::Event(event)) => out.push_word(event.key().as_ref()),
+            Value::Next(Next::Missed(count)) => out.push_numbered("missed", *count),
+            Value::Conflict(conflict) => out.show(conflict),
+            Value::Error(error) => out.push_error(error),
+            Value::Call(call) => out.push_word(call.key()),
+            Value::Whole(whole) => out.push(name_of(whole)),
+            Value::Tree(tree) => out.push_word(tree.name().as_ref()),
+        }
+    }
 
-    // What stands between the value and one that it does not equal: `/` where there is no order.
-    fn sign(&self, _: &Self) -> &'static str {
-        "/"
+    // What stands between the value and another one: `/` where they differ and there is no order.
+    fn sign(&self, other: &Value) -> &'static str {
+        match (self, other) {
+            (Value::String(one), Value::String(other)) => sign_of(one, other),
+            (Value::Next(one), Value::Next(other)) => sign_of(one, other),
+            (Value::Conflict(one), Value::Conflict(other)) => sign_of(one, other),
+            _ if self.is_equal(other) => "=",
+            _ => "/",
+        }
+    }
+
+    // Whether values that have no order are equal.
+    fn is_equal(&self, other: &Value) -> bool {
+        match (self, other) {
+            (Value::Error(one), Value::Error(other)) => one == other,
+            (Value::Call(one), Value::Call(other)) => one == other,
+            (Value::Whole(one), Value::Whole(other)) => one == other,
+            (Value::Tree(one), Value::Tree(other)) => one == other,
+            _ => false,
+        }
     }
 }
 
+// What stands between two values that have an order.
 fn sign_of<T: Ord>(value: &T, other: &T) -> &'static str {
-    if value < other { "<" } else { ">" }
-}
-
-impl Sample for IVec {
-    fn sample(line: &mut Line) -> Option<IVec> {
-        line.read()
-    }
-
-    fn copy(&self) -> Result<IVec> {
-        self.clone()
-    }
-
-    fn show(&self, out: &mut Text) {
-        out.push_word(self.as_ref());
-    }
-
-    fn sign(&self, other: &IVec) -> &'static str {
-        sign_of(self, other)
+    if value == other {
+        "="
+    } else if value < other {
+        "<"
+    } else {
+        ">"
     }
 }
 
-impl Sample for Event {
-    fn sample(line: &mut Line) -> Option<Event> {
-        let (key, value) = line.read::<(IVec, Option<IVec>)>()?;
-        Some(match value {
-            Some(value) => Event::Insert { key, value },
-            None => Event::Remove { key },
-        })
-    }
-
-    fn copy(&self) -> Result<Event> {
-        self.clone()
-    }
-
-    fn show(&self, out: &mut Text) {
-        out.push_word(self.key().as_ref());
-    }
-
-    fn sign(&self, other: &Event) -> &'static str {
-        sign_of(self, other)
-    }
+fn read_event(line: &mut Line) -> Option<Value> {
+    let (key, value) = <(IVec, Option<IVec>)>::read(line)?;
+    Some(Value::Next(Next::Event(match value {
+        Some(value) => Event::Insert { key, value },
+        None => Event::Remove { key },
+    })))
 }
 
-// What a subscriber is told.
-#[derive(Clone, Copy)]
-enum Said {
-    Event,
-    Missed,
+fn read_next(line: &mut Line) -> Option<Value> {
+    if line.takes("event") {
+        return read_event(line);
+    }
+    line.is_bad |= !line.takes("missed");
+    Some(Value::Next(Next::Missed(line.number())))
 }
 
-const TOLD: [(&str, Said); 2] = [("event", Said::Event), ("missed", Said::Missed)];
-
-impl Sample for Next {
-    fn sample(line: &mut Line) -> Option<Next> {
-        match line.named(&TOLD)? {
-            Said::Event => Event::sample(line).map(Next::Event),
-            Said::Missed => Some(Next::Missed(line.number())),
-        }
-    }
-
-    fn copy(&self) -> Result<Next> {
-        match self {
-            Next::Event(event) => event.clone().map(Next::Event),
-            Next::Missed(count) => Ok(Next::Missed(*count)),
-        }
-    }
-
-    fn show(&self, out: &mut Text) {
-        match self {
-            Next::Event(event) => event.show(out),
-            Next::Missed(count) => out.push_numbered("missed", *count),
-        }
-    }
-
-    fn sign(&self, other: &Next) -> &'static str {
-        sign_of(self, other)
-    }
-}
-
-impl Sample for CompareAndSwapError {
-    fn sample(line: &mut Line) -> Option<CompareAndSwapError> {
-        let (current, proposed) = line.read()?;
-        Some(CompareAndSwapError { current, proposed })
-    }
-
-    fn copy(&self) -> Result<CompareAndSwapError> {
-        self.clone()
-    }
-
-    fn show(&self, out: &mut Text) {
-        out.push_conflict(self);
-    }
-
-    fn sign(&self, other: &CompareAndSwapError) -> &'static str {
-        sign_of(self, other)
-    }
+fn read_conflict(line: &mut Line) -> Option<Value> {
+    let (current, proposed) = Word::read(line)?;
+    Some(Value::Conflict(CompareAndSwapError { current, proposed }))
 }
 
 // The texts that refusals tell, which are numbered from here on.
@@ -175,38 +169,22 @@ fn text_of(number: u64) -> Option<&'static str> {
 }
 
 // The error of a number. The first one has a name.
-fn error_of(number: u64) -> Option<Error> {
-    match number {
-        2 => Some(Error::Unsupported("one")),
-        3 => Some(Error::ReportableBug("two")),
-        4 => Some(Error::Io(Fault(3))),
-        5 => Some(Error::Corruption(Fault(4))),
-        6 => Some(Error::NoMemory),
-        8 => Some(Error::Closed),
-        _ => text_of(number).map(Error::Unsupported),
-    }
-}
-
-impl Sample for Error {
-    fn sample(line: &mut Line) -> Option<Error> {
-        let number = line.number();
-        if number == 1 {
-            return line.read().map(Error::CollectionNotFound);
+fn read_error(line: &mut Line) -> Option<Value> {
+    let number = line.number();
+    Some(Value::Error(match number {
+        1 => Error::CollectionNotFound(Word::read(line)?),
+        2 => Error::Unsupported("one"),
+        3 => Error::ReportableBug("two"),
+        4 => Error::Io(Fault(3)),
+        5 => Error::Corruption(Fault(4)),
+        6 => Error::NoMemory,
+        8 => Error::Closed,
+        _ => {
+            let text = text_of(number);
+            line.is_bad |= text.is_none();
+            Error::Unsupported(text?)
         }
-        let error = error_of(number);
-        if error.is_none() {
-            line.fail();
-        }
-        error
-    }
-
-    fn copy(&self) -> Result<Error> {
-        self.clone()
-    }
-
-    fn show(&self, out: &mut Text) {
-        out.push_error(self);
-    }
+    }))
 }
 
 // What a call does at its key.
@@ -217,8 +195,8 @@ enum Point {
     Remove,
     Swap,
     Merge,
-    Scan,
-    ScanBack,
+    // Whether it goes back.
+    Scan(bool),
 }
 
 const CALLS: [(&str, Point); 7] = [
@@ -227,118 +205,99 @@ const CALLS: [(&str, Point); 7] = [
     ("remove", Point::Remove),
     ("cas", Point::Swap),
     ("merge", Point::Merge),
-    ("scan", Point::Scan),
-    ("scan-back", Point::ScanBack),
+    ("scan", Point::Scan(false)),
+    ("scan-back", Point::Scan(true)),
 ];
 
-fn read_insert(line: &mut Line) -> Option<Call> {
-    let (key, value) = line.read()?;
-    Some(Call::Insert(key, value))
+fn read_scan(line: &mut Line, back: bool) -> Option<Value> {
+    let (lo, hi) = Word::read(line)?;
+    Some(Value::Call(Call::Scan { lo, hi, back }))
 }
 
-fn read_merge(line: &mut Line) -> Option<Call> {
-    let (key, bytes) = line.read()?;
-    Some(Call::Merge(key, bytes))
-}
-
-fn read_swap(line: &mut Line) -> Option<Call> {
-    let (key, (old, new)) = line.read()?;
-    Some(Call::CompareAndSwap(key, old, new))
-}
-
-fn read_scan(line: &mut Line, back: bool) -> Option<Call> {
-    let lo = line.bound();
-    let (lo, hi) = lo.zip(line.bound())?;
-    Some(Call::Scan { lo, hi, back })
-}
-
-impl Sample for Call {
-    fn sample(line: &mut Line) -> Option<Call> {
-        match line.named(&CALLS)? {
-            Point::Get => line.read().map(Call::Get),
-            Point::Insert => read_insert(line),
-            Point::Remove => line.read().map(Call::Remove),
-            Point::Swap => read_swap(line),
-            Point::Merge => read_merge(line),
-            Point::Scan => read_scan(line, false),
-            Point::ScanBack => read_scan(line, true),
+fn read_call(line: &mut Line) -> Option<Value> {
+    let point = line.named(&CALLS)?;
+    Some(Value::Call(match point {
+        Point::Get | Point::Remove => {
+            let key = Word::read(line)?;
+            match point {
+                Point::Get => Call::Get(key),
+                _ => Call::Remove(key),
+            }
         }
-    }
+        Point::Insert | Point::Merge => {
+            let (key, value) = Word::read(line)?;
+            match point {
+                Point::Insert => Call::Insert(key, value),
+                _ => Call::Merge(key, value),
+            }
+        }
+        Point::Swap => {
+            let (key, (old, new)) = Word::read(line)?;
+            Call::CompareAndSwap(key, old, new)
+        }
+        Point::Scan(back) => return read_scan(line, back),
+    }))
+}
 
-    fn copy(&self) -> Result<Call> {
-        self.clone()
-    }
-
-    fn show(&self, out: &mut Text) {
-        out.push_word(self.key());
-    }
+// What a whole call does in a tree.
+#[derive(Clone, Copy)]
+enum InTree {
+    PopMin,
+    PopMax,
+    Clear,
+    Group,
+    Watch,
 }
 
 // What a whole call does.
 #[derive(Clone, Copy)]
 enum Kept {
     Flush,
-    PopMin,
-    PopMax,
-    Clear,
-    Group,
+    InTree(InTree),
     Open,
     Drop,
     Id,
     Import,
-    Watch,
     Next,
     Unsubscribe,
 }
 
 const WHOLES: [(&str, Kept); 12] = [
     ("flush", Kept::Flush),
-    ("pop-min", Kept::PopMin),
-    ("pop-max", Kept::PopMax),
-    ("clear", Kept::Clear),
-    ("group", Kept::Group),
+    ("pop-min", Kept::InTree(InTree::PopMin)),
+    ("pop-max", Kept::InTree(InTree::PopMax)),
+    ("clear", Kept::InTree(InTree::Clear)),
+    ("group", Kept::InTree(InTree::Group)),
     ("tree", Kept::Open),
     ("drop", Kept::Drop),
     ("id", Kept::Id),
     ("import", Kept::Import),
-    ("watch", Kept::Watch),
+    ("watch", Kept::InTree(InTree::Watch)),
     ("next", Kept::Next),
     ("unwatch", Kept::Unsubscribe),
 ];
 
-// A collection with one pair.
-fn read_collection(line: &mut Line) -> Option<Collection> {
+// A list of one collection with one pair.
+fn read_import(line: &mut Line) -> Vec<Collection> {
     let kind = line.bytes();
     let name = line.bytes();
-    let mut pairs = Vec::new(line.alloc());
-    if let Some(pair) = line.read::<(IVec, IVec)>() {
+    let mut pairs = Vec::new(line.out.alloc);
+    if let Some(pair) = Word::read(line) {
         line.out.keep(&mut pairs, pair);
     }
-    Some((kind, name, pairs))
-}
-
-fn read_import(line: &mut Line) -> Option<Whole> {
-    let mut collections = Vec::new(line.alloc());
-    if let Some(collection) = read_collection(line) {
-        line.out.keep(&mut collections, collection);
-    }
-    Some(Whole::Import(collections))
-}
-
-fn read_watch(line: &mut Line) -> Option<Whole> {
-    let tree = Tree::sample(line);
-    let (tree, prefix) = tree.zip(line.read())?;
-    Some(Whole::Watch(tree, prefix))
+    let mut collections = Vec::new(line.out.alloc);
+    line.out.keep(&mut collections, (kind, name, pairs));
+    collections
 }
 
 // The batch of words up to the end.
 fn read_batch(line: &mut Line) -> Batch {
-    let mut batch = Batch::default(line.alloc());
+    let mut batch = Batch::default(line.out.alloc);
     let writes: Vec<(IVec, Option<IVec>)> = line.list();
     for (key, value) in &writes {
         let written = match value {
-            Some(value) => batch.insert(line.alloc(), key.as_ref(), value.as_ref()),
-            None => batch.remove(line.alloc(), key.as_ref()),
+            Some(value) => batch.insert(line.out.alloc, key.as_ref(), value.as_ref()),
+            None => batch.remove(line.out.alloc, key.as_ref()),
         };
         line.out.kept(written);
     }
@@ -347,91 +306,94 @@ fn read_batch(line: &mut Line) -> Batch {
 }
 
 // A group of one batch.
-fn read_group(line: &mut Line) -> Option<Whole> {
-    let tree = Tree::sample(line)?;
+fn read_group(tree: Tree, line: &mut Line) -> Vec<(Tree, Batch)> {
     let batch = read_batch(line);
-    let mut group = Vec::new(line.alloc());
+    let mut group = Vec::new(line.out.alloc);
     line.out.keep(&mut group, (tree, batch));
-    Some(Whole::Group(group))
+    group
 }
 
-impl Sample for Whole {
-    fn sample(line: &mut Line) -> Option<Whole> {
-        match line.named(&WHOLES)? {
-            Kept::Flush => Some(Whole::Flush),
-            Kept::PopMin => Tree::sample(line).map(Whole::PopMin),
-            Kept::PopMax => Tree::sample(line).map(Whole::PopMax),
-            Kept::Clear => Tree::sample(line).map(Whole::Clear),
-            Kept::Group => read_group(line),
-            Kept::Open => line.read().map(Whole::OpenTree),
-            Kept::Drop => line.read().map(Whole::DropTree),
-            Kept::Id => Some(Whole::GenerateId),
-            Kept::Import => read_import(line),
-            Kept::Watch => read_watch(line),
-            Kept::Next => Some(Whole::Next(Subscriber(line.number()))),
-            Kept::Unsubscribe => Some(Whole::Unsubscribe(Subscriber(line.number()))),
+fn read_in_tree(call: InTree, line: &mut Line) -> Option<Whole> {
+    let tree = Word::read(line)?;
+    Some(match call {
+        InTree::PopMin => Whole::PopMin(tree),
+        InTree::PopMax => Whole::PopMax(tree),
+        InTree::Clear => Whole::Clear(tree),
+        InTree::Group => Whole::Group(read_group(tree, line)),
+        InTree::Watch => {
+            let (tree, prefix) = Some(tree).zip(Word::read(line))?;
+            Whole::Watch(tree, prefix)
         }
-    }
+    })
+}
 
-    fn copy(&self) -> Result<Whole> {
-        self.clone()
-    }
+fn read_whole(line: &mut Line) -> Option<Value> {
+    Some(Value::Whole(match line.named(&WHOLES)? {
+        Kept::Flush => Whole::Flush,
+        Kept::InTree(call) => read_in_tree(call, line)?,
+        Kept::Open => Whole::OpenTree(Word::read(line)?),
+        Kept::Drop => Whole::DropTree(Word::read(line)?),
+        Kept::Id => Whole::GenerateId,
+        Kept::Import => Whole::Import(read_import(line)),
+        Kept::Next => Whole::Next(Subscriber(line.number())),
+        Kept::Unsubscribe => Whole::Unsubscribe(Subscriber(line.number())),
+    }))
+}
 
-    fn show(&self, out: &mut Text) {
-        out.push(match self {
-            Whole::Flush => "flush",
-            Whole::PopMin(_) => "pop-min",
-            Whole::PopMax(_) => "pop-max",
-            Whole::Clear(_) => "clear",
-            Whole::Group(_) => "group",
-            Whole::OpenTree(_) => "tree",
-            Whole::DropTree(_) => "drop",
-            Whole::GenerateId => "id",
-            Whole::Import(_) => "import",
-            Whole::Watch(_, _) => "watch",
-            Whole::Next(_) => "next",
-            Whole::Unsubscribe(_) => "unwatch",
-        });
+fn name_of(whole: &Whole) -> &'static str {
+    match whole {
+        Whole::Flush => "flush",
+        Whole::PopMin(_) => "pop-min",
+        Whole::PopMax(_) => "pop-max",
+        Whole::Clear(_) => "clear",
+        Whole::Group(_) => "group",
+        Whole::OpenTree(_) => "tree",
+        Whole::DropTree(_) => "drop",
+        Whole::GenerateId => "id",
+        Whole::Import(_) => "import",
+        Whole::Watch(_, _) => "watch",
+        Whole::Next(_) => "next",
+        Whole::Unsubscribe(_) => "unwatch",
     }
 }
 
-impl Sample for Tree {
-    fn sample(line: &mut Line) -> Option<Tree> {
-        let ((database, name), number) = line.read()?;
+impl Word for Tree {
+    fn read(line: &mut Line) -> Option<Tree> {
+        let ((database, name), number) = Word::read(line)?;
         Some(Tree {
             database,
             name,
             number,
         })
     }
-
-    fn copy(&self) -> Result<Tree> {
-        self.clone()
-    }
-
-    fn show(&self, out: &mut Text) {
-        out.push_word(self.name().as_ref());
-    }
 }
 
-// A value with its copy.
-fn sample_pair<T: Sample>(line: &mut Line) -> Option<(T, T)> {
-    let value = T::sample(line)?;
-    let copy = line.out.kept(value.copy());
-    Some(value).zip(copy)
+fn read_values(kind: Kind, items: &str, line: &mut Line) -> Vec<Value> {
+    let mut all = Vec::new(line.out.alloc);
+    for item in items.split(", ") {
+        line.start(item);
+        let value = Value::read(kind, line);
+        if let Some(value) = line.whole(value) {
+            line.out.keep(&mut all, value);
+        }
+    }
+    all
 }
 
-// Adds what stands between a value and each copy.
-fn push_signs<T: Sample>(value: &T, all: &[(T, T)], out: &mut Text) {
-    for (_, copy) in all {
-        out.push(if value == copy { "=" } else { value.sign(copy) });
+// Adds what stands between a value and a copy of each.
+fn push_signs(value: &Value, all: &[Value], out: &mut Text) {
+    for other in all {
+        if let Some(copy) = out.kept(other.copy()) {
+            out.push(value.sign(&copy));
+            drop(copy);
+        }
     }
 }
 
 // Adds a line for each value.
-fn push_samples<T: Sample>(all: &[(T, T)], out: &mut Text) {
+fn push_values(all: &[Value], out: &mut Text) {
     let mut between = "";
-    for (value, _) in all {
+    for value in all {
         out.push(between);
         value.show(out);
         out.push(" ");
@@ -440,36 +402,11 @@ fn push_samples<T: Sample>(all: &[(T, T)], out: &mut Text) {
     }
 }
 
-fn read_samples<T: Sample>(items: &str, line: &mut Line) -> Vec<(T, T)> {
-    let mut all = Vec::new(line.alloc());
-    for item in items.split(", ") {
-        line.start(item);
-        let pair = sample_pair(line);
-        if let Some(pair) = line.whole(pair) {
-            line.out.keep(&mut all, pair);
-        }
-    }
-    all
-}
-
-fn compare_all<T: Sample>(items: &str, line: &mut Line) {
-    let all: Vec<(T, T)> = read_samples(items, line);
-    if line.is_read() {
-        push_samples(all.as_slice(), &mut line.out);
-    }
-    drop(all);
-}
-
 /// Compares the values of a line.
 pub fn compare_values(kind: Kind, items: &str, line: &mut Line) {
-    match kind {
-        Kind::String => compare_all::<IVec>(items, line),
-        Kind::Event => compare_all::<Event>(items, line),
-        Kind::Next => compare_all::<Next>(items, line),
-        Kind::Conflict => compare_all::<CompareAndSwapError>(items, line),
-        Kind::Error => compare_all::<Error>(items, line),
-        Kind::Call => compare_all::<Call>(items, line),
-        Kind::Whole => compare_all::<Whole>(items, line),
-        Kind::Tree => compare_all::<Tree>(items, line),
+    let all = read_values(kind, items, line);
+    if line.is_read() {
+        push_values(all.as_slice(), &mut line.out);
     }
+    drop(all);
 }

@@ -1,6 +1,5 @@
 //! The database that is shared.
 use crate::pairs::Pairs;
-use crate::stopped::Stopped;
 use sled::{Db, MemPages};
 use sled_model::Tree;
 
@@ -10,30 +9,19 @@ pub type Owned = Db<MemPages>;
 // After so many inserts there is a flush.
 const FLUSH: u64 = 1000;
 
-fn insert(db: &mut Owned, tree: &Tree, pairs: &Pairs, place: u64) -> Result<(), Stopped> {
-    let old = db.insert(tree, &pairs.key(place), &pairs.value(place, 0))?;
-    drop(old);
+fn insert(db: &mut Owned, tree: &Tree, pairs: &Pairs, place: u64) -> Option<()> {
+    let old = db.insert(tree, &pairs.key(place), &pairs.value(place, 0));
+    drop(old.ok()?);
     if place % FLUSH == FLUSH - 1 {
-        db.flush()?;
+        db.flush().ok()?;
     }
-    Ok(())
+    Some(())
 }
 
-fn fill(db: &mut Owned, tree: &Tree, pairs: &Pairs) -> Result<(), Stopped> {
-    for place in 0..pairs.count() {
+/// Puts these pairs into the tree.
+pub fn fill(db: &mut Owned, tree: &Tree, pairs: &Pairs) -> Option<()> {
+    for place in 0..pairs.count {
         insert(db, tree, pairs, place)?;
     }
-    Ok(())
-}
-
-/// The tree of a database, with these pairs in it.
-pub fn load(db: &mut Owned, pairs: &Pairs) -> Result<Tree, Stopped> {
-    let tree = db.default_tree()?;
-    match fill(db, &tree, pairs) {
-        Ok(()) => Ok(tree),
-        Err(stopped) => {
-            drop(tree);
-            Err(stopped)
-        }
-    }
+    Some(())
 }

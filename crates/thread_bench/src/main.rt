@@ -2,10 +2,10 @@
 //!
 //!     thread_bench PAIRS CALLS SEED THREADS WORKLOAD..
 //!
-//! So many pairs are loaded, at least one. For each workload the database is shared by so many threads, at most 255. Each makes so many
-//! calls by its handle, on keys of these pairs: `gets`, or a `mix` of 95 gets and 5 inserts of 100. Then the handles are given back. Up to
-//! 8 pairs are in one leaf. Keys are 8 bytes, and values 16. Each call is recorded in memory, in the history and in the handle's own list,
-//! so a hundred thousand calls are enough.
+//! Each workload begins with so many pairs loaded anew, at least one. So many threads, at most 255, share the database, and each makes so
+//! many calls by its handle, on keys of these pairs: `gets`, or a `mix` of 95 gets and 5 inserts of 100. Then the handles are given back.
+//! Up to 8 pairs are in one leaf. Keys are 8 bytes, and values 16. Each call is recorded in memory, in the history and in the handle's own
+//! list, so a hundred thousand calls are enough.
 //!
 //! Each workload prints its name, how many calls the history has, and a checksum of their replies, which is the same whatever the
 //! schedule; and on standard error its name and the time from the start of the first thread to the end of the last, in microseconds. The
@@ -14,14 +14,12 @@
 
 mod loaded;
 mod pairs;
-mod stopped;
 mod threads;
 mod work;
 
-use loaded::{Owned, load};
+use loaded::{Owned, fill};
 use pairs::Pairs;
 use sled::{Db, empty_pages};
-use sled_model::Tree;
 use std::alloc::Global;
 use std::env;
 use std::marker::Brand;
@@ -30,144 +28,99 @@ use std::rt::Clock;
 use std::sync::Wait;
 use std::sync::ledger::Blank;
 use std::thread::Threads;
-use stopped::Stopped;
 use threads::{Told, run};
-use work::{Work, Workload, named};
+use work::{Work, inserts_in};
 
-// What the words ask for, but for the workloads.
-#[derive(Clone, Copy)]
-struct Asked {
-    pairs: Pairs,
-    calls: u64,
-    threads: u8,
-}
-
-fn number(word: &String) -> Result<u64, Stopped> {
-    word.parse::<u64>().map_err(|_| Stopped)
-}
-
-fn read_words(words: &[String; 4]) -> Result<Asked, Stopped> {
+// What the words ask for, with no inserts as yet.
+fn read_words(words: &[String; 4]) -> Option<Work> {
     let [pairs, calls, seed, threads] = words;
-    let count = number(pairs)?;
+    let count = pairs.parse::<u64>().ok()?;
     if count == 0 {
-        return Err(Stopped);
+        return None;
     }
-    Ok(Asked {
-        pairs: Pairs::new(number(seed)?, count),
-        calls: number(calls)?,
-        threads: threads.parse::<u8>().map_err(|_| Stopped)?,
+    let seed = seed.parse::<u64>().ok()?;
+    Some(Work {
+        pairs: Pairs { seed, count },
+        calls: calls.parse::<u64>().ok()?,
+        threads: threads.parse::<u8>().ok()?,
+        inserts: 0,
     })
 }
 
-// Has the threads make the calls of a workload.
-fn measure<R: Threads + Wait + Clock + Print + Eprint + Sync>(
+fn tell<R: Print + Eprint>(rt: &R, name: &str, told: &Told) -> Option<()> {
+    let (calls, sum, time) = (told.calls, told.sum, told.time.as_micros());
+    println!(rt; "{name} {calls} {sum:016x}").ok()?;
+    eprintln!(rt; "{name} {time}").ok()
+}
+
+// Puts the pairs into a new database, has the threads make their calls, and tells what came of it.
+fn measure_on<R: Threads + Wait + Clock + Sync>(
     rt: &R,
     alloc: Global,
-    db: Owned,
-    tree: &Tree,
-    asked: &Asked,
-    workload: Workload,
-) -> Result<(Owned, Told), Stopped> {
-    let work = Work::new(asked.pairs, asked.calls, workload);
-    let threads = u64::from(asked.threads);
-    run::<Brand, _>(rt, alloc, Blank::new(threads + 1), db, tree, &work, threads)
+    mut db: Owned,
+    work: &Work,
+) -> Option<Told> {
+    let Ok(tree) = db.default_tree() else {
+        drop(db);
+        return None;
+    };
+    if fill(&mut db, &tree, &work.pairs).is_none() {
+        drop(db);
+        drop(tree);
+        return None;
+    }
+    let blank = Blank::new(u64::from(work.threads) + 1);
+    let told = run::<Brand, _>(rt, alloc, blank, db, &tree, work);
+    drop(tree);
+    told
 }
 
-fn tell<R: Print + Eprint>(rt: &R, name: &str, told: &Told) -> Result<(), Stopped> {
-    let (calls, sum) = (told.calls, told.sum);
-    println!(rt; "{name} {calls} {sum:016x}")?;
-    let time = told.time.as_micros();
-    eprintln!(rt; "{name} {time}")?;
-    Ok(())
+// The same, on a database that it opens.
+fn measure<R: Threads + Wait + Clock + Sync>(rt: &R, alloc: Global, work: &Work) -> Option<Told> {
+    match Db::open(alloc, empty_pages(alloc), b"threads") {
+        Ok(db) => measure_on(rt, alloc, db, work),
+        Err(refused) => {
+            drop(refused);
+            None
+        }
+    }
 }
 
-// Measures a workload, and prints what it came to. The database comes back.
+// Measures the workload of a name, and prints what it came to.
 fn measure_named<R: Threads + Wait + Clock + Print + Eprint + Sync>(
     rt: &R,
     alloc: Global,
-    db: Owned,
-    tree: &Tree,
-    asked: &Asked,
+    work: &Work,
     name: &str,
-) -> Result<Owned, Stopped> {
-    let Some(workload) = named(name) else {
-        drop(db);
-        return Err(Stopped);
-    };
-    let (db, told) = measure(rt, alloc, db, tree, asked, workload)?;
-    match tell(rt, name, &told) {
-        Ok(()) => Ok(db),
-        Err(stopped) => {
-            drop(db);
-            Err(stopped)
-        }
-    }
+) -> Option<()> {
+    let inserts = inserts_in(name)?;
+    let work = Work { inserts, ..*work };
+    tell(rt, name, &measure(rt, alloc, &work)?)
 }
 
 fn measure_all<R: Threads + Wait + Clock + Print + Eprint + Sync>(
     rt: &R,
     alloc: Global,
-    db: Owned,
-    tree: &Tree,
-    asked: &Asked,
-    names: &[String],
-) -> Result<(), Stopped> {
-    let mut db = db;
-    for name in names {
-        db = measure_named(rt, alloc, db, tree, asked, name.as_str())?;
-    }
-    // The process ends now.
-    std::mem::forget(db);
-    Ok(())
-}
-
-// Loads the pairs, and measures all workloads.
-fn run_on<R: Threads + Wait + Clock + Print + Eprint + Sync>(
-    rt: &R,
-    alloc: Global,
-    db: Owned,
-    asked: &Asked,
-    names: &[String],
-) -> Result<(), Stopped> {
-    let mut db = db;
-    match load(&mut db, &asked.pairs) {
-        Ok(tree) => {
-            let measured = measure_all(rt, alloc, db, &tree, asked, names);
-            drop(tree);
-            measured
-        }
-        Err(stopped) => {
-            drop(db);
-            Err(stopped)
-        }
-    }
-}
-
-fn run_words<R: Threads + Wait + Clock + Print + Eprint + Sync>(
-    rt: &R,
-    alloc: Global,
     words: &[String],
-) -> Result<(), Stopped> {
-    let Some((first, names)) = words.split_first_chunk::<4>() else {
-        return Err(Stopped);
-    };
-    let asked = read_words(first)?;
-    match Db::open(alloc, empty_pages(alloc), b"threads") {
-        Ok(db) => run_on(rt, alloc, db, &asked, names),
-        Err(refused) => {
-            drop(refused);
-            Err(Stopped)
-        }
+) -> Option<()> {
+    let (first, names) = words.split_first_chunk::<4>()?;
+    let work = read_words(first)?;
+    for name in names {
+        measure_named(rt, alloc, &work, name.as_str())?;
     }
+    Some(())
 }
 
-fn words(rt: &HostRuntime) -> Result<Vec<String>, Stopped> {
-    Ok(env::args(rt)?.skip(1).collect(rt.alloc())?)
+fn words(rt: &HostRuntime) -> Option<Vec<String>> {
+    env::args(rt).ok()?.skip(1).collect(rt.alloc()).ok()
 }
 
 fn main(rt: HostRuntime) -> ExitCode {
-    match words(&rt).and_then(|words| run_words(&rt, rt.alloc(), words.as_slice())) {
-        Ok(()) => ExitCode::from(0),
-        Err(Stopped) => ExitCode::from(1),
+    let Some(words) = words(&rt) else {
+        return ExitCode::from(1);
+    };
+    match measure_all(&rt, rt.alloc(), words.as_slice()) {
+        Some(()) => ExitCode::from(0),
+        None => ExitCode::from(1),
     }
 }

@@ -5,6 +5,9 @@ const CHOICES: u64 = 1 << 63;
 
 const TURNS: u64 = 1 << 40;
 
+/// What stands in a checksum where there is no value.
+pub const NO_MARK: u64 = 1;
+
 // A number that looks random, another one for each place.
 fn scattered(place: u64) -> u64 {
     let number = place.wrapping_mul(0x9e37_79b9_7f4a_7c15);
@@ -13,24 +16,14 @@ fn scattered(place: u64) -> u64 {
     number ^ (number >> 31)
 }
 
-/// The pairs that are loaded.
+/// The pairs that are loaded, so many.
 #[derive(Clone, Copy)]
 pub struct Pairs {
-    seed: u64,
-    count: u64,
+    pub seed: u64,
+    pub count: u64,
 }
 
 impl Pairs {
-    /// So many pairs.
-    pub fn new(seed: u64, count: u64) -> Pairs {
-        Pairs { seed, count }
-    }
-
-    /// How many there are.
-    pub fn count(&self) -> u64 {
-        self.count
-    }
-
     /// The key at a place.
     pub fn key(&self, place: u64) -> [u8; 8] {
         scattered(self.seed.wrapping_add(place)).to_be_bytes()
@@ -55,9 +48,9 @@ impl Pairs {
 }
 
 /// The mark of a value: what stands for it in a checksum.
-pub fn mark_of(value: Option<&[u8]>) -> u64 {
-    match value.and_then(|value| value.first_chunk::<8>()) {
+pub fn mark_of(value: &[u8]) -> u64 {
+    match value.first_chunk::<8>() {
         Some(mark) => u64::from_be_bytes(*mark),
-        None => 1,
+        None => NO_MARK,
     }
 }

@@ -2,11 +2,10 @@
 ghost use Rattle.std.specs.Prelude.{◌≡◌, ◌+◌};
 
 use crate::loaded::Owned;
-use crate::pairs::mark_of;
-use crate::stopped::Stopped;
+use crate::pairs::{NO_MARK, mark_of};
 use crate::work::{Way, Work};
 use sled::MemPages;
-use sled_machine::shared::{Db, Entry, Made};
+use sled_machine::shared::{Db, Entry, Made, State};
 use sled_model::{Call, Reply, Tree};
 use std::alloc::Global;
 use std::sync::Wait;
@@ -24,111 +23,48 @@ pub struct Told {
     pub time: Duration,
 }
 
-fn share<L: Ledger, R: Wait>(
-    rt: &R,
-    alloc: Global,
-    blank: Blank,
-    db: Owned,
-    callers: u64,
-) -> Result<Shared<L>, Stopped>
-where
-    requires name { blank.name ≡ L.name }
-    requires parts { blank.parts ≡ L.parts }
-    requires each { blank.parts ≡ callers + 1 }
-{
-    match Db::new(rt, alloc, db, blank, callers) {
-        Ok(shared) => Ok(shared),
-        Err((db, e)) => {
-            drop(db);
-            drop(e);
-            Err(Stopped)
-        }
-    }
-}
-
-fn put<L: Ledger>(handles: &mut Vec<Way<L>>, handle: Way<L>) -> Result<(), Stopped> {
-    match handles.push(handle) {
-        Ok(()) => Ok(()),
-        Err(failed) => {
-            drop(failed);
-            Err(Stopped)
-        }
-    }
-}
-
-// A handle for each caller.
-fn put_handles<L: Ledger>(
+// Puts a handle for a new caller to the others.
+fn add_handle<L: Ledger>(
     alloc: Global,
     shared: &mut Shared<L>,
     handles: &mut Vec<Way<L>>,
-    callers: u64,
-) -> Result<(), Stopped> {
-    for _ in 0..callers {
-        let handle = shared.handle(alloc)?;
-        put(handles, handle)?;
-    }
-    Ok(())
+) -> Option<()> {
+    let handle = shared.handle(alloc).ok()?;
+    handles.push(handle).ok()
 }
 
-fn handles_of<L: Ledger>(
+// The same for so many callers.
+fn add_handles<L: Ledger>(
     alloc: Global,
     shared: &mut Shared<L>,
-    callers: u64,
-) -> Result<Vec<Way<L>>, Stopped> {
-    let mut handles = Vec::new(alloc);
-    match put_handles(alloc, shared, &mut handles, callers) {
-        Ok(()) => Ok(handles),
-        Err(stopped) => {
-            drop(handles);
-            Err(stopped)
-        }
+    handles: &mut Vec<Way<L>>,
+    callers: u8,
+) -> Option<()> {
+    for _ in 0..callers {
+        add_handle(alloc, shared, handles)?;
     }
+    Some(())
 }
 
-// Each handle goes to a thread, which makes its calls, and comes back.
+// Each handle goes to a thread, which makes its calls, and comes back. Where there is no memory for that none comes back.
 fn side_by_side<L: Ledger + Send + Sync, R: Threads + Wait + Sync>(
     rt: &R,
     alloc: Global,
     tree: &Tree,
     work: &Work,
     handles: Vec<Way<L>>,
-) -> Result<Vec<Way<L>>, Stopped> {
+) -> Vec<Way<L>> {
     match map_vec(rt, handles, &|handle| work.done(rt, alloc, tree, handle)) {
-        Ok(handles) => Ok(handles),
-        Err(_) => Err(Stopped),
-    }
-}
-
-// The same, and how long it took.
-fn timed<L: Ledger + Send + Sync, R: Threads + Wait + Clock + Sync>(
-    rt: &R,
-    alloc: Global,
-    tree: &Tree,
-    work: &Work,
-    handles: Vec<Way<L>>,
-) -> Result<(Vec<Way<L>>, Duration), Stopped> {
-    let start = match Instant::now(rt) {
-        Ok(start) => start,
-        Err(e) => {
-            drop(handles);
-            return Err(Stopped::from(e));
-        }
-    };
-    let handles = side_by_side(rt, alloc, tree, work, handles)?;
-    match start.elapsed(rt) {
-        Ok(time) => Ok((handles, time)),
-        Err(e) => {
-            drop(handles);
-            Err(Stopped::from(e))
-        }
+        Ok(handles) => handles,
+        Err(_) => Vec::new(alloc),
     }
 }
 
 // The mark of the value in a reply.
 fn mark_in(reply: &Reply) -> u64 {
     match reply {
-        Reply::Value(Some(value)) => mark_of(Some(value.as_ref())),
-        _ => mark_of(None),
+        Reply::Value(Some(value)) => mark_of(value.as_ref()),
+        _ => NO_MARK,
     }
 }
 
@@ -141,35 +77,70 @@ fn digest(made: &Made) -> u64 {
     }
 }
 
-// How many calls a history has, and a checksum of them. It is a sum, so that their order is all one.
-fn summed(history: &[Entry]) -> (u64, u64) {
+// A checksum of a history. It is a sum, so that the order of calls is all one.
+fn sum_of(history: &[Entry]) -> u64 {
     let mut sum = 0u64;
     for entry in history {
         sum = sum.wrapping_add(digest(&entry.made));
     }
-    (history.len() as u64, sum)
+    sum
 }
 
-// The database, once all handles are back, and what the history tells.
+// What a state tells, which is let go.
+fn told_by<L: Ledger>(state: State<MemPages, L>, time: Option<Duration>) -> Option<Told> {
+    let history = state.history();
+    let (calls, sum) = (history.len() as u64, sum_of(history));
+    drop(state);
+    let time = time?;
+    Some(Told { calls, sum, time })
+}
+
+// What the history tells, if all handles are back.
 fn gathered<L: Ledger, R: Wait>(
     rt: &R,
     shared: Shared<L>,
     handles: Vec<Way<L>>,
-) -> Result<(Owned, (u64, u64)), Stopped> {
+    time: Option<Duration>,
+) -> Option<Told> {
     match shared.gather(rt, handles) {
-        Ok(state) => {
-            let told = summed(state.history());
-            Ok((state.into_machine().into_db(), told))
-        }
+        Ok(state) => told_by(state, time),
         Err((shared, handles)) => {
             drop(shared);
             drop(handles);
-            Err(Stopped)
+            None
         }
     }
 }
 
-/// Has so many callers work, each in a thread. The database comes back, and what they did is told.
+// How long ago this was, where the clock tells it.
+fn time_since<R: Clock>(rt: &R, start: Option<Instant>) -> Option<Duration> {
+    match start {
+        Some(start) => start.elapsed(rt).ok(),
+        None => None,
+    }
+}
+
+// Has each caller work by a handle of its own, and tells what came of it.
+fn run_shared<L: Ledger + Send + Sync, R: Threads + Wait + Clock + Sync>(
+    rt: &R,
+    alloc: Global,
+    mut shared: Shared<L>,
+    tree: &Tree,
+    work: &Work,
+) -> Option<Told> {
+    let mut handles = Vec::new(alloc);
+    if add_handles(alloc, &mut shared, &mut handles, work.threads).is_none() {
+        drop(shared);
+        drop(handles);
+        return None;
+    }
+    let start = Instant::now(rt).ok();
+    let handles = side_by_side(rt, alloc, tree, work, handles);
+    let time = time_since(rt, start);
+    gathered(rt, shared, handles, time)
+}
+
+/// Shares a database among threads that work on it, and tells what came of it.
 pub fn run<L: Ledger + Send + Sync, R: Threads + Wait + Clock + Sync>(
     rt: &R,
     alloc: Global,
@@ -177,28 +148,18 @@ pub fn run<L: Ledger + Send + Sync, R: Threads + Wait + Clock + Sync>(
     db: Owned,
     tree: &Tree,
     work: &Work,
-    callers: u64,
-) -> Result<(Owned, Told), Stopped>
+) -> Option<Told>
 where
     requires name { blank.name ≡ L.name }
     requires parts { blank.parts ≡ L.parts }
-    requires each { blank.parts ≡ callers + 1 }
+    requires each { blank.parts ≡ work.now.threads + 1 }
 {
-    let mut shared = share::<L, R>(rt, alloc, blank, db, callers)?;
-    let handles = match handles_of(alloc, &mut shared, callers) {
-        Ok(handles) => handles,
-        Err(stopped) => {
-            drop(shared);
-            return Err(stopped);
+    match Db::new(rt, alloc, db, blank, u64::from(work.threads)) {
+        Ok(shared) => run_shared::<L, R>(rt, alloc, shared, tree, work),
+        Err((db, e)) => {
+            drop(db);
+            drop(e);
+            None
         }
-    };
-    let (handles, time) = match timed(rt, alloc, tree, work, handles) {
-        Ok(worked) => worked,
-        Err(stopped) => {
-            drop(shared);
-            return Err(stopped);
-        }
-    };
-    let (db, (calls, sum)) = gathered(rt, shared, handles)?;
-    Ok((db, Told { calls, sum, time }))
+    }
 }

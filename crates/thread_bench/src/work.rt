@@ -10,51 +10,25 @@ use std::sync::ledger::Ledger;
 /// A caller's way to the database.
 pub type Way<L> = Handle<MemPages, L>;
 
+/// So many calls by each of so many threads, on keys of these pairs. Of a hundred so many are inserts, and the others gets.
 #[derive(Clone, Copy)]
-pub enum Workload {
-    /// Gets.
-    Gets,
-    /// Of a hundred calls 95 are gets and 5 inserts.
-    Mix,
+pub struct Work {
+    pub pairs: Pairs,
+    pub calls: u64,
+    pub threads: u8,
+    pub inserts: u64,
 }
 
-// So many of a hundred calls of a mix are inserts.
-const INSERTS: u64 = 5;
-
-/// The workload of a name.
-pub fn named(name: &str) -> Option<Workload> {
+/// How many of a hundred calls are inserts in the workload of this name.
+pub fn inserts_in(name: &str) -> Option<u64> {
     match name {
-        "gets" => Some(Workload::Gets),
-        "mix" => Some(Workload::Mix),
+        "gets" => Some(0),
+        "mix" => Some(5),
         _ => None,
     }
 }
 
-/// So many calls on these pairs.
-#[derive(Clone, Copy)]
-pub struct Work {
-    pairs: Pairs,
-    calls: u64,
-    workload: Workload,
-}
-
 impl Work {
-    pub fn new(pairs: Pairs, calls: u64, workload: Workload) -> Work {
-        Work {
-            pairs,
-            calls,
-            workload,
-        }
-    }
-
-    // Whether the call by this number is an insert.
-    fn inserts(&self, choice: u64) -> bool {
-        match self.workload {
-            Workload::Gets => false,
-            Workload::Mix => (choice >> 32) % 100 < INSERTS,
-        }
-    }
-
     // Makes the call by this number.
     fn call<L: Ledger, R: Wait>(
         &self,
@@ -66,20 +40,11 @@ impl Work {
     ) -> Outcome {
         let place = self.pairs.place(choice);
         let key = self.pairs.key(place);
-        if self.inserts(choice) {
+        if (choice >> 32) % 100 < self.inserts {
             let value = self.pairs.value(place, choice);
             handle.insert(rt, alloc, tree, &key, &value)
         } else {
             handle.get(rt, alloc, tree, &key)
-        }
-    }
-
-    // Makes all calls of a caller.
-    fn calls<L: Ledger, R: Wait>(&self, rt: &R, alloc: Global, tree: &Tree, handle: &mut Way<L>) {
-        for turn in 0..self.calls {
-            let choice = self.pairs.choice(handle.number(), turn);
-            let outcome = self.call(rt, alloc, tree, handle, choice);
-            drop(outcome);
         }
     }
 
@@ -89,10 +54,12 @@ impl Work {
         rt: &R,
         alloc: Global,
         tree: &Tree,
-        handle: Way<L>,
+        mut handle: Way<L>,
     ) -> Way<L> {
-        let mut handle = handle;
-        self.calls(rt, alloc, tree, &mut handle);
+        for turn in 0..self.calls {
+            let choice = self.pairs.choice(handle.number(), turn);
+            drop(self.call(rt, alloc, tree, &mut handle, choice));
+        }
         handle
     }
 }
