@@ -151,7 +151,7 @@ module _ (j : Course) (s : Store) where
     }
 
     -- and one without a pointer sends the call back to the root
-    pub leads_back : (b : Stage) → IsClean j (way_of a) view → IsIndex view.node.content → IsPointerFor j.aim (pointers view.node.content) None → Descends s j a (descent.Next (Go stage.Root)) b
+    pub leads_back : (b : Stage) → IsClean j (way_of a) view → IsIndex view.node.content → IsPointerFor j.aim (pointers view.node.content) None → Descends s j a descent.Lost b
     leads_back b clean index k = record {
       is = record {
         moves = m.moves _ (goes j view (way_of a) stage.Root refl tt (λ w v is named r. tt));

@@ -1,8 +1,9 @@
 -- A call that is to link its change, in two halves.
-use Rattle.std.proofs.Common.{◌≡◌, ℕ, Option, Some, Ok, Err, sym, refl, ap, ◌∙◌, subst, inl, inr}
+use Rattle.std.proofs.Common.{◌≡◌, ℕ, Option, Some, None, Ok, Err, MatchOption, sym, refl, ap, ◌∙◌, subst, inl, inr}
 use Rattle.sled_nodes.specs.Node.{after_link}
 use Rattle.sled_store.specs.Store.{Store, now, Changes, IsRefused}
 use Rattle.sled_nodes.specs.declared.error.Error.{Error}
+use Rattle.sled_nodes.specs.declared.error.Error.TheVariants.{NoMemory}
 use Rattle.sled_nodes.specs.declared.node.Data.{Data}
 use Rattle.sled_store.specs.declared.page.View.{View}
 use Rattle.sled_model.specs.Maps.{Merge as Operator}
@@ -10,12 +11,13 @@ use Rattle.sled_model.specs.Answer.{event_of, key_of}
 use Rattle.sled_model.specs.declared.call.Call.{Call}
 use Rattle.sled_model.specs.declared.decision.Effect.{Effect}
 use Rattle.sled_model.specs.declared.decision.Effect.TheVariants as effect
+use Rattle.tree_laws.specs.declared.flight.Stage.{Stage}
 use Rattle.tree_laws.specs.declared.flight.Stage.TheVariants as stage
 use Rattle.sled_tree.specs.Change.{link_of, decision_at}
 use Rattle.sled_tree.specs.Course.{course_of}
-use Rattle.sled_tree.specs.Follows.{Follows}
+use Rattle.sled_tree.specs.Follows.{Follows, TakesWay}
 use Rattle.sled_tree.specs.theory.Change.{IsChangeOf, IsOfPair, event_of_link}
-use Rattle.sled_tree.specs.theory.Linking.{begun_again, PreparesChange, LinksPrepared}
+use Rattle.sled_tree.specs.theory.Linking.{IsAtLink, begun_again, PreparesChange, StepsBy, LinksPrepared}
 use Rattle.sled_tree.specs.theory.StageAction.{StageActionBy, Only}
 use Rattle.sled_tree.specs.declared.act.Change.{Change}
 use Rattle.sled_tree.specs.declared.flight.InFlight.{InFlight}
@@ -23,13 +25,13 @@ use Rattle.sled_tree.specs.declared.flight.Next.TheVariants as next
 use Rattle.sled_tree.specs.declared.flight.Went.TheVariants as went
 use Rattle.sled_tree.proofs.Acting.{act_moves, links_follows, late_follows}
 use Rattle.sled_tree.proofs.Basics.{none_some, some_is}
-use Rattle.sled_tree.proofs.Facts.{refused, stale, goes_on, by_these}
-use Rattle.sled_tree.proofs.Passing.{act_current, passes_further}
+use Rattle.sled_tree.proofs.Facts.{refused, stale, unable, restarts, goes_on, by_these}
+use Rattle.sled_tree.proofs.Passing.{act_changes, act_current, passes_further}
 
 -- what came of the link
 module _ (change : Change) (a b : Store) (f : InFlight) (view : View) (here : f.stage ≡ stage.Act view) where
-  pub link_refused : (e : Error) → IsRefused e a b → LinksPrepared change a f (went.Refused e) b f
-  link_refused e r = record {
+  pub link_refused : (e : Error) (g : InFlight) → IsRefused e a b → LinksPrepared change a f (went.Refused e) b g
+  link_refused e g r = record {
     is = λ operator p. record {
       advances = record { is = subst (λ z. StageActionBy (Only operator) (course_of f) a z (next.Refused e) b) (sym here) (by_these (course_of f) a b (stage.Act view) (next.Refused e) (refused (course_of f) a b (stage.Act view) e r)) };
       passes = record { is = tt };
@@ -48,14 +50,58 @@ module _ (change : Change) (a b : Store) (f : InFlight) (view : View) (here : f.
     replies = tt;
   }
 
-  pub link_done : (given : ℕ) → Changes (after_link change.link) view.pid view.version a b (Ok given) → LinksPrepared change a f (went.Decided change.reply) b f
-  link_done given c = record {
+  pub link_done : (given : ℕ) (g : InFlight) → Changes (after_link change.link) view.pid view.version a b (Ok given) → LinksPrepared change a f (went.Decided change.reply) b g
+  link_done given g c = record {
     is = λ operator p. record {
       advances = record { is = subst (λ z. StageActionBy (Only operator) (course_of f) a z (next.Decided change.reply) b) (sym here) (act_moves operator (course_of f) a b view change given (p.is view here) c) };
       passes = record { is = tt };
       follows = record { is = subst (λ z. Follows (course_of f) a z (next.Decided change.reply) b) (sym here) (record { is = inl (links_follows operator (course_of f) a b view change (p.is view here) given c) }) };
     };
     replies = refl;
+  }
+
+-- the leaf that was read
+pub leaf_of : (a : Stage) → IsAtLink a → (view : View) × (a ≡ stage.Act view)
+leaf_of stage.Root here = absurd here
+leaf_of (stage.Walk a) here = absurd here
+leaf_of (stage.Act view) here = (view, refl)
+leaf_of (stage.Give a) here = absurd here
+leaf_of (stage.Split a) here = absurd here
+leaf_of (stage.InstallLeft a) here = absurd here
+leaf_of (stage.Post a) here = absurd here
+leaf_of (stage.Hoist a) here = absurd here
+leaf_of (stage.SwapRoot a) here = absurd here
+leaf_of (stage.Free a) here = absurd here
+leaf_of (stage.Intend a) here = absurd here
+leaf_of (stage.Child a) here = absurd here
+leaf_of (stage.Cap a) here = absurd here
+leaf_of (stage.Seek a) here = absurd here
+leaf_of (stage.Receive a) here = absurd here
+leaf_of (stage.Confirm a) here = absurd here
+
+-- a change that was not prepared
+module _ (operator : Option Operator) (a : Store) (f : InFlight) (view : View) (here : f.stage ≡ stage.Act view) where
+  -- there is no memory
+  pub unprepared : (e : Error) (g : InFlight) → e ≡ NoMemory → StepsBy operator a f (went.Refused e) a g
+  unprepared e g none = record {
+    advances = record { is = subst (λ z. StageActionBy (Only operator) (course_of f) a z (next.Refused e) a) (sym here) (by_these (course_of f) a a (stage.Act view) (next.Refused e) (unable (course_of f) a (stage.Act view) e none)) };
+    passes = record { is = tt };
+    follows = record { is = subst (λ z. Follows (course_of f) a z (next.Refused e) a) (sym here) (record { is = inr (e, refl, subst (λ z. IsRefused z a a) (sym none) (record { is = refl })) }) };
+  }
+
+  -- the call changes nothing
+  pub unchanged : IsChangeOf operator f.job.call view.node.content None → StepsBy operator a f went.Moved a (begun_again f)
+  unchanged p = record {
+    advances = goes_on a a f (stage.Act view) stage.Root (next.Go stage.Root) (sym here) refl (by_these (course_of f) a a (stage.Act view) (next.Go stage.Root) (restarts (course_of f) a (stage.Act view) (λ q i. i)));
+    passes = passes_further (now a) (now a) f (stage.Act view) stage.Root (next.Go stage.Root) (sym here) refl (act_changes operator (course_of f) (now a) (now a) view (next.Go stage.Root) p);
+    follows = record {
+      is = subst (λ z. Follows (course_of f) a z (next.Go stage.Root) a) (sym here) (record {
+        is = inl (record {
+          operator = operator;
+          is = subst (λ (e : Effect). MatchOption (link_of e (key_of f.job.call)) ((a ≡ a) × (next.Go stage.Root ≡ next.Go stage.Root)) (λ link. TakesWay (after_link link) view.pid view.version a a (next.Go stage.Root) (λ _. next.Decided (decision_at operator f.job.call view.node.content).reply) (λ _. next.Go stage.Root))) (sym p) (refl, refl);
+        });
+      });
+    };
   }
 
 -- the change of a call is one of a pair, and subscribers learn of it what its effect tells them

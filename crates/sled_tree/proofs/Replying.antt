@@ -7,7 +7,7 @@ use Rattle.sled_model.specs.State.{IsOnKey}
 use Rattle.sled_model.specs.declared.call.Call.{Call}
 use Rattle.sled_model.specs.declared.call.Call.TheVariants.{Get, Insert, Remove, CompareAndSwap, Merge, Scan}
 use Rattle.sled_model.specs.declared.decision.Effect.TheVariants as effect
-use Rattle.sled_model.specs.declared.reply.Reply.TheVariants.{Value, Swapped, End}
+use Rattle.sled_model.specs.declared.reply.Reply.TheVariants.{Value, Swapped}
 
 written : (new : Option Key) → effect_of_write new ≢ effect.Nothing
 written None = λ e. cc

@@ -1,5 +1,5 @@
 -- The steps of a split and of a hoist, and the freeing of a page.
-use Rattle.std.proofs.Common.{◌≡◌, ℕ, ◌≤◌, ◌<◌, ◌^◌, Bool, List, [], ◌∷◌, Option, Some, None, option_map, Result, Ok, Err, sym, refl, ap, ◌∙◌, subst, inl, inr}
+use Rattle.std.proofs.Common.{◌≡◌, ℕ, ◌≤◌, ◌<◌, ◌^◌, [], ◌∷◌, Option, Some, option_map, Result, Ok, Err, sym, refl, ap, ◌∙◌, subst, inl, inr}
 use Rattle.sled_nodes.specs.Order.{Key}
 use Rattle.sled_store.specs.In.{In}
 use Rattle.sled_store.specs.theory.Facts.{now_allocates, put_here}

@@ -1,21 +1,16 @@
 //! The call's change at its leaf.
 ghost use Rattle.std.specs.Prelude.{◌≡◌, ◌<◌, IfOk, IfErr, Some};
 ghost use Rattle.std.specs.Option.{option_map};
-ghost use Rattle.sled_store.specs.Store.{now};
 ghost use Rattle.sled_nodes.specs.declared.error.Error.TheVariants.{NoMemory};
 ghost use Rattle.sled_model.specs.Answer.{key_of};
-ghost use Rattle.sled_tree.specs.theory.StageAction.{StageActionBy, Only};
-ghost use Rattle.sled_tree.specs.Follows.{OrRefused, LinksChange};
-ghost use Rattle.sled_tree.specs.theory.Passing.{AdvancesOnPath};
 ghost use Rattle.sled_tree.specs.Change.{link_of};
 ghost use Rattle.sled_tree.specs.theory.Change.{IsChangeBy, IsChangeOf, IsOfPair, event_of_link};
-ghost use Rattle.sled_tree.specs.theory.Linking.{IsAtLink, PreparesChange, LinksPrepared, begun_again};
-ghost use Rattle.sled_tree.specs.Course.{course};
+ghost use Rattle.sled_tree.specs.theory.Linking.{IsAtLink, PreparesChange, LinksPrepared, StepsBy, begun_again};
 
-use crate::flight::{Aim, InFlight, Job, Next, Went};
+use crate::flight::{InFlight, Job, Went};
 use sled_model::{Call, Decision, Effect, Event, MAX_LOOPS, MergeOperator, Reply};
 use sled_nodes::{Link, Node, Result};
-use sled_store::{Pages, View};
+use sled_store::Pages;
 use std::alloc::Global;
 use tree_laws::flight::Stage;
 
@@ -82,47 +77,6 @@ fn prepare<M: MergeOperator>(
     change_by(alloc, &job.call, decision)
 }
 
-// Links the call's change at the version of the leaf that it has read.
-#[inline(always)]
-pub(crate) fn act<P: Pages, M: MergeOperator>(
-    pages: &mut P,
-    alloc: Global,
-    operator: Option<&M>,
-    job: &Job,
-    aim: &Aim,
-    view: View,
-) -> Next
-    ensures moves { StageActionBy (Only (option_map (λ o. M.meant o.now) operator.entry)) (course job.now aim.now) (P.store pages.old) (Stage.Act view) result (P.store pages.new) }
-    ensures passes { AdvancesOnPath (course job.now aim.now) (now (P.store pages.old)) (Stage.Act view) result (now (P.store pages.new)) }
-    ensures follows { OrRefused (P.store pages.old) (P.store pages.new) result (LinksChange (course job.now aim.now) (P.store pages.old) (P.store pages.new) view result) }
-{
-    let change = match prepare(alloc, job, &view.node, operator) {
-        Err(e) => {
-            drop(view);
-            return Next::Refused(e);
-        }
-        Ok(None) => {
-            drop(view);
-            return Next::Go(Stage::Root);
-        }
-        Ok(Some(change)) => change,
-    };
-    let Change { link, reply } = change;
-    let (pid, version) = (view.pid, view.version);
-    drop(view);
-    match pages.link(pid, version, link) {
-        Err(e) => {
-            drop(reply);
-            Next::Refused(e)
-        }
-        Ok(Err(_)) => {
-            drop(reply);
-            Next::Go(Stage::Root)
-        }
-        Ok(Ok(_)) => Next::Decided(reply),
-    }
-}
-
 /// What subscribers learn of a link that sets a pair or takes one out. Refused with `NoMemory` alone.
 pub fn event_of(link: &Link) -> Result<Event>
     requires { IsOfPair link.now }
@@ -147,6 +101,7 @@ pub fn event_of(link: &Link) -> Result<Event>
 
 /// Prepares the change of a call that is to link it, by the operator of its tree, and changes nothing. There is none where the call
 /// changes nothing of the leaf that it read. Refused with `NoMemory` alone.
+#[inline(always)]
 pub fn prepare_change<M: MergeOperator>(
     alloc: Global,
     flight: &InFlight,
@@ -173,17 +128,20 @@ pub fn begin_again(flight: &mut InFlight)
 }
 
 /// Links the change that was prepared for a call, at the version of the leaf that the call has read. It is the rest of the step that
-/// `advance` makes of such a call.
+/// `advance` makes of such a call. The call lets go of the leaf before, so that a store may change it in place.
+#[inline(always)]
 pub fn link_change<P: Pages>(pages: &mut P, flight: &mut InFlight, change: Change) -> Went
     requires room { flight.old.turns < MAX_LOOPS }
     requires here { IsAtLink flight.old.stage }
     ensures { LinksPrepared change (P.store pages.old) flight.old result (P.store pages.new) flight.new }
 {
     let Change { link, reply } = change;
-    let (pid, version) = match &flight.stage {
-        Stage::Act(view) => (view.pid, view.version),
+    let leaf = match std::mem::replace(&mut flight.stage, Stage::Root) {
+        Stage::Act(leaf) => leaf,
         _ => unreachable!(),
     };
+    let (pid, version) = (leaf.pid, leaf.version);
+    drop(leaf);
     match pages.link(pid, version, link) {
         Err(e) => {
             drop(reply);
@@ -191,9 +149,31 @@ pub fn link_change<P: Pages>(pages: &mut P, flight: &mut InFlight, change: Chang
         }
         Ok(Err(_)) => {
             drop(reply);
-            begin_again(flight);
+            flight.turns += 1;
             Went::Moved
         }
         Ok(Ok(_)) => Went::Decided(reply),
+    }
+}
+
+// Does the step of a call that is to link its change.
+#[inline(always)]
+pub(crate) fn act<P: Pages, M: MergeOperator>(
+    pages: &mut P,
+    alloc: Global,
+    operator: Option<&M>,
+    flight: &mut InFlight,
+) -> Went
+    requires room { flight.old.turns < MAX_LOOPS }
+    requires here { IsAtLink flight.old.stage }
+    ensures { StepsBy (option_map (λ o. M.meant o.now) operator.entry) (P.store pages.old) flight.old result (P.store pages.new) flight.new }
+{
+    match prepare_change(alloc, flight, operator) {
+        Err(e) => Went::Refused(e),
+        Ok(None) => {
+            begin_again(flight);
+            Went::Moved
+        }
+        Ok(Some(change)) => link_change(pages, flight, change),
     }
 }

@@ -1,9 +1,10 @@
 //! One page action of a call in flight.
-ghost use Rattle.std.specs.Prelude.{◌≢◌, ◌<◌};
+ghost use Rattle.std.specs.Prelude.{◌<◌};
 ghost use Rattle.std.specs.Option.{option_map};
 ghost use Rattle.sled_store.specs.Store.{now};
 ghost use Rattle.sled_tree.specs.Course.{course};
-ghost use Rattle.sled_tree.specs.theory.StageAction.{StageAction, StageActionBy, FlightStepBy, Only};
+ghost use Rattle.sled_tree.specs.theory.StageAction.{StageAction, FlightStep, FlightStepBy, Only};
+ghost use Rattle.sled_tree.specs.theory.Linking.{StepsBy};
 ghost use Rattle.sled_tree.specs.Follows.{Follows, FollowsOn};
 ghost use Rattle.sled_tree.specs.Passing.{StepsOnPath};
 ghost use Rattle.sled_tree.specs.theory.Passing.{AdvancesOnPath};
@@ -16,35 +17,13 @@ use crate::flight::{Aim, InFlight, Job, Next, Went};
 use crate::hoist::{hoist, swap_root};
 use crate::merge::{cap, confirm, intend, read_child, receive, seek};
 use crate::split::{free, halve, install_left, post};
-use crate::walk::{Descent, at_leaf, descend, is_on_walk, settle};
+use crate::walk::{Descent, at_leaf, descend, is_on_walk, mend, settle};
 use sled_model::{MAX_LOOPS, MergeOperator};
 use sled_store::Pages;
 use std::alloc::Global;
 use tree_laws::flight::Stage;
 
-// Does the action of a stage that is none of a walk: at most one page action. The operator is asked for at the link of the call's
-// change alone.
-fn step<P: Pages, M: MergeOperator>(
-    pages: &mut P,
-    alloc: Global,
-    operator: Option<&M>,
-    job: &Job,
-    aim: &Aim,
-    stage: Stage,
-) -> Next
-    requires off { IsOffWalk stage }
-    requires way { IsOnItsWay stage }
-    ensures moves { StageActionBy (Only (option_map (λ o. M.meant o.now) operator.entry)) (course job.now aim.now) (P.store pages.old) stage result (P.store pages.new) }
-    ensures passes { AdvancesOnPath (course job.now aim.now) (now (P.store pages.old)) stage result (now (P.store pages.new)) }
-    ensures follows { Follows (course job.now aim.now) (P.store pages.old) stage result (P.store pages.new) }
-{
-    match stage {
-        Stage::Act(view) => act(pages, alloc, operator, job, aim, view),
-        stage => step_elsewhere(pages, alloc, job, aim, stage),
-    }
-}
-
-// The same, of the stages that do not ask for the operator.
+// Does the action of a stage that is none of a walk and does not ask for the operator: at most one page action.
 fn step_elsewhere<P: Pages>(
     pages: &mut P,
     alloc: Global,
@@ -86,7 +65,31 @@ fn step_of_merge<P: Pages>(pages: &mut P, alloc: Global, job: &Job, aim: &Aim, s
     }
 }
 
-// Does one step of a call in flight that is on no walk and has turns left: the stage is moved out, and the next one in.
+// Does one step of a call in flight that is on no walk, links no change, and has turns left: the stage is moved out, and the next one in.
+#[inline(never)]
+fn advance_elsewhere<P: Pages>(pages: &mut P, alloc: Global, flight: &mut InFlight) -> Went
+    requires room { flight.old.turns < MAX_LOOPS }
+    requires elsewhere { IsElsewhere flight.old.stage }
+    ensures advances { FlightStep (P.store pages.old) flight.old result (P.store pages.new) flight.new }
+    ensures passes { StepsOnPath (now (P.store pages.old)) flight.old result (now (P.store pages.new)) flight.new }
+    ensures follows { FollowsOn (P.store pages.old) flight.old result (P.store pages.new) flight.new }
+{
+    let stage = std::mem::replace(&mut flight.stage, Stage::Root);
+    match step_elsewhere(pages, alloc, &flight.job, &flight.aim, stage) {
+        Next::Go(stage) => {
+            let old = std::mem::replace(&mut flight.stage, stage);
+            drop(old);
+            flight.turns += 1;
+            Went::Moved
+        }
+        Next::Decided(reply) => Went::Decided(reply),
+        Next::Refused(e) => Went::Refused(e),
+    }
+}
+
+// Does one step of a call in flight that is on no walk and has turns left. The operator is asked for at the link of the call's change
+// alone.
+#[inline(always)]
 fn advance_stage<P: Pages, M: MergeOperator>(
     pages: &mut P,
     alloc: Global,
@@ -96,20 +99,11 @@ fn advance_stage<P: Pages, M: MergeOperator>(
     requires room { flight.old.turns < MAX_LOOPS }
     requires off { IsOffWalk flight.old.stage }
     requires way { IsOnItsWay flight.old.stage }
-    ensures advances { FlightStepBy (Only (option_map (λ o. M.meant o.now) operator.entry)) (P.store pages.old) flight.old result (P.store pages.new) flight.new }
-    ensures passes { StepsOnPath (now (P.store pages.old)) flight.old result (now (P.store pages.new)) flight.new }
-    ensures follows { FollowsOn (P.store pages.old) flight.old result (P.store pages.new) flight.new }
+    ensures { StepsBy (option_map (λ o. M.meant o.now) operator.entry) (P.store pages.old) flight.old result (P.store pages.new) flight.new }
 {
-    let stage = std::mem::replace(&mut flight.stage, Stage::Root);
-    match step(pages, alloc, operator, &flight.job, &flight.aim, stage) {
-        Next::Go(stage) => {
-            let old = std::mem::replace(&mut flight.stage, stage);
-            drop(old);
-            flight.turns += 1;
-            Went::Moved
-        }
-        Next::Decided(reply) => Went::Decided(reply),
-        Next::Refused(e) => Went::Refused(e),
+    match &flight.stage {
+        Stage::Act(_) => act(pages, alloc, operator, flight),
+        _ => advance_elsewhere(pages, alloc, flight),
     }
 }
 
@@ -134,7 +128,9 @@ pub fn advance<P: Pages, M: MergeOperator>(
             Went::Moved
         }
         Descent::Leaf(view) => at_leaf(flight, view),
-        Descent::Next(next) => settle(flight, next),
+        Descent::Unclean(view) => mend(flight, view),
+        Descent::Lost => settle(flight, Next::Go(Stage::Root)),
+        Descent::Refused(e) => settle(flight, Next::Refused(e)),
     }
 }
 
@@ -148,7 +144,9 @@ pub fn walk_down<P: Pages>(pages: &P, alloc: Global, flight: &mut InFlight) -> O
             Descent::None => return None,
             Descent::Further => flight.turns += 1,
             Descent::Leaf(view) => return Some(at_leaf(flight, view)),
-            Descent::Next(next) => return Some(settle(flight, next)),
+            Descent::Unclean(view) => return Some(mend(flight, view)),
+            Descent::Lost => return Some(settle(flight, Next::Go(Stage::Root))),
+            Descent::Refused(e) => return Some(settle(flight, Next::Refused(e))),
         }
     }
     None

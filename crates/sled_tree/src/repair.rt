@@ -2,8 +2,8 @@
 //!
 //! A split or a merge that was left half done goes on, a page that is too long is split, and one of few entries merges. A page that
 //! is behind the walk, or that a merge took away, sends it on or back to the root.
-ghost use Rattle.std.specs.Prelude.{◌≡◌, ◌≢◌, ◌≤◌, ◌↔◌, IsTrue};
-ghost use Rattle.std.specs.Prelude.{None, false, []};
+ghost use Rattle.std.specs.Prelude.{◌≡◌, ◌≤◌, ◌↔◌, IsTrue};
+ghost use Rattle.std.specs.Prelude.{None, false};
 ghost use Rattle.sled_nodes.specs.Among.{bound_of};
 ghost use Rattle.sled_nodes.specs.Node.{count};
 ghost use Rattle.tree_laws.specs.Stages.{parent_of};
@@ -44,7 +44,6 @@ fn ends_within(node: &Node, target: Bound<&[u8]>) -> bool
 }
 
 // What comes after a page was read where something is to be repaired, or which does not lie under the aim.
-#[inline(always)]
 pub(crate) fn repair(job: &Job, aim: &Aim, view: View, reached: Reached) -> Next
     requires { NeedsRepair (course job.now aim.now) reached view }
     ensures arrives { AfterPage (course job.now aim.now) view reached result }

@@ -4,7 +4,8 @@
 //! moved nor made anew.
 //!
 //! Every call takes most of its time here. So what a step does at such a page is inlined wherever a step is made; left to itself LLVM
-//! does that only where there is one such place.
+//! does that only where there is one such place. Repairs are not: a function that is too long is inlined nowhere. And what a step comes
+//! to (`Descent`) is short, since it is copied at each page.
 ghost use Rattle.std.specs.Prelude.{◌≡◌, ◌<◌, ◌↔◌, false, true, is_none, MatchOption, IsTrue, IfOk, IfErr};
 ghost use Rattle.std.specs.declared.ops.Bound.TheVariants.{Included};
 ghost use Rattle.sled_nodes.specs.Among.{IsPointerFor, bound_of};
@@ -26,7 +27,7 @@ ghost use Rattle.tree_laws.specs.declared.flight.Stage.TheVariants as variant;
 use crate::flight::{Aim, InFlight, Job, Next, Went};
 use crate::repair::repair;
 use sled_model::{Call, MAX_LOOPS, Reply};
-use sled_nodes::{Data, IVec, Node, Pid, Result, key_is_up_to};
+use sled_nodes::{Data, Error, IVec, Node, Pid, Result, key_is_up_to};
 use sled_store::{Pages, View};
 use std::alloc::Global;
 use std::ops::Bound;
@@ -41,8 +42,12 @@ pub(crate) enum Descent {
     Further,
     // It read the leaf of the call's key, where nothing is to be repaired. Nothing else was done so far.
     Leaf(View),
-    // It read a page that it does not pass, or none, and this comes next.
-    Next(Next),
+    // It read a page where something is to be repaired, or which does not lie under the aim. Nothing else was done so far.
+    Unclean(View),
+    // There is no page, or no pointer in it: the call begins anew at the root.
+    Lost,
+    // The page was not read, and the call is refused.
+    Refused(Error),
 }
 
 // How a walk comes to where a pointer of an index leads, the first or a later one.
@@ -257,7 +262,7 @@ fn at_index(job: &Job, aim: &Aim, view: View, stage: &mut Stage) -> Descent
     ensures { (s : Store) → Meets s (course job.now aim.now) stage.old view → Descends s (course job.now aim.now) stage.old result stage.new }
 {
     match pointer_under(job, aim, &view.node) {
-        None => Descent::Next(Next::Go(Stage::Root)),
+        None => Descent::Lost,
         Some((cursor, first)) => {
             walk_on(stage, cursor, view, first);
             Descent::Further
@@ -271,8 +276,7 @@ fn arrive(job: &Job, aim: &Aim, view: View, stage: &mut Stage) -> Descent
     ensures { (s : Store) → Meets s (course job.now aim.now) stage.old view → Descends s (course job.now aim.now) stage.old result stage.new }
 {
     if !is_clean(job, aim, stage, &view) {
-        let reached = take_way(stage);
-        return Descent::Next(repair(job, aim, view, reached));
+        return Descent::Unclean(view);
     }
     match &view.node.content {
         Data::Leaf(_) => Descent::Leaf(view),
@@ -294,8 +298,8 @@ pub(crate) fn descend<P: Pages>(
     match meet(pages, alloc, job, aim, stage) {
         None => Descent::None,
         Some(Ok(Some(view))) => arrive(job, aim, view, stage),
-        Some(Ok(None)) => Descent::Next(Next::Go(Stage::Root)),
-        Some(Err(e)) => Descent::Next(Next::Refused(e)),
+        Some(Ok(None)) => Descent::Lost,
+        Some(Err(e)) => Descent::Refused(e),
     }
 }
 
@@ -314,6 +318,18 @@ pub(crate) fn settle(flight: &mut InFlight, next: Next) -> Went
         Next::Decided(reply) => Went::Decided(reply),
         Next::Refused(e) => Went::Refused(e),
     }
+}
+
+// The rest of the step at a page where something is to be repaired, or which does not lie under the aim. Few pages are such.
+#[inline(never)]
+pub(crate) fn mend(flight: &mut InFlight, view: View) -> Went
+    requires room { flight.old.turns < MAX_LOOPS }
+    requires unclean { NeedsRepair (course_of flight.old) (way_of flight.old.stage) view }
+    ensures { (s : Store) → Meets s (course_of flight.old) flight.old.stage view → Settles s flight.old result flight.new }
+{
+    let reached = take_way(&mut flight.stage);
+    let next = repair(&flight.job, &flight.aim, view, reached);
+    settle(flight, next)
 }
 
 // A scan keeps its leaf, to give the pairs.

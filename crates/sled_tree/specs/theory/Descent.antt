@@ -70,9 +70,12 @@ abbrev pub descends_as : Store → Course → Stage → Descent → Stage → Ty
 descends_as s j a descent.None b = (b ≡ a) × IsOffWalk a
 descends_as s j a descent.Further b = Leads s j a (Go b)
 descends_as s j a (descent.Leaf view) b = (b ≡ a) × IsLeaf view.node.content × IsClean j (way_of a) view × Meets s j a view
-descends_as s j a (descent.Next next) b = Leads s j a next
+descends_as s j a (descent.Unclean view) b = (b ≡ a) × NeedsRepair j (way_of a) view × Meets s j a view
+descends_as s j a descent.Lost b = Leads s j a (Go stage.Root)
+descends_as s j a (descent.Refused e) b = Leads s j a (Refused e)
 
--- a step that reads a page, up to what comes next; or the stage stays, and its leaf may have been read
+-- a step that reads a page, up to what comes next; or the stage stays, and its leaf may have been read, or a page where something is to be
+-- repaired
 pub record Descends (s : Store) (j : Course) (a : Stage) (d : Descent) (b : Stage) : Type 0 where
   pub is : descends_as s j a d b
 
