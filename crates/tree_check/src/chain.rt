@@ -1,5 +1,5 @@
 //! The chain of a level: its pages along `next`.
-ghost use Rattle.std.specs.Prelude.{ℕ, ◌≡◌, ◌⊎◌, true, false, Some, None, [], IfOk, IfErr, OnOk};
+ghost use Rattle.std.specs.Prelude.{ℕ, ◌≡◌, ◌⊎◌, true, Some, None, [], IfOk, IfErr, OnOk};
 ghost use Rattle.std.specs.BTreeSet.{contains};
 ghost use Rattle.std.specs.Ordering.{nat_cmp};
 ghost use Rattle.sled_nodes.specs.Order.{Below};
@@ -7,7 +7,7 @@ ghost use Rattle.sled_nodes.specs.declared.error.Error.TheVariants.{NoMemory};
 ghost use Rattle.sled_store.specs.Store.{now};
 ghost use Rattle.tree_check.specs.Check.{RefusesCheck};
 ghost use Rattle.tree_check.specs.theory.Tree.{IsPage};
-ghost use Rattle.tree_check.specs.theory.Walk.{RefusesPage, AddsPage, Extends, ReadsChain, HasMergingChild, end_of as end_of_pages};
+ghost use Rattle.tree_check.specs.theory.Walk.{RefusesPage, SetsLevel, AddsPage, Extends, ReadsChain, HasMergingChild, end_of as end_of_pages};
 
 use crate::findings::{BROKEN_CHAIN, DANGLING_POINTER, FOUND_TWICE, WRONG_MERGE, corruption};
 use crate::levels::{Level, set_level};
@@ -71,10 +71,19 @@ fn check_bounds(node: &Node, lo: &[u8]) -> Result<()>
     Ok(())
 }
 
-// Tests a page of a chain that has come to this key: that the page goes on there, that it is merging only as a merging child of the
-// level above, and itself.
-fn check_chained(alloc: Global, node: &Node, lo: &[u8], height: u64, is_child: bool) -> Result<()>
-    ensures page { OnOk result (IsPage height node.now) }
+// Tests a page of a chain that has come to this key, and notes its level: that the page goes on there, that it is merging only as a
+// merging child of the level above, the page itself, and that it was not found before.
+fn check_chained(
+    alloc: Global,
+    node: &Node,
+    pid: Pid,
+    lo: &[u8],
+    level: Level,
+    is_child: bool,
+    levels: &mut BTreeMap<u64, Level>,
+) -> Result<()>
+    ensures page { OnOk result (IsPage level.height node.now) }
+    ensures sets { OnOk result (SetsLevel pid level levels.old levels.new) }
     ensures lo { OnOk result (lo.now ≡ node.now.lo) }
     ensures rises { OnOk result ((node.now.next ≡ None) ⊎ Below node.now.lo node.now.hi) }
     ensures ends { OnOk result (node.now.next ≡ None → node.now.hi ≡ []) }
@@ -85,7 +94,8 @@ fn check_chained(alloc: Global, node: &Node, lo: &[u8], height: u64, is_child: b
     if node.merging && !is_child {
         return Err(corruption(WRONG_MERGE));
     }
-    check_page(alloc, node, height)
+    check_page(alloc, node, level.height)?;
+    set_level(levels, pid, level)
 }
 
 // Reads and tests the next page of a chain that has come to this key.
@@ -102,17 +112,8 @@ fn read_next<P: Pages>(
     ensures err { IfErr result (RefusesCheck (P.store pages.now)) }
 {
     let view = page_at(alloc, pages, pid, DANGLING_POINTER)?;
-    if let Err(e) = check_chained(
-        alloc,
-        &view.node,
-        lo,
-        level.height,
-        children.contains(&pid.0),
-    ) {
-        drop(view);
-        return Err(e);
-    }
-    if let Err(e) = set_level(levels, pid, level) {
+    let is_child = children.contains(&pid.0);
+    if let Err(e) = check_chained(alloc, &view.node, pid, lo, level, is_child, levels) {
         drop(view);
         return Err(e);
     }

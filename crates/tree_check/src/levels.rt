@@ -1,5 +1,5 @@
 //! On which level each page was found.
-ghost use Rattle.std.specs.Prelude.{◌≡◌, true, false, Some, None, IfOk, IfErr, OnOk};
+ghost use Rattle.std.specs.Prelude.{Some, None, IfErr, OnOk};
 ghost use Rattle.tree_check.specs.theory.Walk.{RefusesPage, SetsLevel};
 
 use crate::findings::{FOUND_TWICE, MIXED_PAGES, corruption};

@@ -2,7 +2,7 @@
 ghost use Rattle.std.specs.Prelude.{IfOk, IfErr, OnOk};
 ghost use Rattle.sled_store.specs.Store.{now};
 ghost use Rattle.tree_check.specs.Check.{RefusesCheck};
-ghost use Rattle.tree_check.specs.theory.Walk.{RefusesPage, IsNewTree, FindsTree, WalksTree, LeadsDown, FindsLevel};
+ghost use Rattle.tree_check.specs.theory.Walk.{RefusesPage, IsNewTree, FindsTree, LeadsDown, FindsLevel};
 
 use crate::chain::{merging_children, read_chain};
 use crate::findings::{DANGLING_POINTER, FOUND_TWICE, MISSING_ROOT, WRONG_ENTRIES, corruption};
@@ -100,24 +100,8 @@ fn check_level<P: Pages>(
     Ok(chain)
 }
 
-// The pages of the uppermost level, which begins with the root.
-fn check_top<P: Pages>(
-    alloc: Global,
-    pages: &P,
-    root: Pid,
-    level: Level,
-    levels: &mut BTreeMap<u64, Level>,
-) -> Result<Vec<View>>
-    requires new { IsNewTree level.tree levels.old }
-    ensures ok { IfOk result (λ chain. WalksTree (now (P.store pages.now)) root level.tree level.height chain.items levels.old levels.new) }
-    ensures err { IfErr result (RefusesCheck (P.store pages.now)) }
-{
-    let children = BTreeSet::new(alloc);
-    let chain = read_chain(alloc, pages, root, level, &children, levels)?;
-    Ok(chain)
-}
-
-/// Tests the tree with this root, which is the tree of this position among the roots.
+/// Tests the tree with this root, which is the tree of this position among the roots. Its uppermost level begins with the root, and has no
+/// level above it.
 pub fn check_tree<P: Pages>(
     alloc: Global,
     pages: &P,
@@ -130,7 +114,15 @@ pub fn check_tree<P: Pages>(
     ensures err { IfErr result (RefusesCheck (P.store pages.now)) }
 {
     let top = height_of(alloc, pages, root)?;
-    let mut above = check_top(alloc, pages, root, Level { tree, height: top }, levels)?;
+    let none = BTreeSet::new(alloc);
+    let mut above = read_chain(
+        alloc,
+        pages,
+        root,
+        Level { tree, height: top },
+        &none,
+        levels,
+    )?;
     for passed in 0..top {
         let height = top - passed - 1;
         match check_level(

@@ -1,9 +1,9 @@
 use Rattle.std.proofs.Common.{arith}
-use Rattle.tree_check.proofs.Treeing.{walk_starts, walk_goes}
+use Rattle.tree_check.proofs.Treeing.{walk_begins, walk_starts, walk_goes}
 use Rattle.tree_check.proofs.tree.check_tree.Goals as goal
 
 pub loop-passed-init : goal.loop-passed-init
-loop-passed-init g c = walk_starts _ _ _ _ _ _ _ c.in_ok-above.ensures.ok
+loop-passed-init g c = walk_starts _ _ _ _ _ _ _ (walk_begins _ _ _ _ _ _ _ _ c.requires.new c.new-none.ensures.empty c.in_ok-above.ensures.ok)
 
 pub loop-passed-preserved : goal.loop-passed-preserved
 loop-passed-preserved g c =
