@@ -7,14 +7,14 @@ use shell_parts::known::tell_known;
 use shell_parts::look::{Look, is_read, look_of, tell_look};
 use shell_parts::store::Kept;
 use shell_parts::tell::{
-    Result, Told, answered, tell, tell_outcome, tell_refused, tell_turns, tell_why,
+    Result, Told, answered, tell, tell_numbered, tell_outcome, tell_refused, tell_turns, tell_why,
 };
 use sled::Db;
 use sled_draw::levels::count_levels;
 use sled_lines::command::{Command, parse};
 use sled_lines::input::{Stopped, read_line, without_end};
 use sled_lines::operator::NoOperator;
-use sled_lines::print::Piece::{Number, Text};
+use sled_lines::print::Piece::Text;
 use sled_lines::print::push_bad_line;
 use sled_lines::session::{Session, write};
 use sled_lines::words::{first_word, read_number, read_word};
@@ -100,7 +100,7 @@ enum Answer {
 
 fn tell_reads(reads: &AtomicU64, out: &mut Told) -> Result<()> {
     let count = reads.swap(0, Ordering::Relaxed);
-    tell(out, &[Text(b"reads "), Number(count), Text(b"\n")])
+    tell_numbered(out, b"reads ", count, b"\n")
 }
 
 // Adds how many pages each level of the current tree has. These are not counted as read.

@@ -2,6 +2,7 @@
 
 use crate::held::pages_after;
 use shell_parts::tell::{Result, Told, bytes_of, tell};
+use shell_parts::words::{NO_BYTES, NO_NUMBER, quote, words_of};
 use sled_lines::input::Stopped;
 use sled_lines::print::Piece::Text;
 use sled_lines::print::push_text;
@@ -10,7 +11,6 @@ use sled_nodes::{Data, IVec, Index, Leaf, Node, Pid};
 use sled_pages::MemPages;
 use sled_store::Pages;
 use std::alloc::Global;
-use transaction_lines::words::{NO_BYTES, NO_NUMBER, quote, words_of};
 
 /// What is made of the pages and roots that were noted.
 #[derive(Clone, Copy)]

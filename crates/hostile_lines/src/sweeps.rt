@@ -1,8 +1,8 @@
 //! Lines that are run with each call of the store refused in turn, and with a crash after each of their actions.
 
 use crate::repeats::{Aim, Repeats, Seen, is_end};
-use shell_parts::tell::{Result, Told, answered, tell};
-use sled_lines::print::Piece::{Number, Text};
+use shell_parts::tell::{Result, Told, answered, tell, tell_numbered};
+use sled_lines::print::Piece::Text;
 use sled_lines::print::push_text;
 use sled_lines::words::read_number;
 use std::alloc::Global;
@@ -24,16 +24,6 @@ pub trait Sessions {
 
 // What a crash and a check print before the dump.
 const WELL: &[u8] = b"recovered\nsound\n";
-
-/// Adds a number between two texts.
-pub fn tell_numbered(
-    out: &mut Told,
-    before: &'static [u8],
-    number: u64,
-    behind: &'static [u8],
-) -> Result<()> {
-    tell(out, &[Text(before), Number(number), Text(behind)])
-}
 
 // Adds a line in quotes, and a text. There is no line at the end of a text.
 fn tell_quoted(out: &mut Told, line: Option<&[u8]>, behind: &'static [u8]) -> Result<()> {
@@ -192,17 +182,19 @@ impl<P: Sessions> Runs<'_, P> {
         tell_last(out, rest, actions)
     }
 
-    // Runs the lines for the first time: what is said where they cannot be run again and again.
-    fn begin(&mut self, sweep: Sweep) -> Result<&'static str> {
+    // Runs the lines for the first time: why they cannot be run again and again, if they cannot.
+    fn begin(&mut self, sweep: Sweep) -> Result<Option<&'static str>> {
         let aim = match sweep {
             Sweep::Refusals => Aim::Refusing(0),
             Sweep::Crashes => Aim::Count,
         };
         let seen = self.run(aim)?;
         Ok(match sweep {
-            _ if !seen.is_good => "the file has a line that cannot be read",
-            Sweep::Refusals if seen.is_remade => "the file has a line that makes another store",
-            _ => "",
+            _ if !seen.is_good => Some("the file has a line that cannot be read"),
+            Sweep::Refusals if seen.is_remade => {
+                Some("the file has a line that makes another store")
+            }
+            _ => None,
         })
     }
 
@@ -221,8 +213,7 @@ impl<P: Sessions> Runs<'_, P> {
 
     // Runs the lines again and again, and adds what that came to; or why it cannot be done.
     fn tell_all(&mut self, sweep: Sweep, out: &mut Told, why: &mut Vec<u8>) -> Result<()> {
-        let said = self.begin(sweep)?;
-        if !said.is_empty() {
+        if let Some(said) = self.begin(sweep)? {
             return answered(push_text(why, said.as_bytes()));
         }
         let mut wanted = Vec::new(self.alloc);

@@ -1,7 +1,6 @@
 //! What is told of pages that were checked.
 
-use crate::sweeps::tell_numbered;
-use shell_parts::tell::{Result, Told, tell_refused};
+use shell_parts::tell::{Result, Told, tell_numbered, tell_refused};
 use sled_lines::input::Stopped;
 use sled_nodes::Error;
 use std::io::Write;

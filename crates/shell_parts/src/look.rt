@@ -1,9 +1,9 @@
 //! Reads that take no slot, and what they print.
 
-use crate::tell::{Result, Told, tell, tell_refused, tell_whether};
+use crate::tell::{Result, Told, tell, tell_numbered, tell_refused, tell_whether};
 use sled::{Db, Iter};
 use sled_lines::input::Stopped;
-use sled_lines::print::Piece::{Number, Text, Word};
+use sled_lines::print::Piece::{Text, Word};
 use sled_lines::words::{first_word, read_word};
 use sled_model::{MergeOperator, Tree};
 use sled_nodes::{Error, IVec};
@@ -126,7 +126,7 @@ pub fn tell_is(out: &mut Told, is: Answer<bool>) -> Result<()> {
 
 fn tell_count(out: &mut Told, count: Answer<usize>) -> Result<()> {
     match count {
-        Ok(count) => tell(out, &[Text(b"number "), Number(count as u64), Text(b"\n")]),
+        Ok(count) => tell_numbered(out, b"number ", count as u64, b"\n"),
         Err(e) => tell_refused(out, e),
     }
 }
@@ -136,10 +136,7 @@ fn push_names(out: &mut Told, names: &[IVec]) -> Result<()> {
     for name in names {
         tell(out, &[Text(b"name "), Word(name.as_ref()), Text(b"\n")])?;
     }
-    tell(
-        out,
-        &[Text(b"end "), Number(names.len() as u64), Text(b"\n")],
-    )
+    tell_end(out, names.len() as u64)
 }
 
 fn tell_names(out: &mut Told, names: Answer<Vec<IVec>>) -> Result<()> {
@@ -184,7 +181,7 @@ pub fn tell_found(out: &mut Told, found: Answer<Option<(IVec, IVec)>>) -> Result
 }
 
 fn tell_end(out: &mut Told, count: u64) -> Result<()> {
-    tell(out, &[Text(b"end "), Number(count), Text(b"\n")])
+    tell_numbered(out, b"end ", count, b"\n")
 }
 
 // Whether the item of this turn is taken from the back.

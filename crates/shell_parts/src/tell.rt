@@ -69,6 +69,16 @@ pub fn tell(out: &mut Told, pieces: &[Piece<'_>]) -> Result<()> {
     answered(push_pieces(&mut out.text, pieces))
 }
 
+/// Adds a number between two texts.
+pub fn tell_numbered(
+    out: &mut Told,
+    before: &'static [u8],
+    number: u64,
+    behind: &'static [u8],
+) -> Result<()> {
+    tell(out, &[Text(before), Number(number), Text(behind)])
+}
+
 /// Adds the line of an outcome, by what the value or the number in its reply is.
 pub fn tell_shown(out: &mut Told, shown: Shown, outcome: &Outcome) -> Result<()> {
     match outcome {
@@ -106,7 +116,7 @@ pub fn tell_whether(out: &mut Told, is: bool) -> Result<()> {
 /// Adds how often a call went on, if it is in flight.
 pub fn tell_turns(out: &mut Told, turns: Option<u64>) -> Result<()> {
     match turns {
-        Some(turns) => tell(out, &[Text(b"number "), Number(turns), Text(b"\n")]),
+        Some(turns) => tell_numbered(out, b"number ", turns, b"\n"),
         None => tell(out, &[Text(b"no slot\n")]),
     }
 }

@@ -4,6 +4,7 @@ use crate::fetch::takes_bytes;
 use crate::operators::operator_of;
 use hostile_lines::image::check_page;
 use shell_parts::look::read_bound;
+use shell_parts::words::{NO_BYTES, NO_NUMBER, is_semicolon, quote, words_of};
 use sled_lines::print::Piece::Text;
 use sled_lines::print::{push_pieces, push_text};
 use sled_lines::words::{read_number, read_value, read_word};
@@ -11,7 +12,6 @@ use sled_nodes::{IVec, Result};
 use std::alloc::Global;
 use std::ops::Bound;
 use transaction_lines::script::{Reach, check_script};
-use transaction_lines::words::{NO_BYTES, NO_NUMBER, is_semicolon, quote, words_of};
 
 const NO_BOUND: &str = "is no bound: [ or ( and a byte string, or ..";
 

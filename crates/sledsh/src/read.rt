@@ -2,11 +2,11 @@
 
 use crate::arguments::Arguments;
 use crate::table::{Misfit, Verb, find};
+use shell_parts::words::quote;
 use sled_lines::print::Piece::Text;
 use sled_lines::print::{push_pieces, push_text};
 use sled_lines::words::first_word;
 use sled_nodes::Result;
-use transaction_lines::words::quote;
 
 const SPACED: &str = "a line begins with a word; one space stands between two";
 

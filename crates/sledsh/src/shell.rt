@@ -20,6 +20,7 @@ use shell_parts::known::tell_known;
 use shell_parts::look::{Look, tell_look};
 use shell_parts::store::Kept;
 use shell_parts::tell::{Told, answered, tell, tell_refused, tell_turns, tell_whether, tell_why};
+use shell_parts::words::quote;
 use sled::{Db, GROUP_IS_OPEN, verify_integrity};
 use sled_draw::draw::{Drawing, draw};
 use sled_draw::levels::count_levels;
@@ -36,7 +37,6 @@ use std::alloc::Global;
 use std::fs;
 use std::io::{BufRead, Write};
 use transaction_lines::run::{tell_transaction, tell_transaction_all};
-use transaction_lines::words::quote;
 
 // The name that databases are opened under.
 const DATABASE: &[u8] = b"sledsh";

@@ -6,4 +6,3 @@ mod inside;
 pub mod names;
 pub mod run;
 pub mod script;
-pub mod words;

@@ -1,7 +1,7 @@
 //! Trees, by the words that name them.
 
-use crate::words::{NO_BYTES, quote};
 use shell_parts::tell::{Result, answered, bytes_of};
+use shell_parts::words::{NO_BYTES, quote};
 use sled_lines::print::Piece::Text;
 use sled_lines::print::push_pieces;
 use sled_lines::words::read_value;

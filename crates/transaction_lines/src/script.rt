@@ -1,7 +1,7 @@
 //! What a transaction does, as the words of a line spell it: parts, a `;` behind each of them, and then how it ends.
 
 use crate::names::check_names;
-use crate::words::{NO_BYTES, NO_NUMBER, is_semicolon, quote};
+use shell_parts::words::{NO_BYTES, NO_NUMBER, is_semicolon, quote};
 use sled_batch::Batch;
 use sled_lines::print::push_text;
 use sled_lines::words::{read_number, read_word};
