@@ -1,5 +1,5 @@
 -- What a load in batches comes to, now and after a crash.
-use Rattle.std.proofs.Common.{◌≡◌, ◌⊎◌, ℕ, ◌+◌, ◌*◌, min, length, take, drop, T, List, [], ◌∷◌, ◌++◌, append-nil, Option, None, option_map, sym, refl, ap, ◌∙◌, subst, inl, inr, arith}
+use Rattle.std.proofs.Common.{◌≡◌, ◌⊎◌, ℕ, ◌+◌, ◌*◌, min, length, take, drop, T, [], ◌∷◌, ◌++◌, append-nil, None, option_map, sym, refl, ap, ◌∙◌, subst, inl, inr, arith}
 use Rattle.std.proofs.lemmas.List.{take-append-drop}
 use Rattle.sled_nodes.specs.Order.{Key}
 use Rattle.sled_nodes.specs.declared.error.Error.{Error}
@@ -7,7 +7,7 @@ use Rattle.sled_store.specs.State.{State as PageState}
 use Rattle.sled_store.specs.Store.{Store}
 use Rattle.sled_store.specs.Crash.{IsCrashState}
 use Rattle.sled_model.specs.Maps.{Map, Maps, Merge}
-use Rattle.sled_model.specs.Groups.{writes_on, after_writes}
+use Rattle.sled_model.specs.Groups.{writes_on}
 use Rattle.sled_model.specs.State.{NamedTree}
 use Rattle.sled_model.specs.declared.tree.Tree.{Tree}
 use Rattle.tree_laws.specs.Contents.{trees_of}

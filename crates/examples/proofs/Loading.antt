@@ -1,5 +1,5 @@
 -- What pairs that are put one after the other make of a map, and of its tree when they are written in a batch.
-use Rattle.std.proofs.Common.{◌≡◌, ℕ, ◌+◌, ◌<◌, ◌≤◌, min, nat_lt, length, take, drop, Bool, true, false, cond, T, List, [], ◌∷◌, ◌++◌, Option, Some, None, option_map, unwrap_or, is_eq, sym, refl, ap, ◌∙◌, subst, arith}
+use Rattle.std.proofs.Common.{◌≡◌, ℕ, ◌+◌, ◌<◌, ◌≤◌, min, nat_lt, length, take, drop, Bool, true, false, cond, T, [], ◌∷◌, ◌++◌, Option, Some, None, option_map, unwrap_or, is_eq, sym, refl, ap, ◌∙◌, subst, arith}
 use Rattle.std.proofs.Math.Path.{fun_ext}
 use Rattle.std.proofs.Math.Seq.{take-add}
 use Rattle.std.proofs.lemmas.Bool.Decides.{nat_tests}
@@ -8,7 +8,7 @@ use Rattle.std.specs.FinMap.Entries.{find, put, is_sorted, find-put, is_sorted-p
 use Rattle.std.specs.Str.{bytes_eq}
 use Rattle.sled_nodes.specs.Order.{Key, key_cmp}
 use Rattle.sled_batch.specs.Batch.{Writes}
-use Rattle.sled_store.specs.theory.Facts.{same_name, name_itself, other_name}
+use Rattle.sled_store.specs.theory.Facts.{same_name, name_itself}
 use Rattle.sled_model.specs.Maps.{Map, Maps}
 use Rattle.sled_model.specs.Groups.{writes_on, after_writes}
 use Rattle.sled_model.specs.State.{State, NamedTree, maps_of}

@@ -1,7 +1,7 @@
 -- What the calls on a stock make of its two trees, now and after a crash.
 use Rattle.std.proofs.Common.{◌≡◌, ◌≢◌, ℕ, Bool, true, false, not, cond, List, [], ◌∷◌, ◌++◌, Option, Some, None, option_map, unwrap_or, Result, Ok, Err, IfOk, sym, refl, ap, ◌∙◌, subst, inl, inr}
 use Rattle.std.proofs.Math.Path.{fun_ext}
-use Rattle.std.specs.FinMap.Entries.{find, is_sorted}
+use Rattle.std.specs.FinMap.Entries.{find}
 use Rattle.std.specs.Str.{bytes_eq}
 use Rattle.ordered_keys.specs.Keys.{IsOneToOne}
 use Rattle.sled_nodes.specs.Order.{Key, key_cmp}
@@ -10,13 +10,13 @@ use Rattle.sled_batch.specs.Batch.{Writes}
 use Rattle.sled_store.specs.In.{In}
 use Rattle.sled_store.specs.State.{State as PageState}
 use Rattle.sled_store.specs.Store.{Store, now}
-use Rattle.sled_store.specs.Crash.{IsCrashState, Crashes}
+use Rattle.sled_store.specs.Crash.{Crashes}
 use Rattle.sled_store.specs.theory.Facts.{may_leave_crashed}
 use Rattle.sled_model.specs.Maps.{Map, Maps, Merge}
-use Rattle.sled_model.specs.Groups.{writes_of, writes_on, after_writes, DecidesGroup, StopsGroup, Closes}
-use Rattle.sled_model.specs.Refusal.{MustRefuse, IsClosed, IsDropped, first_of, foreign_test, dropped_test, is_number, must_refuse_of, trees_of_batches}
+use Rattle.sled_model.specs.Groups.{writes_on, after_writes, DecidesGroup}
+use Rattle.sled_model.specs.Refusal.{MustRefuse, IsClosed, IsDropped, first_of, foreign_test, dropped_test, is_number, must_refuse_of}
 use Rattle.sled_model.specs.State.{State, NamedTree, default_name, maps_of}
-use Rattle.sled_model.specs.Whole.{maps_opened, state_opened}
+use Rattle.sled_model.specs.Whole.{maps_opened}
 use Rattle.sled_model.specs.declared.call.Whole.TheVariants.{OpenTree}
 use Rattle.sled_model.specs.declared.reply.Reply.TheVariants as told
 use Rattle.sled_model.specs.declared.tree.Tree.{Tree}
@@ -30,11 +30,11 @@ use Rattle.sled.specs.Reads.{ReadsMap}
 use Rattle.sled.specs.Sound.{IsDb}
 use Rattle.sled.specs.Values.{DbValue, db_state, numbers_of}
 use Rattle.examples.specs.Reads.{found_in, maps_now}
-use Rattle.examples.specs.Stock.{entry_key, Agree, AgreeIn, Agrees, Moves, Stays, item_taken, entry_taken, item_put, entry_put}
+use Rattle.examples.specs.Stock.{entry_key, AgreeIn, Agrees, Moves, Stays, item_taken, entry_taken, item_put, entry_put}
 use Rattle.examples.proofs.Entering.{items_rise, entries_rise, lies, others, still_agree}
 use Rattle.examples.proofs.Leaving.{left_by, kept_all}
 use Rattle.examples.proofs.Opened.{map_of_named, numbered}
-use Rattle.examples.proofs.Streams.{opens, keeps_unopened}
+use Rattle.examples.proofs.Streams.{opens}
 use Rattle.examples.proofs.Written.{Holds, batch_there, batch_elsewhere, writes_then}
 
 none_some : {P X : Type 0} {x : X} → None ≡ Some x → P

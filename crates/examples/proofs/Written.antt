@@ -1,5 +1,5 @@
 -- What the writes of a batch make of a tree.
-use Rattle.std.proofs.Common.{◌≡◌, ◌≢◌, Bool, true, false, not, cond, ◌&&◌, T, List, [], ◌∷◌, ◌++◌, Option, Some, None, is_some, unwrap_or, Less, Equal, Greater, is_eq, sym, refl, ap, ◌∙◌, subst}
+use Rattle.std.proofs.Common.{◌≡◌, ◌≢◌, Bool, true, false, not, cond, ◌&&◌, T, List, [], ◌∷◌, ◌++◌, Option, Some, None, is_some, unwrap_or, Less, Equal, Greater, is_eq, sym, refl, ap, ◌∙◌}
 use Rattle.std.specs.FinMap.Entries.{find, is_sorted, below_all, find-where_key}
 use Rattle.std.specs.Ordering.{is_lt, ordering_reverse, eq_by_cmp}
 use Rattle.std.specs.declared.cmp.Ordering.{Ordering}
@@ -10,7 +10,7 @@ use Rattle.sled_batch.specs.Batch.{Writes}
 use Rattle.sled_store.specs.theory.Facts.{put_name_here, put_name_elsewhere}
 use Rattle.sled_model.specs.Maps.{Map, Merge}
 use Rattle.sled_model.specs.Answer.{answer_of, map_after}
-use Rattle.sled_model.specs.Groups.{Write, writes_on, call_with, call_of_write, answer_of_write, after_write, after_write_on, after_writes}
+use Rattle.sled_model.specs.Groups.{Write, writes_on, call_with, answer_of_write, after_write, after_write_on, after_writes}
 use Rattle.sled_model.specs.State.{State, NamedTree}
 use Rattle.sled_model.specs.declared.decision.Effect.TheVariants as effect
 use Rattle.sled_model.specs.declared.tree.Tree.{Tree}

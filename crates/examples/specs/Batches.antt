@@ -1,5 +1,5 @@
 -- A load of many pairs into a tree, in batches.
-use Rattle.std.specs.Prelude.{◌≡◌, ◌⊎◌, ℕ, ◌*◌, take, List, [], ◌∷◌, Some, option_map, if◌then◌else◌}
+use Rattle.std.specs.Prelude.{◌≡◌, ◌⊎◌, ℕ, ◌*◌, take, [], ◌∷◌, Some, option_map, if◌then◌else◌}
 use Rattle.std.specs.FinMap.Entries.{put}
 use Rattle.std.specs.Str.{bytes_eq}
 use Rattle.sled_nodes.specs.Order.{Key, key_cmp}

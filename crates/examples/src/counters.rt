@@ -1,7 +1,7 @@
 //! Counters in a tree of a database: numbers that are added to by merges, and tickets that rise by one. A number is eight bytes,
 //! the highest first; what stands at a name and is of another length counts as 0, and so does a name where nothing stands.
 ghost use Rattle.std.specs.Prelude.{◌≡◌, Some, IfOk, OnOk, OnErr};
-ghost use Rattle.std.specs.Int.{w64, to_be_bytes};
+ghost use Rattle.std.specs.Int.{to_be_bytes};
 ghost use Rattle.std.specs.Option.{option_map, option_copied};
 ghost use Rattle.examples.specs.Counters.{adding, bytes_of_sum, counter_in, counters_now, number_in, sum_of, SetsCounter};
 ghost use Rattle.examples.specs.Reads.{maps_now};

@@ -1,7 +1,6 @@
 //! An event store: a stream is a tree of a database, and an event stands in it at its id, which no other event has. Ids rise, and
 //! so does their spelling, so a stream has its events in the order in which they came.
 ghost use Rattle.std.specs.Prelude.{◌≡◌, IfOk, IfErr, OnErr, List};
-ghost use Rattle.sled_nodes.specs.Order.{Key};
 ghost use Rattle.examples.specs.declared.typed.TypedError.TheVariants.{Foreign};
 ghost use Rattle.examples.specs.Events.{Event, HasEvents, KeepsStreams, OpensStream, Appends, ReadsFrom};
 

@@ -2,7 +2,7 @@
 //! are spelled as byte strings.
 ghost use Rattle.std.specs.Prelude.{◌≡◌, ◌≢◌, ◌<◌, ◌^◌, List, [], ◌∷◌, OnOk, OnErr, IfOk, IfErr, IfSome, IfNone};
 ghost use Rattle.sled_nodes.specs.Among.{bound_of};
-ghost use Rattle.sled_nodes.specs.Order.{Key, key_cmp};
+ghost use Rattle.sled_nodes.specs.Order.{key_cmp};
 ghost use Rattle.sled_nodes.specs.declared.error.Error.TheVariants.{NoMemory};
 ghost use Rattle.ordered_keys.specs.Keys.{spelled};
 ghost use Rattle.ordered_keys.specs.declared.part.Part.TheVariants as part;

@@ -1,5 +1,5 @@
 -- Reads of a tree's map.
-use Rattle.std.proofs.Common.{◌≡◌, ℕ, ◌+◌, ◌<◌, ◌≤◌, Bool, true, false, not, ◌↔◌, IsTrue, List, [], ◌∷◌, ◌++◌, length, Option, Some, None, option_map, is_some, is_none, sym, refl, ap, ◌∙◌, subst, inl, inr, arith}
+use Rattle.std.proofs.Common.{◌≡◌, ℕ, ◌+◌, ◌<◌, Bool, true, false, not, ◌↔◌, IsTrue, [], ◌∷◌, ◌++◌, length, Option, Some, None, option_map, is_some, is_none, sym, refl, ap, ◌∙◌, subst, inl, inr, arith}
 use Rattle.std.specs.FinMap.Entries.{find}
 use Rattle.std.specs.declared.ops.Bound.{Bound}
 use Rattle.std.specs.declared.ops.Bound.TheVariants.{Included, Unbounded}

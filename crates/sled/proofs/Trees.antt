@@ -6,7 +6,7 @@ use Rattle.std.specs.FinMap.Entries.{is_sorted}
 use Rattle.std.specs.Str.{bytes_eq}
 use Rattle.sled_nodes.specs.Order.{Key, key_cmp}
 use Rattle.sled_store.specs.Update.{put_name}
-use Rattle.sled_store.specs.theory.Facts.{same_name, put_name_here, put_name_elsewhere}
+use Rattle.sled_store.specs.theory.Facts.{same_name}
 use Rattle.sled_store.specs.State.{nodes_of}
 use Rattle.sled_store.specs.Store.{Store, now}
 use Rattle.sled_model.specs.Maps.{Map, Merge}

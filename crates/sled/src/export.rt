@@ -1,5 +1,5 @@
 //! The pairs of the trees, read from the pages without repairing anything.
-ghost use Rattle.std.specs.Prelude.{◌≡◌, ◌++◌, IfOk, IfErr, OnOk, Some, false, map};
+ghost use Rattle.std.specs.Prelude.{◌≡◌, IfOk, IfErr, OnOk, Some, false, map};
 ghost use Rattle.sled_nodes.specs.declared.error.Error.TheVariants.{NoMemory};
 ghost use Rattle.sled_nodes.specs.Node.{pairs};
 ghost use Rattle.sled_store.specs.State.{nodes_of};

@@ -1,7 +1,7 @@
 //! Importing collections, as an export gives them.
 ghost use Rattle.std.specs.Prelude.{◌≡◌, IfErr, OnOk, [], ◌∷◌, length};
 ghost use Rattle.sled_model.specs.Collections.{content_of, contents_of, are_trees};
-ghost use Rattle.sled_model.specs.Imports.{OpensName, Puts, puts_of, parts_of};
+ghost use Rattle.sled_model.specs.Imports.{Puts, puts_of, parts_of};
 ghost use Rattle.sled.specs.Imports.{ImportDecided, ImportRefused, ImportsBySteps};
 ghost use Rattle.sled.specs.Parts.{told_parts, ImportsParts, ImportRefusedAfter};
 ghost use Rattle.sled.specs.theory.Imports.{IsTreeNow, PartsDone, PartsStopped, PartsStoppedAfter};

@@ -1,5 +1,5 @@
 //! Whole calls, which take pairs out of a tree.
-ghost use Rattle.std.specs.Prelude.{◌≡◌, IfOk, IfErr, OnOk};
+ghost use Rattle.std.specs.Prelude.{IfOk, IfErr, OnOk};
 ghost use Rattle.sled_model.specs.Maps.{IsLeast, IsGreatest};
 ghost use Rattle.sled_model.specs.declared.call.Whole.TheVariants.{PopMin, PopMax, Clear};
 ghost use Rattle.sled_model.specs.declared.reply.Reply.TheVariants.{Pair, Done};

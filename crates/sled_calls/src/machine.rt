@@ -1,9 +1,9 @@
 //! The machine.
-ghost use Rattle.std.specs.Prelude.{◌≡◌, ◌<◌, ◌∷◌, IfOk, IfErr, OnOk, OnErr, None, [], Option};
+ghost use Rattle.std.specs.Prelude.{◌≡◌, ◌<◌, IfOk, IfErr, OnOk, OnErr, None, [], Option};
 ghost use Rattle.std.specs.Option.{option_map, option_copied};
 ghost use Rattle.sled_nodes.specs.Order.{Key};
 ghost use Rattle.sled_nodes.specs.declared.error.Error.TheVariants.{NoMemory};
-ghost use Rattle.sled_model.specs.Refusal.{must_refuse, ToBegin, must_refuse_of};
+ghost use Rattle.sled_model.specs.Refusal.{must_refuse, ToBegin};
 ghost use Rattle.sled_model.specs.declared.call.Whole.TheVariants.{Flush, PopMin, PopMax, Clear, Group, OpenTree, DropTree, GenerateId, Import, Watch, Next, Unsubscribe};
 ghost use Rattle.sled_model.specs.declared.call.Call.{Call};
 ghost use Rattle.sled_model.specs.declared.outcome.Outcome.TheVariants as outcome;

@@ -3,13 +3,12 @@
 //! In a word a byte from `!` to `~` other than `%` is itself, and `%` with two lower-case hexadecimal digits is the
 //! byte of that number. The word `%` alone is the empty string. The word `-` is no byte string: it means none where a
 //! command allows that.
-ghost use Rattle.std.specs.Prelude.{◌≡◌, ℕ, true, ◌+◌, ◌^◌, ◌<◌, ◌≤◌, ◌++◌, ◌∷◌, length, decimal, take, List, Some, None, IfOk, IfErr, OnOk, OnErr, IfSome, option_map, ◌*◌, MatchOption, slice_index};
-ghost use Rattle.std.specs.Str.Parse.{digits_value};
+ghost use Rattle.std.specs.Prelude.{◌≡◌, true, ◌+◌, ◌^◌, ◌<◌, ◌≤◌, ◌++◌, ◌∷◌, length, decimal, take, Some, None, IfOk, IfErr, OnOk, IfSome, option_map, ◌*◌, MatchOption};
 ghost use Rattle.std.specs.Char.{digit_value};
 ghost use Rattle.std.specs.Int.{IsInRange};
 ghost use Rattle.std.specs.List.{flat_map, list_all};
 ghost use Rattle.sled_nodes.specs.declared.error.Error.TheVariants.{NoMemory};
-ghost use Rattle.sled_lines.specs.Words.{is_plain, hex_digit, hex_value, byte_of, escape, spelled, printed, bytes_of, read_word, read_value, number_of, read_number, words_of, words_after, AreBytes, ReadsPrinted, ReadsValues, PrintsShortest, ReadsDecimals};
+ghost use Rattle.sled_lines.specs.Words.{is_plain, hex_digit, hex_value, byte_of, escape, spelled, printed, bytes_of, read_word, read_value, number_of, read_number, words_of, words_after, ReadsPrinted, ReadsValues, PrintsShortest, ReadsDecimals};
 ghost use Rattle.sled_lines.specs.theory.Words.{BeginsWith};
 
 use crate::search::{LANES, find};

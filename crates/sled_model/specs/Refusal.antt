@@ -1,5 +1,5 @@
 -- Which refusals there may be, and which there must be.
-use Rattle.std.specs.Prelude.{◌≡◌, ◌≢◌, ℕ, ◌<◌, ◌≤◌, ◌⊎◌, true, false, Bool, not, ◌&&◌, nat_eq, length, map, List, [], ◌∷◌, Option, Some, None, is_some, if◌then◌else◌}
+use Rattle.std.specs.Prelude.{◌≡◌, ◌≢◌, ℕ, ◌<◌, ◌≤◌, ◌⊎◌, true, false, Bool, not, ◌&&◌, nat_eq, map, List, [], ◌∷◌, Option, Some, None, is_some, if◌then◌else◌}
 use Rattle.std.specs.Str.{bytes_eq}
 use Rattle.sled_nodes.specs.Order.{Key}
 use Rattle.sled_batch.specs.Batch.{Writes}

@@ -1,6 +1,6 @@
 //! Entries within a bound, in lists that are gone through from the front: those of a foreign node may be out of order. Lists
 //! that ascend are searched by halves.
-ghost use Rattle.std.specs.Prelude.{◌≡◌, ◌<◌, false, nat_eq, not, length, filter, MatchOption, IfSome};
+ghost use Rattle.std.specs.Prelude.{◌≡◌, ◌<◌, false, nat_eq, not, length, MatchOption, IfSome};
 ghost use Rattle.std.specs.List.{list_any, slice_get};
 ghost use Rattle.sled_nodes.specs.Among.{bound_of, is_up_to as within_upper, is_from as within_lower};
 ghost use Rattle.sled_nodes.specs.Ranges.{is_in_range, pairs_in};

@@ -5,11 +5,11 @@ ghost use Rattle.sled_nodes.specs.declared.error.Error.TheVariants.{NoMemory, Io
 ghost use Rattle.sled_nodes.specs.Order.{key_cmp};
 ghost use Rattle.sled_pages.specs.Slots.{slots_of, places_of};
 ghost use Rattle.sled_store.specs.Roots.{roots_of};
-ghost use Rattle.sled_pages.specs.Table.{Table, IsKept, AreBelow};
+ghost use Rattle.sled_pages.specs.Table.{IsKept, AreBelow};
 ghost use Rattle.sled_store.specs.Faults.{IsFault};
 ghost use Rattle.sled_pages.specs.theory.Faults.{is_named};
 ghost use Rattle.std.specs.Option.{option_map};
-ghost use Rattle.sled_store.specs.Update.{put_at, put_name};
+ghost use Rattle.sled_store.specs.Update.{put_at};
 ghost use Rattle.sled_pages.specs.Table.{page_of, slot_given};
 ghost use Rattle.sled_store.specs.State.{PageBecomes, RootBecomes, GroupBegins, GroupEnds};
 ghost use Rattle.sled_store.specs.Store.{IsRefused, ActsAt, after_action, after_flush, now, version_now};

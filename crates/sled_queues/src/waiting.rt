@@ -1,5 +1,5 @@
 //! One queue.
-ghost use Rattle.std.specs.Prelude.{◌≡◌, ◌≤◌, ◌<◌, ◌+◌, ◌++◌, ◌∷◌, [], take, drop, length, OnOk, OnErr, IfErr};
+ghost use Rattle.std.specs.Prelude.{◌≡◌, ◌≤◌, ◌<◌, ◌+◌, [], take, drop, length, OnOk, OnErr, IfErr};
 ghost use Rattle.sled_nodes.specs.declared.error.Error.TheVariants.{NoMemory};
 ghost use Rattle.sled_model.specs.Backlog.{queue_limit, no_backlog, come_all, next_of};
 ghost use Rattle.sled_queues.specs.Queues.{committed_in, cancelled_in, taken_in};

@@ -4,7 +4,7 @@ use Rattle.sled_nodes.specs.Ranges.{Range}
 use Rattle.sled_nodes.specs.declared.error.Error.{Error}
 use Rattle.sled_store.specs.Store.{Store}
 use Rattle.sled_model.specs.Maps.{Maps, Merge}
-use Rattle.sled_model.specs.State.{State, CallInFlight, range_of}
+use Rattle.sled_model.specs.State.{CallInFlight, range_of}
 use Rattle.sled_model.specs.Transition.{transition_as}
 use Rattle.sled_model.specs.declared.call.Call.{Call}
 use Rattle.sled_model.specs.declared.call.Whole.{Whole}
@@ -14,14 +14,13 @@ use Rattle.sled_model.specs.declared.reply.Reply.{Reply}
 use Rattle.sled_model.specs.declared.reply.Reply.TheVariants as told
 use Rattle.sled_model.specs.declared.outcome.Outcome.{Outcome}
 use Rattle.sled_model.specs.declared.outcome.Outcome.TheVariants as outcome
-use Rattle.sled_model.specs.declared.outcome.Step.{Step}
 use Rattle.sled_model.specs.declared.outcome.Step.TheVariants as step
 use Rattle.sled_calls.specs.Ids.{id_of, RiseBetween}
 use Rattle.sled_calls.specs.Values.{MachineValue, configuration_of, slots_of}
 use Rattle.sled_calls.proofs.Rising.{rise_on, step_rises}
 use Rattle.sled_shared.specs.Made.{MadeValue, EntryValue, whole_value}
 use Rattle.sled_shared.specs.Wholes.{WholeValue}
-use Rattle.sled_shared.specs.WholeNotes.{noted_with, noted_whole, DoesWhole, CannotNote, ComesToWhole, NotesWhole}
+use Rattle.sled_shared.specs.WholeNotes.{noted_with, noted_whole, ComesToWhole, NotesWhole}
 use Rattle.sled_shared.specs.History.{id_made, ids_made}
 use Rattle.sled_shared.specs.Notes.{entries_of, noted_as, noted_in}
 

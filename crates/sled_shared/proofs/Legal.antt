@@ -1,5 +1,5 @@
 -- A history stays legal at every step.
-use Rattle.std.proofs.Common.{◌≡◌, ◌∙◌, ℕ, Bool, true, false, not, cond, List, [], ◌∷◌, ◌++◌, append-nil, length, Option, Some, None, option_map, Result, Ok, Err, IfOk, IfErr, sym, refl, ap, subst}
+use Rattle.std.proofs.Common.{◌≡◌, ◌∙◌, ℕ, Bool, true, false, cond, List, [], ◌∷◌, ◌++◌, append-nil, length, Option, Some, None, option_map, Result, Ok, Err, IfOk, IfErr, sym, refl, ap, subst}
 use Rattle.std.proofs.Math.Path.{fun_ext}
 use Rattle.std.specs.FinMap.Entries.{find}
 use Rattle.std.specs.Str.{bytes_eq}
@@ -12,7 +12,7 @@ use Rattle.sled_store.specs.theory.Facts.{same_name}
 use Rattle.sled_model.specs.Maps.{Map, Maps, Merge}
 use Rattle.sled_model.specs.Answer.{key_of, decision_of, map_after}
 use Rattle.sled_model.specs.Collections.{Content}
-use Rattle.sled_model.specs.State.{State, NamedTree, CallInFlight, maps_of, range_of}
+use Rattle.sled_model.specs.State.{State, NamedTree, maps_of, range_of}
 use Rattle.sled_model.specs.Transition.{transition_as, Decide}
 use Rattle.sled_model.specs.declared.call.Call.{Call}
 use Rattle.sled_model.specs.declared.call.Call.TheVariants.{Get, Insert, Remove, CompareAndSwap, Merge as Merges, Scan}

@@ -1,7 +1,7 @@
 -- Numbers that are there once each.
-use Rattle.std.proofs.Common.{◌≡◌, ◌≢◌, ◌∙◌, ℕ, ◌+◌, ◌≤◌, ◌<◌, ◌⊎◌, inl, inr, true, false, nat_eq, List, Option, Some, None, IfSome, refl, sym, ap, arith}
+use Rattle.std.proofs.Common.{◌≡◌, ◌≢◌, ◌∙◌, ℕ, ◌+◌, ◌≤◌, ◌⊎◌, inl, inr, true, false, nat_eq, List, Option, Some, None, IfSome, refl, sym, ap, arith}
 use Rattle.std.proofs.lemmas.Bool.{eq-eqb, eqb-true}
-use Rattle.sled_shared.specs.Gathered.{IsGiven, EachOnce, times}
+use Rattle.sled_shared.specs.Gathered.{EachOnce, times}
 use Rattle.sled_shared.specs.Values.{CallerValue}
 
 false_true : {P : Type 0} → false ≡ true → P

@@ -1,5 +1,5 @@
 -- What whole calls add to the list of their caller, told by their outcomes alone.
-use Rattle.std.proofs.Common.{◌≡◌, ◌≢◌, ◌∙◌, ℕ, List, [], ◌++◌, append-nil, refl, sym, ap, subst, ◌⊎◌, inl, inr}
+use Rattle.std.proofs.Common.{◌≡◌, ◌≢◌, ◌∙◌, ℕ, List, ◌++◌, append-nil, refl, sym, ap, subst, inl, inr}
 use Rattle.sled_nodes.specs.declared.error.Error.{Error}
 use Rattle.sled_nodes.specs.declared.error.Error.TheVariants.{NoMemory}
 use Rattle.sled_store.specs.Store.{Store}
@@ -14,7 +14,7 @@ use Rattle.sled.specs.Values.{DbValue}
 use Rattle.sled_calls.specs.Kept.{counts_as, kept_of_whole}
 use Rattle.sled_calls.specs.Values.{MachineValue}
 use Rattle.sled_shared.specs.Made.{EntryValue, MadeValue, whole_value}
-use Rattle.sled_shared.specs.WholeNotes.{noted_with, noted_whole, ComesToWhole, NotesWhole, IsAnswer, AddsWhole}
+use Rattle.sled_shared.specs.WholeNotes.{noted_with, ComesToWhole, NotesWhole, IsAnswer, AddsWhole}
 use Rattle.sled_shared.proofs.WholeTests.{refused_kept}
 
 -- a refused call that did no part adds nothing

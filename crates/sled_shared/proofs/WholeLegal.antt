@@ -1,13 +1,13 @@
 -- A history stays legal at every whole call.
-use Rattle.std.proofs.Common.{◌≡◌, ◌≢◌, ◌∙◌, ℕ, zero, suc, min, true, false, not, List, [], ◌∷◌, ◌++◌, append-nil, length, Option, Some, None, sym, refl, ap, subst, ◌⊎◌, inl, inr, arith}
+use Rattle.std.proofs.Common.{◌≡◌, ◌∙◌, ℕ, zero, suc, true, false, List, [], ◌∷◌, ◌++◌, append-nil, length, None, sym, refl, ap, subst, ◌⊎◌, inl, inr, arith}
 use Rattle.sled_nodes.specs.declared.error.Error.{Error}
-use Rattle.sled_store.specs.Store.{Store, now}
+use Rattle.sled_store.specs.Store.{Store}
 use Rattle.sled_model.specs.Maps.{Maps, Merge}
 use Rattle.sled_model.specs.Collections.{Content, contents_of}
 use Rattle.sled_model.specs.Groups.{Closes}
-use Rattle.sled_model.specs.Imports.{Part, parts_of, DoesParts, NoPart, OnePart, refuses_import_as}
+use Rattle.sled_model.specs.Imports.{Part, DoesParts, NoPart, OnePart, refuses_import_as}
 use Rattle.sled_model.specs.Refusal.{must_refuse_of}
-use Rattle.sled_model.specs.State.{State, CallInFlight, maps_of}
+use Rattle.sled_model.specs.State.{State, maps_of}
 use Rattle.sled_model.specs.Transition.{transition_as, WholeDecides, WholeRefuses}
 use Rattle.sled_model.specs.Whole.{RemovesLeast, RemovesNone, RemovesOne}
 use Rattle.sled_model.specs.declared.call.Whole.{Whole}
@@ -19,18 +19,18 @@ use Rattle.sled_model.specs.declared.outcome.Outcome.{Outcome}
 use Rattle.sled_model.specs.declared.outcome.Outcome.TheVariants as outcome
 use Rattle.sled_model.specs.declared.outcome.Step.TheVariants as step
 use Rattle.sled.specs.Imports.{ImportStops}
-use Rattle.sled.specs.Parts.{most_parts, told_parts, parts_before, ClearsParts, ImportRefusedAfter}
+use Rattle.sled.specs.Parts.{told_parts, parts_before, ClearsParts}
 use Rattle.sled.specs.Values.{DbValue, db_state, state_of}
-use Rattle.sled_calls.specs.Kept.{counts_as, CountsParts}
+use Rattle.sled_calls.specs.Kept.{counts_as}
 use Rattle.sled_calls.specs.Values.{MachineValue, configuration_of, slots_of}
-use Rattle.sled_shared.specs.Made.{EntryValue, MadeValue, WholeMade, PartsMade, whole_value}
+use Rattle.sled_shared.specs.Made.{EntryValue, MadeValue, WholeMade, PartsMade}
 use Rattle.sled_shared.specs.Wholes.{WholeValue}
 use Rattle.sled_shared.specs.Wholes as value
-use Rattle.sled_shared.specs.WholeMade.{makes_whole_as, makes_parts_as, MakesParts, TakesLeast}
-use Rattle.sled_shared.specs.WholeNotes.{noted_with, noted_whole, DoesWhole, CannotNote, ComesToWhole, NotesWhole}
+use Rattle.sled_shared.specs.WholeMade.{makes_whole_as, makes_parts_as, MakesParts}
+use Rattle.sled_shared.specs.WholeNotes.{noted_with, noted_whole, ComesToWhole, NotesWhole}
 use Rattle.sled_shared.specs.History.{IsLegal, maps_from}
 use Rattle.sled_shared.specs.Notes.{entries_of}
-use Rattle.sled_shared.specs.Sound.{IsOpen, maps_now, IsState}
+use Rattle.sled_shared.specs.Sound.{IsOpen, maps_now}
 use Rattle.sled_shared.proofs.Legal.{legal_end, maps_same, silent}
 use Rattle.sled_shared.proofs.WholeMakes.{makes, stays_open, removes, removes_open, parts, parts_open}
 

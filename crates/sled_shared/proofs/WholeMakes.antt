@@ -1,22 +1,20 @@
 -- What the model says of a whole call, as what it makes of the maps.
-use Rattle.std.proofs.Common.{◌≡◌, ◌∙◌, ℕ, ◌+◌, zero, suc, Bool, true, false, not, cond, List, [], ◌∷◌, ◌++◌, length, Option, Some, None, option_map, is_some, All, sym, refl, ap, subst, ◌⊎◌, inl, inr}
+use Rattle.std.proofs.Common.{◌≡◌, ◌∙◌, ℕ, ◌+◌, Bool, true, false, cond, List, [], ◌∷◌, Option, Some, None, option_map, is_some, All, sym, refl, ap, subst}
 use Rattle.std.proofs.lemmas.List.Elements.{All-nil, All-cons, All-head, All-tail}
 use Rattle.std.proofs.Math.Path.{fun_ext}
-use Rattle.std.specs.FinMap.Entries.{put, find}
 use Rattle.std.specs.Str.{bytes_eq}
-use Rattle.sled_nodes.specs.Order.{Key, key_cmp}
+use Rattle.sled_nodes.specs.Order.{Key}
 use Rattle.sled_store.specs.Update.{put_name}
-use Rattle.sled_store.specs.theory.Facts.{same_name, name_itself}
-use Rattle.sled_model.specs.Maps.{Map, Maps, Merge, IsLeast, IsGreatest}
+use Rattle.sled_store.specs.theory.Facts.{same_name}
+use Rattle.sled_model.specs.Maps.{Map, Maps, IsLeast, IsGreatest}
 use Rattle.sled_model.specs.Answer.{Answer, answer_of, decision_of, map_after}
-use Rattle.sled_model.specs.Collections.{Content, contents_of}
 use Rattle.sled_model.specs.Groups.{Write, writes_of, call_with, after_write, after_write_on, after_writes, answer_of_write}
-use Rattle.sled_model.specs.Imports.{Part, OpensName, Puts, parts_of, does_part_as, DoesParts, NoPart, OnePart}
+use Rattle.sled_model.specs.Imports.{Part, OpensName, Puts, does_part_as, DoesParts, NoPart, OnePart}
 use Rattle.sled_model.specs.State.{State, NamedTree, maps_of, after_decision_on}
 use Rattle.sled_model.specs.Transition.{Configuration, WholeDecides}
 use Rattle.sled_batch.specs.Batch.{Writes}
 use Rattle.sled_model.specs.Refusal.{is_number}
-use Rattle.sled_model.specs.Whole.{number_opened, Pops, Clears, RemovesLeast, RemovesNone, RemovesOne, after_pop, state_opened, state_dropped, OpensTree, DropsTreeOf}
+use Rattle.sled_model.specs.Whole.{number_opened, Pops, Clears, RemovesLeast, RemovesNone, RemovesOne, after_pop, state_opened, state_dropped}
 use Rattle.sled_model.specs.declared.call.Call.TheVariants.{Remove, Insert}
 use Rattle.sled_model.specs.declared.call.Whole.{Whole}
 use Rattle.sled_model.specs.declared.call.Whole.TheVariants.{Flush, PopMin, PopMax, Clear, Group, OpenTree, DropTree, GenerateId, Import, Watch, Next, Unsubscribe}
@@ -25,7 +23,7 @@ use Rattle.sled_model.specs.declared.reply.Reply.{Reply}
 use Rattle.sled_model.specs.declared.reply.Reply.TheVariants.{Flag, Done}
 use Rattle.sled_shared.specs.Made.{whole_value}
 use Rattle.sled_shared.proofs.WholeTests.{BatchPasses, own, pass_each}
-use Rattle.sled_shared.specs.WholeMade.{HasMap, map_with, map_popped, MakesPop, MakesClear, maps_with_write, maps_with_writes, maps_opened, TakesLeast, TakesNone, TakesOne, MakesPut, makes_part_as, MakesParts, MakesNone, MakesOne, makes_whole_as}
+use Rattle.sled_shared.specs.WholeMade.{HasMap, map_with, map_popped, MakesPop, MakesClear, maps_with_write, maps_with_writes, maps_opened, TakesLeast, TakesNone, TakesOne, makes_part_as, MakesParts, MakesNone, MakesOne, makes_whole_as}
 
 -- to put a map where it stands changes nothing
 pub put_same : (maps : Maps) (name : Key) (o : Option Map) → maps name ≡ o → put_name maps name o ≡ maps

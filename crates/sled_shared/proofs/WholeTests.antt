@@ -1,5 +1,5 @@
 -- Whole calls that are kept, copied, and refused by a test.
-use Rattle.std.proofs.Common.{◌≡◌, ◌≢◌, ◌∙◌, ℕ, zero, suc, Bool, true, false, ◌&&◌, not, cond, if◌then◌else◌, List, [], ◌∷◌, Option, Some, None, IfSome, All, sym, refl, ap, subst, ◌⊎◌, inl, inr}
+use Rattle.std.proofs.Common.{◌≡◌, ◌≢◌, ◌∙◌, ℕ, zero, suc, Bool, true, false, if◌then◌else◌, List, [], ◌∷◌, Option, Some, None, IfSome, All, sym, refl, ap, subst, inl, inr}
 use Rattle.std.proofs.lemmas.List.Elements.{All-nil, All-cons, All-head, All-tail}
 use Rattle.std.specs.Global.{Vec}
 use Rattle.std.specs.Str.{bytes_eq}
@@ -9,9 +9,9 @@ use Rattle.sled_nodes.specs.declared.error.Error.TheVariants.{NoMemory}
 use Rattle.sled_batch.specs.Batch.{Writes}
 use Rattle.sled_store.specs.Store.{Store}
 use Rattle.sled_model.specs.Maps.{Maps, Merge}
-use Rattle.sled_model.specs.State.{State, CallInFlight}
+use Rattle.sled_model.specs.State.{State}
 use Rattle.sled_model.specs.Collections.{contents_of}
-use Rattle.sled_model.specs.Refusal.{MustRefuse, IsClosed, IsForeign, IsDropped, ToCall, must_refuse, must_refuse_of, first_of, foreign_test, dropped_test, is_number, trees_of_batches}
+use Rattle.sled_model.specs.Refusal.{MustRefuse, IsClosed, IsForeign, IsDropped, must_refuse_of, first_of, foreign_test, dropped_test, is_number, trees_of_batches}
 use Rattle.sled_model.specs.Whole.{IsSameWhole, is_same_whole, RemovesLeast, RemovesNone}
 use Rattle.sled_model.specs.declared.call.Whole.{Whole}
 use Rattle.sled_model.specs.declared.call.Whole.TheVariants.{Flush, PopMin, PopMax, Clear, Group, OpenTree, DropTree, GenerateId, Import, Watch, Next, Unsubscribe}
@@ -22,16 +22,16 @@ use Rattle.sled_model.specs.declared.outcome.Outcome.TheVariants as outcome
 use Rattle.sled_model.specs.declared.outcome.Step.TheVariants as step
 use Rattle.sled_model.specs.Transition.{transition_as}
 use Rattle.sled.specs.Kept.{kept_of}
-use Rattle.sled.specs.Parts.{ImportRefusedAfter, ClearsParts, told_parts}
-use Rattle.sled.specs.Imports.{ImportRefused, ImportStops}
+use Rattle.sled.specs.Parts.{ImportRefusedAfter}
+use Rattle.sled.specs.Imports.{ImportRefused}
 use Rattle.sled.specs.Values.{DbValue, db_state, state_of}
 use Rattle.sled_calls.specs.Kept.{kept_of_whole, CountsParts}
 use Rattle.sled_calls.specs.Step.{MachineStepContract}
-use Rattle.sled_calls.specs.Values.{MachineValue, configuration_of, slots_of}
+use Rattle.sled_calls.specs.Values.{MachineValue, configuration_of}
 use Rattle.sled_shared.specs.Made.{MadeValue, PartsMade, whole_value}
 use Rattle.sled_shared.specs.Wholes.{WholeValue}
 use Rattle.sled_shared.specs.Wholes as value
-use Rattle.sled_shared.specs.WholeNotes.{noted_with, noted_whole, whole_test, DoesWhole, CannotNote, ComesToWhole}
+use Rattle.sled_shared.specs.WholeNotes.{noted_with, whole_test, DoesWhole, ComesToWhole}
 
 some_none : {X : Type 0} {x : X} {P : Type 0} → Some x ≡ None → P
 some_none e = cc

@@ -1,5 +1,5 @@
 //! Steps of a machine, some of which keep copies of their replies, and the refusal of a step.
-ghost use Rattle.std.specs.Prelude.{◌≡◌, true, false, [], None, IfSome};
+ghost use Rattle.std.specs.Prelude.{◌≡◌, true, false, [], None};
 ghost use Rattle.sled_nodes.specs.declared.error.Error.TheVariants.{NoMemory};
 ghost use Rattle.sled_model.specs.Refusal.{ToPoint, must_refuse};
 ghost use Rattle.sled_model.specs.declared.outcome.Outcome.TheVariants.{Refused};

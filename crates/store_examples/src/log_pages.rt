@@ -1,6 +1,6 @@
 //! The simplest store that could be, as an example: a list of all that was ever done. It is meant to be read, not used for much:
 //! each read goes through the list.
-ghost use Rattle.std.specs.Prelude.{◌≡◌, ◌+◌, ◌-◌, ◌^◌, ◌<◌, ◌≤◌, true, false, is_some, not, length, take, slice_get, IfOk, IfErr, OnOk};
+ghost use Rattle.std.specs.Prelude.{◌≡◌, ◌+◌, ◌-◌, ◌<◌, ◌≤◌, true, false, is_some, not, length, take, slice_get, IfOk, IfErr, OnOk};
 ghost use Rattle.std.specs.FinMap.Entries.{put, where_key, is_sorted};
 ghost use Rattle.std.specs.Cmp.Lexicographic.{slice_cmp};
 ghost use Rattle.std.specs.Ordering.{nat_cmp, eq_by_cmp};

@@ -1,5 +1,5 @@
 //! What a layer above can say of a store, whichever it is: tests of the contract, written against its clauses alone.
-ghost use Rattle.std.specs.Prelude.{◌≡◌, ◌++◌, ◌∷◌, [], true, false, Some, None, IfOk};
+ghost use Rattle.std.specs.Prelude.{◌≡◌, ◌∷◌, [], false, Some, None, IfOk};
 ghost use Rattle.sled_nodes.specs.Node.{after_link};
 ghost use Rattle.store_examples.specs.Client.{links_as, Opens};
 ghost use Rattle.sled_store.specs.Crash.{IsCrashState, crash_states};

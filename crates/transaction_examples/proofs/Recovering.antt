@@ -1,11 +1,11 @@
 -- What a crash makes of the maps of a database.
-use Rattle.std.proofs.Common.{◌≡◌, ℕ, Bool, true, false, cond, List, [], ◌∷◌, Option, Some, None, sym, refl, ap, ◌∙◌, subst, inl, inr}
+use Rattle.std.proofs.Common.{◌≡◌, ℕ, Bool, true, false, cond, [], ◌∷◌, Option, Some, None, sym, refl, ap, ◌∙◌, subst, inl, inr}
 use Rattle.std.specs.Str.{bytes_eq}
 use Rattle.sled_nodes.specs.Order.{Key}
 use Rattle.sled_store.specs.In.{In}
 use Rattle.sled_store.specs.State.{State}
 use Rattle.sled_store.specs.Store.{Store, now}
-use Rattle.sled_store.specs.Crash.{crash_states, IsCrashState, Crashes}
+use Rattle.sled_store.specs.Crash.{crash_states, Crashes}
 use Rattle.sled_store.specs.theory.Facts.{may_leave_crashed}
 use Rattle.sled_model.specs.Maps.{Map, Maps, Merge}
 use Rattle.sled_model.specs.State.{default_name}

@@ -1,6 +1,6 @@
 //! A queue of work in two trees: jobs that are ready, and jobs that run. A job is taken from the one to the other by a transaction, so that
 //! it is never in both, and never lost.
-ghost use Rattle.std.specs.Prelude.{◌≡◌, ◌≢◌, IfOk, IfErr, OnOk};
+ghost use Rattle.std.specs.Prelude.{◌≢◌, IfOk, IfErr, OnOk};
 ghost use Rattle.sled_nodes.specs.Order.{Key};
 ghost use Rattle.examples.specs.Reads.{maps_now};
 ghost use Rattle.transaction_examples.specs.Throughout.{HoldsThroughout};

@@ -1,6 +1,6 @@
 //! Transfers between counters of a tree, each of them a transaction: an amount leaves one counter and comes to another, or nothing
 //! happens. A counter is a number of eight bytes, as in `examples`.
-ghost use Rattle.std.specs.Prelude.{◌≡◌, ℕ, Some, IfOk, IfErr, OnOk};
+ghost use Rattle.std.specs.Prelude.{ℕ, Some, IfOk, IfErr, OnOk};
 ghost use Rattle.std.specs.Int.{w64, to_be_bytes};
 ghost use Rattle.sled_pages.specs.Memory.{store_of};
 ghost use Rattle.tree_transactions.specs.Trees.{Records};

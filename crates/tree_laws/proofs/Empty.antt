@@ -1,5 +1,5 @@
 -- A store with no page and no tree.
-use Rattle.std.proofs.Common.{◌≡◌, Some, None, refl, inl}
+use Rattle.std.proofs.Common.{refl, inl}
 use Rattle.tree_laws.specs.theory.Laws.{EmptyLaw}
 use Rattle.tree_laws.proofs.Basics.{none_some}
 

@@ -1,24 +1,20 @@
 -- The steps of a merge.
-use Rattle.std.proofs.Common.{◌≡◌, ◌≢◌, ℕ, suc, true, false, List, [], ◌∷◌, Some, None, option_map, sym, refl, ap, ◌∙◌, subst, inl, inr, ◌⊎◌}
+use Rattle.std.proofs.Common.{◌≡◌, ◌≢◌, ℕ, suc, true, false, List, [], ◌∷◌, Some, None, option_map, sym, refl, ap, ◌∙◌, subst, inl, inr}
 use Rattle.sled_store.specs.In.{In}
-use Rattle.sled_nodes.specs.Among.{IsBefore}
 use Rattle.sled_nodes.specs.Halves.{after_receiving}
 use Rattle.sled_nodes.specs.Node.{pointers, after_link, after_intention}
-use Rattle.sled_nodes.specs.Order.{Key, Below, UpTo}
+use Rattle.sled_nodes.specs.Order.{Key, Below}
 use Rattle.sled_nodes.specs.declared.node.Node.{Node}
 use Rattle.sled_nodes.specs.declared.node.Data.{Data}
 use Rattle.sled_nodes.specs.declared.node.Data.TheVariants.{Leaf, Index}
 use Rattle.sled_nodes.specs.declared.link.Link.TheVariants.{ParentMergeIntention, ParentMergeConfirm, ChildMergeCap}
 use Rattle.sled_store.specs.declared.page.Page.{Page}
-use Rattle.tree_laws.specs.Forest.{Tree, Forest, Place, place, Holds}
-use Rattle.sled_store.specs.declared.page.View.{View}
-use Rattle.tree_laws.specs.Snapshot.{Snapshot, HasForest, nodes_at, StoodInChain, IsOpen, IsAtVersion, HasRoomForOne, SeenOpen}
+use Rattle.tree_laws.specs.Forest.{Forest, Place, place, Holds}
+use Rattle.tree_laws.specs.Snapshot.{Snapshot, HasForest, nodes_at, StoodInChain, IsAtVersion, SeenOpen}
 use Rattle.tree_laws.specs.theory.Snapshot.{KeepsForest}
-use Rattle.tree_laws.specs.theory.Laws.{IsNodeNow, after_replacement}
-use Rattle.tree_laws.specs.Stages.{IsFrozen, IsReadingChild, IsMerging, child_of}
-use Rattle.tree_laws.specs.theory.StageLaws.{StoodMergesLaw, StageActionLaw, IntendAction, ChildSeeks, ChildCaps, CapAction, Finds, SeekLaw, ReceiveAction, ReceiveLate, ConfirmAction}
-use Rattle.tree_laws.specs.declared.flight.Merge.{Merge}
-use Rattle.tree_laws.specs.declared.flight.Seek.{Seek}
+use Rattle.tree_laws.specs.theory.Laws.{after_replacement}
+use Rattle.tree_laws.specs.Stages.{IsFrozen, child_of}
+use Rattle.tree_laws.specs.theory.StageLaws.{StoodMergesLaw, IntendAction, ChildSeeks, ChildCaps, CapAction, SeekLaw, ReceiveAction, ReceiveLate, ConfirmAction}
 use Rattle.tree_laws.specs.declared.flight.Stage.TheVariants as stage
 use Rattle.tree_laws.proofs.Pairs.{not_below_empty}
 use Rattle.tree_laws.proofs.Runs.{In-right}
@@ -26,7 +22,7 @@ use Rattle.tree_laws.proofs.Update.{put_here, put_there}
 use Rattle.tree_laws.proofs.Replace.{some_is, false_true}
 use Rattle.tree_laws.proofs.Cover.{later_in}
 use Rattle.tree_laws.proofs.Inside.{behind, reached_law, covers_itself}
-use Rattle.tree_laws.proofs.Flags.{intention_law, cap_law, confirm_law, index_at}
+use Rattle.tree_laws.proofs.Flags.{intention_law, cap_law, confirm_law}
 use Rattle.tree_laws.proofs.Receive.{followed, receive_law}
 use Rattle.tree_laws.proofs.Stable.{now_law}
 use Rattle.tree_laws.proofs.Known.{goes_more, seen_here, view_here, stands_here, sound_at, index_high}

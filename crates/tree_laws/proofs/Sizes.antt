@@ -1,5 +1,5 @@
 -- The size, where one page of a chain is replaced.
-use Rattle.std.proofs.Common.{◌≡◌, ◌≢◌, ℕ, suc, ◌≤◌, le_of_eq, List, Option, Some, None, sym, ap, ◌∙◌, subst, inl, inr, ◌⊎◌}
+use Rattle.std.proofs.Common.{◌≡◌, ◌≢◌, ℕ, suc, ◌≤◌, le_of_eq, List, Option, Some, sym, ap, ◌∙◌, subst, inl, inr, ◌⊎◌}
 use Rattle.sled_store.specs.In.{In}
 use Rattle.sled_nodes.specs.Node.{count}
 use Rattle.sled_store.specs.State.{Nodes}

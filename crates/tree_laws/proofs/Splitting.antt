@@ -1,11 +1,10 @@
 -- The steps of a split, of a hoist, and of a free.
 use Rattle.std.proofs.Common.{◌≡◌, ℕ, suc, ◌+◌, ◌<◌, ◌≤◌, ◌^◌, false, List, [], ◌∷◌, length, Some, None, option_map, sym, refl, ap, ◌∙◌, subst, inl, inr, ◌⊎◌, le_of_eq, append-nil, arith}
 use Rattle.std.specs.FinMap.Entries.{put}
-use Rattle.std.specs.declared.ops.Bound.{Bound}
 use Rattle.sled_store.specs.In.{In}
 use Rattle.sled_nodes.specs.Node.{Covers, count}
-use Rattle.sled_nodes.specs.Order.{Key, key_cmp, Below}
-use Rattle.sled_nodes.specs.Halves.{left_half, right_half}
+use Rattle.sled_nodes.specs.Order.{key_cmp, Below}
+use Rattle.sled_nodes.specs.Halves.{right_half}
 use Rattle.sled_nodes.specs.Posting.{with_pointer}
 use Rattle.sled_nodes.specs.declared.node.Node.{Node}
 use Rattle.sled_nodes.specs.declared.node.Data.TheVariants.{Index}
@@ -13,15 +12,14 @@ use Rattle.sled_store.specs.declared.page.Page.{Page}
 use Rattle.tree_laws.specs.Forest.{Tree, Forest, Place, place, IsSized, contents}
 use Rattle.tree_laws.specs.theory.Action.{put_node}
 use Rattle.sled_store.specs.declared.page.View.{View}
-use Rattle.tree_laws.specs.Snapshot.{Snapshot, HasForest, nodes_at, StoodInChain, IsAtVersion, HasRoomForOne, SeenOpen}
+use Rattle.tree_laws.specs.Snapshot.{Snapshot, HasForest, nodes_at, StoodInChain, IsAtVersion, SeenOpen}
 use Rattle.tree_laws.specs.theory.Snapshot.{Guarantee, GrowsByReceiving, KeepsForest}
-use Rattle.tree_laws.specs.theory.Laws.{IsNodeNow, IsAlone, after_replacement, after_allocation, after_free, after_hoist}
+use Rattle.tree_laws.specs.theory.Laws.{IsNodeNow, IsAlone, after_replacement, after_allocation}
 use Rattle.tree_laws.specs.theory.PageLaws.{IsOpenAt, Unseen}
-use Rattle.tree_laws.specs.Stages.{IsPlace, IsOwn, IsStage, IsPosting, IsHoisting, IsReplacing}
+use Rattle.tree_laws.specs.Stages.{IsPlace, IsOwn}
 use Rattle.tree_laws.specs.theory.StageLaws.{StageActionLaw, SplitAction, posts_half, InstallLeftAction, PostAction, HoistAction, SwapRootAction, FreeAction}
 use Rattle.tree_laws.specs.declared.flight.Posting.{Posting}
 use Rattle.tree_laws.specs.declared.flight.Posting.TheVariants as posting
-use Rattle.tree_laws.specs.declared.flight.InstallLeft.{InstallLeft}
 use Rattle.tree_laws.specs.declared.flight.Stage.TheVariants as stage
 use Rattle.tree_laws.proofs.Order.{upto_below-trans}
 use Rattle.tree_laws.proofs.Update.{put_here, put_there}
@@ -35,7 +33,6 @@ use Rattle.tree_laws.proofs.States.{replace_law, allocate_law, free_law, hoisted
 use Rattle.tree_laws.proofs.Known.{fresh_node, fresh_in, seen_kept, root_in, put_few}
 use Rattle.tree_laws.proofs.Halving.{halved_law}
 use Rattle.tree_laws.proofs.Staying.{parent_kept, place_kept, hoisting_kept, was_fresh}
-use Rattle.tree_laws.proofs.Basics.{none_some}
 
 -- the page of a view, where it has the view's version still and the tree has its number
 module _ {m : Snapshot} {w : Forest} {x : Place} {number : ℕ} {look : View} {node : Node} (k : SeenOpen m w x number look) (c : IsNodeNow m x.tree number look node) where

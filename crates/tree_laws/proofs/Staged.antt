@@ -1,11 +1,11 @@
 -- The laws of the stages.
-use Rattle.std.proofs.Common.{ℕ, ◌≡◌, true, false, List, [], ◌∷◌, sym, ◌∙◌, subst, inl, inr}
+use Rattle.std.proofs.Common.{ℕ, ◌≡◌, true, false, [], ◌∷◌, sym, ◌∙◌, subst, inl, inr}
 use Rattle.std.specs.declared.ops.Bound.{Bound}
 use Rattle.sled_store.specs.In.{In}
 use Rattle.sled_nodes.specs.Order.{Key}
 use Rattle.sled_nodes.specs.declared.node.Node.{Node}
 use Rattle.tree_laws.specs.Forest.{Tree, Forest}
-use Rattle.tree_laws.specs.Snapshot.{Snapshot, HasForest}
+use Rattle.tree_laws.specs.Snapshot.{Snapshot}
 use Rattle.tree_laws.specs.Stages.{IsOwn, IsStage, owned}
 use Rattle.tree_laws.specs.theory.StageLaws.{ApartLaw, HereLaw, RootHereLaw, CursorHereLaw, InstallLeftLate, SwapRootLate, CapLate}
 use Rattle.tree_laws.specs.declared.flight.Stage.{Stage}

@@ -5,21 +5,19 @@ use Rattle.std.specs.declared.ops.Bound.{Bound}
 use Rattle.sled_store.specs.In.{In}
 use Rattle.sled_nodes.specs.Among.{IsBefore, is_up_to}
 use Rattle.sled_nodes.specs.Node.{Covers, pairs, pointers, count, value_at}
-use Rattle.sled_nodes.specs.Order.{Key, key_cmp, Below, UpTo}
+use Rattle.sled_nodes.specs.Order.{Key, key_cmp, Below}
 use Rattle.sled_store.specs.State.{Nodes}
 use Rattle.sled_nodes.specs.declared.node.Node.{Node}
-use Rattle.sled_nodes.specs.declared.node.Data.{Data}
 use Rattle.sled_nodes.specs.declared.node.Data.TheVariants.{Leaf, Index}
 use Rattle.sled_store.specs.declared.page.Page.{Page}
 use Rattle.tree_laws.specs.Forest.{Tree, Forest, Place, place, Run, Holds, WellFormed, contents, head, later}
 use Rattle.sled_store.specs.declared.page.View.{View}
-use Rattle.tree_laws.specs.Snapshot.{Snapshot, HasForest, nodes_at, StoodInChain, IsOpen, HasRoomForOne, IsAtVersion, SeenOpen, LiesUnder, IsActing}
-use Rattle.tree_laws.specs.Stages.{parent_of, by_pointer, IsParent, IsBelowParent, IsReached, IsWalking, IsPlace, IsSplitting, IsPosting, IsHoisting, IsUnder, IsIntending, IsMerging}
+use Rattle.tree_laws.specs.Snapshot.{Snapshot, HasForest, nodes_at, StoodInChain, IsOpen, HasRoomForOne, SeenOpen, LiesUnder, IsActing}
+use Rattle.tree_laws.specs.Stages.{parent_of, by_pointer, IsBelowParent, IsReached, IsWalking, IsSplitting, IsPosting, IsHoisting, IsUnder, IsIntending, IsMerging}
 use Rattle.tree_laws.specs.theory.Stages.{IsHere}
 use Rattle.tree_laws.specs.declared.flight.Reached.{Reached}
 use Rattle.tree_laws.specs.declared.flight.Reached.TheVariants as reached
 use Rattle.tree_laws.specs.declared.flight.Walk.{Walk}
-use Rattle.tree_laws.specs.declared.flight.Posting.{Posting}
 use Rattle.tree_laws.specs.declared.flight.Posting.TheVariants as posting
 use Rattle.tree_laws.proofs.Order.{upto-below, upto_below-trans, within_below}
 use Rattle.tree_laws.proofs.Runs.{In_split, run_parts}
@@ -28,7 +26,7 @@ use Rattle.tree_laws.proofs.Cover.{chain_run, pointer_within, holds_at}
 use Rattle.tree_laws.proofs.Inside.{behind}
 use Rattle.tree_laws.proofs.Reading.{find_law}
 use Rattle.tree_laws.proofs.Stable.{now_law}
-use Rattle.tree_laws.proofs.Known.{as_page, stands_here, view_here, seen_here, root_in, leaf_low, index_high, sound_at}
+use Rattle.tree_laws.proofs.Known.{as_page, stands_here, view_here, seen_here, root_in, leaf_low, index_high}
 use Rattle.tree_laws.proofs.Basics.{none_some}
 
 -- a page with a next page has rising bounds

@@ -1,6 +1,5 @@
 //! The pairs of a range, from both ends.
-ghost use Rattle.std.specs.Prelude.{◌≡◌, false, true, [], IfOk, IfErr, OnOk};
-ghost use Rattle.std.specs.Iterator.{at_most};
+ghost use Rattle.std.specs.Prelude.{◌≡◌, true, [], IfOk, IfErr, OnOk};
 ghost use Rattle.std.specs.declared.ops.Bound.TheVariants.{Excluded};
 ghost use Rattle.sled_nodes.specs.Among.{bound_of};
 ghost use Rattle.sled_nodes.specs.Ranges.{is_reversed as ends_before};

@@ -1,5 +1,5 @@
 //! The value at a key, and the pairs of a tree that are nearest to a bound.
-ghost use Rattle.std.specs.Prelude.{◌≡◌, ◌≤◌, IfOk, IfErr};
+ghost use Rattle.std.specs.Prelude.{◌≡◌, IfOk, IfErr};
 ghost use Rattle.std.specs.FinMap.Entries.{find};
 ghost use Rattle.sled_nodes.specs.Among.{bound_of, IsSuccessor, IsPredecessor};
 ghost use Rattle.sled_nodes.specs.Order.{key_cmp};

@@ -1,5 +1,5 @@
 //! The reading walk.
-ghost use Rattle.std.specs.Prelude.{◌≡◌, ◌≢◌, ◌↔◌, ◌+◌, IsTrue, true, Some, [], IfOk, IfErr};
+ghost use Rattle.std.specs.Prelude.{◌≡◌, ◌↔◌, ◌+◌, IsTrue, true, Some, [], IfOk, IfErr};
 ghost use Rattle.sled_nodes.specs.Among.{bound_of, is_up_to as within_upper};
 ghost use Rattle.sled_store.specs.Store.{now};
 ghost use Rattle.tree_reads.specs.Walk.{IsLeafFor, RefusesWalk, GivesUp};

@@ -3,7 +3,7 @@ use Rattle.std.proofs.lemmas.List.Elements.{filter-append}
 use Rattle.std.specs.Ordering.{is_lt, is_gt}
 use Rattle.std.specs.declared.cmp.Ordering.{Ordering}
 use Rattle.std.specs.declared.cmp.Ordering.TheVariants.{Less, Equal, Greater}
-use Rattle.std.proofs.Common.{cond, append-nil, ◌≡◌, ℕ, zero, suc, ◌+◌, ◌⊎◌, ◌&&◌, ◌||◌, not, true, false, Bool, List, [], ◌∷◌, ◌++◌, drop, filter, reverse, Option, Some, None, sym, refl, ap, ◌∙◌, subst, inl, inr, arith, if◌then◌else◌}
+use Rattle.std.proofs.Common.{cond, append-nil, ◌≡◌, ℕ, zero, suc, ◌+◌, ◌⊎◌, ◌&&◌, ◌||◌, not, true, false, Bool, List, [], ◌∷◌, ◌++◌, drop, filter, reverse, Option, Some, None, sym, refl, ap, ◌∙◌, subst, inl, inr, arith}
 use Rattle.std.specs.List.{AllByRecursion}
 use Rattle.std.specs.declared.ops.Bound.{Bound}
 use Rattle.std.specs.declared.ops.Bound.TheVariants.{Included, Excluded, Unbounded}
@@ -13,16 +13,15 @@ use Rattle.sled_nodes.specs.Order.{Key, key_cmp, Below, UpTo}
 use Rattle.sled_nodes.specs.Ranges.{Range, pairs_in, is_in_range}
 use Rattle.sled_nodes.specs.declared.node.Node.{Node}
 use Rattle.sled_model.specs.State.{range_of}
-use Rattle.sled_model.specs.Scan.{is_read, is_in_rest, TakesBeginning}
+use Rattle.sled_model.specs.Scan.{is_read, TakesBeginning}
 use Rattle.tree_laws.specs.Snapshot.{LiesUnder}
-use Rattle.tree_laws.proofs.Order.{below-trans, upto-trans, upto-refl, upto-below, below_upto-trans, upto_below-trans, below_irrefl, below_not_upto, behind_key, up_to_key, within_below}
+use Rattle.tree_laws.proofs.Order.{below-trans, upto-below, below_upto-trans, below_irrefl, below_not_upto, behind_key, up_to_key, within_below}
 use Rattle.tree_laws.specs.declared.flight.Giving.{Giving}
-use Rattle.tree_laws.specs.declared.flight.Stage.{Stage}
 use Rattle.tree_laws.specs.declared.flight.Stage.TheVariants as stage
 use Rattle.sled_tree.specs.declared.flight.Aim.{Aim}
 use Rattle.sled_tree.specs.declared.flight.Aim.TheVariants.{Own, At}
 use Rattle.sled_tree.specs.declared.flight.InFlight.{InFlight}
-use Rattle.tree_scans.specs.Scans.{range_from, range_up, range_down, range_behind, rest_at, rest_in, rest_of, waiting_at, waiting_in, waiting_of, aim_behind, behind}
+use Rattle.tree_scans.specs.Scans.{range_from, range_up, range_down, range_behind, rest_in, rest_of, waiting_in, waiting_of, aim_behind, behind}
 
 true_false : {X : Type 0} → true ≡ false → X
 true_false e = cc

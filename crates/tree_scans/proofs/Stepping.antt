@@ -7,9 +7,8 @@ use Rattle.sled_nodes.specs.Node.{pairs}
 use Rattle.sled_nodes.specs.Ranges.{Range, pairs_in}
 use Rattle.sled_nodes.specs.declared.error.Error.{Error}
 use Rattle.sled_nodes.specs.declared.error.Error.TheVariants.{NoMemory}
-use Rattle.sled_nodes.specs.declared.node.Node.{Node}
 use Rattle.sled_store.specs.Store.{Store}
-use Rattle.sled_model.specs.State.{range_of, IsOnKey}
+use Rattle.sled_model.specs.State.{range_of}
 use Rattle.sled_model.specs.Scan.{is_read}
 use Rattle.sled_model.specs.declared.call.Call.{Call}
 use Rattle.sled_model.specs.declared.reply.Reply.TheVariants as reply
@@ -22,7 +21,7 @@ use Rattle.sled_tree.specs.declared.flight.Aim.TheVariants.{Own, At}
 use Rattle.sled_tree.specs.declared.flight.InFlight.{InFlight}
 use Rattle.sled_tree.specs.declared.flight.Went.{Went}
 use Rattle.sled_tree.specs.declared.flight.Went.TheVariants.{Yielded, Decided, Refused}
-use Rattle.tree_scans.specs.Scans.{ScanStep, Gives, Ends, GoesOn, Walks, Lacks, range_from, range_behind, rest_at, rest_in, rest_of, waiting_at, waiting_in, waiting_of, aim_behind, behind}
+use Rattle.tree_scans.specs.Scans.{ScanStep, Gives, Ends, GoesOn, Walks, Lacks, range_from, range_behind, rest_at, rest_in, rest_of, waiting_at, waiting_in, waiting_of, aim_behind}
 use Rattle.tree_scans.specs.theory.Scans.{IsRangeOf, ComesBehind, ComesTo}
 use Rattle.tree_scans.specs.declared.scan.AtLeaf.{AtLeaf}
 use Rattle.tree_scans.specs.declared.scan.AtLeaf.TheVariants as leaf

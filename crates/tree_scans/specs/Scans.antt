@@ -1,6 +1,5 @@
 -- Scans in flight: what waits, what is left to read, and what a step does.
-use Rattle.std.specs.Prelude.{◌≡◌, ℕ, ◌+◌, Bool, true, false, drop, List, [], ◌∷◌, Option, Some, None, if◌then◌else◌}
-use Rattle.std.specs.declared.ops.Bound.{Bound}
+use Rattle.std.specs.Prelude.{◌≡◌, ◌+◌, Bool, true, false, drop, List, [], ◌∷◌, Option, Some, None, if◌then◌else◌}
 use Rattle.std.specs.declared.ops.Bound.TheVariants.{Included, Excluded}
 use Rattle.sled_nodes.specs.Order.{Key}
 use Rattle.sled_nodes.specs.Node.{pairs}

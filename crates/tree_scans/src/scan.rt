@@ -2,9 +2,8 @@
 //!
 //! Most steps give a pair of the leaf that was read, and touch no page. So what such a step does is inlined, and copies nothing but
 //! the pair.
-ghost use Rattle.std.specs.Prelude.{◌≡◌, ◌<◌, IfOk, IfErr, OnOk, OnErr, None, slice_get};
+ghost use Rattle.std.specs.Prelude.{◌≡◌, ◌<◌, IfOk, IfErr, None};
 ghost use Rattle.sled_nodes.specs.Among.{bound_of};
-ghost use Rattle.sled_nodes.specs.Ranges.{Range};
 ghost use Rattle.sled_nodes.specs.declared.error.Error.TheVariants.{NoMemory};
 ghost use Rattle.sled_model.specs.Scan.{is_read};
 ghost use Rattle.sled_model.specs.State.{IsOnKey, range_of};

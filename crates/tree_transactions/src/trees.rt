@@ -1,5 +1,5 @@
 //! Several trees inside a transaction, by their positions in its list.
-ghost use Rattle.std.specs.Prelude.{◌≡◌, true, Some, None, OnOk, OnErr, IfOk, IfErr, IfSome, IfNone};
+ghost use Rattle.std.specs.Prelude.{◌≡◌, true, Some, None, OnOk, OnErr, IfOk, IfErr};
 ghost use Rattle.std.specs.FinMap.Entries.{put};
 ghost use Rattle.sled_nodes.specs.Order.{key_cmp};
 ghost use Rattle.sled_nodes.specs.declared.error.Error.TheVariants.{NoMemory};

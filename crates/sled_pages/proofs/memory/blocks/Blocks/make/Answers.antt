@@ -1,7 +1,7 @@
-use Rattle.std.proofs.Common.{ap, sym, ◌∙◌, ◌≡◌, ◌≤◌, ◌<◌, ◌+◌, ◌/◌, length, arith, subst, slice_get}
+use Rattle.std.proofs.Common.{ap, sym, ◌∙◌, ◌≤◌, ◌<◌, ◌+◌, ◌/◌, length, arith, subst, slice_get}
 use Rattle.std.proofs.lemmas.Result.{on_ok_weaker}
 use Rattle.sled_pages.specs.Joined.{joined}
-use Rattle.sled_pages.specs.Rows.{rows_of, lies_in, has_in}
+use Rattle.sled_pages.specs.Rows.{lies_in, has_in}
 use Rattle.sled_pages.proofs.Rows.{set_lies, set_more, set_all, row_is}
 use Rattle.sled_pages.proofs.memory.blocks.Blocks.make.Goals as goal
 

@@ -1,5 +1,4 @@
-use Rattle.std.proofs.Common.{ap, sym, ◌∙◌, ◌≡◌, ◌<◌, ◌/◌, ◌%◌, length, slice_set}
-use Rattle.sled_pages.specs.Rows.{rows_of}
+use Rattle.std.proofs.Common.{ap, sym, ◌∙◌, ◌<◌, ◌/◌, ◌%◌, length, slice_set}
 use Rattle.sled_pages.proofs.Rows.{put_lies, put_has, place_within, in_place, row_is}
 use Rattle.sled_pages.proofs.memory.blocks.Blocks.put.Goals as goal
 

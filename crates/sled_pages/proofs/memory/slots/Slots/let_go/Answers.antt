@@ -1,4 +1,4 @@
-use Rattle.std.proofs.Common.{ap, sym, ◌∙◌, rules, ◌≡◌, ◌≤◌, None}
+use Rattle.std.proofs.Common.{ap, ◌∙◌, rules, ◌≡◌, ◌≤◌, None}
 use Rattle.std.specs.Ordering.{nat_cmp}
 use Rattle.std.specs.BTreeMap.{get}
 use Rattle.sled_pages.specs.Joined.{joined}

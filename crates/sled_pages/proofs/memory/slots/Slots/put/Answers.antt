@@ -1,4 +1,4 @@
-use Rattle.std.proofs.Common.{rules, ◌<◌, ◌≤◌, ◌-◌, ap, sym, ◌∙◌, subst}
+use Rattle.std.proofs.Common.{rules, ◌<◌, ◌-◌, ap, ◌∙◌}
 use Rattle.sled_store.specs.Update.{put_at}
 use Rattle.sled_pages.specs.Blocks.{lies_of, has_of}
 use Rattle.sled_pages.specs.Slots.{place_in, own_places}
