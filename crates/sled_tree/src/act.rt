@@ -128,7 +128,7 @@ pub fn begin_again(flight: &mut InFlight)
 }
 
 /// Links the change that was prepared for a call, at the version of the leaf that the call has read. It is the rest of the step that
-/// `advance` makes of such a call. The call lets go of the leaf before, so that a store may change it in place.
+/// `advance` makes of such a call. The call lets go of the leaf before it links, so that a store may change it in place.
 #[inline(always)]
 pub fn link_change<P: Pages>(pages: &mut P, flight: &mut InFlight, change: Change) -> Went
     requires room { flight.old.turns < MAX_LOOPS }

@@ -23,7 +23,7 @@ use sled_store::Pages;
 use std::alloc::Global;
 use tree_laws::flight::Stage;
 
-// Does the action of a stage that is none of a walk and does not ask for the operator: at most one page action.
+// Does the action of a stage of a repair: at most one page action.
 fn step_elsewhere<P: Pages>(
     pages: &mut P,
     alloc: Global,
@@ -47,7 +47,7 @@ fn step_elsewhere<P: Pages>(
     }
 }
 
-// The same, of the stages of a merge.
+// The same, where it is one of a merge.
 fn step_of_merge<P: Pages>(pages: &mut P, alloc: Global, job: &Job, aim: &Aim, stage: Stage) -> Next
     requires { IsOfMerge stage }
     ensures moves { StageAction (course job.now aim.now) (P.store pages.old) stage result (P.store pages.new) }
@@ -65,7 +65,7 @@ fn step_of_merge<P: Pages>(pages: &mut P, alloc: Global, job: &Job, aim: &Aim, s
     }
 }
 
-// Does one step of a call in flight that is on no walk, links no change, and has turns left: the stage is moved out, and the next one in.
+// Does one step of a call in flight whose stage is one of a repair, and that has turns left: the stage is moved out, and the next one in.
 #[inline(never)]
 fn advance_elsewhere<P: Pages>(pages: &mut P, alloc: Global, flight: &mut InFlight) -> Went
     requires room { flight.old.turns < MAX_LOOPS }

@@ -4,8 +4,8 @@
 //! moved nor made anew.
 //!
 //! Every call takes most of its time here. So what a step does at such a page is inlined wherever a step is made; left to itself LLVM
-//! does that only where there is one such place. Repairs are not: a function that is too long is inlined nowhere. And what a step comes
-//! to (`Descent`) is short, since it is copied at each page.
+//! does that only where there is one such place. Repairs are not (`mend`): with them the step would be so long that its own hint is
+//! dropped. And what a step comes to (`Descent`) is short, since it is copied at each page.
 ghost use Rattle.std.specs.Prelude.{◌≡◌, ◌<◌, ◌↔◌, false, true, is_none, MatchOption, IsTrue, IfOk, IfErr};
 ghost use Rattle.std.specs.declared.ops.Bound.TheVariants.{Included};
 ghost use Rattle.sled_nodes.specs.Among.{IsPointerFor, bound_of};
@@ -44,7 +44,7 @@ pub(crate) enum Descent {
     Leaf(View),
     // It read a page where something is to be repaired, or which does not lie under the aim. Nothing else was done so far.
     Unclean(View),
-    // There is no page, or no pointer in it: the call begins anew at the root.
+    // It found no page, or an index without a pointer to go down by: the call begins again at the root.
     Lost,
     // The page was not read, and the call is refused.
     Refused(Error),
@@ -320,7 +320,7 @@ pub(crate) fn settle(flight: &mut InFlight, next: Next) -> Went
     }
 }
 
-// The rest of the step at a page where something is to be repaired, or which does not lie under the aim. Few pages are such.
+// The rest of the step at a page where something is to be repaired, or which does not lie under the aim, as at few pages.
 #[inline(never)]
 pub(crate) fn mend(flight: &mut InFlight, view: View) -> Went
     requires room { flight.old.turns < MAX_LOOPS }

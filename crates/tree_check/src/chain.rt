@@ -71,8 +71,8 @@ fn check_bounds(node: &Node, lo: &[u8]) -> Result<()>
     Ok(())
 }
 
-// Tests a page of a chain that has come to this key, and notes its level: that the page goes on there, that it is merging only as a
-// merging child of the level above, the page itself, and that it was not found before.
+// Tests a page of a chain that has come to this key: that it goes on there, that it is merging only as a merging child of the level above,
+// and the page itself. Then notes its level, if it was not found before.
 fn check_chained(
     alloc: Global,
     node: &Node,
